@@ -1,13 +1,28 @@
-// A library with one function.
+//! The plain data of token trees: ranges, spans, symbols, token types and faults.
+//!
+//! `specs/` has what a token tree means: all definitions that two crates speak of stand there.
 #![tactic(auto)]
 
-ghost use Rattle.std.specs.Prelude.{◌≡◌};
-ghost use Rattle.tt_base.specs.Echo.{echo_of};
+mod delimiter;
+mod fault;
+mod ident;
+mod leaf;
+mod literal;
+mod literal_text;
+mod punct;
+mod span;
+mod symbol;
+mod text_range;
+mod token_tree;
 
-// The `ensures` clause is the contract: what `echo` returns is `echo_of` of its argument, a definition
-// in `specs/Echo.antt`, which a caller's clause can cite too.
-pub fn echo(x: usize) -> usize
-    ensures { result ≡ echo_of x }
-{
-    x
-}
+pub use delimiter::{DelimSpan, Delimiter, DelimiterKind, Subtree};
+pub use fault::{Refused, TtFault};
+pub use ident::{Ident, IdentIsRaw};
+pub use leaf::Leaf;
+pub use literal::{Lit, LitKind, Literal};
+pub use punct::{Punct, Spacing};
+pub use span::{ErasedFileAstId, FileId, Span, SpanAnchor, SpanPart, SyntaxContext};
+pub use symbol::Symbol;
+pub use text_range::{TextRange, TextSize};
+pub use token_tree::TokenTree;
+

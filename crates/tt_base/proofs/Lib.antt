@@ -1,0 +1,5 @@
+pub mod Literals
+pub mod Ranges
+mod Rows
+pub mod Samples
+pub mod WholeLists

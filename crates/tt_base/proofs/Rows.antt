@@ -1,0 +1,43 @@
+-- What the definitions compute on small trees, as the rows of `docs/FORMATS.md` have it.
+use Rattle.std.proofs.Common.{◌≡◌, List, [], ◌∷◌, codes, refl, lit<, lit≤, not-le_of_lt}
+use Rattle.tt_base.specs.declared.delimiter.DelimiterKind.TheVariants.{Parenthesis, Brace, Invisible}
+use Rattle.tt_base.specs.declared.literal.LitKind.TheVariants as lit
+use Rattle.tt_base.specs.declared.punct.Spacing.TheVariants.{Alone, JointHidden}
+use Rattle.tt_base.specs.declared.token_tree.TokenTree.TheVariants as token
+use Rattle.tt_base.specs.Delimiter.{delimiter}
+use Rattle.tt_base.specs.Forest.{Forest, end, leaf, node, flat, header}
+use Rattle.tt_base.specs.LeafText.{leaf_text}
+use Rattle.tt_base.specs.TreeText.{display}
+use Rattle.tt_base.proofs.Samples.{span, punct, ident, literal, subtree}
+
+abbrev a : Forest → Forest
+a rest = leaf (ident (codes "a")) rest
+
+abbrev b : Forest → Forest
+b rest = leaf (ident (codes "b")) rest
+
+first_run : display (subtree Parenthesis (a (leaf (punct 59 Alone) end))) ≡ codes "(a ;)"
+unfolding display lib.Utf8.encode
+first_run = refl
+
+first_run_flat : flat (subtree Parenthesis (a (leaf (punct 59 Alone) end)))
+    ≡ header (delimiter Parenthesis (span 0 1) (span 1 1)) 2 ∷ token.Leaf (ident (codes "a")) ∷ token.Leaf (punct 59 Alone) ∷ []
+first_run_flat = refl
+
+hidden_plus : display (a (leaf (punct 43 JointHidden) (b end))) ≡ codes "a +b"
+unfolding display lib.Utf8.encode
+hidden_plus = refl
+
+two_spaces : display (a (node (delimiter Invisible (span 0 0) (span 0 0)) end (b end))) ≡ codes "a  b"
+unfolding display
+two_spaces = refl
+
+braces : display (subtree Brace (a (b end))) ≡ codes "{a b}"
+unfolding display
+braces = refl
+
+raw_string : leaf_text (literal (codes "a") (lit.StrRaw 2) (lit≤ tt) (lit≤ tt, λ h. absurd (not-le_of_lt (lit< tt) h))) ≡ codes "r##\"a\"##"
+raw_string = refl
+
+raw_bytes : leaf_text (literal (codes "a") (lit.ByteStrRaw 0) (lit≤ tt) (lit≤ tt, λ h. absurd (not-le_of_lt (lit< tt) h))) ≡ codes "br\"a\""
+raw_bytes = refl

@@ -1,0 +1,51 @@
+-- What Display writes of trees, as bytes.
+use Rattle.std.specs.Prelude.{ℕ, Bool, true, false, List, [], ◌++◌, codes, if◌then◌else◌}
+use Rattle.tt_base.specs.declared.delimiter.DelimiterKind.{DelimiterKind}
+use Rattle.tt_base.specs.declared.delimiter.DelimiterKind.TheVariants.{Parenthesis, Brace, Bracket, Invisible}
+use Rattle.tt_base.specs.declared.leaf.Leaf.{Leaf}
+use Rattle.tt_base.specs.declared.leaf.Leaf.TheVariants as leaf
+use Rattle.tt_base.specs.declared.punct.Spacing.{Spacing}
+use Rattle.tt_base.specs.declared.punct.Spacing.TheVariants.{Alone, Joint, JointHidden}
+use Rattle.tt_base.specs.Forest.{Forest, end, leaf as leaf_then, node}
+use Rattle.tt_base.specs.LeafText.{leaf_text}
+
+-- what opens a subtree
+abbrev pub opening_text : DelimiterKind → List ℕ
+opening_text Parenthesis = codes "("
+opening_text Brace = codes "{"
+opening_text Bracket = codes "["
+opening_text Invisible = []
+
+-- what closes it
+abbrev pub closing_text : DelimiterKind → List ℕ
+closing_text Parenthesis = codes ")"
+closing_text Brace = codes "}"
+closing_text Bracket = codes "]"
+closing_text Invisible = []
+
+-- one space, or nothing
+abbrev pub space_if : Bool → List ℕ
+space_if due = if due then codes " " else []
+
+-- whether a spacing lets a space follow
+abbrev pub is_alone : Spacing → Bool
+is_alone Alone = true
+is_alone Joint = false
+is_alone JointHidden = false
+
+-- whether a space may follow a leaf: after all but a punct that is joint or joint hidden
+abbrev pub space_after : Leaf → Bool
+space_after (leaf.Literal literal) = true
+space_after (leaf.Punct punct) = is_alone punct.spacing
+space_after (leaf.Ident ident) = true
+
+-- siblings in order, with a space before each but the first where one may stand; due tells whether one is due now
+abbrev pub siblings_text : (due : Bool) → Forest → List ℕ
+siblings_text due end = []
+siblings_text due (leaf_then leaf rest) = space_if due ++ leaf_text leaf ++ siblings_text (space_after leaf) rest
+siblings_text due (node delimiter children rest) =
+    space_if due ++ opening_text delimiter.kind ++ siblings_text false children ++ closing_text delimiter.kind ++ siblings_text true rest
+
+-- what Display writes
+unfoldable pub display : Forest → List ℕ
+display trees = siblings_text false trees

@@ -1,0 +1,79 @@
+ghost use Rattle.std.specs.Prelude.{◌≡◌};
+ghost use Rattle.tt_base.specs.declared.fault.TtFault.TheVariants.{Memory};
+
+use std::alloc::AllocError;
+use std::error::Error;
+use std::fmt;
+
+/// Why a call was refused. The numbers and their order are those of `docs/FORMATS.md`, "Faults".
+#[derive(Debug, Clone, Copy, PartialEq, Eq)]
+pub enum TtFault {
+    /// A growth was refused.
+    Memory = 1,
+    /// The list is not the flat list of exactly one subtree.
+    NotOneSubtree = 2,
+    /// The place is not below the token count.
+    NoSuchPlace = 3,
+    /// The place holds a header.
+    NotALeaf = 4,
+    /// A suffix of more than 255 bytes.
+    SuffixTooLong = 5,
+    /// The offsets of a scan do not fit the text.
+    BadScan = 6,
+    /// More than 4,294,967,295 tokens below the top.
+    TooManyTokens = 7,
+    /// A parts table of more than 268,435,456 entries.
+    TooManySpanParts = 8,
+    /// More than 536,870,912 different symbols.
+    TooManySymbols = 9,
+    /// More than 4,294,967,295 bytes below the top.
+    TooManyBytes = 10,
+    /// All numbers of restore points were given out.
+    PointsSpent = 11,
+}
+
+impl TtFault {
+    ghost use Rattle.tt_base.specs.Fault.{number_of};
+
+    /// The fault's number, from 1 to 11.
+    pub fn number(&self) -> u8
+        ensures { result ≡ number_of self.now }
+    {
+        *self as u8
+    }
+}
+
+impl fmt::Display for TtFault {
+    fn fmt<W: fmt::Write>(&self, f: &mut fmt::Formatter<W>) -> fmt::Result {
+        f.write_str(match self {
+            TtFault::Memory => "out of memory",
+            TtFault::NotOneSubtree => "not one subtree",
+            TtFault::NoSuchPlace => "no such place",
+            TtFault::NotALeaf => "not a leaf",
+            TtFault::SuffixTooLong => "suffix too long",
+            TtFault::BadScan => "bad scan",
+            TtFault::TooManyTokens => "too many tokens",
+            TtFault::TooManySpanParts => "too many span parts",
+            TtFault::TooManySymbols => "too many symbols",
+            TtFault::TooManyBytes => "too many bytes",
+            TtFault::PointsSpent => "points spent",
+        })
+    }
+}
+
+impl Error for TtFault {}
+
+impl From<AllocError> for TtFault {
+    ghost from_gives = { λ _ fault. fault ≡ Memory };
+
+    fn from(_error: AllocError) -> TtFault {
+        TtFault::Memory
+    }
+}
+
+/// A value that a call took and then refused, handed back with the reason.
+#[derive(Debug, Drop)]
+pub struct Refused<T> {
+    pub fault: TtFault,
+    pub value: T,
+}

@@ -1,0 +1,59 @@
+ghost use Rattle.std.specs.Prelude.{◌≡◌};
+
+use crate::text_range::TextRange;
+
+#[derive(Debug, Clone, Copy, PartialEq, Eq, Hash)]
+pub struct FileId(pub u32);
+
+#[derive(Debug, Clone, Copy, PartialEq, Eq, Hash)]
+pub struct ErasedFileAstId(pub u32);
+
+#[derive(Debug, Clone, Copy, PartialEq, Eq, Hash)]
+pub struct SyntaxContext(pub u32);
+
+/// The file and the item in it that a range is counted from.
+#[derive(Debug, Clone, Copy, PartialEq, Eq, Hash)]
+pub struct SpanAnchor {
+    pub file_id: FileId,
+    pub ast_id: ErasedFileAstId,
+}
+
+/// Where a token comes from.
+#[derive(Debug, Clone, Copy, PartialEq, Eq, Hash)]
+pub struct Span {
+    /// Counted from the start of the anchor's item.
+    pub range: TextRange,
+    pub anchor: SpanAnchor,
+    pub ctx: SyntaxContext,
+}
+
+/// A span without its range: what many spans of one tree share.
+#[derive(Debug, Clone, Copy, PartialEq, Eq, Hash)]
+pub struct SpanPart {
+    pub anchor: SpanAnchor,
+    pub ctx: SyntaxContext,
+}
+
+impl SpanPart {
+    ghost use Rattle.tt_base.specs.Span.{part_of, span_in};
+
+    pub fn from_span(span: &Span) -> Self
+        ensures { result ≡ part_of span.now }
+    {
+        SpanPart {
+            anchor: span.anchor,
+            ctx: span.ctx,
+        }
+    }
+
+    /// The span of this part with that range.
+    pub fn recombine(&self, range: TextRange) -> Span
+        ensures { result ≡ span_in self.now range }
+    {
+        Span {
+            range,
+            anchor: self.anchor,
+            ctx: self.ctx,
+        }
+    }
+}

@@ -1,0 +1,132 @@
+ghost use Rattle.std.specs.Prelude.{◌≡◌, ◌+◌, ◌-◌, ◌^◌, ◌<◌, ◌≤◌, ◌↔◌, IsTrue, MatchOption};
+
+/// A place in a text, or a length, in bytes.
+#[derive(Debug, Clone, Copy, PartialEq, Eq, PartialOrd, Ord, Hash)]
+pub struct TextSize {
+    raw: u32,
+}
+
+impl TextSize {
+    ghost use Rattle.tt_base.specs.Range.{size_of};
+
+    pub fn new(raw: u32) -> Self
+        ensures { size_of result ≡ raw }
+    {
+        TextSize { raw }
+    }
+
+    pub fn raw(self) -> u32
+        ensures { result ≡ size_of self }
+    {
+        self.raw
+    }
+
+    /// The sum, or `None` where it does not fit.
+    pub fn checked_add(self, rhs: TextSize) -> Option<TextSize>
+        ensures { MatchOption result
+            (2 ^ 32 ≤ size_of self + size_of rhs)
+            (λ sum. size_of sum ≡ size_of self + size_of rhs) }
+    {
+        let raw = self.raw.checked_add(rhs.raw)?;
+        Some(TextSize { raw })
+    }
+
+    /// The difference, or `None` where `rhs` is the larger.
+    pub fn checked_sub(self, rhs: TextSize) -> Option<TextSize>
+        ensures { MatchOption result
+            (size_of self < size_of rhs)
+            (λ difference. size_of difference + size_of rhs ≡ size_of self) }
+    {
+        let raw = self.raw.checked_sub(rhs.raw)?;
+        Some(TextSize { raw })
+    }
+}
+
+impl From<u32> for TextSize {
+    ghost use Rattle.tt_base.specs.Range.{size_of};
+
+    ghost from_gives = { λ raw size. size_of size ≡ raw };
+
+    fn from(raw: u32) -> Self {
+        TextSize { raw }
+    }
+}
+
+impl From<TextSize> for u32 {
+    ghost use Rattle.tt_base.specs.Range.{size_of};
+
+    ghost from_gives = { λ size raw. raw ≡ size_of size };
+
+    fn from(size: TextSize) -> u32 {
+        size.raw
+    }
+}
+
+/// A piece of a text: from its start up to its end, in bytes.
+#[derive(Debug, Clone, Copy, PartialEq, Eq, Hash)]
+pub struct TextRange {
+    start: TextSize,
+    end: TextSize,
+    ghost ordered: { start.raw ≤ end.raw },
+}
+
+impl TextRange {
+    ghost use Rattle.tt_base.specs.Range.{size_of, start_of, end_of};
+
+    pub fn new(start: TextSize, end: TextSize) -> Self
+        requires { size_of start ≤ size_of end }
+        ensures start { start_of result ≡ size_of start }
+        ensures end { end_of result ≡ size_of end }
+    {
+        TextRange { start, end }
+    }
+
+    /// The range of that length at a place, or `None` where its end does not fit.
+    pub fn at(offset: TextSize, len: TextSize) -> Option<TextRange>
+        ensures { MatchOption result
+            (2 ^ 32 ≤ size_of offset + size_of len)
+            (λ range. (start_of range ≡ size_of offset) × (end_of range ≡ size_of offset + size_of len)) }
+    {
+        let end = offset.checked_add(len)?;
+        Some(TextRange { start: offset, end })
+    }
+
+    /// The range of no length at a place.
+    pub fn empty(offset: TextSize) -> TextRange
+        ensures start { start_of result ≡ size_of offset }
+        ensures end { end_of result ≡ size_of offset }
+    {
+        TextRange {
+            start: offset,
+            end: offset,
+        }
+    }
+
+    pub fn start(self) -> TextSize
+        ensures value { size_of result ≡ start_of self }
+        ensures ordered { start_of self ≤ end_of self }
+    {
+        self.start
+    }
+
+    pub fn end(self) -> TextSize
+        ensures value { size_of result ≡ end_of self }
+        ensures ordered { start_of self ≤ end_of self }
+    {
+        self.end
+    }
+
+    pub fn len(self) -> TextSize
+        ensures { start_of self + size_of result ≡ end_of self }
+    {
+        TextSize {
+            raw: self.end.raw - self.start.raw,
+        }
+    }
+
+    pub fn is_empty(self) -> bool
+        ensures { IsTrue result ↔ (start_of self ≡ end_of self) }
+    {
+        self.start == self.end
+    }
+}
