@@ -1,3 +1,4 @@
+pub mod Equality
 pub mod Literals
 pub mod Ranges
 mod Rows

@@ -1,5 +1,5 @@
 -- Where a literal may be cut.
-use Rattle.std.proofs.Common.{◌≡◌, ℕ, ◌-◌, ◌≤◌, List, ◌++◌, length, length-append, ap, subst, arith}
+use Rattle.std.proofs.Common.{◌≡◌, ℕ, ◌-◌, List, ◌++◌, length, length-append, ap, subst, arith}
 use Rattle.std.specs.Str.{IsUtf8, IsCharBoundary}
 use Rattle.std.proofs.lemmas.Str.{IsCharBoundary-at_seam}
 use Rattle.tt_base.specs.Literal.{CutsText}

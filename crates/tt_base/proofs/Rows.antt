@@ -1,5 +1,5 @@
 -- What the definitions compute on small trees, as the rows of `docs/FORMATS.md` have it.
-use Rattle.std.proofs.Common.{◌≡◌, List, [], ◌∷◌, codes, refl, lit<, lit≤, not-le_of_lt}
+use Rattle.std.proofs.Common.{◌≡◌, [], ◌∷◌, codes, refl, lit<, lit≤, not-le_of_lt}
 use Rattle.tt_base.specs.declared.delimiter.DelimiterKind.TheVariants.{Parenthesis, Brace, Invisible}
 use Rattle.tt_base.specs.declared.literal.LitKind.TheVariants as lit
 use Rattle.tt_base.specs.declared.punct.Spacing.TheVariants.{Alone, JointHidden}

@@ -1,5 +1,4 @@
 -- The punct that stands for none.
-use Rattle.std.specs.Prelude.{ℕ}
 use Rattle.std.proofs.Common.{lit≤}
 use Rattle.tt_base.specs.declared.punct.Punct.{Punct}
 use Rattle.tt_base.specs.declared.punct.Spacing.TheVariants.{Alone}

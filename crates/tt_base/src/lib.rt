@@ -25,4 +25,3 @@ pub use span::{ErasedFileAstId, FileId, Span, SpanAnchor, SpanPart, SyntaxContex
 pub use symbol::Symbol;
 pub use text_range::{TextRange, TextSize};
 pub use token_tree::TokenTree;
-
