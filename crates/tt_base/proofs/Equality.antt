@@ -27,8 +27,7 @@ use Rattle.tt_base.specs.contracts.literal.LiteralPartialEq.TheImpl as literal_i
 use Rattle.tt_base.specs.contracts.punct.PunctPartialEq.TheImpl as punct_impl
 use Rattle.tt_base.specs.contracts.span.SpanPartialEq.TheImpl as span_impl
 use Rattle.tt_base.specs.contracts.text_range.TextRangePartialEq.TheImpl as range_impl
-use Rattle.tt_base.specs.contracts.token_tree.TokenTreeEq.TheImpl.Laws as token_eq
-use Rattle.tt_base.specs.Equality.{same_token}
+use Rattle.tt_base.specs.Equality.{same_token, same_token-equivalence}
 use Rattle.tt_base.specs.Literal.{IsLiteral, symbol_of, span_of, kind_of, suffix_len_of}
 use Rattle.tt_base.specs.Range.{start_of, end_of}
 use Rattle.tt_base.proofs.Ranges.{same_range}
@@ -122,4 +121,4 @@ token_from_eq a b h = search rules
 
 -- `==` is true of two tokens exactly if they are one.
 pub same_token_iff : (a b : TokenTree) → (same_token a b ≡ true) ↔ (a ≡ b)
-same_token_iff a b = (token_from_eq a b, λ same. subst (λ x. same_token a x ≡ true) same (token_eq.lawful.laws.refl a))
+same_token_iff a b = (token_from_eq a b, λ same. subst (λ x. same_token a x ≡ true) same (same_token-equivalence.refl a))

@@ -1,0 +1,28 @@
+-- The lines that the machine answers.
+use Rattle.std.specs.Prelude.{ℕ, List, [], ◌∷◌, ◌++◌, codes, decimal}
+use Rattle.tt_base.specs.Fault.{number_of}
+use Rattle.tt_base.specs.declared.fault.TtFault.{TtFault}
+
+-- a text and its line feed
+abbrev pub line : List ℕ → List ℕ
+line text = text ++ 10 ∷ []
+
+-- the command was carried out
+abbrev pub ok_line : List ℕ
+ok_line = line (codes "ok")
+
+-- a slot that was to be read holds no tree
+abbrev pub empty_line : List ℕ
+empty_line = line (codes "empty")
+
+-- what was asked is so
+abbrev pub yes_line : List ℕ
+yes_line = line (codes "yes")
+
+-- it is not so
+abbrev pub no_line : List ℕ
+no_line = line (codes "no")
+
+-- the command was refused, with this fault
+abbrev pub fault_line : TtFault → List ℕ
+fault_line fault = line (codes "fault " ++ decimal (number_of fault))

@@ -1,0 +1,30 @@
+-- What the plain machine holds.
+use Rattle.std.specs.Coded.{Coded, code_by, coded×, coded_list, coded_option}
+use Rattle.std.specs.Prelude.{ℕ, List, [], Option, None, Some, refl, replicate, slice_index_or, slice_set}
+use Rattle.tt_base.specs.Forest.{Root}
+use Rattle.tt_base.specs.ForestCode.{root_code}
+use Rattle.tt_base.specs.contracts.token_tree.TokenTree.{the_row as token_row}
+use Rattle.tt_base.specs.declared.token_tree.TokenTree.{TokenTree}
+
+-- the slots, each empty or a tree, and the list of tokens
+pub record State : Type 0 where
+  pub slots : List (Option Root)
+  pub list : List TokenTree
+
+-- sixteen empty slots and an empty list
+abbrev pub start : State
+start = record { slots = replicate 16 None; list = [] }
+
+-- the tree in a slot, if there is one
+abbrev pub tree_in : State → ℕ → Option Root
+tree_in state slot = slice_index_or state.slots slot None
+
+-- the state in which that tree is in the slot
+abbrev pub with_tree : State → ℕ → Root → State
+with_tree state slot root = record state { slots = slice_set state.slots slot (Some root) }
+
+-- a state is stored as its two lists
+abbrev pub state_code : Coded State
+state_code =
+    code_by (List (Option Root) × List TokenTree) (coded× (coded_list (coded_option root_code)) (coded_list token_row.coded)) (λ s. (s.slots, s.list))
+    (λ p. record { slots = p.0; list = p.1 }) (λ _. refl)

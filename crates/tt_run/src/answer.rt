@@ -1,0 +1,100 @@
+ghost use Rattle.std.specs.Prelude.{◌≡◌, ◌++◌, ◌∷◌, [], string_bytes, if◌then◌else◌};
+
+use std::marker::Model;
+use tt_base::TtFault;
+
+#[derive(Drop)]
+enum Held {
+    Fixed(&'static [u8]),
+    Built(String),
+}
+
+/// What the machine answers to one command: a line or several, each with its line feed.
+/// A contract sees its bytes.
+#[derive(Drop)]
+pub struct Answer {
+    held: Held,
+}
+
+impl Model for Answer {
+    ghost use Rattle.std.specs.Prelude.{ℕ, List};
+    ghost use Rattle.tt_run.specs.Held.{held_bytes};
+
+    ghost Value = { List ℕ };
+
+    ghost view = { λ answer. held_bytes answer.held };
+}
+
+impl Answer {
+    ghost use Rattle.tt_run.specs.Answer.{ok_line, empty_line, yes_line, no_line, fault_line};
+
+    pub fn as_bytes(&self) -> &[u8]
+        ensures { result.now ≡ self.now }
+    {
+        match &self.held {
+            Held::Fixed(bytes) => *bytes,
+            Held::Built(text) => text.as_bytes(),
+        }
+    }
+
+    fn fixed(bytes: &'static [u8]) -> Answer
+        ensures { result ≡ bytes.entry.now }
+    {
+        Answer {
+            held: Held::Fixed(bytes),
+        }
+    }
+
+    /// The lines of a text, which ends in a line feed.
+    pub(crate) fn built(text: String) -> Answer
+        ensures { result ≡ string_bytes text }
+    {
+        Answer {
+            held: Held::Built(text),
+        }
+    }
+
+    /// `ok`.
+    pub(crate) fn ok() -> Answer
+        ensures { result ≡ ok_line }
+    {
+        Answer::fixed(b"ok\n")
+    }
+
+    /// `empty`: a slot that was to be read holds no tree.
+    pub(crate) fn empty() -> Answer
+        ensures { result ≡ empty_line }
+    {
+        Answer::fixed(b"empty\n")
+    }
+
+    /// `yes` or `no`.
+    pub(crate) fn yes_or_no(yes: bool) -> Answer
+        ensures { result ≡ (if yes then yes_line else no_line) }
+    {
+        if yes {
+            Answer::fixed(b"yes\n")
+        } else {
+            Answer::fixed(b"no\n")
+        }
+    }
+
+    /// `fault N`, made without memory.
+    pub(crate) fn fault(fault: TtFault) -> Answer
+        ensures { result ≡ fault_line fault }
+    {
+        Answer::fixed(match fault {
+            TtFault::Memory => b"fault 1\n",
+            TtFault::NotOneSubtree => b"fault 2\n",
+            TtFault::NoSuchPlace => b"fault 3\n",
+            TtFault::NotALeaf => b"fault 4\n",
+            TtFault::SuffixTooLong => b"fault 5\n",
+            TtFault::BadScan => b"fault 6\n",
+            TtFault::TooManyTokens => b"fault 7\n",
+            TtFault::TooManySpanParts => b"fault 8\n",
+            TtFault::TooManySymbols => b"fault 9\n",
+            TtFault::TooManyBytes => b"fault 10\n",
+            TtFault::PointsSpent => b"fault 11\n",
+        })
+    }
+}

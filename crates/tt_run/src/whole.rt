@@ -1,0 +1,32 @@
+ghost use Rattle.std.specs.Prelude.{◌↔◌, IsTrue, IfOk};
+ghost use Rattle.tt_base.specs.Forest.{IsWhole, IsOneSubtree};
+
+use crate::levels::Levels;
+use std::alloc::{AllocError, Global};
+use tt_base::TokenTree;
+
+/// Whether the list is the flat list of exactly one subtree, found in one pass.
+pub(crate) fn is_one_subtree(alloc: Global, tokens: &[TokenTree]) -> Result<bool, AllocError>
+    ensures { IfOk result (λ one. IsTrue one ↔ IsOneSubtree tokens.now) }
+{
+    let Some((TokenTree::Subtree(top), below)) = tokens.split_first() else {
+        return Ok(false);
+    };
+    if top.len as usize != below.len() {
+        return Ok(false);
+    }
+    Ok(is_whole(alloc, below)?)
+}
+
+// Whether the list is the flat list of some trees.
+fn is_whole(alloc: Global, tokens: &[TokenTree]) -> Result<bool, AllocError>
+    ensures { IfOk result (λ whole. IsTrue whole ↔ IsWhole tokens.now) }
+{
+    let mut levels = Levels::new(alloc, tokens.len());
+    for token in tokens {
+        if !levels.take(token)? {
+            return Ok(false);
+        }
+    }
+    Ok(levels.is_done())
+}
