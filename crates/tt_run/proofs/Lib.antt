@@ -1,3 +1,14 @@
+pub mod Answering
+pub mod Commands
 pub mod CutLists
+pub mod Cutting
+pub mod Feeding
+pub mod LineCuts
+pub mod Literals
+pub mod Numbers
+pub mod OneToOne
+pub mod Searching
+pub mod Spans
 pub mod Steps
+pub mod Telling
 pub mod WholeTexts

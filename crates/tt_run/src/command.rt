@@ -1,5 +1,21 @@
+ghost use Rattle.std.specs.Prelude.{◌≡◌, IfOk, IfErr, MatchOption};
+ghost use Rattle.tt_base.specs.declared.fault.TtFault.TheVariants.{Memory};
+ghost use Rattle.tt_run.specs.Reading.{Reads};
+
+mod kinds;
+mod numbers;
+mod span;
+mod tokens;
+mod verb;
+mod word;
+
 use crate::slot::Slot;
-use tt_base::TokenTree;
+use std::alloc::Global;
+use numbers::two_slots;
+use tokens::token;
+use tt_base::{TokenTree, TtFault};
+use verb::Verb;
+use word::{Word, first};
 
 /// What a line may ask of the machine.
 #[derive(Drop)]
@@ -12,4 +28,32 @@ pub enum Command {
     Show(Slot),
     /// Whether two slots hold the same tree.
     Equal(Slot, Slot),
+}
+
+impl Command {
+    ghost use Rattle.tt_run.specs.Command.{CommandFits, IsNoCommand, StandsFor, spell};
+
+    /// The command that the line stands for, if there is one. The line is given without its line feed.
+    pub fn parse(alloc: Global, line: &[u8]) -> Result<Option<Command>, TtFault>
+        ensures reads { IfOk result (λ found. MatchOption found (IsNoCommand line.now) (StandsFor line.now)) }
+        ensures unique { (one other : Command) → StandsFor line.now one → StandsFor line.now other → one ≡ other }
+        ensures err { IfErr result (λ fault. fault ≡ Memory) }
+    {
+        Command::read(alloc, line)
+    }
+
+    fn read(alloc: Global, line: &[u8]) -> Result<Option<Command>, TtFault>
+        ensures reads { IfOk result (Reads spell CommandFits line.now) }
+        ensures err { IfErr result (λ fault. fault ≡ Memory) }
+    {
+        let Some((verb, rest)) = first(line) else {
+            return Ok(None);
+        };
+        match verb {
+            Verb::Item => Ok(token(alloc, rest)?.map(Command::Item)),
+            Verb::List => Ok(Slot::read(rest).map(Command::List)),
+            Verb::Show => Ok(Slot::read(rest).map(Command::Show)),
+            Verb::Equal => Ok(two_slots(rest).map(|(left, right)| Command::Equal(left, right))),
+        }
+    }
 }

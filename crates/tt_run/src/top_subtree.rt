@@ -9,7 +9,7 @@ ghost use Rattle.tt_base.specs.ForestCode.{IsOneSubtree-prop};
 ghost use Rattle.tt_base.specs.TreeText.{display};
 ghost use Rattle.tt_base.specs.declared.fault.TtFault.TheVariants.{Memory, NotOneSubtree};
 
-use crate::text::write_trees;
+use crate::display::write_trees;
 use crate::whole::is_one_subtree;
 use std::alloc::Global;
 use std::fmt;

@@ -7,7 +7,7 @@ use Rattle.tt_base.specs.Unflat.{unflat}
 use Rattle.tt_base.specs.declared.token_tree.TokenTree.TheVariants as token
 use Rattle.tt_base.proofs.WholeLists.{end_piece}
 use Rattle.tt_run.proofs.WholeTexts.{splits_at, leaf_goes_on, subtree_goes_on}
-use Rattle.tt_run.proofs.text.+write.Goals as goal
+use Rattle.tt_run.proofs.display.+write.Goals as goal
 
 pub write_trees-loop-token-preserved-in-Leaf : goal.write_trees-loop-token-preserved-in-Leaf
 write_trees-loop-token-preserved-in-Leaf g t c =

@@ -4,7 +4,7 @@ use Rattle.std.specs.Fmt.{HasWritten, IsPlainFormatter}
 use Rattle.tt_base.specs.Forest.{IsWhole}
 use Rattle.tt_base.specs.TreeText.{siblings_text}
 use Rattle.tt_base.specs.Unflat.{unflat}
-use Rattle.tt_run.proofs.text.+write.Given as goal
+use Rattle.tt_run.proofs.display.+write.Given as goal
 
 abbrev pub decreases-write_trees : goal.decreases-write_trees
 decreases-write_trees g l = 2 * length l.tokens.now + 1
