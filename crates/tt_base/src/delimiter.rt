@@ -26,10 +26,7 @@ impl DelimSpan {
     pub fn from_single(span: Span) -> Self
         ensures { result ≡ delim_span span span }
     {
-        DelimSpan {
-            open_span: span,
-            close: span,
-        }
+        DelimSpan::from_pair(span, span)
     }
 
     pub fn from_pair(open_span: Span, close: Span) -> Self
@@ -54,11 +51,7 @@ impl Delimiter {
     pub fn invisible_spanned(span: Span) -> Self
         ensures { result ≡ delimiter DelimiterKind.Invisible span span }
     {
-        Delimiter {
-            open_span: span,
-            close: span,
-            kind: DelimiterKind::Invisible,
-        }
+        Delimiter::invisible_delim_spanned(DelimSpan::from_single(span))
     }
 
     /// The invisible delimiter with those spans.

@@ -25,3 +25,6 @@ pub use span::{ErasedFileAstId, FileId, Span, SpanAnchor, SpanPart, SyntaxContex
 pub use symbol::Symbol;
 pub use text_range::{TextRange, TextSize};
 pub use token_tree::TokenTree;
+
+#[cfg(test)]
+mod tests;

@@ -112,15 +112,11 @@ impl Literal {
     }
 
     /// The same literal at another place.
-    pub fn with_span(self, span: Span) -> Literal
+    pub fn with_span(mut self, span: Span) -> Literal
         ensures { IsLiteral result (symbol_of self) span (kind_of self) (suffix_len_of self) }
     {
-        Literal {
-            symbol: self.symbol,
-            span,
-            kind: self.kind,
-            suffix_len: self.suffix_len,
-        }
+        self.span = span;
+        self
     }
 
     pub fn text_and_suffix(&self) -> (&str, &str)

@@ -27,8 +27,7 @@ impl TextSize {
             (2 ^ 32 ≤ size_of self + size_of rhs)
             (λ sum. size_of sum ≡ size_of self + size_of rhs) }
     {
-        let raw = self.raw.checked_add(rhs.raw)?;
-        Some(TextSize { raw })
+        self.raw.checked_add(rhs.raw).map(TextSize::new)
     }
 
     /// The difference, or `None` where `rhs` is the larger.
@@ -37,8 +36,7 @@ impl TextSize {
             (size_of self < size_of rhs)
             (λ difference. size_of difference + size_of rhs ≡ size_of self) }
     {
-        let raw = self.raw.checked_sub(rhs.raw)?;
-        Some(TextSize { raw })
+        self.raw.checked_sub(rhs.raw).map(TextSize::new)
     }
 }
 
@@ -48,7 +46,7 @@ impl From<u32> for TextSize {
     ghost from_gives = { λ raw size. size_of size ≡ raw };
 
     fn from(raw: u32) -> Self {
-        TextSize { raw }
+        TextSize::new(raw)
     }
 }
 
@@ -88,7 +86,7 @@ impl TextRange {
             (λ range. (start_of range ≡ size_of offset) × (end_of range ≡ size_of offset + size_of len)) }
     {
         let end = offset.checked_add(len)?;
-        Some(TextRange { start: offset, end })
+        Some(TextRange::new(offset, end))
     }
 
     /// The range of no length at a place.
@@ -96,10 +94,7 @@ impl TextRange {
         ensures start { start_of result ≡ size_of offset }
         ensures end { end_of result ≡ size_of offset }
     {
-        TextRange {
-            start: offset,
-            end: offset,
-        }
+        TextRange::new(offset, offset)
     }
 
     pub fn start(self) -> TextSize
@@ -119,9 +114,7 @@ impl TextRange {
     pub fn len(self) -> TextSize
         ensures { start_of self + size_of result ≡ end_of self }
     {
-        TextSize {
-            raw: self.end.raw - self.start.raw,
-        }
+        TextSize::new(self.end.raw - self.start.raw)
     }
 
     pub fn is_empty(self) -> bool
