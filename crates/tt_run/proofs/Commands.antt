@@ -1,5 +1,5 @@
 -- What a line's first word tells of its command. A later command is one more case of each definition and of each proof by cases.
-use Rattle.std.proofs.Common.{◌≡◌, ℕ, ◌<◌, List, Option, Some, None, refl, sym, ap, ap₂, subst, ◌∙◌}
+use Rattle.std.proofs.Common.{◌≡◌, ℕ, ◌<◌, List, Option, Some, None, refl, sym, ap, subst, ◌∙◌}
 use Rattle.std.specs.Prelude.{codes, if◌then◌else◌}
 use Rattle.std.specs.Fmt.{decimal}
 use Rattle.std.specs.Option.{option_map}
@@ -9,7 +9,7 @@ use Rattle.tt_run.specs.declared.command.Command.{Command}
 use Rattle.tt_run.specs.declared.command.Command.TheVariants as command
 use Rattle.tt_run.specs.declared.command.verb.Verb.{Verb}
 use Rattle.tt_run.specs.declared.command.verb.Verb.TheVariants as verb
-use Rattle.tt_run.specs.Command.{CommandFits, IsNoCommand, StandsFor, spell}
+use Rattle.tt_run.specs.Command.{CommandFits, StandsFor, spell}
 use Rattle.tt_run.specs.Reading.{Reads, words}
 use Rattle.tt_run.specs.Token.{slots_words, SlotsFit, token_words}
 use Rattle.tt_run.specs.Verb.{verb_word}

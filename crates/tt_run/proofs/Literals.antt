@@ -8,11 +8,10 @@ use Rattle.tt_base.specs.declared.literal.LitKind.{LitKind}
 use Rattle.tt_base.specs.declared.literal.Literal.{Literal}
 use Rattle.tt_base.specs.declared.span.Span.{Span}
 use Rattle.tt_base.specs.Fits.{SpanFits, KindFits, LeafFits}
-use Rattle.tt_base.specs.Literal.{CutsText, IsLiteral, symbol_of, span_of, kind_of, suffix_len_of}
-use Rattle.tt_base.specs.Span.{span_text}
+use Rattle.tt_base.specs.Literal.{CutsText, IsLiteral, span_of, kind_of, suffix_len_of}
 use Rattle.tt_run.specs.Reading.{Reads, words}
 use Rattle.tt_run.specs.Token.{literal_kind_word, literal_words, placed_words, PlacedFits}
-use Rattle.tt_run.specs.WordLaws.{spaceless_number, spaceless_literal_kind, spaceless_span}
+use Rattle.tt_run.specs.WordLaws.{spaceless_byte, spaceless_literal_kind, spaceless_span}
 use Rattle.tt_run.proofs.Cutting.{words_same}
 
 pub literal_read : (text : List ℕ) (kind : LitKind) (n : ℕ) (span : Span) (symbol : List ℕ) (r : Option Literal)
@@ -21,7 +20,7 @@ pub literal_read : (text : List ℕ) (kind : LitKind) (n : ℕ) (span : Span) (s
 literal_read text kind n span symbol None e k small p uncut =
     λ literal fits d.
     let a = words_same text _ _ _ _ (spaceless_literal_kind kind k) (spaceless_literal_kind (kind_of literal) fits.1) e d in
-    let b = words_same _ _ _ _ _ (spaceless_number n (omega arith)) (spaceless_number (suffix_len_of literal) (omega (arith, fits.2))) refl a.1 in
+    let b = words_same _ _ _ _ _ (spaceless_byte n small) (spaceless_byte (suffix_len_of literal) fits.2) refl a.1 in
     let s = words_same _ _ _ _ _ (spaceless_span span p.0) (spaceless_span (span_of literal) fits.0) refl b.1 in
     let suffix : n ≡ suffix_len_of literal = decimal_injective n (suffix_len_of literal) (omega arith) (omega (arith, fits.2)) b.0 in
     uncut (rw (s.1, suffix) (literal.fits, literal.cuts))

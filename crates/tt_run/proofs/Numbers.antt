@@ -1,7 +1,7 @@
 -- Which words are numbers.
 use Rattle.tt_run.specs.Reading.{Reads}
 use Rattle.tt_run.specs.WordLaws.{own}
-use Rattle.std.proofs.Common.{◌≡◌, ◌≢◌, ℕ, take, ◌^◌, ◌<◌, ◌≤◌, List, [], ◌∷◌, ◌⊎◌, Result, Ok, Err, Option, Some, None, MatchOption, zero, suc, length, get_or, sym, ap, ◌∙◌, subst, arith, lit<}
+use Rattle.std.proofs.Common.{◌≡◌, ◌≢◌, ℕ, take, ◌^◌, ◌<◌, ◌≤◌, List, ◌⊎◌, Result, Ok, Err, Option, Some, None, MatchOption, zero, suc, length, get_or, sym, ap, ◌∙◌, subst, arith, lit<}
 use Rattle.std.specs.Char.{IsNotAsciiDigit}
 use Rattle.std.specs.Fmt.{decimal}
 use Rattle.std.specs.Result.{OkIff, result_ok}

@@ -1,33 +1,24 @@
 -- No two values are spelled alike.
-use Rattle.std.proofs.Common.{◌≡◌, ℕ, ◌-◌, ◌^◌, ◌<◌, ◌≤◌, List, [], ◌∷◌, ◌++◌, length, get_or, take, drop, refl, sym, ap, ap₂, ◌∙◌, lit<, arith}
+use Rattle.std.proofs.Common.{◌≡◌, ℕ, ◌^◌, ◌<◌, ◌≤◌, List, [], get_or, take, drop, refl, sym, ap, ◌∙◌, lit<, arith}
 use Rattle.std.specs.Prelude.{codes, encode_utf8, if◌then◌else◌}
 use Rattle.std.specs.Char.{IsScalar}
-use Rattle.std.specs.Coded.{le_prop}
 use Rattle.std.specs.Fmt.{decimal}
-use Rattle.std.specs.Str.{bytes_eq, IsCharBoundary}
+use Rattle.std.specs.Str.{bytes_eq}
 use Rattle.std.specs.Str.Parse.{digits_value}
-use Rattle.std.proofs.Props.{props}
 use Rattle.std.proofs.lemmas.Fmt.{decimal_injective, digits_value-decimal}
 use Rattle.std.proofs.lemmas.List.{append-nil}
 use Rattle.std.proofs.lemmas.Str.{encode_same}
-use mathlib.Core.HLevel.{is_prop→PathP}
 use Rattle.tt_base.specs.declared.delimiter.DelimiterKind.{DelimiterKind}
 use Rattle.tt_base.specs.declared.delimiter.DelimiterKind.TheVariants.{Parenthesis, Brace, Bracket, Invisible}
-use Rattle.tt_base.specs.declared.delimiter.Subtree.{Subtree}
-use Rattle.tt_base.specs.declared.ident.Ident.{Ident}
 use Rattle.tt_base.specs.declared.ident.IdentIsRaw.{IdentIsRaw}
 use Rattle.tt_base.specs.declared.ident.IdentIsRaw.TheVariants.{No, Yes}
 use Rattle.tt_base.specs.declared.leaf.Leaf.{Leaf}
 use Rattle.tt_base.specs.declared.leaf.Leaf.TheVariants as leaf
 use Rattle.tt_base.specs.declared.literal.LitKind.{LitKind}
 use Rattle.tt_base.specs.declared.literal.LitKind.TheVariants as lit
-use Rattle.tt_base.specs.declared.literal.Literal.{Literal}
-use Rattle.tt_base.specs.declared.punct.Punct.{Punct}
 use Rattle.tt_base.specs.declared.punct.Spacing.{Spacing}
 use Rattle.tt_base.specs.declared.punct.Spacing.TheVariants.{Alone, Joint, JointHidden}
 use Rattle.tt_base.specs.declared.span.Span.{Span}
-use Rattle.tt_base.specs.declared.text_range.TextRange.{TextRange}
-use Rattle.tt_base.specs.declared.token_tree.TokenTree.{TokenTree}
 use Rattle.tt_base.specs.declared.token_tree.TokenTree.TheVariants as token
 use Rattle.tt_base.specs.Fits.{SpanFits, KindFits, LeafFits, TokenFits}
 use Rattle.tt_base.specs.Literal.{symbol_of, span_of, kind_of, suffix_len_of}
@@ -37,7 +28,7 @@ use Rattle.tt_base.proofs.Equality.{same_literal}
 use Rattle.tt_base.proofs.Ranges.{same_range}
 use Rattle.tt_run.specs.Reading.{words}
 use Rattle.tt_run.specs.Token.{kind_word, spacing_word, raw_word, literal_kind_word, placed_words, PlacedFits, punct_words, ident_words, literal_words, subtree_words, leaf_words, token_words, slots_words, SlotsFit}
-use Rattle.tt_run.specs.WordLaws.{own, spaceless_number, spaceless_kind, spaceless_spacing, spaceless_rawness, spaceless_literal_kind, spaceless_span}
+use Rattle.tt_run.specs.WordLaws.{own, spaceless_byte, spaceless_slot, spaceless_kind, spaceless_spacing, spaceless_rawness, spaceless_literal_kind, spaceless_span}
 use Rattle.tt_run.proofs.Cutting.{words_same}
 use Rattle.tt_run.proofs.Spans.{Begins, after_file, after_ast, after_start, span_text-from_left, past_file, past_ast, past_start, past_end}
 
@@ -122,12 +113,15 @@ one_literal_kind = by_inverse literal_kind_word KindFits literal_kind_back liter
 pub one_number : IsOneToOne decimal (λ n. n < 2 ^ 32)
 one_number m n p q e = decimal_injective m n (omega arith) (omega arith) e
 
+pub one_byte : IsOneToOne decimal (λ n. n ≤ 255)
+one_byte m n p q e = decimal_injective m n (omega arith) (omega arith) e
+
 pub one_slot : IsOneToOne decimal (λ n. n < 16)
 one_slot m n p q e = decimal_injective m n (omega arith) (omega arith) e
 
 pub one_pair_of_slots : IsOneToOne slots_words SlotsFit
 one_pair_of_slots (a, b) (x, y) p q e =
-    let u = words_same _ _ _ _ _ (spaceless_number a (omega (arith, p.0))) (spaceless_number x (omega (arith, q.0))) refl e in
+    let u = words_same _ _ _ _ _ (spaceless_slot a p.0) (spaceless_slot x q.0) refl e in
     λ i. (one_slot a x p.0 q.0 u.0 i, one_slot b y p.1 q.1 u.1 i)
 
 pub one_character : IsOneToOne encode_utf8 IsScalar
@@ -155,14 +149,13 @@ one_placed (a, x) (b, y) p q e =
 pub one_literal : IsOneToOne literal_words (λ literal. LeafFits (leaf.Literal literal))
 one_literal a b p q e =
     let u = words_same _ _ _ _ _ (spaceless_literal_kind (kind_of a) p.1) (spaceless_literal_kind (kind_of b) q.1) refl e in
-    let small : (n : ℕ) → n ≤ 255 → n < 2 ^ 32 = λ n h. omega arith in
-    let v = words_same _ _ _ _ _ (spaceless_number (suffix_len_of a) (small _ p.2)) (spaceless_number (suffix_len_of b) (small _ q.2)) refl u.1 in
+    let v = words_same _ _ _ _ _ (spaceless_byte (suffix_len_of a) p.2) (spaceless_byte (suffix_len_of b) q.2) refl u.1 in
     let w = one_placed (span_of a, symbol_of a) (span_of b, symbol_of b) (p.0, p.3) (q.0, q.3) v.1 in
     same_literal a b (record {
       symbol = ap (λ (placed : Span × List ℕ). placed.1) w;
       span = ap (λ (placed : Span × List ℕ). placed.0) w;
       kind = one_literal_kind (kind_of a) (kind_of b) p.1 q.1 u.0;
-      suffix_len = one_number (suffix_len_of a) (suffix_len_of b) (small _ p.2) (small _ q.2) v.0;
+      suffix_len = one_byte (suffix_len_of a) (suffix_len_of b) p.2 q.2 v.0;
     })
 
 pub one_ident : IsOneToOne ident_words (λ ident. LeafFits (leaf.Ident ident))

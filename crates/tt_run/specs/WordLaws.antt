@@ -1,6 +1,6 @@
 -- No word holds the byte that ends it.
 use Rattle.std.specs.Prelude.{◌≡◌, ◌≢◌, ◌⊎◌, ℕ, ◌<◌, ◌≤◌, ◌^◌, List, ◌++◌, codes, decimal}
-use Rattle.std.proofs.Common.{arith, rules, get_or, ◌∙◌, inl, inr, lit<}
+use Rattle.std.proofs.Common.{arith, rules, get_or, ◌∙◌, inl, lit<}
 use Rattle.std.specs.Str.Parse.{AllDigits, digits_value}
 use Rattle.std.proofs.lemmas.Str.Parse.{IsNumeralModel, numerals_by_value, tells_digits, digit_at}
 use Rattle.std.proofs.lemmas.List.{get_or_default}
@@ -16,7 +16,6 @@ use Rattle.tt_base.specs.declared.punct.Spacing.{Spacing}
 use Rattle.tt_base.specs.declared.punct.Spacing.TheVariants.{Alone, Joint, JointHidden}
 use Rattle.tt_base.specs.declared.span.Span.{Span}
 use Rattle.tt_base.specs.Fits.{SpanFits, KindFits}
-use Rattle.tt_base.specs.Range.{start_of, end_of}
 use Rattle.tt_base.specs.Span.{span_text}
 use Rattle.tt_run.specs.declared.command.verb.Verb.{Verb}
 use Rattle.tt_run.specs.declared.command.verb.Verb.TheVariants as verb
@@ -40,6 +39,12 @@ Lacks-append byte a b p q = All-append (λ x. x ≢ byte) a b p q
 pub spaceless_number : (n : ℕ) → n < 2 ^ 32 → Lacks 32 (decimal n)
 spaceless_number n small = Lacks-decimal 32 (inl (lit< tt)) n small
 
+pub spaceless_byte : (n : ℕ) → n ≤ 255 → Lacks 32 (decimal n)
+spaceless_byte n small = spaceless_number n (omega arith)
+
+pub spaceless_slot : (n : ℕ) → n < 16 → Lacks 32 (decimal n)
+spaceless_slot n small = spaceless_number n (omega arith)
+
 pub spaceless_kind : (kind : DelimiterKind) → Lacks 32 (kind_word kind)
 spaceless_kind Parenthesis = search rules
 spaceless_kind Brace = search rules
@@ -61,11 +66,11 @@ spaceless_literal_kind lit.Char fits = search rules
 spaceless_literal_kind lit.Integer fits = search rules
 spaceless_literal_kind lit.Float fits = search rules
 spaceless_literal_kind lit.Str fits = search rules
-spaceless_literal_kind (lit.StrRaw count) fits = Lacks-append 32 (codes "rstr:") _ (search rules) (spaceless_number count (omega arith))
+spaceless_literal_kind (lit.StrRaw count) fits = Lacks-append 32 (codes "rstr:") _ (search rules) (spaceless_byte count fits)
 spaceless_literal_kind lit.ByteStr fits = search rules
-spaceless_literal_kind (lit.ByteStrRaw count) fits = Lacks-append 32 (codes "rbstr:") _ (search rules) (spaceless_number count (omega arith))
+spaceless_literal_kind (lit.ByteStrRaw count) fits = Lacks-append 32 (codes "rbstr:") _ (search rules) (spaceless_byte count fits)
 spaceless_literal_kind lit.CStr fits = search rules
-spaceless_literal_kind (lit.CStrRaw count) fits = Lacks-append 32 (codes "rcstr:") _ (search rules) (spaceless_number count (omega arith))
+spaceless_literal_kind (lit.CStrRaw count) fits = Lacks-append 32 (codes "rcstr:") _ (search rules) (spaceless_byte count fits)
 spaceless_literal_kind (lit.Err unit) fits = search rules
 
 pub spaceless_span : (span : Span) → SpanFits span → Lacks 32 (span_text span)

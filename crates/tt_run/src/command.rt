@@ -10,15 +10,15 @@ mod verb;
 mod word;
 
 use crate::slot::Slot;
-use std::alloc::Global;
 use numbers::two_slots;
+use std::alloc::Global;
 use tokens::token;
 use tt_base::{TokenTree, TtFault};
 use verb::Verb;
 use word::{Word, first};
 
 /// What a line may ask of the machine.
-#[derive(Drop)]
+#[derive(Debug, PartialEq, Eq, Drop)]
 pub enum Command {
     /// Appends a token to the list.
     Item(TokenTree),

@@ -1,8 +1,7 @@
-ghost use Rattle.std.specs.Prelude.{◌^◌, ◌<◌, ◌≤◌, ◌↔◌, ◌⊎◌, decimal};
+ghost use Rattle.std.specs.Prelude.{◌^◌, ◌<◌, ◌≤◌, ◌⊎◌, decimal};
 ghost use Rattle.tt_run.specs.Reading.{Reads, ReadsBefore};
 ghost use Rattle.tt_run.specs.Token.{slots_words, SlotsFit};
-ghost use Rattle.tt_run.specs.WordLaws.{spaceless_number};
-ghost use Rattle.std.proofs.Common.{arith};
+ghost use Rattle.tt_run.specs.WordLaws.{spaceless_byte, spaceless_slot};
 
 use crate::command::word::{Word, cut};
 use crate::slot::Slot;
@@ -46,7 +45,7 @@ impl Word for u8 {
         u8::try_from(number(word)?).ok()
     }
 
-    ghost has_no_space = { λ n small. spaceless_number n (Prim.omega arith) };
+    ghost has_no_space = { spaceless_byte };
 }
 
 impl Word for Slot {
@@ -58,7 +57,7 @@ impl Word for Slot {
         Slot::new(number(word)?)
     }
 
-    ghost has_no_space = { λ n small. spaceless_number n (Prim.omega arith) };
+    ghost has_no_space = { spaceless_slot };
 }
 
 /// Two slots.

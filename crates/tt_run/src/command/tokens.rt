@@ -1,4 +1,4 @@
-ghost use Rattle.std.specs.Prelude.{◌≡◌, ◌≤◌, IfOk, IfErr, IsUtf8, encode_utf8, Some};
+ghost use Rattle.std.specs.Prelude.{◌≡◌, IfOk, IfErr, encode_utf8};
 ghost use Rattle.std.specs.Char.{IsScalar};
 ghost use Rattle.tt_base.specs.Fits.{LeafFits, TokenFits};
 ghost use Rattle.tt_base.specs.declared.fault.TtFault.TheVariants.{Memory};

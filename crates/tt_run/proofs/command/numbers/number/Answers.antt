@@ -2,15 +2,15 @@ use Rattle.std.proofs.Common.{rules, arith}
 use Rattle.std.proofs.lemmas.List.{take_all}
 use Rattle.std.proofs.lemmas.Str.{digit_value_digit}
 use Rattle.std.proofs.lemmas.Int.Digits.{digits_more, digits_value_more}
-use Rattle.tt_run.proofs.Numbers.{no_empty, no_longer, no_zero, no_other, no_greater, number_read, value_small}
+use Rattle.tt_run.proofs.Numbers.{no_empty, no_longer, no_zero, no_other, number_read, value_small}
 use Rattle.tt_run.proofs.command.numbers.number.Goals as goal
 use Rattle.tt_run.proofs.command.numbers.number.Goals.{then-is_empty-via-then-is_empty, then-is_empty-via-else-is_empty+then-word-gt10, else-word-eq48-via-then-word-eq48+else-word-gt1, else-word-eq48-via-else-word-eq48}
 
 pub returns-then-is_empty : goal.returns-then-is_empty
 returns-then-is_empty c =
     elim c.then-is_empty.branch [
-      then-is_empty-via-then-is_empty w ↦ no_empty _ (search rules)
-    | then-is_empty-via-else-is_empty+then-word-gt10 w ↦ no_longer _ w.if-word-gt10.true
+      | then-is_empty-via-then-is_empty w ↦ no_empty _ (search rules)
+      | then-is_empty-via-else-is_empty+then-word-gt10 w ↦ no_longer _ w.if-word-gt10.true
     ]
 
 pub returns-then-word-gt1 : goal.returns-then-word-gt1
@@ -29,9 +29,9 @@ pub loop-digit-preserved : goal.loop-digit-preserved
 loop-digit-preserved c = record {
   digits = digits_more 10 _ _ c.loop-digit-test.true c.loop-digit.invariant.digits c.if-not-is_ascii_digit.ensures.bound;
   value =
-    let next = digits_value_more 10 _ _ c.loop-digit-test.true in
-    let digit = digit_value_digit _ c.if-not-is_ascii_digit.ensures.cases in
-    omega (arith, c.loop-digit.invariant.value);
+      let next = digits_value_more 10 _ _ c.loop-digit-test.true in
+      let digit = digit_value_digit _ c.if-not-is_ascii_digit.ensures.cases in
+      omega (arith, c.loop-digit.invariant.value);
 }
 
 pub returns : goal.returns

@@ -1,6 +1,5 @@
-use Rattle.std.proofs.Common.{arith}
-use Rattle.tt_base.specs.Literal.{symbol_of, span_of, kind_of, suffix_len_of}
-use Rattle.tt_run.specs.WordLaws.{spaceless_literal_kind, spaceless_number}
+use Rattle.tt_base.specs.Literal.{symbol_of, span_of}
+use Rattle.tt_run.specs.WordLaws.{spaceless_literal_kind, spaceless_byte}
 use Rattle.tt_run.proofs.Cutting.{words_same}
 use Rattle.tt_run.proofs.Literals.{literal_read}
 use Rattle.tt_run.proofs.command.tokens.literal.Goals as goal
@@ -16,7 +15,7 @@ returns-in_default-2-clause-reads c =
     let unread = rw c.in_default-2.is at c.in_ok-span.ensures.reads in
     λ literal fits e.
     let a = words_same _ _ _ _ _ (spaceless_literal_kind _ c.in-Some.ensures.1) (spaceless_literal_kind _ fits.1) c.in-Some.ensures.0 e in
-    let b = words_same _ _ _ _ _ (spaceless_number _ (omega (arith, c.in-Some-first.ensures.1))) (spaceless_number _ (omega (arith, fits.2))) c.in-Some-first.ensures.0 a.1 in
+    let b = words_same _ _ _ _ _ (spaceless_byte _ c.in-Some-first.ensures.1) (spaceless_byte _ fits.2) c.in-Some-first.ensures.0 a.1 in
     unread (span_of literal, symbol_of literal) (fits.0, fits.3) b.1
 
 pub returns-clause-reads : goal.returns-clause-reads

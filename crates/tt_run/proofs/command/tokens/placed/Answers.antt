@@ -1,5 +1,3 @@
-use Rattle.std.proofs.Common.{subst}
-use Rattle.std.specs.Str.{IsUtf8}
 use Rattle.tt_run.specs.WordLaws.{spaceless_span}
 use Rattle.tt_run.proofs.Cutting.{words_same}
 use Rattle.tt_run.proofs.command.tokens.placed.Goals as goal

@@ -1,4 +1,4 @@
-use Rattle.std.proofs.Common.{◌≡◌, ◌∙◌, sym, subst}
+use Rattle.std.proofs.Common.{◌∙◌, sym, subst}
 use Rattle.tt_run.specs.Reading.{Lacks}
 use Rattle.tt_run.proofs.Cutting.{cut_unique, Lacks-apart}
 use Rattle.tt_run.proofs.command.word.first.Goals as goal
