@@ -1,6 +1,6 @@
 -- What it is to read a text.
 use Rattle.std.specs.Prelude.{◌≡◌, ◌≢◌, ℕ, List, ◌∷◌, ◌++◌, Option, None, Some, All}
-use denote.Ref.{Bor}
+use Rattle.std.specs.Borrow.{Bor}
 
 -- no byte of the text is this one
 abbrev pub Lacks : ℕ → List ℕ → Type 0

@@ -1,4 +1,4 @@
--- How a token is spelled in a line.
+-- How the parts of a line are spelled: slots, words and tokens.
 use Rattle.std.specs.Prelude.{ℕ, ◌<◌, List, ◌++◌, codes, decimal, encode_utf8, IsUtf8}
 use Rattle.tt_base.specs.declared.delimiter.DelimiterKind.{DelimiterKind}
 use Rattle.tt_base.specs.declared.delimiter.DelimiterKind.TheVariants.{Parenthesis, Brace, Bracket, Invisible}

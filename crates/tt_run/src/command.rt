@@ -42,6 +42,7 @@ impl Command {
         Command::read(alloc, line)
     }
 
+    // The first word tells how the rest is read.
     fn read(alloc: Global, line: &[u8]) -> Result<Option<Command>, TtFault>
         ensures reads { IfOk result (Reads spell CommandFits line.now) }
         ensures err { IfErr result (λ fault. fault ≡ Memory) }

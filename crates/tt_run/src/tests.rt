@@ -112,6 +112,19 @@ list 0
 }
 
 #[test]
+fn fault_texts(rt: HostRuntime) -> Result<(), Fail> {
+    let texts = [
+        (RunFault::Read, "read failed"),
+        (RunFault::Write, "write failed"),
+        (RunFault::Memory, "out of memory"),
+    ];
+    for (fault, text) in texts {
+        assert_eq!(rt; fault.to_string(rt.alloc())?.as_str(), text);
+    }
+    Ok(())
+}
+
+#[test]
 fn a_byte_at_a_time(rt: HostRuntime) -> Result<(), Fail> {
     let mut reader = Noted::new(FakeReader::new(SCRIPT));
     let mut writer = Noted::new(FakeWriter::new(rt.alloc(), WriteFailure::Never));
