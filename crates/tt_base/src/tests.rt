@@ -42,7 +42,10 @@ fn sizes_and_ranges(rt: HostRuntime) {
     assert_eq!(rt; range(1, 4).len().raw(), 3);
     assert!(rt; TextRange::empty(one).is_empty());
     assert!(rt; !range(1, 4).is_empty());
-    assert_eq!(rt; (range(1, 4).start().raw(), range(1, 4).end().raw()), (1, 4));
+    assert_eq!(rt;
+        (range(1, 4).start().raw(), range(1, 4).end().raw()),
+        (1, 4)
+    );
 }
 
 #[test]
@@ -188,10 +191,22 @@ fn long_suffixes(rt: HostRuntime) -> Result<(), Fail> {
     for _ in 0..255 {
         suffix.push('a')?;
     }
-    let longest = Literal::new(rt.alloc(), "1", span(0, 1), LitKind::Integer, suffix.as_str())?;
+    let longest = Literal::new(
+        rt.alloc(),
+        "1",
+        span(0, 1),
+        LitKind::Integer,
+        suffix.as_str(),
+    )?;
     assert_eq!(rt; longest.suffix_len(), 255);
     suffix.push('a')?;
-    let refused = Literal::new(rt.alloc(), "1", span(0, 1), LitKind::Integer, suffix.as_str());
+    let refused = Literal::new(
+        rt.alloc(),
+        "1",
+        span(0, 1),
+        LitKind::Integer,
+        suffix.as_str(),
+    );
     assert_eq!(rt; refused, Err(TtFault::SuffixTooLong));
     Ok(())
 }

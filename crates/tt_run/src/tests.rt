@@ -49,7 +49,11 @@ fn scripts(rt: HostRuntime) {
         (SCRIPT, End::Clean, b"ok\nok\nok\nok\n(a ;)\nyes\n"),
         (b"equal 0 1", End::Clean, b"empty\n"),
         (b"equal 0 1\n", End::Clean, b"empty\n"),
-        (b"show 15\n\nshow 0\n", End::BadLine(2), b"empty\nbad line 2\n"),
+        (
+            b"show 15\n\nshow 0\n",
+            End::BadLine(2),
+            b"empty\nbad line 2\n",
+        ),
         (b"\n", End::BadLine(1), b"bad line 1\n"),
         // A list that is not one subtree stays.
         (

@@ -109,7 +109,10 @@ fn texts_are_the_rest_of_the_line(rt: HostRuntime) -> Result<(), Fail> {
         (b"item ident plain 0:0@0..1#0 a\r", b"(a\r)"),
         (b"item ident plain 0:0@0..1#0 r#a", b"(r#a)"),
         (b"item punct alone 0:0@0..1#0  ", b"( )"),
-        (b"item punct joint 0:0@0..1#0 \xe2\x86\x92", b"(\xe2\x86\x92)"),
+        (
+            b"item punct joint 0:0@0..1#0 \xe2\x86\x92",
+            b"(\xe2\x86\x92)",
+        ),
         (b"item punct hidden 0:0@0..4294967295#4294967295 +", b"(+)"),
         (b"item lit str 0 0:0@0..1#0 ", b"(\"\")"),
         (b"item lit int 2 0:0@0..1#0 1u8", b"(1u8)"),
@@ -117,10 +120,7 @@ fn texts_are_the_rest_of_the_line(rt: HostRuntime) -> Result<(), Fail> {
         (b"item lit rbstr:0 1 0:0@0..1#0 ax", b"(br\"a\"x)"),
     ];
     for (item, shown) in cases {
-        let mut input = Vec::from_slice(
-            rt.alloc(),
-            b"item sub paren 0:0@0..0#0 0:0@0..0#0 1\n",
-        )?;
+        let mut input = Vec::from_slice(rt.alloc(), b"item sub paren 0:0@0..0#0 0:0@0..0#0 1\n")?;
         input.extend_from_slice(item)?;
         input.extend_from_slice(b"\nlist 0\nshow 0")?;
         let mut answers = Vec::from_slice(rt.alloc(), b"ok\nok\nok\n")?;
