@@ -10,6 +10,7 @@ mod leaf;
 mod literal;
 mod literal_text;
 mod punct;
+mod shared;
 mod span;
 mod symbol;
 mod text_range;

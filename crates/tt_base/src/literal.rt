@@ -1,4 +1,4 @@
-ghost use Rattle.std.specs.Prelude.{◌≡◌, ◌-◌, ◌≤◌, ◌++◌, length, IsCharBoundary, IfOk, IfErr, MatchOption, Some, if◌then◌else◌, nat_lt};
+ghost use Rattle.std.specs.Prelude.{◌≡◌, ◌-◌, ◌≤◌, ◌++◌, length, IsCharBoundary, IfOk, IfErr, MatchOption, Some, if◌then◌else◌, nat_lt, ⊤};
 ghost use Rattle.std.proofs.Props.{props};
 ghost use Rattle.tt_base.specs.declared.fault.TtFault.TheVariants.{Memory, SuffixTooLong};
 
@@ -169,6 +169,8 @@ impl Literal {
 
 impl Clone for Literal {
     ghost is_clone = { λ literal copy. copy ≡ literal };
+
+    ghost is_infallible = { λ _. ⊤ };
 
     fn clone(&self) -> Result<Literal, AllocError> {
         Ok(Literal {

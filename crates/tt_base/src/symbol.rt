@@ -1,29 +1,33 @@
-ghost use Rattle.std.specs.Prelude.{◌≡◌, IfOk, IfErr, Some, bytes_eq};
+ghost use Rattle.std.specs.Prelude.{◌≡◌, IfOk, IfErr, Some, bytes_eq, ⊤};
 ghost use Rattle.std.proofs.Common.{rules};
 ghost use Rattle.std.specs.Cmp.Rules.{comparing, hashing};
 ghost use Rattle.std.specs.Hash as fed;
 
 use crate::fault::TtFault;
+use crate::shared::Shared;
 use std::alloc::{AllocError, Global};
 use std::fmt;
 use std::hash::{Hash, Hasher};
 use std::marker::Model;
-use std::rc::RcStr;
 
-/// A name, or the text of a literal. Symbols are equal where their texts are, and a clone shares the text.
-/// A contract sees the text's bytes.
+#[cfg(test)]
+mod tests;
+
+/// A name, or the text of a literal. Symbols are equal where their texts are. A clone shares the text:
+/// it takes no memory and cannot fail. A contract sees the text's bytes.
 #[derive(Drop)]
 pub struct Symbol {
-    text: RcStr,
+    text: Shared<String>,
 }
 
 impl Model for Symbol {
     ghost use Rattle.std.specs.Prelude.{ℕ, List};
-    ghost use Rattle.std.specs.Rc.{rc_str_bytes};
+    ghost use Rattle.std.specs.String.{string_bytes};
+    ghost use Rattle.tt_base.specs.Shared.{shared_value};
 
     ghost Value = { List ℕ };
 
-    ghost view = { λ symbol. rc_str_bytes symbol.text };
+    ghost view = { λ symbol. string_bytes (shared_value symbol.text) };
 }
 
 impl Symbol {
@@ -31,22 +35,25 @@ impl Symbol {
         ensures ok { IfOk result (λ symbol. symbol ≡ text.now) }
         ensures err { IfErr result (λ fault. fault ≡ TtFault.Memory) }
     {
-        let text = RcStr::from_str(alloc, text)?;
+        let text = String::from_str(alloc, text)?;
+        let text = Shared::new(alloc, text)?;
         Ok(Symbol { text })
     }
 
     pub fn as_str(&self) -> &str
         ensures { result.now ≡ self.now }
     {
-        self.text.as_str()
+        self.text.get().as_str()
     }
 }
 
 impl Clone for Symbol {
     ghost is_clone = { λ symbol copy. copy ≡ symbol };
 
+    ghost is_infallible = { λ _. ⊤ };
+
     fn clone(&self) -> Result<Symbol, AllocError> {
-        let text = self.text.clone()?;
+        let text = self.text.share();
         Ok(Symbol { text })
     }
 }
@@ -57,7 +64,7 @@ impl PartialEq for Symbol {
     ghost laws = { Prim.search (comparing, rules) };
 
     fn eq(&self, other: &Symbol) -> bool {
-        self.text == other.text
+        self.as_str() == other.as_str()
     }
 }
 
@@ -71,7 +78,7 @@ impl Hash for Symbol {
     ghost respects_eq = { Prim.search (hashing, rules) };
 
     fn hash<H: Hasher>(&self, state: &mut H) {
-        self.text.hash(state);
+        self.as_str().hash(state);
     }
 }
 
@@ -79,12 +86,12 @@ impl fmt::Display for Symbol {
     ghost output = { λ symbol. Some symbol };
 
     fn fmt<W: fmt::Write>(&self, f: &mut fmt::Formatter<W>) -> fmt::Result {
-        fmt::Display::fmt(&self.text, f)
+        fmt::Display::fmt(self.as_str(), f)
     }
 }
 
 impl fmt::Debug for Symbol {
     fn fmt<W: fmt::Write>(&self, f: &mut fmt::Formatter<W>) -> fmt::Result {
-        fmt::Debug::fmt(&self.text, f)
+        fmt::Debug::fmt(self.as_str(), f)
     }
 }

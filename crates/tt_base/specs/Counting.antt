@@ -1,0 +1,95 @@
+-- What an owner of a counted value has. The pointer c leads to a block of the count and the value x.
+-- Below the full count each owner has a part of a lifetime for which the value is lent, and the last has the whole block.
+-- Once the count is full, it and the value are lent for good, and no part is needed any more.
+use Rattle.std.specs.Prelude.{◌≡◌, ℕ, ◌-◌, ◌^◌, Bool, true, false, [], ◌∷◌}
+use base.Fraction.{full_share}
+use base.Fml.{Lft, Key, Fml, ftrue, fsep, fex, fwand, flt}
+use mir.Syntax.{Ty}
+use mir.Raw.{raw}
+use prog.Memory.{align, up}
+use denote.Builtin.{usize}
+use denote.Memory.{lone}
+use denote.RattleType.{RattleType}
+use denote.RawPtr.{Ptr, block_of, count_of, lies_at, ◌+ₚ◌}
+use denote.RcWeak.{rc_cell_owns, rc_lends}
+use denote.Sharing.{beside, held, some}
+use denote.Struct.Lending.{lent_at}
+use denote.Struct.Tuple.{Tuple}
+use Rattle.std.specs.contracts.impls.GlobalAllocator.TheImpl.{ghosts}
+
+-- a full count
+abbrev pub full : ℕ
+full = 2 ^ 64 - 1
+
+-- the right to give a block back to the heap
+abbrev pub frees : Ty → Ptr → Fml
+frees = ghosts.dealloc_token (record { memory = record { seal = tt } })
+
+-- no owner is weak, so that no second count is stored
+abbrev pub weak : ℕ → Fml
+weak m = fex (m ≡ 1) (λ _. ftrue)
+
+module _ (R : RattleType) where
+  -- the count, and the value behind it
+  abbrev pub Block : RattleType
+  Block = Tuple (usize ∷ R ∷ [])
+
+  -- where the value starts
+  abbrev pub value_offset : ℕ
+  value_offset = up (align (lone R.mir)) 8
+
+module _ (R : RattleType) (c : Ptr) (x : R.Denot) where
+  -- the invariant's name, which is the block's place
+  abbrev pub key : Key
+  key = (block_of c, count_of c)
+
+  -- the whole count, at n
+  abbrev pub counts : ℕ → Fml
+  counts = lies_at usize full_share (c +ₚ 0)
+
+  -- the whole value
+  abbrev pub lies : Fml
+  lies = lies_at R full_share (c +ₚ value_offset R) x
+
+  -- a count of 1 and the value make the block again
+  abbrev pub rejoins : Fml
+  rejoins = fwand (fsep (counts 1) lies) (lies_at (Block R) full_share c (1, x))
+
+  -- what the last owner gets, beside the count
+  abbrev pub there : Fml
+  there = fsep lies (fsep rejoins (frees (raw (lone (Block R).mir)) c))
+
+  -- what every owner sees for a lifetime
+  abbrev pub sees : Lft → Fml
+  sees = lent_at R (c +ₚ value_offset R) x
+
+  -- a full count and the value, as both are seen for a lifetime
+  abbrev pub stays : Lft → Fml
+  stays = beside (lent_at usize (c +ₚ 0) full) sees
+
+  -- n owners are counted, fewer than a full count, or the count is full and stays so, with the value
+  abbrev pub strong_state : ℕ → Bool → Fml
+  strong_state n true = fsep (flt n full) (counts n)
+  strong_state n false = stays []
+
+  -- the count in the invariant, where n parts of the lifetime are out
+  abbrev pub strong : ℕ → Fml
+  strong n = fex Bool (strong_state n)
+
+  -- an owner that is counted has a part of the lifetime; one that has found the count full has what stays
+  abbrev pub owner : Bool → Fml
+  owner true = rc_cell_owns 64 key strong weak there ftrue ftrue sees
+  owner false = stays []
+
+  -- what an owner has beside its pointer
+  abbrev pub counted_owns : Fml
+  counted_owns = fex Bool owner
+
+  -- a `&` to an owner of either kind
+  abbrev pub lent_owner : Bool → Lft → Fml
+  lent_owner true = rc_lends 64 key strong weak there ftrue ftrue sees
+  lent_owner false = held [] stays
+
+  -- what a `&` to an owner holds beside a `&` to its pointer
+  abbrev pub counted_shares : Lft → Fml
+  counted_shares = some Bool lent_owner

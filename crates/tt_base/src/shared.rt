@@ -1,0 +1,74 @@
+//! A value on the heap with several owners.
+ghost use Rattle.std.specs.Prelude.{◌≡◌, IfOk, ⊤};
+ghost use Rattle.tt_base.specs.Shared.{shared_value};
+
+use crate::shared::counted::Counted;
+use std::alloc::{AllocError, Global};
+
+mod block;
+mod counted;
+#[cfg(test)]
+mod tests;
+
+/// One of the owners of a value. A clone is one more owner: it takes no memory and cannot fail.
+/// The last owner frees the value. A value that ever has 2^64 - 1 owners stays for good.
+pub(crate) struct Shared<T> {
+    counted: Counted<T>,
+    alloc: Global,
+}
+
+impl<T: Drop> Shared<T> {
+    /// The first owner.
+    pub(crate) fn new(alloc: Global, value: T) -> Result<Shared<T>, AllocError>
+        ensures { IfOk result (λ shared. shared_value shared ≡ value) }
+    {
+        let counted = Counted::new(alloc, value)?;
+        Ok(Shared { counted, alloc })
+    }
+}
+
+impl<T> Shared<T> {
+    pub(crate) fn get(&self) -> &T
+        ensures { result.now ≡ shared_value self.now }
+    {
+        self.counted.value()
+    }
+
+    /// One more owner.
+    pub(crate) fn share(&self) -> Shared<T>
+        ensures { shared_value result ≡ shared_value self.now }
+    {
+        Shared {
+            counted: self.counted.share(),
+            alloc: self.alloc,
+        }
+    }
+
+    /// The value, which stays for good from then on.
+    pub(crate) fn keep(&self) -> &'static T
+    where
+        T: 'static,
+        ensures { result.now ≡ shared_value self.now }
+    {
+        self.counted.keep()
+    }
+}
+
+impl<T: Drop> Clone for Shared<T> {
+    ghost is_clone = { λ shared copy. shared_value copy ≡ shared_value shared };
+
+    ghost is_infallible = { λ _. ⊤ };
+
+    fn clone(&self) -> Result<Shared<T>, AllocError> {
+        Ok(self.share())
+    }
+}
+
+impl<T: Drop> Drop for Shared<T> {
+    fn drop(self) {
+        let Shared { counted, alloc } = self;
+        if let Some(block) = counted.release(alloc) {
+            drop(block.into_box());
+        }
+    }
+}
