@@ -1,5 +1,5 @@
 -- Small tokens and trees for the worked rows.
-use Rattle.std.proofs.Common.{ℕ, ◌+◌, ◌-◌, ◌≤◌, List, length, le-add_right, IsCharBoundary}
+use Rattle.std.proofs.Common.{ℕ, ◌+◌, ◌-◌, ◌*◌, ◌≤◌, List, [], ◌∷◌, length, le-add_right, IsCharBoundary, nat_lt, if◌then◌else◌}
 use Rattle.tt_base.specs.declared.delimiter.DelimiterKind.{DelimiterKind}
 use Rattle.tt_base.specs.declared.ident.IdentIsRaw.TheVariants.{No}
 use Rattle.tt_base.specs.declared.leaf.Leaf.{Leaf}
@@ -34,3 +34,14 @@ literal text kind fits cuts = leaf.Literal (record { symbol = text; span = span 
 -- a node of a kind, alone
 abbrev pub subtree : DelimiterKind → Forest → Forest
 subtree kind children = node (delimiter kind (span 0 1) (span 1 1)) children end
+
+-- the value of a hexadecimal digit
+abbrev pub hex_digit : ℕ → ℕ
+hex_digit c = if nat_lt c 58 then c - 48 else c - 87
+
+-- the bytes that pairs of hexadecimal digits spell, with a space between
+abbrev pub hex : List ℕ → List ℕ
+hex [] = []
+hex (a ∷ []) = []
+hex (a ∷ b ∷ []) = (hex_digit a * 16 + hex_digit b) ∷ []
+hex (a ∷ b ∷ c ∷ rest) = (hex_digit a * 16 + hex_digit b) ∷ hex rest

@@ -1,0 +1,47 @@
+-- The two tables of a flat list, and tokens in numbers under given tables.
+use Rattle.std.specs.Prelude.{ℕ, ◌-◌, bytes_eq, List}
+use Rattle.tt_base.specs.declared.leaf.Leaf.{Leaf}
+use Rattle.tt_base.specs.declared.leaf.Leaf.TheVariants as leaf
+use Rattle.tt_base.specs.declared.span.Span.{Span}
+use Rattle.tt_base.specs.declared.span.SpanPart.{SpanPart}
+use Rattle.tt_base.specs.declared.token_tree.TokenTree.{TokenTree}
+use Rattle.tt_base.specs.LeafBytes.{LeafEntry, punct, ident, literal}
+use Rattle.tt_base.specs.Literal.{symbol_of, span_of, kind_of, suffix_len_of}
+use Rattle.tt_base.specs.Range.{start_of, end_of}
+use Rattle.tt_base.specs.Span.{part_of}
+use Rattle.tt_base.specs.SpanBytes.{Place}
+use Rattle.tt_base.specs.TableOrder.{place_in, table}
+use Rattle.tt_base.specs.Uses.{same_part, part_uses, symbol_uses}
+
+-- the parts that tokens use: more than 15 go by their number of uses
+abbrev pub part_table : List TokenTree → List SpanPart
+part_table tokens = table same_part 15 (part_uses tokens)
+
+-- the symbols that tokens use: more than 63 go by their number of uses
+abbrev pub symbol_table : List TokenTree → List (List ℕ)
+symbol_table tokens = table bytes_eq 63 (symbol_uses tokens)
+
+-- the parts and the symbols that tokens name by their places
+pub record Tables : Type 0 where
+  pub parts : List SpanPart
+  pub symbols : List (List ℕ)
+
+-- the place of a span: the first entry with its part, its start, and its length
+abbrev pub place_of_span : Tables → Span → Place
+place_of_span tables span =
+    record {
+      part = place_in (same_part (part_of span)) tables.parts;
+      start = start_of span.range;
+      length = end_of span.range - start_of span.range;
+    }
+
+-- the first entry with that text
+abbrev pub place_of_symbol : Tables → List ℕ → ℕ
+place_of_symbol tables text = place_in (bytes_eq text) tables.symbols
+
+-- a leaf in numbers
+abbrev pub leaf_entry : Tables → Leaf → LeafEntry
+leaf_entry tables (leaf.Literal it) =
+    literal (place_of_symbol tables (symbol_of it)) (kind_of it) (suffix_len_of it) (place_of_span tables (span_of it))
+leaf_entry tables (leaf.Punct it) = punct it.char it.spacing (place_of_span tables it.span)
+leaf_entry tables (leaf.Ident it) = ident (place_of_symbol tables it.sym) it.is_raw (place_of_span tables it.span)

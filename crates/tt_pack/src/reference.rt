@@ -1,0 +1,80 @@
+ghost use Rattle.std.specs.Prelude.{◌≡◌, ◌<◌, ◌^◌, ◌++◌, IfErr, OnOk};
+ghost use Rattle.tt_base.specs.declared.fault.TtFault.TheVariants.{Memory};
+ghost use Rattle.tt_base.specs.ReferenceBytes.{reference_bytes};
+ghost use Rattle.tt_pack.specs.Reading.{after_one_byte, after_two_bytes, reference_at};
+ghost use Rattle.tt_pack.specs.Reference.{IsReferenceRead, ReferencesAgain};
+
+use crate::words::{push_byte, push_half, split_byte, split_half};
+use tt_base::TtFault;
+
+/// A symbol by its index in a table, with one tag bit.
+#[derive(Debug, Clone, Copy, PartialEq)]
+pub(crate) struct Reference {
+    pub(crate) index: u32,
+    pub(crate) tag: u32,
+}
+
+impl Reference {
+    /// Appends the reference's bytes.
+    #[tactic(auto, unfolding(tt_base::specs::ReferenceBytes::reference_bytes))]
+    pub(crate) fn write(self, into: &mut Vec<u8>) -> Result<(), TtFault>
+        requires index { self.index < 2 ^ 29 }
+        requires tag { self.tag < 2 }
+        ensures ok { OnOk result (into.new.items ≡ into.old.items ++ reference_bytes self.index self.tag) }
+        ensures err { IfErr result (λ fault. fault ≡ Memory) }
+    {
+        if self.index < 64 {
+            return push_byte(into, (self.index * 4 + self.tag) as u8);
+        }
+        push_byte(into, (self.index % 64 * 4 + 2 + self.tag) as u8)?;
+        if self.index < 8192 {
+            return push_byte(into, (self.index / 64 * 2) as u8);
+        }
+        push_byte(into, (self.index / 64 % 128 * 2 + 1) as u8)?;
+        push_half(into, (self.index / 8192) as u16)
+    }
+
+    // The reference, of which two bytes have been read.
+    fn after_two_bytes(first: u8, second: u8, rest: &[u8]) -> Option<(Reference, &[u8])>
+        ensures { IsReferenceRead (after_two_bytes first second rest.now) result }
+    {
+        let index = first as u32 / 4 + second as u32 / 2 * 64;
+        let tag = first as u32 % 2;
+        if second % 2 == 0 {
+            return Some((Reference { index, tag }, rest));
+        }
+        let (half, rest) = split_half(rest)?;
+        let index = index + half as u32 * 8192;
+        Some((Reference { index, tag }, rest))
+    }
+
+    // The reference, of which one byte has been read.
+    fn after_one_byte(first: u8, rest: &[u8]) -> Option<(Reference, &[u8])>
+        ensures { IsReferenceRead (after_one_byte first rest.now) result }
+    {
+        if first / 2 % 2 == 0 {
+            let index = first as u32 / 4;
+            let tag = first as u32 % 2;
+            return Some((Reference { index, tag }, rest));
+        }
+        let (second, rest) = split_byte(rest)?;
+        Reference::after_two_bytes(first, second, rest)
+    }
+
+    // The reference that the bytes begin with, and the bytes behind it.
+    #[tactic(auto, unfolding(crate::specs::Reading::reference_at))]
+    fn split(from: &[u8]) -> Option<(Reference, &[u8])>
+        ensures { IsReferenceRead (reference_at from.now) result }
+    {
+        let (first, rest) = split_byte(from)?;
+        Reference::after_one_byte(first, rest)
+    }
+
+    /// The reference that the bytes begin with, and the bytes behind it.
+    pub(crate) fn read(from: &[u8]) -> Option<(Reference, &[u8])>
+        ensures value { IsReferenceRead (reference_at from.now) result }
+        ensures again { ReferencesAgain from.now result }
+    {
+        Reference::split(from)
+    }
+}
