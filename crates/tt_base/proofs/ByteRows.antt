@@ -16,7 +16,7 @@ references : (reference_bytes 63 0 ≡ hex (codes "fc"))
 unfolding reference_bytes
 references = (refl, refl, refl, refl, refl)
 
-abbrev at : (part start length : ℕ) → Place
+abbrev pub at : (part start length : ℕ) → Place
 at part start length = record { part = part; start = start; length = length }
 
 spans : (span_bytes false 0 (at 0 0 256) ≡ hex (codes "00 40 00 00 00 10 00 00"))

@@ -1,17 +1,38 @@
+pub mod Ahead
 pub mod BlockSteps
-mod ByteRows
+pub mod ByteRows
 pub mod CountedSteps
+pub mod CutLists
+pub mod Decoding
+pub mod EndPieces
+pub mod EntryReading
 pub mod Equality
 pub mod FirstOwner
+pub mod Found
+pub mod HeaderFirst
+pub mod HeaderReading
+mod HeaderRows
+pub mod Known
+pub mod LeafReading
+pub mod Lengths
 pub mod Literals
+pub mod Lookups
 pub mod Members
+pub mod Naming
 pub mod OwnersLent
+pub mod Pointwise
 pub mod Ranges
+pub mod ReferenceReading
 mod Rows
+pub mod SameTree
 pub mod Samples
+pub mod SpanReading
+pub mod StoredAlike
+mod StoredRows
 pub mod TableOrder
 mod TableRows
 pub mod TableUnique
 pub mod ThreadToken
 pub mod TokenTables
+pub mod TreesAlike
 pub mod WholeLists

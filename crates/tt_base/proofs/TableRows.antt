@@ -1,5 +1,5 @@
 -- What the definition of the tables computes at its two limits.
-use Rattle.std.proofs.Common.{◌≡◌, ℕ, zero, suc, ◌+◌, ◌/◌, ◌%◌, List, [], ◌∷◌, ◌++◌, nat_eq, refl}
+use Rattle.std.proofs.Common.{◌≡◌, ℕ, zero, suc, List, [], ◌∷◌, ◌++◌, nat_eq, refl}
 use Rattle.tt_base.specs.TableOrder.{table}
 
 -- n numbers from i on

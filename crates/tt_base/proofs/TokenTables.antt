@@ -10,16 +10,16 @@ use Rattle.tt_base.specs.Uses.{same_part, part_uses, symbol_uses}
 use Rattle.tt_base.proofs.TableOrder.{table_is_table}
 use Rattle.tt_base.proofs.TableUnique.{table_unique}
 
-part_sound : (a b : SpanPart) → same_part a b ≡ true → a ≡ b
+pub part_sound : (a b : SpanPart) → same_part a b ≡ true → a ≡ b
 part_sound a b h = search rules
 
-part_complete : (a : SpanPart) → same_part a a ≡ true
+pub part_complete : (a : SpanPart) → same_part a a ≡ true
 part_complete a = part_eq.lawful.laws.refl a
 
-text_sound : (a b : List ℕ) → bytes_eq a b ≡ true → a ≡ b
+pub text_sound : (a b : List ℕ) → bytes_eq a b ≡ true → a ≡ b
 text_sound a b = (bytes_eq-Decides a b).0
 
-text_complete : (a : List ℕ) → bytes_eq a a ≡ true
+pub text_complete : (a : List ℕ) → bytes_eq a a ≡ true
 text_complete a = (bytes_eq-Decides a a).1 refl
 
 -- The computed table of parts is a table of them.

@@ -2,11 +2,7 @@
 use Rattle.std.proofs.Common.{◌≡◌, ℕ, zero, suc, List, [], ◌∷◌, drop, ap, sym, ◌∙◌}
 use Rattle.tt_base.specs.declared.token_tree.TokenTree.{TokenTree}
 use Rattle.tt_base.specs.Forest.{Forest, end, leaf, node, flat, join, IsWhole}
-use Rattle.tt_base.specs.ForestLaws.{flat-join, flat-injective}
-
--- A list is whole in one way.
-pub whole_once : (tokens : List TokenTree) (v w : IsWhole tokens) → v.0 ≡ w.0
-whole_once tokens v w = flat-injective v.0 w.0 (sym v.1 ∙ w.1)
+use Rattle.tt_base.specs.ForestLaws.{flat-join}
 
 tail_whole : (t : TokenTree) (tokens : List TokenTree) (f : Forest) → t ∷ tokens ≡ flat f → IsWhole tokens
 tail_whole t tokens end e = cc

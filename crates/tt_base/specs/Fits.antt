@@ -45,3 +45,18 @@ abbrev pub TokenFits : TokenTree → Type 0
 TokenFits (token.Leaf leaf) = LeafFits leaf
 TokenFits (token.Subtree subtree) =
     SpanFits subtree.delimiter.open_span × SpanFits subtree.delimiter.close × (subtree.len < 2 ^ 32)
+
+-- both ends of a span are below 2^32
+abbrev pub SpanInRange : Span → Type 0
+SpanInRange span = (start_of span.range < 2 ^ 32) × (end_of span.range < 2 ^ 32)
+
+-- a span is in range, and a character is one
+abbrev pub LeafInRange : Leaf → Type 0
+LeafInRange (leaf.Literal literal) = SpanInRange (span_of literal)
+LeafInRange (leaf.Punct punct) = SpanInRange punct.span × IsScalar punct.char
+LeafInRange (leaf.Ident ident) = SpanInRange ident.span
+
+-- of all that the types keep, what the bytes of a token rest on
+abbrev pub TokenInRange : TokenTree → Type 0
+TokenInRange (token.Leaf leaf) = LeafInRange leaf
+TokenInRange (token.Subtree subtree) = SpanInRange subtree.delimiter.open_span × SpanInRange subtree.delimiter.close

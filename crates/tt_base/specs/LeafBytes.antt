@@ -1,6 +1,6 @@
 -- How a leaf is written, given in numbers: its span by its place, its symbol by an index.
 use Rattle.std.specs.Char.{IsScalar}
-use Rattle.std.specs.Prelude.{ℕ, ◌+◌, ◌*◌, ◌/◌, ◌%◌, ◌^◌, ◌<◌, ◌≤◌, false, ◌==◌, nat_le, nat_lt, if◌then◌else◌, List, [], ◌∷◌, ◌++◌, Option, Some, None, option_to_list}
+use Rattle.std.specs.Prelude.{ℕ, ◌+◌, ◌*◌, ◌/◌, ◌%◌, ◌^◌, ◌<◌, false, ◌==◌, nat_le, nat_lt, if◌then◌else◌, List, [], ◌∷◌, ◌++◌, Option, Some, None, option_to_list}
 use Rattle.tt_base.specs.declared.ident.IdentIsRaw.{IdentIsRaw}
 use Rattle.tt_base.specs.declared.ident.IdentIsRaw.TheVariants.{No, Yes}
 use Rattle.tt_base.specs.declared.literal.LitKind.{LitKind}
@@ -97,7 +97,7 @@ leaf_bytes (literal symbol kind suffix_len place) =
     span_bytes false 0 place ++ literal_form kind suffix_len ++ reference_bytes symbol 0
 
 -- the numbers that a leaf can hold
-abbrev pub EntryFits : LeafEntry → Type 0
-EntryFits (punct char spacing place) = IsScalar char × PlaceFits place
-EntryFits (ident symbol raw place) = (symbol < 2 ^ 29) × PlaceFits place
-EntryFits (literal symbol kind suffix_len place) = (symbol < 2 ^ 29) × PlaceFits place
+abbrev pub LeafEntryFits : LeafEntry → Type 0
+LeafEntryFits (punct char spacing place) = IsScalar char × PlaceFits place
+LeafEntryFits (ident symbol raw place) = (symbol < 2 ^ 29) × PlaceFits place
+LeafEntryFits (literal symbol kind suffix_len place) = (symbol < 2 ^ 29) × PlaceFits place

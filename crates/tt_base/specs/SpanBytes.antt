@@ -1,5 +1,5 @@
 -- How the place of a span is written: in one, two or three words of four bytes, each lowest byte first.
-use Rattle.std.specs.Prelude.{ℕ, ◌+◌, ◌*◌, ◌/◌, ◌%◌, ◌^◌, ◌<◌, Bool, ◌&&◌, ◌==◌, nat_le, not, if◌then◌else◌, List, ◌++◌}
+use Rattle.std.specs.Prelude.{ℕ, ◌+◌, ◌*◌, ◌/◌, ◌%◌, ◌^◌, ◌<◌, Bool, ◌&&◌, ◌==◌, nat_le, if◌then◌else◌, List, ◌++◌}
 use Rattle.std.specs.Int.{w32, to_le_bytes}
 
 -- the index of a span's part, where the span starts, and how long it is

@@ -1,7 +1,7 @@
 ghost use Rattle.std.specs.Prelude.{◌≡◌, Some};
 ghost use Rattle.tt_base.specs.declared.fault.TtFault.TheVariants.{Memory};
 
-use std::alloc::AllocError;
+use std::alloc::{AllocError, AllocFailed};
 use std::error::Error;
 use std::fmt;
 
@@ -71,6 +71,14 @@ impl From<AllocError> for TtFault {
     ghost from_gives = { λ _ fault. fault ≡ Memory };
 
     fn from(_error: AllocError) -> TtFault {
+        TtFault::Memory
+    }
+}
+
+impl<T: Drop> From<AllocFailed<T>> for TtFault {
+    ghost from_gives = { λ _ fault. fault ≡ Memory };
+
+    fn from(_failed: AllocFailed<T>) -> TtFault {
         TtFault::Memory
     }
 }

@@ -7,6 +7,7 @@ mod delimiter;
 mod fault;
 mod ident;
 mod leaf;
+mod levels;
 mod literal;
 mod literal_text;
 mod punct;
@@ -15,6 +16,7 @@ mod span;
 mod symbol;
 mod text_range;
 mod token_tree;
+mod whole;
 
 pub use delimiter::{DelimSpan, Delimiter, DelimiterKind, Subtree};
 pub use fault::{Refused, TtFault};
@@ -26,6 +28,7 @@ pub use span::{ErasedFileAstId, FileId, Span, SpanAnchor, SpanPart, SyntaxContex
 pub use symbol::Symbol;
 pub use text_range::{TextRange, TextSize};
 pub use token_tree::TokenTree;
+pub use whole::is_one_subtree;
 
 #[cfg(test)]
 mod tests;

@@ -1,6 +1,5 @@
 pub mod Answering
 pub mod Commands
-pub mod CutLists
 pub mod Cutting
 pub mod Feeding
 pub mod LineCuts

@@ -2,11 +2,9 @@
 pub mod Answer
 pub mod Command
 pub mod Held
-pub mod Levels
 pub mod Lines
 pub mod Machine
 pub mod Noted
-pub mod OpenLevels
 pub mod Output
 pub mod Progress
 pub mod Reading

@@ -6,14 +6,12 @@
 mod answer;
 mod command;
 mod display;
-mod levels;
 mod machine;
 mod noted;
 mod output;
 mod session;
 mod slot;
 mod top_subtree;
-mod whole;
 
 pub use answer::Answer;
 pub use command::Command;

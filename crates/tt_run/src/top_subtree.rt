@@ -10,11 +10,10 @@ ghost use Rattle.tt_base.specs.TreeText.{display};
 ghost use Rattle.tt_base.specs.declared.fault.TtFault.TheVariants.{Memory, NotOneSubtree};
 
 use crate::display::write_trees;
-use crate::whole::is_one_subtree;
 use std::alloc::Global;
 use std::fmt;
 use std::marker::Model;
-use tt_base::{Refused, TokenTree, TtFault};
+use tt_base::{Refused, TokenTree, TtFault, is_one_subtree};
 
 /// A token tree, held as its flat list. A contract sees its root.
 #[derive(Drop)]

@@ -1,5 +1,6 @@
 use crate::{Command, Slot};
 use std::alloc::Global;
+use std::process::Abort;
 use std::test::Fail;
 use tt_base::{
     Delimiter, DelimiterKind, ErasedFileAstId, FileId, Ident, IdentIsRaw, Leaf, LitKind, Literal,
@@ -49,10 +50,21 @@ fn stand_for_commands_of_slots(rt: HostRuntime) -> Result<(), Fail> {
     Ok(())
 }
 
+// A header with the largest numbers.
+const LARGEST_HEAD: &str =
+    "item sub paren 1:2@3..3#4 4294967295:4294967295@4294967295..4294967295#4294967295 4294967295";
+
+fn head(kind: DelimiterKind, close: Span, len: u32) -> Command {
+    let delimiter = Delimiter {
+        open_span: small_span(),
+        close,
+        kind,
+    };
+    Command::Item(TokenTree::Subtree(Subtree { delimiter, len }))
+}
+
 #[test]
 fn stand_for_heads(rt: HostRuntime) -> Result<(), Fail> {
-    let largest =
-        "item sub paren 1:2@3..3#4 4294967295:4294967295@4294967295..4294967295#4294967295 4294967295";
     let rows = [
         (
             "item sub paren 1:2@3..3#4 1:2@3..3#4 0",
@@ -78,17 +90,16 @@ fn stand_for_heads(rt: HostRuntime) -> Result<(), Fail> {
             small_span(),
             1,
         ),
-        (largest, DelimiterKind::Parenthesis, large_span(), u32::MAX),
+        (
+            LARGEST_HEAD,
+            DelimiterKind::Parenthesis,
+            large_span(),
+            u32::MAX,
+        ),
     ];
     for (line, kind, close, len) in rows {
-        let delimiter = Delimiter {
-            open_span: small_span(),
-            close,
-            kind,
-        };
-        let head = TokenTree::Subtree(Subtree { delimiter, len });
         let found = Command::parse(rt.alloc(), line.as_bytes())?;
-        assert_eq!(rt; found, Some(Command::Item(head)), "{line}");
+        assert_eq!(rt; found, Some(head(kind, close, len)), "{line}");
     }
     Ok(())
 }
@@ -154,6 +165,20 @@ fn literal(
     Ok(Some(Command::Item(TokenTree::Leaf(Leaf::Literal(literal)))))
 }
 
+// The line stands for the literal of that text, kind and suffix length.
+fn stands_for_literal(
+    rt: &impl Abort,
+    alloc: Global,
+    row: (&str, &str, LitKind, u8),
+) -> Result<(), Fail> {
+    let (line, text, kind, suffix_len) = row;
+    let expected = literal(alloc, text, kind, suffix_len)?;
+    assert!(rt; expected.is_some());
+    let found = Command::parse(alloc, line.as_bytes())?;
+    assert_eq!(rt; found, expected, "{line}");
+    Ok(())
+}
+
 #[test]
 fn stand_for_literals(rt: HostRuntime) -> Result<(), Fail> {
     let rows = [
@@ -172,26 +197,8 @@ fn stand_for_literals(rt: HostRuntime) -> Result<(), Fail> {
         ),
         ("item lit float 0 1:2@3..3#4 1.5", "1.5", LitKind::Float, 0),
         ("item lit str 0 1:2@3..3#4 ", "", LitKind::Str, 0),
-        (
-            "item lit rstr:255 0 1:2@3..3#4 a b",
-            "a b",
-            LitKind::StrRaw(255),
-            0,
-        ),
         ("item lit bstr 0 1:2@3..3#4 a", "a", LitKind::ByteStr, 0),
-        (
-            "item lit rbstr:0 0 1:2@3..3#4 a",
-            "a",
-            LitKind::ByteStrRaw(0),
-            0,
-        ),
         ("item lit cstr 1 1:2@3..3#4 a", "a", LitKind::CStr, 1),
-        (
-            "item lit rcstr:17 0 1:2@3..3#4 a",
-            "a",
-            LitKind::CStrRaw(17),
-            0,
-        ),
         (
             "item lit err 2 1:2@3..3#4 \u{e9}",
             "\u{e9}",
@@ -199,11 +206,36 @@ fn stand_for_literals(rt: HostRuntime) -> Result<(), Fail> {
             2,
         ),
     ];
-    for (line, text, kind, suffix_len) in rows {
-        let expected = literal(rt.alloc(), text, kind, suffix_len)?;
-        assert!(rt; expected.is_some());
-        let found = Command::parse(rt.alloc(), line.as_bytes())?;
-        assert_eq!(rt; found, expected, "{line}");
+    for row in rows {
+        stands_for_literal(&rt, rt.alloc(), row)?;
+    }
+    Ok(())
+}
+
+#[test]
+fn stand_for_raw_literals(rt: HostRuntime) -> Result<(), Fail> {
+    let rows = [
+        (
+            "item lit rstr:255 0 1:2@3..3#4 a b",
+            "a b",
+            LitKind::StrRaw(255),
+            0,
+        ),
+        (
+            "item lit rbstr:0 0 1:2@3..3#4 a",
+            "a",
+            LitKind::ByteStrRaw(0),
+            0,
+        ),
+        (
+            "item lit rcstr:17 0 1:2@3..3#4 a",
+            "a",
+            LitKind::CStrRaw(17),
+            0,
+        ),
+    ];
+    for row in rows {
+        stands_for_literal(&rt, rt.alloc(), row)?;
     }
     Ok(())
 }

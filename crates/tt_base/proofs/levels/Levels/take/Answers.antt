@@ -1,0 +1,23 @@
+use Rattle.std.proofs.Common.{true, reverse, arith}
+use Rattle.tt_base.specs.OpenLevels.{open_levels, GoesBack, Opens}
+use Rattle.tt_base.proofs.CutLists.{takes_leaf, takes_node, takes_no_node}
+use Rattle.tt_base.proofs.levels.Levels.take.Goals as goal
+
+pub returns-then-not-go_back : goal.returns-then-not-go_back
+returns-then-not-go_back c tokens = c.if-not-go_back.ensures.levels c.args.token.now tokens
+
+pub returns-in_default : goal.returns-in_default
+returns-in_default c =
+    let back : GoesBack (open_levels c.args.self.now) (open_levels c.go_back.new.self) true = c.if-not-go_back.ensures.levels in
+    rw c.in_default.is (takes_leaf (open_levels c.args.self.now) (reverse c.go_back.new.self.outer.items) c.go_back.new.self.left c.in_default.field-0 back c.if-not-go_back.ensures.room)
+
+pub returns-then-self-below : goal.returns-then-self-below
+returns-then-self-below c =
+    let back : GoesBack (open_levels c.args.self.now) (open_levels c.go_back.new.self) true = c.if-not-go_back.ensures.levels in
+    rw c.in-Subtree.is (takes_no_node (open_levels c.args.self.now) (reverse c.go_back.new.self.outer.items) (open_levels c.go_back.new.self) c.go_back.new.self.left c.in-Subtree.subtree back c.if-not-go_back.ensures.room (omega (arith, c.if-self-below.true, c.usize_len-below.ensures)))
+
+pub returns : goal.returns
+returns c =
+    let back : GoesBack (open_levels c.args.self.now) (open_levels c.go_back.new.self) true = c.if-not-go_back.ensures.levels in
+    let opens : Opens (open_levels c.go_back.new.self) c.in-Subtree.subtree.len (open_levels c.open.new.self) = rw c.usize_len-below.ensures at c.in_ok-open.ensures in
+    rw c.in-Subtree.is (takes_node (open_levels c.args.self.now) (reverse c.go_back.new.self.outer.items) (open_levels c.open.new.self) c.go_back.new.self.left c.in-Subtree.subtree back (omega (arith, c.if-self-below.false, c.usize_len-below.ensures)) opens)

@@ -1,0 +1,9 @@
+-- The tokens are a whole list exactly if those to come make up the open levels.
+use Rattle.std.proofs.Common.{◌↔◌, drop}
+use Rattle.tt_base.specs.Forest.{IsWhole}
+use Rattle.tt_base.specs.Levels.{AreLevels}
+use Rattle.tt_base.specs.OpenLevels.{open_levels}
+use Rattle.tt_base.proofs.whole.is_whole.Given as goal
+
+abbrev pub invariant-loop-token : goal.invariant-loop-token
+invariant-loop-token l = IsWhole l.tokens ↔ AreLevels (drop l.token-index l.tokens) (open_levels l.levels)

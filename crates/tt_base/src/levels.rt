@@ -1,0 +1,90 @@
+ghost use Rattle.std.specs.Prelude.{◌≡◌, ◌<◌, ◌∷◌, ◌↔◌, [], IsTrue, IfOk, OnOk};
+ghost use Rattle.std.specs.Bool.{OnTrue};
+ghost use Rattle.std.specs.List.{All};
+ghost use Rattle.tt_base.specs.Levels.{AreLevels};
+
+use crate::token_tree::TokenTree;
+use std::alloc::{AllocError, Global};
+
+/// How many tokens are still to come of each subtree that is open in a flat list.
+#[derive(Drop)]
+pub(crate) struct Levels {
+    // of the innermost one
+    left: usize,
+    // of those round it, each behind the one that is open in it; one with nothing to come is not kept
+    outer: Vec<usize>,
+    ghost some: { All (λ n. 0 < n) outer.items },
+}
+
+impl Levels {
+    ghost use Rattle.tt_base.specs.OpenLevels.{open_levels, GoesBack, Opens, TakesToken};
+
+    /// One level of so many tokens.
+    pub(crate) fn new(alloc: Global, len: usize) -> Levels
+        ensures { open_levels result ≡ len ∷ [] }
+    {
+        Levels {
+            left: len,
+            outer: Vec::new(alloc),
+        }
+    }
+
+    // Goes back to the innermost subtree with tokens to come, if there is one.
+    fn go_back(&mut self) -> bool
+        ensures levels { GoesBack (open_levels self.old) (open_levels self.new) result }
+        ensures room { OnTrue result (0 < self.new.left) }
+    {
+        if self.left > 0 {
+            return true;
+        }
+        let Some(after) = self.outer.pop() else {
+            return false;
+        };
+        self.left = after;
+        true
+    }
+
+    // Opens a subtree with so many tokens below its header, which is the next token.
+    fn open(&mut self, below: usize) -> Result<(), AllocError>
+        requires { below < self.old.left }
+        ensures { OnOk result (Opens (open_levels self.old) below (open_levels self.new)) }
+    {
+        let after = self.left - 1 - below;
+        if after == 0 {
+            self.left = below;
+            return Ok(());
+        }
+        self.outer.push(after)?;
+        self.left = below;
+        Ok(())
+    }
+
+    /// Takes the next token, and answers whether it fits.
+    pub(crate) fn take(&mut self, token: &TokenTree) -> Result<bool, AllocError>
+        ensures { IfOk result (TakesToken (open_levels self.old) token.now (open_levels self.new)) }
+    {
+        if !self.go_back() {
+            return Ok(false);
+        }
+        let TokenTree::Subtree(subtree) = token else {
+            self.left -= 1;
+            return Ok(true);
+        };
+        let below = subtree.usize_len();
+        if self.left <= below {
+            return Ok(false);
+        }
+        self.open(below)?;
+        Ok(true)
+    }
+
+    /// Whether no token is to come.
+    pub(crate) fn is_done(&self) -> bool
+        ensures { IsTrue result ↔ AreLevels [] (open_levels self.now) }
+    {
+        if self.left > 0 {
+            return false;
+        }
+        self.outer.is_empty()
+    }
+}

@@ -1,0 +1,38 @@
+ghost use Rattle.std.specs.Prelude.{◌↔◌, IsTrue, IfOk};
+ghost use Rattle.tt_base.specs.Forest.{IsWhole, IsOneSubtree};
+
+use crate::levels::Levels;
+use crate::token_tree::TokenTree;
+use std::alloc::{AllocError, Global};
+
+#[cfg(test)]
+mod tests;
+
+/// Whether the list is the flat list of exactly one subtree, found in one pass.
+///
+/// It keeps a number for each open subtree that goes on behind the one open in it, and so asks for no memory while there
+/// is none. The only error is that this memory is refused; it says nothing of the list.
+pub fn is_one_subtree(alloc: Global, tokens: &[TokenTree]) -> Result<bool, AllocError>
+    ensures { IfOk result (λ one. IsTrue one ↔ IsOneSubtree tokens.now) }
+{
+    let Some((TokenTree::Subtree(top), below)) = tokens.split_first() else {
+        return Ok(false);
+    };
+    if top.len as usize != below.len() {
+        return Ok(false);
+    }
+    Ok(is_whole(alloc, below)?)
+}
+
+// Whether the list is the flat list of some trees.
+fn is_whole(alloc: Global, tokens: &[TokenTree]) -> Result<bool, AllocError>
+    ensures { IfOk result (λ whole. IsTrue whole ↔ IsWhole tokens.now) }
+{
+    let mut levels = Levels::new(alloc, tokens.len());
+    for token in tokens {
+        if !levels.take(token)? {
+            return Ok(false);
+        }
+    }
+    Ok(levels.is_done())
+}
