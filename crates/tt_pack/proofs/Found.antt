@@ -1,8 +1,52 @@
--- What was found twice is one thing.
-use Rattle.std.proofs.Common.{◌≡◌, Some, ap}
+-- A token that was made of what numbers name is the token that they name.
+use Rattle.std.proofs.Common.{◌≡◌, ℕ, ◌+◌, ◌-◌, Some, List, ap, sym, ◌∙◌, arith}
+use Rattle.std.specs.List.{slice_get}
+use Rattle.tt_base.specs.declared.leaf.Leaf.{Leaf}
+use Rattle.tt_base.specs.declared.leaf.Leaf.TheVariants as leaf
+use Rattle.tt_base.specs.declared.literal.LitKind.{LitKind}
+use Rattle.tt_base.specs.declared.literal.Literal.{Literal}
+use Rattle.tt_base.specs.declared.span.Span.{Span}
+use Rattle.tt_base.specs.declared.span.SpanPart.{SpanPart}
+use Rattle.tt_base.specs.declared.text_range.TextRange.{TextRange}
+use Rattle.tt_base.specs.Fits.{SpanInRange, LeafInRange}
+use Rattle.tt_base.specs.Leaf.{leaf_span}
+use Rattle.tt_base.specs.Literal.{IsLiteral}
+use Rattle.tt_base.specs.Range.{start_of, end_of}
+use Rattle.tt_base.specs.Span.{part_of, span_in}
+use Rattle.tt_base.specs.Tables.{Tables}
+use Rattle.tt_base.proofs.Lookups.{span_from, literal_is}
+use Rattle.tt_pack.specs.declared.entry.Named.TheVariants as named
+use Rattle.tt_pack.specs.declared.place.Place.{Place as StoredPlace}
+use Rattle.tt_pack.specs.Found.{FindsSpan, FindsNamed}
 
--- Two pairs that were found are equal in both parts.
-pub same_parts : {X Y : Type 0} (p q : X × Y) → Some p ≡ Some q → (p.0 ≡ q.0) × (p.1 ≡ q.1)
-same_parts p q e =
-    let pair : p ≡ q = cc in
-    (ap (λ x. x.0) pair, ap (λ x. x.1) pair)
+-- The span of a leaf in range is in range.
+pub leaf_in_range : (it : Leaf) → LeafInRange it → SpanInRange (leaf_span it)
+leaf_in_range (leaf.Literal it) range = range
+leaf_in_range (leaf.Punct it) range = range.0
+leaf_in_range (leaf.Ident it) range = range
+
+-- A span that was made of what a place names is the span that it names.
+pub span_made : (tables : Tables) (place : StoredPlace) (part : SpanPart) (range : TextRange) (span : Span)
+    → slice_get tables.parts place.part ≡ Some part → start_of range ≡ place.start → end_of range ≡ place.start + place.length
+    → FindsSpan tables place span → span_in part range ≡ span
+span_made tables place part range span at start end found =
+    span_from (span_in part range) span same (start ∙ found.start) long
+  where
+    both : Some part ≡ Some (part_of span)
+    both = sym at ∙ found.part
+
+    same : part ≡ part_of span
+    same = cc both
+
+    long : end_of range - start_of range ≡ end_of span.range - start_of span.range
+    long = omega (arith, start, end, found.length)
+
+-- A literal that was made of what numbers name is the leaf that they name.
+pub literal_made : (tables : Tables) (symbol : ℕ) (kind : LitKind) (suffix_len : ℕ) (text : List ℕ) (span : Span) (made : Literal) (it : Leaf)
+    → slice_get tables.symbols symbol ≡ Some text → span ≡ leaf_span it → IsLiteral made text span kind suffix_len
+    → FindsNamed tables (named.Literal symbol kind suffix_len) it → leaf.Literal made ≡ it
+literal_made tables symbol kind suffix_len text span made (leaf.Literal it) at stands is found =
+    let same : Some text ≡ Some it.symbol = sym at ∙ found.0 in
+    ap leaf.Literal (literal_is made it (is.symbol ∙ cc same) (is.span ∙ stands) (is.kind ∙ found.1) (is.suffix_len ∙ found.2))
+literal_made tables symbol kind suffix_len text span made (leaf.Punct it) at stands is found = absurd found
+literal_made tables symbol kind suffix_len text span made (leaf.Ident it) at stands is found = absurd found

@@ -1,7 +1,15 @@
 -- What the codec's contracts speak of.
 pub mod Entry
-pub mod LeafReading
+pub mod FedTree
+pub mod Found
+pub mod Named
+pub mod Names
+pub mod NamesOf
+pub mod Packed
 pub mod Place
-pub mod Reading
+pub mod Reader
+pub mod ReaderOf
 pub mod Reference
 pub mod Words
+pub mod WriterOf
+pub mod Writing

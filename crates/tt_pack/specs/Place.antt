@@ -4,7 +4,7 @@ use Rattle.std.specs.Borrow.{Bor}
 use Rattle.tt_base.specs.SpanBytes.{Place, PlaceFits, span_bytes}
 use Rattle.tt_pack.specs.declared.place.Place.{Place as StoredPlace}
 use Rattle.tt_pack.specs.declared.place.Spanned.{Spanned as StoredSpanned}
-use Rattle.tt_pack.specs.Reading.{Read, Spanned}
+use Rattle.tt_base.specs.Reading.{Read, Spanned}
 
 -- the numbers of a place
 abbrev pub place_of : StoredPlace → Place

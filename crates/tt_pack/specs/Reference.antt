@@ -3,7 +3,7 @@ use Rattle.std.specs.Prelude.{◌≡◌, ℕ, ◌<◌, ◌^◌, List, ◌++◌, 
 use Rattle.std.specs.Borrow.{Bor}
 use Rattle.tt_base.specs.ReferenceBytes.{reference_bytes}
 use Rattle.tt_pack.specs.declared.reference.Reference.{Reference as StoredReference}
-use Rattle.tt_pack.specs.Reading.{Read, Reference}
+use Rattle.tt_base.specs.Reading.{Read, Reference}
 
 -- the numbers of a reference
 abbrev pub reference_of : StoredReference → Reference

@@ -1,15 +1,18 @@
 //! The bytes of one value alone, for tests and for readers of the format.
 
-ghost use Rattle.std.specs.Prelude.{◌≡◌, ◌+◌, ◌<◌, ◌^◌, IfOk, IfErr};
+ghost use Rattle.std.specs.Prelude.{◌≡◌, ◌+◌, ◌<◌, ◌^◌, IfOk, IfErr, MatchOption};
 ghost use Rattle.tt_base.specs.ReferenceBytes.{reference_bytes};
 ghost use Rattle.tt_base.specs.SpanBytes.{span_bytes};
+ghost use Rattle.tt_base.specs.Tables.{Knows, token_bytes};
 ghost use Rattle.tt_base.specs.declared.fault.TtFault.TheVariants.{Memory};
+ghost use Rattle.tt_pack.specs.Names.{first_entries};
 ghost use Rattle.tt_pack.specs.Place.{place_at};
 
+use crate::names::Names;
 use crate::place::Place;
 use crate::reference::Reference;
 use std::alloc::Global;
-use tt_base::TtFault;
+use tt_base::{SpanPart, Symbol, TokenTree, TtFault};
 
 /// The bytes that name a symbol: its index in a table, and a tag bit.
 pub fn symbol_bytes(alloc: Global, index: u32, tag: u32) -> Result<Vec<u8>, TtFault>
@@ -47,4 +50,27 @@ pub fn span_bytes(
     };
     place.write(&mut bytes, extra, heavy)?;
     Ok(bytes)
+}
+
+/// The bytes of a token below the top, or `None` where the tables do not have a part or a symbol that it uses.
+/// Of the tables only the first 2^28 parts and 2^29 symbols count. What a header holds takes `child_bytes` bytes.
+pub fn token_bytes(
+    alloc: Global,
+    token: &TokenTree,
+    parts: &[SpanPart],
+    symbols: &[Symbol],
+    child_bytes: u32,
+) -> Result<Option<Vec<u8>>, TtFault>
+    ensures ok { IfOk result (λ found. MatchOption found
+        (Knows (first_entries parts.now symbols.now) token.now → ⊥)
+        (λ bytes. Knows (first_entries parts.now symbols.now) token.now
+        × (bytes.items ≡ token_bytes (first_entries parts.now symbols.now) token.now child_bytes))) }
+    ensures err { IfErr result (λ fault. fault ≡ Memory) }
+{
+    let Some(entry) = Names::new(parts, symbols).token(token, child_bytes) else {
+        return Ok(None);
+    };
+    let mut bytes = Vec::new(alloc);
+    entry.write(&mut bytes)?;
+    Ok(Some(bytes))
 }

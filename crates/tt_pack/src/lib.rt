@@ -3,16 +3,26 @@
 
 mod encodable;
 mod entry;
-mod entry_read;
-mod entry_write;
+mod header_read;
+mod header_write;
 pub mod laws;
+mod leaf_read;
+mod leaf_write;
+mod names;
+mod names_read;
+mod pack;
+mod packed;
 mod place;
+mod reader;
 mod reference;
 mod table;
 mod tables;
 mod words;
+mod writer;
 
 pub use encodable::Encodable;
+pub use packed::Packed;
+pub use reader::Reader;
 
 #[cfg(test)]
 mod tests;

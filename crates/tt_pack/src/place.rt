@@ -1,11 +1,13 @@
 ghost use Rattle.std.specs.Prelude.{◌≡◌, ◌<◌, ◌^◌, ◌++◌, IsTrue, IfErr, OnOk};
 ghost use Rattle.tt_base.specs.declared.fault.TtFault.TheVariants.{Memory};
-ghost use Rattle.tt_base.specs.SpanBytes.{first_word, middle_word, rests, fits_one_word, fits_two_words, middle_span, heavy_span, span_bytes, part_rest, length_rest, start_rest};
+ghost use Rattle.tt_base.specs.Fits.{SpanInRange};
+ghost use Rattle.tt_base.specs.Stored.{place_with};
+ghost use Rattle.tt_base.specs.SpanBytes.{PlaceFits, first_word, middle_word, rests, fits_one_word, fits_two_words, middle_span, heavy_span, span_bytes, part_rest, length_rest, start_rest};
 ghost use Rattle.tt_pack.specs.Place.{place_of, spanned_of, IsSpanRead, SpansAgain};
-ghost use Rattle.tt_pack.specs.Reading.{spanned, from_rests, after_one_word, after_two_words, span_at};
+ghost use Rattle.tt_base.specs.Reading.{spanned, from_rests, after_one_word, after_two_words, span_at};
 
 use crate::words::{push_two_words, push_word, split_word};
-use tt_base::TtFault;
+use tt_base::{Span, TtFault};
 
 /// Where a span stands: the index of its part, its start, and its length.
 #[derive(Debug, Clone, Copy, PartialEq)]
@@ -23,6 +25,22 @@ pub(crate) struct Spanned {
 }
 
 impl Place {
+    /// Where a span stands whose part has that index.
+    pub(crate) fn of_span(part: u32, span: &Span) -> Place
+        requires { part < 2 ^ 28 }
+        ensures value { place_of result ≡ place_with part span.now }
+        ensures fits { PlaceFits (place_of result) }
+        ensures range { SpanInRange span.now }
+    {
+        let start = span.range.start().raw();
+        let end = span.range.end().raw();
+        Place {
+            part,
+            start,
+            length: end - start,
+        }
+    }
+
     // The first word, with the bit that says whether more follows.
     fn first_word(self, extra: u32, more: u32) -> u32
         requires extra { extra < 4 }
@@ -176,7 +194,7 @@ impl Spanned {
     }
 
     // The span that the bytes begin with, and the bytes behind it.
-    #[tactic(auto, unfolding(crate::specs::Reading::span_at))]
+    #[tactic(auto, unfolding(tt_base::specs::Reading::span_at))]
     fn split(from: &[u8]) -> Option<(Spanned, &[u8])>
         ensures { IsSpanRead (span_at from.now) result }
     {

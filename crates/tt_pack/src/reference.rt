@@ -1,7 +1,7 @@
 ghost use Rattle.std.specs.Prelude.{◌≡◌, ◌<◌, ◌^◌, ◌++◌, IfErr, OnOk};
 ghost use Rattle.tt_base.specs.declared.fault.TtFault.TheVariants.{Memory};
 ghost use Rattle.tt_base.specs.ReferenceBytes.{reference_bytes};
-ghost use Rattle.tt_pack.specs.Reading.{after_one_byte, after_two_bytes, reference_at};
+ghost use Rattle.tt_base.specs.Reading.{after_one_byte, after_two_bytes, reference_at};
 ghost use Rattle.tt_pack.specs.Reference.{IsReferenceRead, ReferencesAgain};
 
 use crate::words::{push_byte, push_half, split_byte, split_half};
@@ -62,7 +62,7 @@ impl Reference {
     }
 
     // The reference that the bytes begin with, and the bytes behind it.
-    #[tactic(auto, unfolding(crate::specs::Reading::reference_at))]
+    #[tactic(auto, unfolding(tt_base::specs::Reading::reference_at))]
     fn split(from: &[u8]) -> Option<(Reference, &[u8])>
         ensures { IsReferenceRead (reference_at from.now) result }
     {

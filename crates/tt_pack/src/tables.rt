@@ -4,6 +4,7 @@ ghost use Rattle.tt_base.specs.declared.span.SpanPart.{SpanPart as Part};
 ghost use Rattle.tt_base.specs.TableOrder.{IsTable};
 ghost use Rattle.tt_base.specs.Tables.{part_table, symbol_table};
 ghost use Rattle.tt_base.specs.Uses.{same_part, token_parts, token_symbols, part_uses, symbol_uses};
+ghost use Rattle.tt_pack.specs.Packed.{HasFewParts, HasFewSymbols, IsTableFault};
 
 use crate::table::table;
 use std::alloc::{AllocError, Global};
@@ -77,4 +78,24 @@ pub(crate) fn symbol_table(alloc: Global, tokens: &[TokenTree]) -> Result<Vec<Sy
 {
     let uses = symbol_uses(alloc, tokens)?;
     Ok(table(alloc, uses.as_slice(), 63)?)
+}
+
+/// Both tables, where their indices can be written and the parts leave room for the top's two.
+pub(crate) fn tables(
+    alloc: Global,
+    below: &[TokenTree],
+) -> Result<(Vec<SpanPart>, Vec<Symbol>), TtFault>
+    ensures parts { IfOk result (λ found. (found.0.items ≡ part_table below.now) × HasFewParts below.now) }
+    ensures symbols { IfOk result (λ found. (found.1.items ≡ symbol_table below.now) × HasFewSymbols below.now) }
+    ensures err { IfErr result (IsTableFault below.now) }
+{
+    let parts = part_table(alloc, below)?;
+    if parts.len() > 268435454 {
+        return Err(TtFault::TooManySpanParts);
+    }
+    let symbols = symbol_table(alloc, below)?;
+    if symbols.len() > 536870912 {
+        return Err(TtFault::TooManySymbols);
+    }
+    Ok((parts, symbols))
 }

@@ -1,87 +1,37 @@
-ghost use Rattle.tt_base.specs.LeafBytes.{EntryFits};
-ghost use Rattle.tt_pack.specs.Entry.{named_at};
-ghost use Rattle.tt_pack.specs.Place.{place_at};
+ghost use Rattle.tt_base.specs.Entry.{EntryFits};
+ghost use Rattle.tt_pack.specs.Entry.{entry_of};
 
 use crate::encodable::Encodable;
-use crate::entry::{Entry, Named};
-use crate::place::Place;
+use crate::entry::Entry;
 use crate::tables::{part_table, symbol_table};
 use std::alloc::Global;
 use std::process::Abort;
 use std::test::Fail;
 use tt_base::{
-    ErasedFileAstId, FileId, Ident, IdentIsRaw, Leaf, LitKind, Spacing, Span, SpanAnchor,
+    ErasedFileAstId, FileId, Ident, IdentIsRaw, Leaf, Spacing, Span, SpanAnchor, Symbol,
     SyntaxContext, TextRange, TextSize, TokenTree,
 };
 
-// The leaf of the first part, from 0 on, has these bytes, and is read back from them.
-fn is_written(
-    rt: &impl Abort,
-    alloc: Global,
-    named: Named,
-    length: u32,
-    bytes: &[u8],
-) -> Result<(), Fail>
-    requires { EntryFits (named_at named (place_at 0 0 length)) }
+mod headers;
+mod leaves;
+
+// These bytes are written for the token, and it is read back from them.
+fn is_written(rt: &impl Abort, alloc: Global, entry: Entry, bytes: &[u8]) -> Result<(), Fail>
+    requires { EntryFits (entry_of entry) }
 {
-    let place = Place {
-        part: 0,
-        start: 0,
-        length,
-    };
-    let entry = Entry { named, place };
     let mut written = Vec::new(alloc);
     entry.write(&mut written)?;
     assert_eq!(rt; written.as_slice(), bytes);
+    is_read(rt, entry, bytes)
+}
+
+// The token is read from these bytes, and nothing is left of them.
+fn is_read(rt: &impl Abort, entry: Entry, bytes: &[u8]) -> Result<(), Fail> {
     let Some((found, rest)) = Entry::read(bytes) else {
-        return Err(Fail::new("no leaf"));
+        return Err(Fail::new("no token"));
     };
     assert_eq!(rt; found, entry);
     assert!(rt; rest.is_empty());
-    Ok(())
-}
-
-#[test]
-fn puncts(rt: HostRuntime) -> Result<(), Fail> {
-    let alloc = rt.alloc();
-    let semicolon = Named::Punct(';', Spacing::Alone);
-    is_written(&rt, alloc, semicolon, 1, &[0x41, 0x00, 0x00, 0x00, 0x76])?;
-    let plus = Named::Punct('+', Spacing::JointHidden);
-    is_written(&rt, alloc, plus, 1, &[0x43, 0x00, 0x00, 0x00, 0x56])?;
-    let arrow = Named::Punct('→', Spacing::Joint);
-    is_written(
-        &rt,
-        alloc,
-        arrow,
-        1,
-        &[0x40, 0x00, 0x00, 0x00, 0x0e, 0x92, 0x21, 0x00, 0x00],
-    )?;
-    Ok(())
-}
-
-#[test]
-fn idents_and_literals(rt: HostRuntime) -> Result<(), Fail> {
-    let alloc = rt.alloc();
-    let raw = Named::Ident(0, IdentIsRaw::Yes);
-    is_written(&rt, alloc, raw, 6, &[0x82, 0x01, 0x00, 0x00, 0x01])?;
-    let short = Named::Literal(0, LitKind::Integer, 2);
-    is_written(&rt, alloc, short, 3, &[0xc0, 0x00, 0x00, 0x00, 0x2c, 0x00])?;
-    let long = Named::Literal(0, LitKind::Integer, 16);
-    is_written(
-        &rt,
-        alloc,
-        long,
-        17,
-        &[0x40, 0x04, 0x00, 0x00, 0x17, 0x10, 0x00],
-    )?;
-    let fenced = Named::Literal(0, LitKind::StrRaw(2), 0);
-    is_written(
-        &rt,
-        alloc,
-        fenced,
-        8,
-        &[0x00, 0x02, 0x00, 0x00, 0x2f, 0x02, 0x00, 0x00],
-    )?;
     Ok(())
 }
 
@@ -138,9 +88,18 @@ fn tables_of_parts(rt: HostRuntime) -> Result<(), Fail> {
     Ok(())
 }
 
-#[test]
-fn a_table_of_symbols(rt: HostRuntime) -> Result<(), Fail> {
-    let alloc = rt.alloc();
+// The symbols `s` and that number.
+fn symbols_of_numbers(alloc: Global, numbers: &[u32]) -> Result<Vec<Symbol>, Fail> {
+    let mut symbols = Vec::new(alloc);
+    for number in numbers {
+        let text = format!(in alloc; "s{number}")?;
+        symbols.push(Symbol::new(alloc, text.as_str())?)?;
+    }
+    Ok(symbols)
+}
+
+// Idents of those symbols.
+fn idents_of(alloc: Global, symbols: &[Symbol]) -> Result<Vec<TokenTree>, Fail> {
     let span = Span {
         range: TextRange::empty(TextSize::new(0)),
         anchor: SpanAnchor {
@@ -150,13 +109,46 @@ fn a_table_of_symbols(rt: HostRuntime) -> Result<(), Fail> {
         ctx: SyntaxContext(0),
     };
     let mut tokens = Vec::new(alloc);
-    for text in ["b", "a", "b"] {
-        tokens.push(TokenTree::Leaf(Leaf::Ident(Ident::new(alloc, text, span)?)))?;
+    for symbol in symbols {
+        let ident = Ident::new(alloc, symbol.as_str(), span)?;
+        tokens.push(TokenTree::Leaf(Leaf::Ident(ident)))?;
     }
-    let symbols = symbol_table(alloc, tokens.as_slice())?;
-    assert_eq!(rt; symbols.len(), 2);
-    assert_eq!(rt; symbols[0].as_str(), "b");
-    assert_eq!(rt; symbols[1].as_str(), "a");
+    Ok(tokens)
+}
+
+// The table of the symbols of those numbers has those numbers.
+fn has_symbols(rt: &impl Abort, alloc: Global, uses: &[u32], table: &[u32]) -> Result<(), Fail> {
+    let used = symbols_of_numbers(alloc, uses)?;
+    let tokens = idents_of(alloc, used.as_slice())?;
+    let found = symbol_table(alloc, tokens.as_slice())?;
+    let expected = symbols_of_numbers(alloc, table)?;
+    assert_eq!(rt; found.as_slice(), expected.as_slice());
+    Ok(())
+}
+
+// The numbers below the limit.
+fn numbers_below(alloc: Global, limit: u32) -> Result<Vec<u32>, Fail> {
+    let mut numbers = Vec::new(alloc);
+    for number in 0..limit {
+        numbers.push(number)?;
+    }
+    Ok(numbers)
+}
+
+#[test]
+fn tables_of_symbols(rt: HostRuntime) -> Result<(), Fail> {
+    let alloc = rt.alloc();
+    has_symbols(&rt, alloc, &[1, 0, 1], &[1, 0])?;
+    let first_63 = numbers_below(alloc, 63)?;
+    let mut uses = numbers_below(alloc, 63)?;
+    uses.push(62)?;
+    has_symbols(&rt, alloc, uses.as_slice(), first_63.as_slice())?;
+    let mut uses = numbers_below(alloc, 64)?;
+    uses.push(63)?;
+    let mut table = Vec::new(alloc);
+    table.push(63)?;
+    table.extend_from_slice(first_63.as_slice())?;
+    has_symbols(&rt, alloc, uses.as_slice(), table.as_slice())?;
     Ok(())
 }
 

@@ -1,7 +1,7 @@
 ghost use Rattle.std.specs.Int.{w16, w32, to_le_bytes};
 ghost use Rattle.std.specs.Prelude.{◌≡◌, ◌++◌, ◌∷◌, [], Some, None, MatchOption, IfErr, OnOk};
 ghost use Rattle.tt_base.specs.declared.fault.TtFault.TheVariants.{Memory};
-ghost use Rattle.tt_pack.specs.Reading.{byte_at, half_at, word_at};
+ghost use Rattle.tt_base.specs.Reading.{byte_at, half_at, word_at};
 
 use tt_base::TtFault;
 

@@ -1,4 +1,4 @@
-use Rattle.tt_pack.proofs.SpanReading.{reads_again}
+use Rattle.tt_pack.proofs.ReadAgain.{reads_again}
 use Rattle.tt_pack.proofs.place.Spanned.read.Goals as goal
 
 pub returns-clause-again : goal.returns-clause-again

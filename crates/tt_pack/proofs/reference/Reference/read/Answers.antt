@@ -1,4 +1,4 @@
-use Rattle.tt_pack.proofs.ReferenceReading.{refers_again}
+use Rattle.tt_pack.proofs.ReadAgain.{refers_again}
 use Rattle.tt_pack.proofs.reference.Reference.read.Goals as goal
 
 pub returns-clause-again : goal.returns-clause-again

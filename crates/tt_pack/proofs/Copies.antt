@@ -1,0 +1,23 @@
+-- Copies of what is stored.
+use Rattle.std.proofs.Common.{◌≡◌, ℕ, List, [], ◌∷◌, refl, ap₂, sym, subst}
+use Rattle.std.specs.List.{AllZip}
+use Rattle.tt_base.specs.declared.span.SpanPart.{SpanPart}
+use Rattle.tt_base.specs.Forest.{Root}
+use Rattle.tt_base.specs.Meaning.{IsStored}
+use Rattle.tt_pack.specs.Packed.{stored_of}
+
+-- Where each clone is the value itself, a list of clones is the list.
+pub clones_same : {X : Type 0} (xs ys : List X) → AllZip (λ x y. y ≡ x) xs ys → ys ≡ xs
+clones_same [] [] h = refl
+clones_same [] (y ∷ ys) h = absurd h
+clones_same (x ∷ xs) [] h = absurd h
+clones_same (x ∷ xs) (y ∷ ys) h = ap₂ ◌∷◌ h.0 (clones_same xs ys h.1)
+
+-- Copies of all that is stored for a tree are stored for it.
+pub stored_again : (root : Root) (bytes bytes' : List ℕ) (parts parts' : List SpanPart) (symbols symbols' : List (List ℕ)) (len : ℕ)
+    → IsStored (stored_of bytes parts symbols len) root → bytes' ≡ bytes → parts' ≡ parts → AllZip (λ x y. y ≡ x) symbols symbols'
+    → IsStored (stored_of bytes' parts' symbols' len) root
+stored_again root bytes bytes' parts parts' symbols symbols' len is e f clones =
+    let stored : stored_of bytes' parts' symbols' len ≡ stored_of bytes parts symbols len =
+    λ i. stored_of (e i) (f i) (clones_same symbols symbols' clones i) len in
+    subst (λ it. IsStored it root) (sym stored) is

@@ -1,0 +1,113 @@
+-- Where a reader stands after a move, and what it stands before.
+use Rattle.std.proofs.Common.{◌≡◌, ℕ, zero, suc, ◌+◌, ◌≤◌, ◌^◌, ◌↔◌, List, length, drop, Some, None, refl, ap, sym, subst, ◌∙◌, arith}
+use Rattle.tt_base.specs.declared.delimiter.Delimiter.{Delimiter}
+use Rattle.tt_base.specs.declared.leaf.Leaf.{Leaf}
+use Rattle.tt_base.specs.declared.span.SpanPart.{SpanPart}
+use Rattle.tt_base.specs.Entry.{Entry, of_leaf, of_header}
+use Rattle.tt_base.specs.EntryReading.{entry_at}
+use Rattle.tt_base.specs.Fits.{LeafInRange, TokenInRange}
+use Rattle.tt_base.specs.Forest.{Forest, Root, end, leaf, node, only, size, header}
+use Rattle.tt_base.specs.Meaning.{IsAhead, own_bytes, held_bytes}
+use Rattle.tt_base.specs.Moves.{first_token, after_token, after_tree}
+use Rattle.tt_base.specs.NextToken.{TokenAhead}
+use Rattle.tt_base.specs.Reading.{Read}
+use Rattle.tt_base.specs.Stored.{packed, IsInRange, IsWithinLimits}
+use Rattle.tt_base.specs.Tables.{Tables}
+use Rattle.tt_base.proofs.Ahead.{ahead_read, none_ahead, end_is_passed}
+use Rattle.tt_pack.specs.Reader.{tables_from}
+
+-- A reader stands in the bytes, or at their end.
+pub inside : (tables : Tables) (all : List ℕ) (place : ℕ) (trees : Forest) → IsAhead tables all place trees → place ≤ length all
+inside tables all zero trees ahead = omega arith
+inside tables all (suc place) trees ahead = ahead.0
+
+none_first : (trees : Forest) → first_token trees ≡ None → trees ≡ end
+none_first end e = refl
+none_first (leaf it rest) e = cc e
+none_first (node delimiter children rest) e = cc e
+
+module _ (tables : Tables) (all : List ℕ) (place : ℕ) (trees : Forest) where
+  -- There is no first token exactly where all bytes are passed.
+  pub ends : IsAhead tables all place trees → (first_token trees ≡ None) ↔ (length all ≤ place)
+  ends ahead = (
+    λ none. end_is_passed tables all place (subst (IsAhead tables all place) (none_first trees none) ahead),
+    λ passed. ap first_token (none_ahead tables all place trees ahead passed),
+  )
+
+  -- Behind the first token.
+  pub moves : IsAhead tables all place trees → IsAhead tables all (place + own_bytes tables place trees) (after_token trees)
+  moves ahead = by_read (entry_at (drop place all)) (ahead_read tables all place trees ahead)
+    where
+      by_read : (r : Read Entry) → TokenAhead tables all place trees r → IsAhead tables all (place + own_bytes tables place trees) (after_token trees)
+      by_read None (e, passed) =
+          let stays : place + 0 ≡ place = omega arith in
+          subst (λ f. IsAhead tables all (place + own_bytes tables place f) (after_token f)) (sym e)
+          (subst (λ n. IsAhead tables all n end) (sym stays) (subst (IsAhead tables all place) e ahead))
+      by_read (Some (of_leaf entry, rest)) h = h.after (place + own_bytes tables place trees) h.own
+      by_read (Some (of_header entry, rest)) h = h.inside (place + own_bytes tables place trees) h.own
+
+  -- Behind the first tree.
+  pub skips : IsAhead tables all place trees → IsAhead tables all (place + own_bytes tables place trees + held_bytes tables trees) (after_tree trees)
+  skips ahead = by_read (entry_at (drop place all)) (ahead_read tables all place trees ahead)
+    where
+      by_read : (r : Read Entry) → TokenAhead tables all place trees r
+          → IsAhead tables all (place + own_bytes tables place trees + held_bytes tables trees) (after_tree trees)
+      by_read None (e, passed) =
+          let stays : place + 0 + 0 ≡ place = omega arith in
+          subst (λ f. IsAhead tables all (place + own_bytes tables place f + held_bytes tables f) (after_tree f)) (sym e)
+          (subst (λ n. IsAhead tables all n end) (sym stays) (subst (IsAhead tables all place) e ahead))
+      by_read (Some (of_leaf entry, rest)) h =
+          let none : held_bytes tables trees ≡ 0 = ap (held_bytes tables) h.is in
+          let same : after_token trees ≡ after_tree trees = ap after_token h.is ∙ sym (ap after_tree h.is) in
+          subst (IsAhead tables all (place + own_bytes tables place trees + held_bytes tables trees)) same (h.after _ (omega (arith, h.own, none)))
+      by_read (Some (of_header entry, rest)) h = h.after _ (omega (arith, h.own))
+
+  -- Both places are in the bytes.
+  pub room : IsAhead tables all place trees → place + own_bytes tables place trees + held_bytes tables trees ≤ length all
+  room ahead = by_read (entry_at (drop place all)) (ahead_read tables all place trees ahead)
+    where
+      by_read : (r : Read Entry) → TokenAhead tables all place trees r → place + own_bytes tables place trees + held_bytes tables trees ≤ length all
+      by_read None (e, passed) =
+          subst (λ f. place + own_bytes tables place f + held_bytes tables f ≤ length all) (sym e) (omega (arith, inside tables all place trees ahead))
+      by_read (Some (of_leaf entry, rest)) h =
+          let none : held_bytes tables trees ≡ 0 = ap (held_bytes tables) h.is in
+          omega (arith, h.own, none)
+      by_read (Some (of_header entry, rest)) h = omega (arith, h.own, h.room)
+
+-- a table whose indices can be written
+pub record HasFewEntries (tables : Tables) : Type 0 where
+  pub parts : length tables.parts ≤ 2 ^ 28
+  pub symbols : length tables.symbols ≤ 2 ^ 29
+
+-- Of a leaf ahead, the numbers are in range, and the tables have few entries.
+pub leaf_in_range_ahead : (tables : Tables) (all : List ℕ) (place : ℕ) (it : Leaf) (rest : Forest) → IsAhead tables all place (leaf it rest)
+    → LeafInRange it × HasFewEntries tables
+leaf_in_range_ahead tables all zero it rest ahead = absurd ahead
+leaf_in_range_ahead tables all (suc place) it rest ahead =
+    (ahead.2.3.0, record { parts = ahead.2.0; symbols = ahead.2.1 })
+
+-- The same of a header.
+pub node_in_range_ahead : (tables : Tables) (all : List ℕ) (place : ℕ) (delimiter : Delimiter) (children rest : Forest)
+    → IsAhead tables all place (node delimiter children rest) → TokenInRange (header delimiter (size children)) × HasFewEntries tables
+unfolding packed
+node_in_range_ahead tables all zero delimiter children end ahead = (
+  ahead.0.0,
+  record {
+    parts = omega (arith, ap (λ s. length s.parts) ahead.2, ahead.1.parts);
+    symbols = omega (arith, ap (λ s. length s.symbols) ahead.2, ahead.1.symbols);
+  },
+)
+node_in_range_ahead tables all zero delimiter children (leaf it rest) ahead = absurd ahead
+node_in_range_ahead tables all zero delimiter children (node other inner rest) ahead = absurd ahead
+node_in_range_ahead tables all (suc place) delimiter children rest ahead =
+    (ahead.2.3.0, record { parts = ahead.2.0; symbols = ahead.2.1 })
+
+-- A stored tree lies ahead at the start.
+pub start_is_ahead : (root : Root) (all : List ℕ) (parts : List SpanPart) (symbols : List (List ℕ)) → IsInRange root → IsWithinLimits root
+    → all ≡ (packed root).bytes → parts ≡ (packed root).parts → symbols ≡ (packed root).symbols → IsAhead (tables_from parts symbols) all 0 (only root)
+unfolding packed
+start_is_ahead root all parts symbols range limits e f g = (
+  range,
+  limits,
+  λ i. record { bytes = e i; parts = f i; symbols = g i; len = suc (size root.children) },
+)

@@ -1,0 +1,18 @@
+-- Where a value is found in a list.
+use Rattle.std.proofs.Common.{◌≡◌, ◌<◌, Bool, true, false, cond, Some, None, nat_lt, List, length, refl, arith}
+use Rattle.std.specs.List.{position, position_or_len}
+use Rattle.std.proofs.lemmas.Bool.{ltb-true, ltb-false}
+use Rattle.tt_base.specs.TableOrder.{place_in}
+use Rattle.tt_pack.specs.Names.{IsIndex}
+use Rattle.tt_pack.proofs.Falling.{same_place}
+
+-- What `position` gives is the index of the first that passes.
+pub position_is_index : {X : Type 0} (p : X → Bool) (xs : List X) → IsIndex p xs (position p xs)
+position_is_index p xs = by_test (nat_lt (position_or_len p xs) (length xs)) refl
+  where
+    by_test : (t : Bool) → nat_lt (position_or_len p xs) (length xs) ≡ t → IsIndex p xs (cond t (Some (position_or_len p xs)) None)
+    by_test true e = (same_place p xs, ltb-true _ _ e)
+    by_test false e = λ h. absurd (late h)
+      where
+        late : place_in p xs < length xs → ⊥
+        late h = omega (arith, ltb-false _ _ e, same_place p xs, h)

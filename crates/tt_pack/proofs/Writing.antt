@@ -1,0 +1,180 @@
+-- Steps of the writer, which goes from the last token to the first.
+use Rattle.std.proofs.Common.{◌≡◌, ◌⊎◌, inl, inr, ℕ, zero, suc, ◌+◌, ◌-◌, ◌<◌, ◌≤◌, List, [], ◌∷◌, ◌++◌, length, drop, reverse, get_or, refl, ap, ap₂, sym, subst, ◌∙◌, arith, length-append}
+use Rattle.std.proofs.lemmas.List.{reverse-append, reverse-reverse, length-reverse, get_or_append_left, get_or_push, get_or_read, drop_more}
+use Rattle.tt_base.specs.declared.delimiter.Subtree.{Subtree}
+use Rattle.tt_base.specs.declared.fault.TtFault.{TtFault}
+use Rattle.tt_base.specs.declared.fault.TtFault.TheVariants.{Memory, TooManyBytes}
+use Rattle.tt_base.specs.declared.token_tree.TokenTree.{TokenTree}
+use Rattle.tt_base.specs.declared.token_tree.TokenTree.TheVariants as token
+use Rattle.tt_base.specs.Entry.{Entry, entry_bytes}
+use Rattle.tt_base.specs.Fits.{TokenInRange}
+use Rattle.tt_base.specs.Forest.{IsWhole}
+use Rattle.tt_base.specs.Stored.{bytes}
+use Rattle.tt_base.specs.Tables.{Tables, entry_of, token_bytes}
+use Rattle.tt_base.specs.Unflat.{unflat}
+use Rattle.tt_base.proofs.HeaderFirst.{header_first}
+use Rattle.tt_base.proofs.EndPieces.{header_within}
+use Rattle.tt_base.proofs.WholeLists.{end_piece}
+use Rattle.tt_pack.specs.Writing.{byte_count, child_bytes, byte_sums, IsWritten}
+
+-- The bytes of a whole list are those of its first token, and then of the others.
+pub first_written : (tables : Tables) (it : TokenTree) (others : List TokenTree) → IsWhole (it ∷ others)
+    → bytes tables (unflat (it ∷ others)) ≡ token_bytes tables it (child_bytes tables it others) ++ bytes tables (unflat others)
+unfolding bytes
+first_written tables (token.Leaf it) others w = refl
+first_written tables (token.Subtree it) others w = header_first tables it others w
+
+-- Each end piece has a sum, the empty one too.
+pub byte_sums-length : (tables : Tables) (tokens : List TokenTree) → length (byte_sums tables tokens) ≡ suc (length tokens)
+byte_sums-length tables [] = refl
+byte_sums-length tables (it ∷ others) =
+    omega (arith, length-append (byte_sums tables others) (byte_count tables (it ∷ others) ∷ []), byte_sums-length tables others)
+
+-- The sum of the piece behind so many tokens.
+pub sum_behind : (tables : Tables) (tokens : List TokenTree) (n : ℕ) → n ≤ length tokens
+    → get_or (byte_sums tables tokens) (length tokens - n) 0 ≡ byte_count tables (drop n tokens)
+unfolding bytes
+sum_behind tables [] zero h =
+    let place : 0 - 0 ≡ 0 = omega arith in
+    ap (λ i. get_or (0 ∷ []) i 0) place
+sum_behind tables [] (suc n) h = absurd (none h)
+  where
+    none : suc n ≤ 0 → ⊥
+    none h = omega arith
+sum_behind tables (it ∷ others) zero h =
+    let place : suc (length others) - 0 ≡ suc (length others) = omega arith in
+    ap (λ i. get_or (byte_sums tables others ++ byte_count tables (it ∷ others) ∷ []) i 0) place
+    ∙ get_or_push (byte_sums tables others) (byte_count tables (it ∷ others)) 0 (suc (length others)) (byte_sums-length tables others)
+sum_behind tables (it ∷ others) (suc n) h =
+    let place : suc (length others) - suc n ≡ length others - n = omega arith in
+    ap (λ i. get_or (byte_sums tables others ++ byte_count tables (it ∷ others) ∷ []) i 0) place
+    ∙ get_or_append_left (byte_sums tables others) (byte_count tables (it ∷ others) ∷ []) 0 (length others - n)
+    (omega (arith, byte_sums-length tables others))
+    ∙ sum_behind tables others n (omega arith)
+
+-- One token more takes no fewer bytes.
+pub sum_grows : (tables : Tables) (it : TokenTree) (others : List TokenTree) → IsWhole (it ∷ others)
+    → byte_count tables others ≤ byte_count tables (it ∷ others)
+sum_grows tables it others w =
+    omega (
+      arith,
+      ap length (first_written tables it others w),
+      length-append (token_bytes tables it (child_bytes tables it others)) (bytes tables (unflat others)),
+    )
+
+-- An end piece takes no more bytes than the list.
+pub piece_within : (tables : Tables) (n : ℕ) (tokens : List TokenTree) → IsWhole tokens → byte_count tables (drop n tokens) ≤ byte_count tables tokens
+piece_within tables zero tokens w = omega arith
+piece_within tables (suc n) [] w = omega arith
+piece_within tables (suc n) (it ∷ others) w =
+    omega (arith, piece_within tables n others (end_piece 1 (it ∷ others) w), sum_grows tables it others w)
+
+-- A token whose bytes are put before the others is written.
+pub one_more : (tables : Tables) (it : TokenTree) (others : List TokenTree) (entry : Entry) (child : ℕ) (piece reversed sums reversed' sums' : List ℕ)
+    → IsWhole (it ∷ others) → IsWritten tables others reversed sums → TokenInRange it
+    → child ≡ child_bytes tables it others → entry ≡ entry_of tables it child → piece ≡ entry_bytes entry
+    → reversed' ≡ reversed ++ reverse piece → length reversed' ≤ 4294967295 → sums' ≡ sums ++ length reversed' ∷ []
+    → IsWritten tables (it ∷ others) reversed' sums'
+one_more tables it others entry child piece reversed sums reversed' sums' w written range e₁ e₂ e₃ e₄ few e₅ =
+    record {
+      bytes = all;
+      sums = e₅ ∙ ap₂ (λ l n. l ++ n ∷ []) written.sums counted;
+      range = (range, written.range);
+      few = few;
+    }
+  where
+    piece_is : piece ≡ token_bytes tables it (child_bytes tables it others)
+    piece_is = e₃ ∙ ap entry_bytes (e₂ ∙ ap (entry_of tables it) e₁)
+
+    all : reverse reversed' ≡ bytes tables (unflat (it ∷ others))
+    all =
+        ap reverse e₄
+        ∙ reverse-append reversed (reverse piece)
+        ∙ ap₂ ◌++◌ (reverse-reverse piece ∙ piece_is) written.bytes
+        ∙ sym (first_written tables it others w)
+
+    counted : length reversed' ≡ byte_count tables (it ∷ others)
+    counted = sym (length-reverse reversed') ∙ ap length all
+
+-- Where the bytes would be too many, so are those of the list.
+pub too_many : (tables : Tables) (it : TokenTree) (others : List TokenTree) (entry : Entry) (child : ℕ) (piece reversed sums : List ℕ)
+    → IsWhole (it ∷ others) → IsWritten tables others reversed sums
+    → child ≡ child_bytes tables it others → entry ≡ entry_of tables it child → piece ≡ entry_bytes entry
+    → 4294967295 < length reversed + length piece
+    → 4294967295 < byte_count tables (it ∷ others)
+too_many tables it others entry child piece reversed sums w written e₁ e₂ e₃ h =
+    omega (
+      arith,
+      h,
+      ap length piece_is,
+      ap length (first_written tables it others w),
+      length-append (token_bytes tables it (child_bytes tables it others)) (bytes tables (unflat others)),
+      sym (length-reverse reversed) ∙ ap length written.bytes,
+    )
+  where
+    piece_is : piece ≡ token_bytes tables it (child_bytes tables it others)
+    piece_is = e₃ ∙ ap entry_bytes (e₂ ∙ ap (entry_of tables it) e₁)
+
+-- What stands at a place, and then all behind it.
+pub piece_at : (tokens : List TokenTree) (place : ℕ) (it : TokenTree) → place < length tokens → it ≡ get_or tokens place it
+    → drop place tokens ≡ it ∷ drop (place + 1) tokens
+piece_at tokens place it h e = drop_more tokens place it h ∙ ap (λ first. first ∷ drop (place + 1) tokens) (sym e)
+
+-- A header stands at a place, and the sums of what is behind it are at hand.
+pub record HeldAt (tables : Tables) (tokens : List TokenTree) (place : ℕ) (it : Subtree) (counts : List ℕ) : Type 0 where
+  pub here : drop place tokens ≡ token.Subtree it ∷ drop (place + 1) tokens
+  pub whole : IsWhole (token.Subtree it ∷ drop (place + 1) tokens)
+  pub room : it.len < length counts
+  pub last : get_or counts (length counts - 1) 0 ≡ byte_count tables (drop (place + 1) tokens)
+  pub earlier : get_or counts (length counts - 1 - it.len) 0 ≡ byte_count tables (drop it.len (drop (place + 1) tokens))
+  pub within : byte_count tables (drop it.len (drop (place + 1) tokens)) ≤ byte_count tables (drop (place + 1) tokens)
+
+pub held_at : (tables : Tables) (tokens : List TokenTree) (place : ℕ) (found : TokenTree) (it : Subtree) (counts : List ℕ)
+    → place < length tokens → IsWhole (drop place tokens) → found ≡ get_or tokens place found → found ≡ token.Subtree it
+    → counts ≡ byte_sums tables (drop (place + 1) tokens) → HeldAt tables tokens place it counts
+held_at tables tokens place found it counts h w read is sums =
+    record {
+      here = here;
+      whole = whole;
+      room = omega (arith, long, within);
+      last = ap₂ (λ l i. get_or l i 0) sums (omega (arith, long)) ∙ sum_behind tables others 0 (omega arith);
+      earlier = ap₂ (λ l i. get_or l i 0) sums (omega (arith, long)) ∙ sum_behind tables others it.len within;
+      within = piece_within tables it.len others (end_piece 1 (token.Subtree it ∷ others) whole);
+    }
+  where
+    others : List TokenTree
+    others = drop (place + 1) tokens
+
+    here : drop place tokens ≡ token.Subtree it ∷ others
+    here = piece_at tokens place found h read ∙ ap (λ first. first ∷ others) is
+
+    whole : IsWhole (token.Subtree it ∷ others)
+    whole = subst IsWhole here w
+
+    within : it.len ≤ length others
+    within = header_within it others whole
+
+    long : length counts ≡ suc (length others)
+    long = ap length sums ∙ byte_sums-length tables others
+
+-- What is read there: the sum of what is behind the header, and of what is behind all that it holds.
+pub held_sums : (tables : Tables) (tokens : List TokenTree) (place : ℕ) (it : Subtree) (counts : List ℕ) (n m a b : ℕ) → HeldAt tables tokens place it counts
+    → n ≡ length counts → m ≡ it.len → a ≡ get_or counts (n - 1) a → b ≡ get_or counts (n - 1 - m) b
+    → (a ≡ byte_count tables (drop (place + 1) tokens)) × (b ≡ byte_count tables (drop it.len (drop (place + 1) tokens)))
+held_sums tables tokens place it counts n m a b held long len read_a read_b = (
+  get_or_read counts (n - 1) a (omega (arith, held.room, long)) read_a 0 ∙ ap (λ i. get_or counts (i - 1) 0) long ∙ held.last,
+  get_or_read counts (n - 1 - m) b (omega (arith, held.room, long, len)) read_b 0
+      ∙ ap₂ (λ i k. get_or counts (i - 1 - k) 0) long len
+      ∙ held.earlier,
+)
+
+-- The reason for which a token is not written.
+abbrev pub IsWriteFault : ℕ → TtFault → Type 0
+IsWriteFault count fault = (fault ≡ Memory) ⊎ ((fault ≡ TooManyBytes) × (4294967295 < count))
+
+-- What is too much for an end piece is too much for the list.
+pub too_many_in_all : (tables other : Tables) (n : ℕ) (tokens : List TokenTree) (fault : TtFault) → IsWhole tokens → other ≡ tables
+    → IsWriteFault (byte_count other (drop n tokens)) fault → IsWriteFault (byte_count tables tokens) fault
+too_many_in_all tables other n tokens fault w same (inl e) = inl e
+too_many_in_all tables other n tokens fault w same (inr (e, over)) =
+    inr (e, omega (arith, over, ap (λ t. byte_count t (drop n tokens)) same, piece_within tables n tokens w))

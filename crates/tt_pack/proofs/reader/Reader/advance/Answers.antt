@@ -1,0 +1,44 @@
+use Rattle.std.proofs.Common.{◌≡◌, ◌+◌, ◌<◌, ◌≤◌, ◌^◌, ◌↔◌, None, length, sym, subst, arith, rules}
+use Rattle.tt_base.specs.Meaning.{IsAhead}
+use Rattle.tt_base.specs.Moves.{first_token, after_token}
+use Rattle.tt_base.proofs.StoredAlike.{ahead_is}
+use Rattle.tt_pack.specs.ReaderOf.{tables_of, bytes_of, place_of, ahead_of}
+use Rattle.tt_pack.proofs.Moves.{ends, moves, room}
+use Rattle.tt_pack.proofs.reader.Reader.advance.Goals as goal
+
+pub returns-in_err-found-clause-end : goal.returns-in_err-found-clause-end
+returns-in_err-found-clause-end c =
+    let self = c.args.self.now in
+    let none : first_token (ahead_of self) ≡ c.from_residual.result = search rules in
+    subst (λ r. (r ≡ None) ↔ (length (bytes_of self) ≤ place_of self)) none (ends _ _ _ _ self.ahead.1)
+
+pub overflow_add-self : goal.overflow_add-self
+overflow_add-self c =
+    let self = c.args.self.now in
+    let small : length (bytes_of self) < 2 ^ 64 = search rules in
+    let within = room (tables_of self) (bytes_of self) (place_of self) self.ahead.0 self.ahead.1 in
+    omega (arith, small, within, c.in_ok-found.ensures.own)
+
+pub invariant_of-self : goal.invariant_of-self
+invariant_of-self c =
+    let self = c.args.self.now in
+    record {
+      ahead = (
+        after_token (ahead_of self),
+        subst (λ n. IsAhead (tables_of self) (bytes_of self) (place_of self + n) (after_token (ahead_of self))) (sym c.in_ok-found.ensures.own)
+            (moves (tables_of self) (bytes_of self) (place_of self) self.ahead.0 self.ahead.1),
+      );
+    }
+
+pub returns-clause-end : goal.returns-clause-end
+returns-clause-end c =
+    let self = c.args.self.now in
+    subst (λ r. (r ≡ None) ↔ (length (bytes_of self) ≤ place_of self)) c.in_ok-found.ensures.token (ends _ _ _ _ self.ahead.1)
+
+pub returns-clause-ahead : goal.returns-clause-ahead
+returns-clause-ahead c =
+    let self = c.args.self.now in
+    let is : IsAhead (tables_of self) (bytes_of self) (place_of self + c.in_ok-found.found.own) (after_token (ahead_of self)) =
+    subst (λ n. IsAhead (tables_of self) (bytes_of self) (place_of self + n) (after_token (ahead_of self))) (sym c.in_ok-found.ensures.own)
+    (moves (tables_of self) (bytes_of self) (place_of self) self.ahead.0 self.ahead.1) in
+    search (rules, ahead_is, is)

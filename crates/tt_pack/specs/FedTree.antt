@@ -1,0 +1,16 @@
+-- What a tree feeds to a hasher: all that is stored for it.
+use Rattle.std.specs.Hash as fed
+use Rattle.std.specs.Prelude.{List, ℕ, ◌++◌}
+use Rattle.tt_base.specs.contracts.span.SpanPartHash.TheImpl as part_impl
+use Rattle.tt_base.specs.declared.span.SpanPart.{SpanPart}
+use Rattle.tt_base.specs.Forest.{Root}
+use Rattle.tt_base.specs.Stored.{packed}
+
+-- what a part feeds
+abbrev pub fed_part : SpanPart → List (List ℕ)
+fed_part = (part_impl.ghosts).hash_input
+
+-- the bytes, and then the two tables
+abbrev pub fed_tree : Root → List (List ℕ)
+fed_tree root =
+    fed.slice fed.u8 (packed root).bytes ++ fed.slice fed_part (packed root).parts ++ fed.slice fed.str (packed root).symbols

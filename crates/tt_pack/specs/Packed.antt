@@ -1,0 +1,44 @@
+-- What the parts of a stored tree say together, and which tree a list means.
+use Rattle.std.specs.Prelude.{◌≡◌, ◌⊎◌, ◌+◌, ◌<◌, ◌≤◌, ℕ, List, length}
+use Rattle.tt_base.specs.declared.delimiter.Subtree.{Subtree}
+use Rattle.tt_base.specs.declared.fault.TtFault.{TtFault}
+use Rattle.tt_base.specs.declared.fault.TtFault.TheVariants.{Memory, TooManySpanParts, TooManySymbols, TooManyBytes}
+use Rattle.tt_base.specs.declared.span.SpanPart.{SpanPart}
+use Rattle.tt_base.specs.declared.token_tree.TokenTree.{TokenTree}
+use Rattle.tt_base.specs.Forest.{Root}
+use Rattle.tt_base.specs.Stored.{Stored}
+use Rattle.tt_base.specs.Tables.{Tables, part_table, symbol_table}
+use Rattle.tt_base.specs.Unflat.{unflat}
+use Rattle.tt_pack.specs.Writing.{byte_count}
+
+-- what is stored, of its parts
+abbrev pub stored_of : (bytes : List ℕ) → List SpanPart → (symbols : List (List ℕ)) → (len : ℕ) → Stored
+stored_of bytes parts symbols len = record { bytes = bytes; parts = parts; symbols = symbols; len = len }
+
+-- the tree of a header and the tokens below it
+abbrev pub root_of : Subtree → List TokenTree → Root
+root_of top below = record { delimiter = top.delimiter; children = unflat below }
+
+-- the tables of the tokens below the top
+abbrev pub tables_for : List TokenTree → Tables
+tables_for below = record { parts = part_table below; symbols = symbol_table below }
+
+-- their parts leave room for the top's two, and their indices can be written
+abbrev pub HasFewParts : List TokenTree → Type 0
+HasFewParts below = length (part_table below) + 2 ≤ 268435456
+
+-- the indices of their symbols can be written
+abbrev pub HasFewSymbols : List TokenTree → Type 0
+HasFewSymbols below = length (symbol_table below) ≤ 536870912
+
+-- why the tables cannot be made
+abbrev pub IsTableFault : List TokenTree → TtFault → Type 0
+IsTableFault below fault =
+    (fault ≡ Memory) ⊎ ((fault ≡ TooManySpanParts) × (268435456 < length (part_table below) + 2))
+    ⊎ ((fault ≡ TooManySymbols) × HasFewParts below × (536870912 < length (symbol_table below)))
+
+-- why the tokens cannot be stored
+abbrev pub IsStoreFault : List TokenTree → TtFault → Type 0
+IsStoreFault below fault =
+    IsTableFault below fault
+    ⊎ ((fault ≡ TooManyBytes) × HasFewParts below × HasFewSymbols below × (4294967295 < byte_count (tables_for below) below))

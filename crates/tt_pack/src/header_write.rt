@@ -1,0 +1,154 @@
+ghost use Rattle.std.specs.Prelude.{◌≡◌, ◌<◌, ◌^◌, ◌+◌, ◌++◌, IsTrue, IfErr, OnOk};
+ghost use Rattle.tt_base.specs.declared.fault.TtFault.TheVariants.{Memory};
+ghost use Rattle.tt_base.specs.declared.token_tree.TokenTree.TheVariants as token;
+ghost use Rattle.tt_base.specs.Fits.{TokenInRange};
+ghost use Rattle.tt_base.specs.HeaderBytes.{HeaderFits, is_within, is_small, has_format_1, has_format_2, has_format_3, format_1, format_2, format_3, format_4, header_bytes};
+ghost use Rattle.tt_base.specs.Stored.{top_entry};
+ghost use Rattle.tt_pack.specs.Entry.{header_entry_of};
+
+use crate::entry::HeaderEntry;
+use crate::place::Place;
+use crate::words::{push_byte, push_bytes, push_half, push_word};
+use tt_base::{Subtree, TtFault};
+
+impl HeaderEntry {
+    /// The top's header, whose two parts have the two indices from `part` on, and which holds so many bytes.
+    pub(crate) fn of_top(part: u32, top: Subtree, bytes: u32) -> HeaderEntry
+        requires { part + 1 < 2 ^ 28 }
+        ensures value { header_entry_of result ≡ top_entry part top.delimiter top.len bytes }
+        ensures fits { HeaderFits (header_entry_of result) }
+        ensures range { TokenInRange (token.Subtree top) }
+    {
+        HeaderEntry {
+            opening: Place::of_span(part, &top.delimiter.open_span),
+            closing: Place::of_span(part + 1, &top.delimiter.close),
+            kind: top.delimiter.kind,
+            len: top.len,
+            bytes,
+        }
+    }
+
+    // Whether it closes where it opens or behind that, and at most so far behind.
+    fn is_within(self, most: u32) -> bool
+        ensures { result ≡ is_within (header_entry_of self) most }
+    {
+        self.opening.start <= self.closing.start && self.closing.start - self.opening.start <= most
+    }
+
+    // Whether both delimiters are of one part, and what is between them is small.
+    fn is_small(self) -> bool
+        ensures { result ≡ is_small (header_entry_of self) }
+    {
+        self.opening.part == self.closing.part && self.len <= 255 && self.bytes <= 255
+    }
+
+    // Whether the first format can say it.
+    fn has_format_1(self) -> bool
+        ensures { result ≡ has_format_1 (header_entry_of self) }
+    {
+        self.is_small()
+            && self.opening.length == 1
+            && self.closing.length == 1
+            && self.is_within(2047)
+    }
+
+    // Whether the second format can say it.
+    fn has_format_2(self) -> bool
+        ensures { result ≡ has_format_2 (header_entry_of self) }
+    {
+        self.is_small() && self.opening.length == self.closing.length && self.is_within(7)
+    }
+
+    // Whether the third format can say it.
+    fn has_format_3(self) -> bool
+        ensures { result ≡ has_format_3 (header_entry_of self) }
+    {
+        self.len <= 255
+            && self.bytes <= 4095
+            && self.opening.length == self.closing.length
+            && self.is_within(255)
+            && self.closing.part <= 127
+    }
+
+    // Appends the first format.
+    fn write_format_1(self, into: &mut Vec<u8>) -> Result<(), TtFault>
+        requires fits { HeaderFits (header_entry_of self) }
+        requires format { IsTrue (has_format_1 (header_entry_of self)) }
+        ensures ok { OnOk result (into.new.items ≡ into.old.items ++ format_1 (header_entry_of self)) }
+        ensures err { IfErr result (λ fault. fault ≡ Memory) }
+    {
+        let distance = self.closing.start - self.opening.start;
+        let span = Place {
+            part: self.opening.part,
+            start: self.opening.start,
+            length: distance % 256,
+        };
+        span.write(into, 0, false)?;
+        let control = self.kind as u8 * 8 + (distance / 256) as u8 * 32;
+        push_bytes(into, &[control, self.len as u8, self.bytes as u8])?;
+        Ok(())
+    }
+
+    // Appends the second format.
+    fn write_format_2(self, into: &mut Vec<u8>) -> Result<(), TtFault>
+        requires fits { HeaderFits (header_entry_of self) }
+        requires format { IsTrue (has_format_2 (header_entry_of self)) }
+        ensures ok { OnOk result (into.new.items ≡ into.old.items ++ format_2 (header_entry_of self)) }
+        ensures err { IfErr result (λ fault. fault ≡ Memory) }
+    {
+        let distance = (self.closing.start - self.opening.start) as u8;
+        self.opening.write(into, 0, false)?;
+        let control = 1 + self.kind as u8 * 8 + distance * 32;
+        push_bytes(into, &[control, self.len as u8, self.bytes as u8])?;
+        Ok(())
+    }
+
+    // Appends the third format.
+    fn write_format_3(self, into: &mut Vec<u8>) -> Result<(), TtFault>
+        requires fits { HeaderFits (header_entry_of self) }
+        requires format { IsTrue (has_format_3 (header_entry_of self)) }
+        ensures ok { OnOk result (into.new.items ≡ into.old.items ++ format_3 (header_entry_of self)) }
+        ensures err { IfErr result (λ fault. fault ≡ Memory) }
+    {
+        let distance = (self.closing.start - self.opening.start) as u8;
+        let part = self.closing.part as u8;
+        self.opening.write(into, 0, false)?;
+        let control = 2 + self.kind as u8 * 8 + part % 8 * 32;
+        push_bytes(into, &[control, distance, self.len as u8])?;
+        push_half(into, self.bytes as u16 * 16 + part as u16 / 8)?;
+        Ok(())
+    }
+
+    /// Appends the fourth format, with both spans in three words where `heavy` demands them.
+    pub(crate) fn write_in_full(self, into: &mut Vec<u8>, heavy: bool) -> Result<(), TtFault>
+        requires { HeaderFits (header_entry_of self) }
+        ensures ok { OnOk result (into.new.items ≡ into.old.items ++ format_4 heavy (header_entry_of self)) }
+        ensures err { IfErr result (λ fault. fault ≡ Memory) }
+    {
+        self.opening.write(into, 0, heavy)?;
+        push_byte(into, 5 + self.kind as u8 * 8)?;
+        self.closing.write(into, 0, heavy)?;
+        push_word(into, self.len)?;
+        push_word(into, self.bytes)?;
+        Ok(())
+    }
+
+    /// Appends the header's bytes, in the first format that can say it.
+    #[tactic(auto, unfolding(tt_base::specs::HeaderBytes::header_bytes))]
+    pub(crate) fn write(self, into: &mut Vec<u8>) -> Result<(), TtFault>
+        requires { HeaderFits (header_entry_of self) }
+        ensures ok { OnOk result (into.new.items ≡ into.old.items ++ header_bytes (header_entry_of self)) }
+        ensures err { IfErr result (λ fault. fault ≡ Memory) }
+    {
+        if self.has_format_1() {
+            return self.write_format_1(into);
+        }
+        if self.has_format_2() {
+            return self.write_format_2(into);
+        }
+        if self.has_format_3() {
+            return self.write_format_3(into);
+        }
+        self.write_in_full(into, false)
+    }
+}

@@ -1,0 +1,170 @@
+ghost use Rattle.std.specs.Prelude.{◌≡◌, ◌<◌, ◌≤◌, ◌^◌, ◌++◌, IfErr, IfSome, OnOk, false};
+ghost use Rattle.tt_base.specs.declared.fault.TtFault.TheVariants.{Memory};
+ghost use Rattle.tt_base.specs.LeafBytes.{LeafEntryFits, raw_number, kind_number, hash_count, short_number, long_form, literal_form, punct_bytes, leaf_bytes};
+ghost use Rattle.tt_base.specs.ReferenceBytes.{reference_bytes};
+ghost use Rattle.tt_base.specs.SpanBytes.{span_bytes};
+ghost use Rattle.tt_pack.specs.Entry.{leaf_entry_of};
+ghost use Rattle.tt_pack.specs.Place.{place_of};
+
+use crate::entry::{LeafEntry, Named};
+use crate::place::Place;
+use crate::reference::Reference;
+use crate::words::{push_byte, push_bytes, push_word};
+use tt_base::{IdentIsRaw, LitKind, Spacing, TtFault};
+
+/// The number of a kind of literal.
+fn kind_number(kind: LitKind) -> u8
+    ensures value { result ≡ kind_number kind }
+    ensures bound { result ≤ 10 }
+{
+    match kind {
+        LitKind::Byte => 0,
+        LitKind::Char => 1,
+        LitKind::Integer => 2,
+        LitKind::Float => 3,
+        LitKind::Str => 4,
+        LitKind::StrRaw(_) => 5,
+        LitKind::ByteStr => 6,
+        LitKind::ByteStrRaw(_) => 7,
+        LitKind::CStr => 8,
+        LitKind::CStrRaw(_) => 9,
+        LitKind::Err(()) => 10,
+    }
+}
+
+/// The hashes of a raw kind.
+fn hash_count(kind: LitKind) -> Option<u8>
+    ensures { result ≡ hash_count kind }
+{
+    match kind {
+        LitKind::StrRaw(count) | LitKind::ByteStrRaw(count) | LitKind::CStrRaw(count) => {
+            Some(count)
+        }
+        LitKind::Byte
+        | LitKind::Char
+        | LitKind::Integer
+        | LitKind::Float
+        | LitKind::Str
+        | LitKind::ByteStr
+        | LitKind::CStr
+        | LitKind::Err(()) => None,
+    }
+}
+
+/// The number that a kind has in the short form.
+fn short_number(kind: LitKind) -> Option<u8>
+    ensures value { result ≡ short_number kind }
+    ensures bound { IfSome result (λ number. number ≤ 12) }
+{
+    match kind {
+        LitKind::Str => Some(3),
+        LitKind::StrRaw(0) => Some(4),
+        LitKind::StrRaw(1) => Some(11),
+        LitKind::Integer => Some(12),
+        _ => None,
+    }
+}
+
+// Appends the long form of a kind and a suffix length.
+fn write_long_form(into: &mut Vec<u8>, kind: LitKind, suffix_len: u8) -> Result<(), TtFault>
+    ensures ok { OnOk result (into.new.items ≡ into.old.items ++ long_form kind suffix_len) }
+    ensures err { IfErr result (λ fault. fault ≡ Memory) }
+{
+    let control = 7 + kind_number(kind) * 8;
+    match hash_count(kind) {
+        Some(count) => push_bytes(into, &[control, count, suffix_len]),
+        None => push_bytes(into, &[control, suffix_len]),
+    }
+}
+
+// Appends a kind and a suffix length.
+#[tactic(auto, unfolding(tt_base::specs::LeafBytes::literal_form))]
+fn write_form(into: &mut Vec<u8>, kind: LitKind, suffix_len: u8) -> Result<(), TtFault>
+    ensures ok { OnOk result (into.new.items ≡ into.old.items ++ literal_form kind suffix_len) }
+    ensures err { IfErr result (λ fault. fault ≡ Memory) }
+{
+    let Some(number) = short_number(kind) else {
+        return write_long_form(into, kind, suffix_len);
+    };
+    if suffix_len <= 15 {
+        return push_byte(into, number + suffix_len * 16);
+    }
+    write_long_form(into, kind, suffix_len)
+}
+
+impl Place {
+    // Appends a punct that stands here.
+    fn write_punct(self, into: &mut Vec<u8>, char: char, spacing: Spacing) -> Result<(), TtFault>
+        requires { self.part < 2 ^ 28 }
+        ensures ok { OnOk result (into.new.items ≡ into.old.items ++ punct_bytes char spacing (place_of self)) }
+        ensures err { IfErr result (λ fault. fault ≡ Memory) }
+    {
+        let code = char as u32;
+        let spacing = spacing as u8;
+        if code < 128 {
+            self.write(into, 1 + spacing as u32 / 2 * 2, false)?;
+            push_byte(into, code as u8 * 2 + spacing % 2)?;
+            return Ok(());
+        }
+        self.write(into, 0, false)?;
+        push_byte(into, 6 + spacing * 8)?;
+        push_word(into, code)?;
+        Ok(())
+    }
+
+    // Appends a literal that stands here.
+    fn write_literal(
+        self,
+        into: &mut Vec<u8>,
+        symbol: u32,
+        kind: LitKind,
+        suffix_len: u8,
+    ) -> Result<(), TtFault>
+        requires part { self.part < 2 ^ 28 }
+        requires symbol { symbol < 2 ^ 29 }
+        ensures ok { OnOk result (into.new.items ≡ into.old.items ++ (span_bytes false 0 (place_of self) ++ literal_form kind suffix_len ++ reference_bytes symbol 0)) }
+        ensures err { IfErr result (λ fault. fault ≡ Memory) }
+    {
+        self.write(into, 0, false)?;
+        write_form(into, kind, suffix_len)?;
+        let reference = Reference {
+            index: symbol,
+            tag: 0,
+        };
+        reference.write(into)?;
+        Ok(())
+    }
+
+    // Appends an ident that stands here.
+    fn write_ident(self, into: &mut Vec<u8>, symbol: u32, is_raw: IdentIsRaw) -> Result<(), TtFault>
+        requires part { self.part < 2 ^ 28 }
+        requires symbol { symbol < 2 ^ 29 }
+        ensures ok { OnOk result (into.new.items ≡ into.old.items ++ (span_bytes false 2 (place_of self) ++ reference_bytes symbol (raw_number is_raw))) }
+        ensures err { IfErr result (λ fault. fault ≡ Memory) }
+    {
+        self.write(into, 2, false)?;
+        let reference = Reference {
+            index: symbol,
+            tag: is_raw as u32,
+        };
+        reference.write(into)?;
+        Ok(())
+    }
+}
+
+impl LeafEntry {
+    /// Appends the leaf's bytes.
+    pub(crate) fn write(self, into: &mut Vec<u8>) -> Result<(), TtFault>
+        requires { LeafEntryFits (leaf_entry_of self) }
+        ensures ok { OnOk result (into.new.items ≡ into.old.items ++ leaf_bytes (leaf_entry_of self)) }
+        ensures err { IfErr result (λ fault. fault ≡ Memory) }
+    {
+        match self.named {
+            Named::Punct(char, spacing) => self.place.write_punct(into, char, spacing),
+            Named::Ident(symbol, is_raw) => self.place.write_ident(into, symbol, is_raw),
+            Named::Literal(symbol, kind, suffix_len) => {
+                self.place.write_literal(into, symbol, kind, suffix_len)
+            }
+        }
+    }
+}

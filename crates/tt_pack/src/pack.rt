@@ -1,0 +1,32 @@
+ghost use Rattle.std.specs.Prelude.{◌≡◌, ◌+◌, length, IfOk, IfErr};
+ghost use Rattle.tt_base.specs.Forest.{IsWhole};
+ghost use Rattle.tt_base.specs.Meaning.{IsStored};
+ghost use Rattle.tt_pack.specs.Packed.{stored_of, root_of, IsStoreFault};
+
+use crate::entry::HeaderEntry;
+use crate::names::Names;
+use crate::tables::tables;
+use crate::writer::Writer;
+use std::alloc::Global;
+use tt_base::{SpanPart, Subtree, Symbol, TokenTree, TtFault};
+
+/// The bytes, the parts and the symbols that are stored for a header and the tokens below it.
+pub(crate) fn write_tree(
+    alloc: Global,
+    top: Subtree,
+    below: &[TokenTree],
+) -> Result<(Vec<u8>, Vec<SpanPart>, Vec<Symbol>), TtFault>
+    requires whole { IsWhole below.now }
+    requires counted { top.len ≡ length below.now }
+    ensures ok { IfOk result (λ found. IsStored (stored_of found.0.items found.1.items found.2.items (length below.now + 1)) (root_of top below.now)) }
+    ensures err { IfErr result (IsStoreFault below.now) }
+{
+    let (mut parts, symbols) = tables(alloc, below)?;
+    let names = Names::new(parts.as_slice(), symbols.as_slice());
+    let writer = Writer::write_all(alloc, names, below)?;
+    let entry = HeaderEntry::of_top(parts.len() as u32, top, writer.len() as u32);
+    let bytes = writer.finish(entry)?;
+    parts.push(SpanPart::from_span(&top.delimiter.open_span))?;
+    parts.push(SpanPart::from_span(&top.delimiter.close))?;
+    Ok((bytes, parts, symbols))
+}

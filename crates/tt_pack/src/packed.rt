@@ -1,0 +1,176 @@
+ghost use Rattle.std.specs.Prelude.{◌≡◌, ◌≤◌, ◌+◌, ◌*◌, suc, length, IfOk, IfErr, IsTrue, ◌↔◌};
+ghost use Rattle.tt_base.specs.declared.fault.TtFault.TheVariants.{Memory};
+ghost use Rattle.tt_base.specs.Forest.{size, flat_root, IsWhole};
+ghost use Rattle.tt_base.specs.Meaning.{HasMeaning};
+ghost use Rattle.tt_base.specs.PackFault.{IsPackFault};
+ghost use Rattle.tt_base.specs.Stored.{packed, IsInRange, IsWithinLimits};
+ghost use Rattle.tt_base.proofs.SameTree.{same_root_iff};
+ghost use Rattle.tt_base.proofs.StoredAlike.{HasMeaning-prop};
+ghost use Rattle.tt_pack.specs.FedTree.{fed_tree};
+ghost use Rattle.std.proofs.Common.{rules, ap};
+ghost use Rattle.std.specs.Cmp.Rules.{comparing};
+ghost use Rattle.tt_base.specs.Equality.{same_token-equivalence};
+ghost use Rattle.tt_base.specs.SameTree.{same_root};
+ghost use Rattle.tt_pack.specs.Packed.{stored_of, root_of, IsStoreFault};
+
+use crate::pack::write_tree;
+use std::alloc::Global;
+use std::hash::{Hash, Hasher};
+use std::marker::Model;
+use tt_base::{Refused, SpanPart, Subtree, Symbol, TokenTree, TtFault, is_one_subtree};
+
+/// A token tree as bytes and two tables. A contract sees the tree; its bytes and tables are a function of it
+/// (docs/FORMATS.md), so equal trees are stored alike.
+#[derive(Drop)]
+pub struct Packed {
+    bytes: Vec<u8>,
+    parts: Vec<SpanPart>,
+    symbols: Vec<Symbol>,
+    len: usize,
+    ghost meaning: { HasMeaning (stored_of bytes.items parts.items symbols.items len) } by { HasMeaning-prop (stored_of bytes.items parts.items symbols.items len) },
+}
+
+impl Model for Packed {
+    ghost use Rattle.tt_base.specs.Forest.{Root};
+    ghost use Rattle.tt_base.specs.ForestCode.{root_code};
+
+    ghost Value = { Root };
+
+    ghost coded = { root_code };
+
+    ghost view = { λ stored. stored.meaning.0 };
+}
+
+impl Packed {
+    /// The tree of a flat list. A list is refused where it is not that of one subtree, has too many span parts, too
+    /// many symbols or too many bytes, in this order (docs/FORMATS.md, "Limits"), or where memory is refused; it is then handed back.
+    pub fn pack(alloc: Global, tokens: Vec<TokenTree>) -> Result<Packed, Refused<Vec<TokenTree>>>
+        ensures ok { IfOk result (λ stored. tokens.items ≡ flat_root stored) }
+        ensures counts { IfOk result (λ stored. size stored.children ≤ 4294967295) }
+        ensures fault { IfErr result (λ refused. IsPackFault tokens.items refused.fault) }
+        ensures list { IfErr result (λ refused. refused.value ≡ tokens) }
+    {
+        match Packed::of_list(alloc, &tokens) {
+            Ok(stored) => Ok(stored),
+            Err(fault) => Err(Refused {
+                fault,
+                value: tokens,
+            }),
+        }
+    }
+
+    // What is stored for a list, if it is one subtree.
+    fn of_list(alloc: Global, tokens: &[TokenTree]) -> Result<Packed, TtFault>
+        ensures ok { IfOk result (λ stored. (tokens.now ≡ flat_root stored) × (size stored.children ≤ 4294967295)) }
+        ensures err { IfErr result (IsPackFault tokens.now) }
+    {
+        let Some((TokenTree::Subtree(top), below)) = tokens.split_first() else {
+            return Err(TtFault::NotOneSubtree);
+        };
+        if !is_one_subtree(alloc, tokens)? {
+            return Err(TtFault::NotOneSubtree);
+        }
+        Packed::store(alloc, *top, below)
+    }
+
+    // What is stored for a header and the tokens below it.
+    fn store(alloc: Global, top: Subtree, below: &[TokenTree]) -> Result<Packed, TtFault>
+        requires whole { IsWhole below.now }
+        requires counted { top.len ≡ length below.now }
+        ensures ok { IfOk result (λ stored. stored ≡ root_of top below.now) }
+        ensures err { IfErr result (IsStoreFault below.now) }
+    {
+        let (bytes, parts, symbols) = write_tree(alloc, top, below)?;
+        Ok(Packed {
+            bytes,
+            parts,
+            symbols,
+            len: below.len() + 1,
+        })
+    }
+
+    /// The stored bytes: 33 of the top header, and then 5 to 33 of each token below it.
+    pub fn bytes(&self) -> &[u8]
+        ensures value { result.now ≡ (packed self.now).bytes }
+        ensures range { IsInRange self.now }
+        ensures limits { IsWithinLimits self.now }
+        ensures least { 33 + 5 * size self.now.children ≤ length result.now }
+        ensures most { length result.now ≤ 33 * suc (size self.now.children) }
+    {
+        self.bytes.as_slice()
+    }
+
+    /// The span parts used below the top, and then the two of the top's spans.
+    pub fn parts(&self) -> &[SpanPart]
+        ensures { result.now ≡ (packed self.now).parts }
+    {
+        self.parts.as_slice()
+    }
+
+    /// The symbols used.
+    pub fn symbols(&self) -> &[Symbol]
+        ensures { result.now ≡ (packed self.now).symbols }
+    {
+        self.symbols.as_slice()
+    }
+
+    /// The number of tokens, the top's header among them.
+    pub fn len(&self) -> usize
+        ensures { result ≡ suc (size self.now.children) }
+    {
+        self.len
+    }
+
+    /// The same tree, stored once more.
+    pub fn clone(&self, alloc: Global) -> Result<Packed, TtFault>
+        ensures ok { IfOk result (λ copy. copy ≡ self.now) }
+        ensures err { IfErr result (λ fault. fault ≡ Memory) }
+    {
+        let mut bytes = Vec::new(alloc);
+        bytes.extend_from_slice(self.bytes.as_slice())?;
+        let mut parts = Vec::new(alloc);
+        parts.extend_from_slice(self.parts.as_slice())?;
+        let symbols = self.symbols.clone()?;
+        Ok(Packed {
+            bytes,
+            parts,
+            symbols,
+            len: self.len,
+        })
+    }
+}
+
+impl PartialEq for Packed {
+    ghost eq = { same_root };
+
+    ghost laws = { Prim.search (comparing, same_token-equivalence, rules) };
+
+    fn eq(&self, other: &Packed) -> bool
+        ensures value { result ≡ same_root self.now other.now }
+        ensures tree { IsTrue result ↔ self.now ≡ other.now }
+    {
+        if self.bytes.as_slice() != other.bytes.as_slice() {
+            return false;
+        }
+        if self.parts.as_slice() != other.parts.as_slice() {
+            return false;
+        }
+        self.symbols.as_slice() == other.symbols.as_slice()
+    }
+}
+
+impl Eq for Packed {
+    ghost laws = { Prim.search (comparing, same_token-equivalence, rules) };
+}
+
+impl Hash for Packed {
+    ghost hash_input = { fed_tree };
+
+    ghost respects_eq = { λ a b same. ap fed_tree ((same_root_iff a b).0 same) };
+
+    fn hash<H: Hasher>(&self, state: &mut H) {
+        self.bytes.as_slice().hash(state);
+        self.parts.as_slice().hash(state);
+        self.symbols.as_slice().hash(state);
+    }
+}

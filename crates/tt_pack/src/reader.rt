@@ -1,0 +1,149 @@
+ghost use Rattle.std.specs.Prelude.{◌≡◌, ◌+◌, ◌≤◌, ◌↔◌, length, drop, MatchOption, IfSome, Some, None};
+ghost use Rattle.tt_base.specs.Forest.{only};
+ghost use Rattle.tt_base.specs.Meaning.{HasAhead, own_bytes, held_bytes};
+ghost use Rattle.tt_base.specs.Stored.{packed as what_is_stored};
+ghost use Rattle.tt_base.specs.Moves.{first_token, after_token, after_tree, step_after};
+ghost use Rattle.tt_base.proofs.StoredAlike.{HasAhead-prop};
+ghost use Rattle.tt_pack.specs.Reader.{tables_from};
+
+use crate::entry::Entry;
+use crate::names::Names;
+use crate::packed::Packed;
+use tt_base::{SpanPart, Symbol, TokenTree};
+
+/// A place in the bytes of a stored tree, from which its tokens are read one by one. A read decodes one token,
+/// takes no memory and searches nothing. A contract sees the trees ahead: at the start the whole tree, and
+/// behind its header the trees below it.
+#[derive(Clone, Copy)]
+pub struct Reader<'a> {
+    bytes: &'a [u8],
+    parts: &'a [SpanPart],
+    symbols: &'a [Symbol],
+    place: usize,
+    steps: u64,
+    pub ghost ahead: { HasAhead (tables_from parts.now symbols.now) bytes.now place } by { HasAhead-prop (tables_from parts.now symbols.now) bytes.now place },
+}
+
+// A token that was decoded.
+#[derive(Drop)]
+struct Found {
+    token: TokenTree,
+    // how many bytes the token itself takes
+    own: usize,
+    // how many bytes all that it holds takes
+    held: usize,
+}
+
+impl<'a> Reader<'a> {
+    ghost use Rattle.tt_pack.specs.ReaderOf.{ahead_of, bytes_of, tables_of, place_of, steps_of, ReadsSame, Decodes};
+
+    /// Before the whole tree.
+    pub fn start(packed: &'a Packed) -> Reader<'a>
+        ensures ahead { ahead_of result ≡ only packed.now }
+        ensures bytes { bytes_of result ≡ (what_is_stored packed.now).bytes }
+        ensures tables { tables_of result ≡ tables_from (what_is_stored packed.now).parts (what_is_stored packed.now).symbols }
+        ensures place { place_of result ≡ 0 }
+        ensures steps { steps_of result ≡ 0 }
+    {
+        Reader {
+            bytes: packed.bytes(),
+            parts: packed.parts(),
+            symbols: packed.symbols(),
+            place: 0,
+            steps: 0,
+        }
+    }
+
+    /// How many bytes are passed.
+    pub fn place(&self) -> usize
+        ensures { result ≡ place_of self.now }
+    {
+        self.place
+    }
+
+    /// How many tokens were decoded on the way here; the count stays at its largest.
+    pub fn steps(&self) -> u64
+        ensures { result ≡ steps_of self.now }
+    {
+        self.steps
+    }
+
+    // The bytes that are not passed.
+    fn rest(&self) -> &'a [u8]
+        ensures { result.now ≡ drop (place_of self.now) (bytes_of self.now) }
+    {
+        if self.place >= self.bytes.len() {
+            return &[];
+        }
+        &self.bytes[self.place..]
+    }
+
+    // The next token, if there is one.
+    fn decode(&self) -> Option<Found>
+        ensures { Decodes self.now result }
+    {
+        let rest = self.rest();
+        let (entry, behind) = Entry::read(rest)?;
+        let names = Names::new(self.parts, self.symbols);
+        let own = rest.len() - behind.len();
+        match entry {
+            Entry::Leaf(entry) => {
+                let leaf = names.leaf_of(entry)?;
+                Some(Found {
+                    token: TokenTree::Leaf(leaf),
+                    own,
+                    held: 0,
+                })
+            }
+            Entry::Header(entry) => {
+                let subtree = names.subtree_of(entry)?;
+                Some(Found {
+                    token: TokenTree::Subtree(subtree),
+                    own,
+                    held: entry.bytes as usize,
+                })
+            }
+        }
+    }
+
+    /// The next token, or `None` at the end of the bytes. Behind a header come the tokens that it holds.
+    pub fn advance(&mut self) -> Option<TokenTree>
+        ensures token { result ≡ first_token (ahead_of self.old) }
+        ensures end { (result ≡ None) ↔ (length (bytes_of self.old) ≤ place_of self.old) }
+        ensures ahead { ahead_of self.new ≡ after_token (ahead_of self.old) }
+        ensures same { ReadsSame self.new self.old }
+        ensures place { place_of self.new ≡ place_of self.old + own_bytes (tables_of self.old) (place_of self.old) (ahead_of self.old) }
+        ensures steps { steps_of self.new ≡ step_after (steps_of self.old) (ahead_of self.old) }
+    {
+        let found = self.decode()?;
+        self.place += found.own;
+        self.steps = self.steps.saturating_add(1);
+        Some(found.token)
+    }
+
+    /// The next token with a reader that stands behind it, or `None` at the end of the bytes. This reader passes
+    /// all that a header holds, which the other one stands before.
+    pub fn advance_skip(&mut self) -> Option<(TokenTree, Reader<'a>)>
+        ensures token { MatchOption result (first_token (ahead_of self.old) ≡ None) (λ found. first_token (ahead_of self.old) ≡ Some found.0) }
+        ensures below { IfSome result (λ found. ahead_of found.1 ≡ after_token (ahead_of self.old)) }
+        ensures below_same { IfSome result (λ found. ReadsSame found.1 self.old) }
+        ensures below_place { IfSome result (λ found. place_of found.1 ≡ place_of self.old + own_bytes (tables_of self.old) (place_of self.old) (ahead_of self.old)) }
+        ensures below_steps { IfSome result (λ found. steps_of found.1 ≡ steps_of self.new) }
+        ensures ahead { ahead_of self.new ≡ after_tree (ahead_of self.old) }
+        ensures same { ReadsSame self.new self.old }
+        ensures place { place_of self.new ≡ place_of self.old + own_bytes (tables_of self.old) (place_of self.old) (ahead_of self.old) + held_bytes (tables_of self.old) (ahead_of self.old) }
+        ensures steps { steps_of self.new ≡ step_after (steps_of self.old) (ahead_of self.old) }
+    {
+        let found = self.decode()?;
+        self.steps = self.steps.saturating_add(1);
+        let below = Reader {
+            bytes: self.bytes,
+            parts: self.parts,
+            symbols: self.symbols,
+            place: self.place + found.own,
+            steps: self.steps,
+        };
+        self.place = below.place + found.held;
+        Some((found.token, below))
+    }
+}
