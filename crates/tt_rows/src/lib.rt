@@ -2,4 +2,18 @@
 #![tactic(auto)]
 
 #[cfg(test)]
+mod headers;
+#[cfg(test)]
 mod laws;
+#[cfg(test)]
+mod lists;
+#[cfg(test)]
+mod packed;
+#[cfg(test)]
+mod reading;
+#[cfg(test)]
+mod stored_headers;
+#[cfg(test)]
+mod tables;
+#[cfg(test)]
+mod tokens;

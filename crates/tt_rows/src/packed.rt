@@ -1,0 +1,154 @@
+use crate::lists::{braces, header, punct, stored, top};
+use crate::tables::span;
+use std::alloc::Global;
+use std::hash::{DefaultHasher, Hash, Hasher};
+use std::process::Abort;
+use std::test::Fail;
+use tt_base::{DelimiterKind, Leaf, Punct, Spacing, SpanPart, SyntaxContext, TokenTree, TtFault};
+use tt_pack::Packed;
+
+// The numbers of the files of those parts.
+fn files(alloc: Global, parts: &[SpanPart]) -> Result<Vec<u32>, Fail> {
+    let mut found = Vec::new(alloc);
+    for part in parts {
+        found.push(part.anchor.file_id.0)?;
+    }
+    Ok(found)
+}
+
+// The list is refused as one that is not one subtree, and is handed back.
+fn is_refused(rt: &impl Abort, alloc: Global, tokens: Vec<TokenTree>) -> Result<(), Fail> {
+    let copy = tokens.clone()?;
+    let Err(refused) = Packed::pack(alloc, tokens) else {
+        return Err(Fail::new("the list is accepted"));
+    };
+    assert_eq!(rt; refused.fault, TtFault::NotOneSubtree);
+    assert_eq!(rt; refused.value.as_slice(), copy.as_slice());
+    Ok(())
+}
+
+// The hash of a tree under a fixed hasher.
+fn hash_of(tree: &Packed) -> u64 {
+    let mut state = DefaultHasher::new();
+    tree.hash(&mut state);
+    state.finish()
+}
+
+// A top of parts 20 and 21 over a punct of each of these parts has this table.
+fn has_table(rt: &impl Abort, alloc: Global, parts: &[u32], table: &[u32]) -> Result<(), Fail> {
+    let mut tokens = Vec::new(alloc);
+    let len = u32::try_from(parts.len())?;
+    tokens.push(header(DelimiterKind::Invisible, (20, 0, 0), (21, 0, 0), len)?)?;
+    for part in parts {
+        tokens.push(punct(';', (*part, 0, 1))?)?;
+    }
+    let tree = Packed::pack(alloc, tokens)?;
+    let found = files(alloc, tree.parts())?;
+    assert_eq!(rt; found.as_slice(), table);
+    Ok(())
+}
+
+// The braces, where the semicolon has another context.
+fn braces_of_another_context(alloc: Global) -> Result<Vec<TokenTree>, Fail> {
+    let mut tokens = braces(alloc)?;
+    let mut span = span((0, 3, 4)).ok_or("no span")?;
+    span.ctx = SyntaxContext(1);
+    let _semicolon = tokens.pop();
+    let other = Punct {
+        char: ';',
+        spacing: Spacing::Alone,
+        span,
+    };
+    tokens.push(Leaf::from(other).into())?;
+    Ok(tokens)
+}
+
+#[test]
+fn a_top_over_nothing(rt: HostRuntime) -> Result<(), Fail> {
+    let alloc = rt.alloc();
+    let tree = Packed::pack(alloc, vec![in alloc; top(0)?]?)?;
+    let bytes =
+        b"\x00\x40\x00\x00\x01\x00\x00\x00\x00\x00\x00\x00\x1d\x04\x40\x00\x00\x01\x00\x00\x00\x00\x00\x00\x00\x00\x00\x00\x00\x00\x00\x00\x00";
+    assert_eq!(rt; tree.bytes(), bytes.as_slice());
+    let part = SpanPart::from_span(&span((0, 0, 0)).ok_or("no span")?);
+    assert_eq!(rt; tree.parts(), [part, part].as_slice());
+    assert!(rt; tree.symbols().is_empty());
+    assert_eq!(rt; tree.len(), 1);
+    Ok(())
+}
+
+#[test]
+fn a_brace_over_two_leaves(rt: HostRuntime) -> Result<(), Fail> {
+    let alloc = rt.alloc();
+    let tree = Packed::pack(alloc, braces(alloc)?)?;
+    let bytes =
+        b"\x44\x40\x00\x00\x01\x00\x00\x00\x00\x00\x00\x00\x0d\x48\xc0\x02\x00\x01\x00\x00\x00\x00\x00\x00\x00\x02\x00\x00\x00\x0a\x00\x00\x00\x42\x00\x01\x00\x00\x41\x80\x01\x00\x76";
+    assert_eq!(rt; tree.bytes(), bytes.as_slice());
+    let part = SpanPart::from_span(&span((0, 0, 0)).ok_or("no span")?);
+    assert_eq!(rt; tree.parts(), [part, part, part].as_slice());
+    let symbols = tree.symbols();
+    assert_eq!(rt; symbols.len(), 1);
+    assert_eq!(rt; symbols[0].as_str(), "a");
+    assert_eq!(rt; tree.len(), 3);
+    Ok(())
+}
+
+#[test]
+fn tables_of_parts(rt: HostRuntime) -> Result<(), Fail> {
+    let alloc = rt.alloc();
+    has_table(
+        &rt,
+        alloc,
+        &[0, 1, 2, 3, 4, 5, 6, 7, 8, 9, 10, 11, 12, 13, 14, 14],
+        &[0, 1, 2, 3, 4, 5, 6, 7, 8, 9, 10, 11, 12, 13, 14, 20, 21],
+    )?;
+    has_table(
+        &rt,
+        alloc,
+        &[0, 1, 2, 3, 4, 5, 6, 7, 8, 9, 10, 11, 12, 13, 14, 15, 15],
+        &[15, 0, 1, 2, 3, 4, 5, 6, 7, 8, 9, 10, 11, 12, 13, 14, 20, 21],
+    )?;
+    Ok(())
+}
+
+#[test]
+fn lists_that_are_not_one_subtree(rt: HostRuntime) -> Result<(), Fail> {
+    let alloc = rt.alloc();
+    is_refused(&rt, alloc, Vec::new(alloc))?;
+    let leaf = punct(';', (0, 0, 1))?;
+    let other = punct(',', (0, 1, 2))?;
+    is_refused(&rt, alloc, vec![in alloc; leaf.clone()?]?)?;
+    is_refused(&rt, alloc, vec![in alloc; top(2)?, top(2)?, leaf.clone()?]?)?;
+    is_refused(&rt, alloc, vec![in alloc; top(1)?, leaf.clone()?, other]?)?;
+    is_refused(&rt, alloc, vec![in alloc; top(0)?, top(0)?]?)?;
+    is_refused(&rt, alloc, vec![in alloc; top(4294967295)?, leaf]?)?;
+    Ok(())
+}
+
+#[test]
+fn equal_trees(rt: HostRuntime) -> Result<(), Fail> {
+    let alloc = rt.alloc();
+    let tokens = braces(alloc)?;
+    let tree = stored(alloc, tokens.as_slice())?;
+    let again = Packed::pack(alloc, tokens)?;
+    assert!(rt; tree == again);
+    assert_eq!(rt; hash_of(&tree), hash_of(&again));
+    let copy = tree.clone(alloc)?;
+    assert!(rt; copy == tree);
+    assert_eq!(rt; copy.bytes(), tree.bytes());
+    assert_eq!(rt; copy.parts(), tree.parts());
+    assert_eq!(rt; copy.symbols(), tree.symbols());
+    assert_eq!(rt; copy.len(), tree.len());
+    assert_eq!(rt; hash_of(&copy), hash_of(&tree));
+    Ok(())
+}
+
+#[test]
+fn trees_of_two_contexts(rt: HostRuntime) -> Result<(), Fail> {
+    let alloc = rt.alloc();
+    let tree = Packed::pack(alloc, braces(alloc)?)?;
+    let other = Packed::pack(alloc, braces_of_another_context(alloc)?)?;
+    assert!(rt; tree != other);
+    assert!(rt; hash_of(&tree) != hash_of(&other));
+    Ok(())
+}

@@ -1,0 +1,134 @@
+ghost use Rattle.std.specs.Prelude.{◌≤◌, ◌<◌, ◌-◌};
+
+use crate::lists::{braces, header, ident, is_read, punct, stored, top};
+use std::alloc::Global;
+use std::test::Fail;
+use tt_base::{DelimiterKind, TokenTree};
+use tt_pack::{Packed, Reader};
+
+// A header at a place of a list. It holds so many of the tokens behind it.
+fn parentheses(place: u32, len: u32) -> Result<TokenTree, Fail>
+    requires place { place < 100000 }
+    requires len { len < 100000 }
+{
+    let start = place * 2;
+    let end = start + len * 2 + 1;
+    let part = place % 3;
+    header(
+        DelimiterKind::Parenthesis,
+        (part, start, start + 1),
+        (part, end, end + 1),
+        len,
+    )
+}
+
+// A leaf at a place of a list.
+fn leaf(alloc: Global, place: u32) -> Result<TokenTree, Fail>
+    requires { place < 100000 }
+{
+    let start = place * 2;
+    let spot = (place % 3, start, start + 1);
+    match place % 7 {
+        0 => ident(alloc, "a", spot),
+        1 => ident(alloc, "b", spot),
+        2 => ident(alloc, "r#type", spot),
+        3 | 4 => punct('+', spot),
+        _ => punct('→', spot),
+    }
+}
+
+// Of five tokens in a row the first holds all that follow it, the second one leaf, and the others are leaves.
+fn nested(alloc: Global, count: u32) -> Result<Vec<TokenTree>, Fail>
+    requires { count ≤ 100000 }
+{
+    let mut tokens = Vec::new(alloc);
+    for place in 0..count {
+        let token = match place % 5 {
+            0 => parentheses(place, count - 1 - place)?,
+            1 => parentheses(place, 1)?,
+            _ => leaf(alloc, place)?,
+        };
+        tokens.push(token)?;
+    }
+    Ok(tokens)
+}
+
+#[test]
+fn one_token_after_another(rt: HostRuntime) -> Result<(), Fail> {
+    let alloc = rt.alloc();
+    let tokens = braces(alloc)?;
+    let tree = stored(alloc, tokens.as_slice())?;
+    let mut reader = Reader::start(&tree);
+    assert_eq!(rt; reader.place(), 0);
+    assert_eq!(rt; reader.steps(), 0);
+    let places: [usize; 3] = [33, 38, 43];
+    let mut steps = 0u64;
+    for (token, place) in tokens.iter().zip(places.iter()) {
+        steps = steps.saturating_add(1);
+        assert_eq!(rt; reader.advance().ok_or("no token")?, *token);
+        assert_eq!(rt; reader.place(), *place);
+        assert_eq!(rt; reader.steps(), steps);
+    }
+    assert!(rt; reader.advance().is_none());
+    assert_eq!(rt; reader.place(), 43);
+    assert_eq!(rt; reader.steps(), 3);
+    Ok(())
+}
+
+#[test]
+fn all_that_a_header_holds(rt: HostRuntime) -> Result<(), Fail> {
+    let alloc = rt.alloc();
+    let tree = Packed::pack(alloc, braces(alloc)?)?;
+    let mut reader = Reader::start(&tree);
+    let (found, mut below) = reader.advance_skip().ok_or("no token")?;
+    let brace = header(DelimiterKind::Brace, (0, 0, 1), (0, 5, 6), 2)?;
+    assert_eq!(rt; found, brace);
+    assert_eq!(rt; reader.place(), 43);
+    assert_eq!(rt; reader.steps(), 1);
+    assert!(rt; reader.advance().is_none());
+    assert!(rt; reader.advance_skip().is_none());
+    assert_eq!(rt; reader.place(), 43);
+    assert_eq!(rt; reader.steps(), 1);
+    assert_eq!(rt; below.place(), 33);
+    assert_eq!(rt; below.steps(), 1);
+    let name = ident(alloc, "a", (0, 2, 3))?;
+    assert_eq!(rt; below.advance().ok_or("no token")?, name);
+    Ok(())
+}
+
+#[test]
+fn a_long_list(rt: HostRuntime) -> Result<(), Fail> {
+    let alloc = rt.alloc();
+    let tokens = nested(alloc, 100000)?;
+    let tree = stored(alloc, tokens.as_slice())?;
+    assert_eq!(rt; tree.len(), 100000);
+    is_read(&rt, &tree, tokens.as_slice())
+}
+
+#[test]
+fn siblings_are_skipped(rt: HostRuntime) -> Result<(), Fail> {
+    let alloc = rt.alloc();
+    let mut tokens = vec![in alloc; top(2000)?]?;
+    for group in 0..200u32 {
+        tokens.push(parentheses(group * 10, 9)?)?;
+        tokens.push(parentheses(group * 10 + 1, 8)?)?;
+        for place in 2..10u32 {
+            tokens.push(leaf(alloc, group * 10 + place)?)?;
+        }
+    }
+    let tree = stored(alloc, tokens.as_slice())?;
+    let mut reader = Reader::start(&tree);
+    assert_eq!(rt; reader.advance().ok_or("no top")?, top(2000)?);
+    for group in 0..200u32 {
+        assert_eq!(rt; reader.steps(), group as u64 + 1);
+        let (found, mut below) = reader.advance_skip().ok_or("no sibling")?;
+        assert_eq!(rt; found, parentheses(group * 10, 9)?);
+        let inner = below.advance().ok_or("nothing below")?;
+        assert_eq!(rt; inner, parentheses(group * 10 + 1, 8)?);
+        assert_eq!(rt; below.steps(), group as u64 + 3);
+    }
+    assert!(rt; reader.advance_skip().is_none());
+    assert_eq!(rt; reader.steps(), 201);
+    assert_eq!(rt; reader.place(), tree.bytes().len());
+    Ok(())
+}

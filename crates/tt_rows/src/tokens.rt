@@ -1,0 +1,130 @@
+use crate::tables::{Tables, span};
+use std::alloc::Global;
+use std::test::Fail;
+use tt_base::{Ident, Leaf, LitKind, Literal, Punct, Spacing, TokenTree, TtFault};
+
+// A punct of one of the parts.
+fn punct(char: char, spacing: Spacing, part: u32) -> Result<TokenTree, Fail> {
+    let span = span((part, 0, 1)).ok_or("no span")?;
+    Ok(Leaf::from(Punct {
+        char,
+        spacing,
+        span,
+    })
+    .into())
+}
+
+// An ident that is written so.
+fn ident(alloc: Global, text: &str, end: u32) -> Result<TokenTree, Fail> {
+    let span = span((0, 0, end)).ok_or("no span")?;
+    Ok(Leaf::from(Ident::new(alloc, text, span)?).into())
+}
+
+// A literal of that text and suffix.
+fn literal(
+    alloc: Global,
+    text: &str,
+    kind: LitKind,
+    suffix: &str,
+    end: u32,
+) -> Result<TokenTree, Fail> {
+    let span = span((0, 0, end)).ok_or("no span")?;
+    Ok(Leaf::from(Literal::new(alloc, text, span, kind, suffix)?).into())
+}
+
+// A text of so many letters.
+fn letters(alloc: Global, count: usize) -> Result<String, Fail> {
+    let mut text = String::new(alloc);
+    for _ in 0..count {
+        text.push('u')?;
+    }
+    Ok(text)
+}
+
+#[test]
+fn puncts(rt: HostRuntime) -> Result<(), Fail> {
+    let alloc = rt.alloc();
+    let tables = Tables::new(alloc, 1, &[])?;
+    let cases: [(char, Spacing, &[u8]); 3] = [
+        (';', Spacing::Alone, b"\x41\x00\x00\x00\x76"),
+        ('+', Spacing::JointHidden, b"\x43\x00\x00\x00\x56"),
+        ('→', Spacing::Joint, b"\x40\x00\x00\x00\x0e\x92\x21\x00\x00"),
+    ];
+    for (char, spacing, bytes) in cases {
+        tables.give(&rt, alloc, &punct(char, spacing, 0)?, 0, bytes)?;
+    }
+    Ok(())
+}
+
+#[test]
+fn a_raw_ident(rt: HostRuntime) -> Result<(), Fail> {
+    let alloc = rt.alloc();
+    let tables = Tables::new(alloc, 1, &["type"])?;
+    let token = ident(alloc, "r#type", 6)?;
+    tables.give(&rt, alloc, &token, 0, b"\x82\x01\x00\x00\x01")
+}
+
+#[test]
+fn literals(rt: HostRuntime) -> Result<(), Fail> {
+    let alloc = rt.alloc();
+    let cases: [(&str, LitKind, &str, u32, &[u8]); 4] = [
+        ("1", LitKind::Integer, "u8", 3, b"\xc0\x00\x00\x00\x2c\x00"),
+        (
+            "1",
+            LitKind::Integer,
+            "u23456789abcdef",
+            16,
+            b"\x00\x04\x00\x00\xfc\x00",
+        ),
+        (
+            "1",
+            LitKind::Integer,
+            "u123456789abcdef",
+            17,
+            b"\x40\x04\x00\x00\x17\x10\x00",
+        ),
+        (
+            "a",
+            LitKind::StrRaw(2),
+            "",
+            8,
+            b"\x00\x02\x00\x00\x2f\x02\x00\x00",
+        ),
+    ];
+    for (text, kind, suffix, end, bytes) in cases {
+        let whole = format!(in alloc; "{text}{suffix}")?;
+        let tables = Tables::new(alloc, 1, &[whole.as_str()])?;
+        let token = literal(alloc, text, kind, suffix, end)?;
+        tables.give(&rt, alloc, &token, 0, bytes)?;
+    }
+    Ok(())
+}
+
+#[test]
+fn long_suffixes(rt: HostRuntime) -> Result<(), Fail> {
+    let alloc = rt.alloc();
+    let suffix = letters(alloc, 255)?;
+    let whole = format!(in alloc; "1{suffix}")?;
+    let tables = Tables::new(alloc, 1, &[whole.as_str()])?;
+    let token = literal(alloc, "1", LitKind::Integer, suffix.as_str(), 256)?;
+    let bytes = b"\x00\x40\x00\x00\x00\x10\x00\x00\x17\xff\x00";
+    tables.give(&rt, alloc, &token, 0, bytes)?;
+    let suffix = letters(alloc, 256)?;
+    let span = span((0, 0, 257)).ok_or("no span")?;
+    let refused = Literal::new(alloc, "1", span, LitKind::Integer, suffix.as_str());
+    assert_eq!(rt; refused.err(), Some(TtFault::SuffixTooLong));
+    Ok(())
+}
+
+#[test]
+fn what_a_leaf_lacks(rt: HostRuntime) -> Result<(), Fail> {
+    let alloc = rt.alloc();
+    let tables = Tables::new(alloc, 1, &["type"])?;
+    assert!(rt; tables.know(alloc, &punct(';', Spacing::Alone, 0)?)?);
+    assert!(rt; !tables.know(alloc, &punct(';', Spacing::Alone, 1)?)?);
+    assert!(rt; tables.know(alloc, &ident(alloc, "type", 4)?)?);
+    assert!(rt; !tables.know(alloc, &ident(alloc, "typed", 5)?)?);
+    let number = literal(alloc, "1", LitKind::Integer, "u8", 3)?;
+    assert!(rt; !tables.know(alloc, &number)?);
+    Ok(())
+}
