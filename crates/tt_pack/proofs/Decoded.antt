@@ -1,5 +1,5 @@
 -- What was decoded at a place is the first token ahead of it.
-use Rattle.std.proofs.Common.{◌≡◌, ℕ, zero, suc, ◌-◌, ◌<◌, ◌≤◌, ◌^◌, List, [], ◌∷◌, length, drop, get_or, Some, ap, sym, subst, arith, length-drop}
+use Rattle.std.proofs.Common.{◌≡◌, ℕ, zero, suc, ◌-◌, ◌<◌, ◌≤◌, ◌^◌, List, [], ◌∷◌, length, drop, get_or, Option, Some, ap, sym, ◌∙◌, subst, arith, length-drop}
 use Rattle.std.proofs.lemmas.List.{take_all}
 use Rattle.std.specs.List.{slice_get}
 use Rattle.tt_base.specs.declared.delimiter.Subtree.{Subtree}
@@ -24,7 +24,7 @@ use Rattle.tt_pack.specs.declared.entry.Named.{Named}
 use Rattle.tt_pack.specs.declared.entry.Named.TheVariants as named
 use Rattle.tt_pack.specs.declared.place.Place.{Place as StoredPlace}
 use Rattle.tt_pack.specs.Entry.{named_at, leaf_entry_of, header_entry_of, entry_of}
-use Rattle.tt_pack.specs.Found.{FindsSpan, FindsLeaf, FindsSubtree}
+use Rattle.tt_pack.specs.Found.{FindsSpan, FindsLeaf, FindsSubtree, GivesLeaf, GivesSubtree}
 use Rattle.tt_pack.specs.Names.{first_entries}
 use Rattle.tt_pack.specs.Place.{place_of}
 use Rattle.tt_pack.proofs.Moves.{HasFewEntries, leaf_in_range_ahead, node_in_range_ahead}
@@ -140,3 +140,47 @@ module _ (tables : Tables) (all : List ℕ) (place : ℕ) (trees : Forest) (ahea
   pub fewer_left : (entry : StoredEntry) (behind : List ℕ) → entry_at (drop place all) ≡ Some (entry_of entry, behind) → length behind ≤ length (drop place all)
   fewer_left (stored.Leaf entry) behind e = (leaf_decoded entry behind e).shorter
   fewer_left (stored.Header entry) behind e = (header_decoded entry behind e).shorter
+
+  -- the answer that the tables give for what was read as a leaf, and what it says of the first token
+  pub record LeafRead (rest behind : List ℕ) (answer : Option Leaf) : Type 0 where
+    pub it : Leaf
+    pub is : answer ≡ Some it
+    pub first : first_token trees ≡ Some (token.Leaf it)
+    pub own : length rest - length behind ≡ own_bytes tables place trees
+    pub held : 0 ≡ held_bytes tables trees
+
+  -- The tables have an answer for what was read as a leaf.
+  pub leaf_read : (rest behind : List ℕ) (read : StoredEntry) (entry : StoredLeaf) (names : Tables) (answer : Option Leaf) → rest ≡ drop place all
+      → entry_at rest ≡ Some (entry_of read, behind) → read ≡ stored.Leaf entry → names ≡ first_entries tables.parts tables.symbols
+      → GivesLeaf names entry answer → LeafRead rest behind answer
+  leaf_read rest behind read entry names answer here e is same gives =
+      let found = leaf_decoded entry behind (ap entry_at (sym here) ∙ e ∙ ap (λ r. Some (entry_of r, behind)) is) in
+      record {
+        it = found.it;
+        is = gives found.it (subst (λ t. FindsLeaf t entry found.it) (sym same) found.finds) found.range;
+        first = found.first;
+        own = ap (λ l. length l - length behind) here ∙ found.own;
+        held = sym found.held;
+      }
+
+  -- the same of a header
+  pub record HeaderRead (rest behind : List ℕ) (entry : StoredHeader) (answer : Option Subtree) : Type 0 where
+    pub it : Subtree
+    pub is : answer ≡ Some it
+    pub first : first_token trees ≡ Some (token.Subtree it)
+    pub own : length rest - length behind ≡ own_bytes tables place trees
+    pub held : entry.bytes ≡ held_bytes tables trees
+
+  -- The tables have an answer for what was read as a header.
+  pub header_read : (rest behind : List ℕ) (read : StoredEntry) (entry : StoredHeader) (names : Tables) (answer : Option Subtree) → rest ≡ drop place all
+      → entry_at rest ≡ Some (entry_of read, behind) → read ≡ stored.Header entry → names ≡ first_entries tables.parts tables.symbols
+      → GivesSubtree names entry answer → HeaderRead rest behind entry answer
+  header_read rest behind read entry names answer here e is same gives =
+      let found = header_decoded entry behind (ap entry_at (sym here) ∙ e ∙ ap (λ r. Some (entry_of r, behind)) is) in
+      record {
+        it = found.it;
+        is = gives found.it (subst (λ t. FindsSubtree t entry found.it) (sym same) found.finds) found.range;
+        first = found.first;
+        own = ap (λ l. length l - length behind) here ∙ found.own;
+        held = sym found.held;
+      }

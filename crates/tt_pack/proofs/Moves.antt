@@ -1,5 +1,5 @@
 -- Where a reader stands after a move, and what it stands before.
-use Rattle.std.proofs.Common.{◌≡◌, ℕ, zero, suc, ◌+◌, ◌≤◌, ◌^◌, ◌↔◌, List, length, drop, Some, None, refl, ap, sym, subst, ◌∙◌, arith}
+use Rattle.std.proofs.Common.{◌≡◌, ℕ, zero, suc, ◌+◌, ◌≤◌, ◌^◌, ◌↔◌, List, length, drop, Some, None, refl, ap, ap₂, sym, subst, ◌∙◌, arith}
 use Rattle.tt_base.specs.declared.delimiter.Delimiter.{Delimiter}
 use Rattle.tt_base.specs.declared.leaf.Leaf.{Leaf}
 use Rattle.tt_base.specs.declared.span.SpanPart.{SpanPart}
@@ -35,7 +35,7 @@ module _ (tables : Tables) (all : List ℕ) (place : ℕ) (trees : Forest) where
   )
 
   -- Behind the first token.
-  pub moves : IsAhead tables all place trees → IsAhead tables all (place + own_bytes tables place trees) (after_token trees)
+  moves : IsAhead tables all place trees → IsAhead tables all (place + own_bytes tables place trees) (after_token trees)
   moves ahead = by_read (entry_at (drop place all)) (ahead_read tables all place trees ahead)
     where
       by_read : (r : Read Entry) → TokenAhead tables all place trees r → IsAhead tables all (place + own_bytes tables place trees) (after_token trees)
@@ -47,7 +47,7 @@ module _ (tables : Tables) (all : List ℕ) (place : ℕ) (trees : Forest) where
       by_read (Some (of_header entry, rest)) h = h.inside (place + own_bytes tables place trees) h.own
 
   -- Behind the first tree.
-  pub skips : IsAhead tables all place trees → IsAhead tables all (place + own_bytes tables place trees + held_bytes tables trees) (after_tree trees)
+  skips : IsAhead tables all place trees → IsAhead tables all (place + own_bytes tables place trees + held_bytes tables trees) (after_tree trees)
   skips ahead = by_read (entry_at (drop place all)) (ahead_read tables all place trees ahead)
     where
       by_read : (r : Read Entry) → TokenAhead tables all place trees r
@@ -61,6 +61,15 @@ module _ (tables : Tables) (all : List ℕ) (place : ℕ) (trees : Forest) where
           let same : after_token trees ≡ after_tree trees = ap after_token h.is ∙ sym (ap after_tree h.is) in
           subst (IsAhead tables all (place + own_bytes tables place trees + held_bytes tables trees)) same (h.after _ (omega (arith, h.own, none)))
       by_read (Some (of_header entry, rest)) h = h.after _ (omega (arith, h.own))
+
+  -- So many bytes on, where these are the token's own.
+  pub moved : (own : ℕ) → own ≡ own_bytes tables place trees → IsAhead tables all place trees → IsAhead tables all (place + own) (after_token trees)
+  moved own e ahead = subst (λ n. IsAhead tables all (place + n) (after_token trees)) (sym e) (moves ahead)
+
+  -- So many more on, where these are all that the token holds.
+  pub skipped : (own held : ℕ) → own ≡ own_bytes tables place trees → held ≡ held_bytes tables trees → IsAhead tables all place trees
+      → IsAhead tables all (place + own + held) (after_tree trees)
+  skipped own held e f ahead = subst (λ n. IsAhead tables all n (after_tree trees)) (ap₂ (λ m n. place + m + n) (sym e) (sym f)) (skips ahead)
 
   -- Both places are in the bytes.
   pub room : IsAhead tables all place trees → place + own_bytes tables place trees + held_bytes tables trees ≤ length all

@@ -6,7 +6,7 @@ use Rattle.tt_base.specs.Stored.{top_entry}
 use Rattle.tt_base.specs.Tables.{Knows, part_table, symbol_table}
 use Rattle.tt_pack.specs.Entry.{header_entry_of}
 use Rattle.tt_pack.specs.NamesOf.{names_of}
-use Rattle.tt_pack.specs.Packed.{tables_for, HasFewParts, HasFewSymbols}
+use Rattle.tt_pack.specs.Packed.{tables_for}
 use Rattle.tt_pack.specs.Writing.{byte_count}
 use Rattle.tt_pack.specs.WriterOf.{HasWrittenUnder}
 use Rattle.tt_pack.proofs.Storing.{names_are, tables_for_know, write_fault_is, is_stored}
@@ -15,31 +15,22 @@ use Rattle.tt_pack.proofs.pack.write_tree.Goals as goal
 
 pub write_all-requires-clause-known : goal.write_all-requires-clause-known
 write_all-requires-clause-known c =
-    let parts : c.as_slice.result.now ≡ part_table c.args.below.now = search rules in
-    let symbols : c.as_slice-2.result.now ≡ symbol_table c.args.below.now = search rules in
-    let few_parts : HasFewParts c.args.below.now = search rules in
-    let few_symbols : HasFewSymbols c.args.below.now = search rules in
-    let names : names_of c.new-names.result ≡ tables_for c.args.below.now = c.new-names.ensures ∙ names_are _ _ _ parts symbols few_parts few_symbols in
+    let names : names_of c.new-names.result ≡ tables_for c.args.below.now =
+    c.new-names.ensures ∙ names_are c.as_slice.result.now c.as_slice-2.result.now c.args.below.now (search rules) (search rules) (search rules) (search rules) in
     subst (λ t. AllByRecursion (Knows t) c.args.below.now) (sym names) (tables_for_know c.args.below.now)
 
 pub returns-in_err-writer-clause-err : goal.returns-in_err-writer-clause-err
 returns-in_err-writer-clause-err c =
-    let parts : c.as_slice.result.now ≡ part_table c.args.below.now = search rules in
-    let symbols : c.as_slice-2.result.now ≡ symbol_table c.args.below.now = search rules in
-    let few_parts : HasFewParts c.args.below.now = search rules in
-    let few_symbols : HasFewSymbols c.args.below.now = search rules in
-    let names : names_of c.new-names.result ≡ tables_for c.args.below.now = c.new-names.ensures ∙ names_are _ _ _ parts symbols few_parts few_symbols in
+    let names : names_of c.new-names.result ≡ tables_for c.args.below.now =
+    c.new-names.ensures ∙ names_are c.as_slice.result.now c.as_slice-2.result.now c.args.below.now (search rules) (search rules) (search rules) (search rules) in
     let told : IsWriteFault (byte_count (names_of c.new-names.result) c.args.below.now) c.in_err-writer.field-0.0 = search rules in
     let is : c.from_residual-in_err-writer.result ≡ Err c.in_err-writer.field-0.0 = search rules in
-    rw is (write_fault_is _ _ _ names few_parts few_symbols told)
+    rw is (write_fault_is _ _ _ names (search rules) (search rules) told)
 
 pub returns-clause-ok : goal.returns-clause-ok
 returns-clause-ok c =
-    let parts : c.as_slice.result.now ≡ part_table c.args.below.now = search rules in
-    let symbols : c.as_slice-2.result.now ≡ symbol_table c.args.below.now = search rules in
-    let few_parts : HasFewParts c.args.below.now = search rules in
-    let few_symbols : HasFewSymbols c.args.below.now = search rules in
-    let names : names_of c.new-names.result ≡ tables_for c.args.below.now = c.new-names.ensures ∙ names_are _ _ _ parts symbols few_parts few_symbols in
+    let names : names_of c.new-names.result ≡ tables_for c.args.below.now =
+    c.new-names.ensures ∙ names_are c.as_slice.result.now c.as_slice-2.result.now c.args.below.now (search rules) (search rules) (search rules) (search rules) in
     let written : HasWrittenUnder (names_of c.new-names.result) c.args.below.now c.in_ok-writer.writer = search rules in
     let bound : c.args.top.len < 2 ^ 32 = search rules in
     let items : c.in_ok-parts.parts.items ≡ part_table c.args.below.now = search rules in
@@ -56,4 +47,4 @@ returns-clause-ok c =
     ∙ append_assoc (part_table c.args.below.now) (part_of c.args.top.delimiter.open_span ∷ []) (part_of c.args.top.delimiter.close ∷ []) in
     let same_symbols : c.in_ok-parts.symbols.items ≡ symbol_table c.args.below.now = search rules in
     is_stored c.args.top c.args.below.now c.requires.whole c.requires.counted _ _ _ _ _ _ _ _
-    bound (written.0 ∙ names) few_parts few_symbols written.1 c.of_top-entry.ensures.range entry all with_top same_symbols (omega arith)
+    bound (written.0 ∙ names) (search rules) (search rules) written.1 c.of_top-entry.ensures.range entry all with_top same_symbols (omega arith)

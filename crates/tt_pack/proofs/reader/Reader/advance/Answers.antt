@@ -1,9 +1,9 @@
-use Rattle.std.proofs.Common.{◌≡◌, ◌+◌, ◌<◌, ◌≤◌, ◌^◌, ◌↔◌, None, length, sym, subst, arith, rules}
+use Rattle.std.proofs.Common.{◌≡◌, ◌+◌, ◌<◌, ◌≤◌, ◌^◌, ◌↔◌, None, length, subst, arith, rules}
 use Rattle.tt_base.specs.Meaning.{IsAhead}
 use Rattle.tt_base.specs.Moves.{first_token, after_token}
 use Rattle.tt_base.proofs.StoredAlike.{ahead_is}
 use Rattle.tt_pack.specs.ReaderOf.{tables_of, bytes_of, place_of, ahead_of}
-use Rattle.tt_pack.proofs.Moves.{ends, moves, room}
+use Rattle.tt_pack.proofs.Moves.{ends, moved, room}
 use Rattle.tt_pack.proofs.reader.Reader.advance.Goals as goal
 
 pub returns-in_err-found-clause-end : goal.returns-in_err-found-clause-end
@@ -22,13 +22,7 @@ overflow_add-self c =
 pub invariant_of-self : goal.invariant_of-self
 invariant_of-self c =
     let self = c.args.self.now in
-    record {
-      ahead = (
-        after_token (ahead_of self),
-        subst (λ n. IsAhead (tables_of self) (bytes_of self) (place_of self + n) (after_token (ahead_of self))) (sym c.in_ok-found.ensures.own)
-            (moves (tables_of self) (bytes_of self) (place_of self) self.ahead.0 self.ahead.1),
-      );
-    }
+    record { ahead = (after_token (ahead_of self), moved (tables_of self) (bytes_of self) (place_of self) _ _ c.in_ok-found.ensures.own self.ahead.1) }
 
 pub returns-clause-end : goal.returns-clause-end
 returns-clause-end c =
@@ -39,6 +33,5 @@ pub returns-clause-ahead : goal.returns-clause-ahead
 returns-clause-ahead c =
     let self = c.args.self.now in
     let is : IsAhead (tables_of self) (bytes_of self) (place_of self + c.in_ok-found.found.own) (after_token (ahead_of self)) =
-    subst (λ n. IsAhead (tables_of self) (bytes_of self) (place_of self + n) (after_token (ahead_of self))) (sym c.in_ok-found.ensures.own)
-    (moves (tables_of self) (bytes_of self) (place_of self) self.ahead.0 self.ahead.1) in
+    moved (tables_of self) (bytes_of self) (place_of self) _ _ c.in_ok-found.ensures.own self.ahead.1 in
     search (rules, ahead_is, is)

@@ -1,9 +1,9 @@
-use Rattle.std.proofs.Common.{◌+◌, ◌<◌, ◌^◌, length, ap₂, sym, subst, arith, rules}
+use Rattle.std.proofs.Common.{◌+◌, ◌<◌, ◌^◌, length, arith, rules}
 use Rattle.tt_base.specs.Meaning.{IsAhead}
 use Rattle.tt_base.specs.Moves.{after_token, after_tree}
 use Rattle.tt_base.proofs.StoredAlike.{ahead_is}
 use Rattle.tt_pack.specs.ReaderOf.{tables_of, bytes_of, place_of, ahead_of}
-use Rattle.tt_pack.proofs.Moves.{moves, skips, room}
+use Rattle.tt_pack.proofs.Moves.{moved, skipped, room}
 use Rattle.tt_pack.proofs.reader.Reader.advance_skip.Goals as goal
 
 pub overflow_add-below : goal.overflow_add-below
@@ -23,32 +23,19 @@ overflow_add-self c =
 pub invariant_of-below : goal.invariant_of-below
 invariant_of-below c =
     let self = c.args.self.now in
-    record {
-      ahead = (
-        after_token (ahead_of self),
-        subst (λ n. IsAhead (tables_of self) (bytes_of self) (place_of self + n) (after_token (ahead_of self))) (sym c.in_ok-found.ensures.own)
-            (moves (tables_of self) (bytes_of self) (place_of self) self.ahead.0 self.ahead.1),
-      );
-    }
+    record { ahead = (after_token (ahead_of self), moved (tables_of self) (bytes_of self) (place_of self) _ _ c.in_ok-found.ensures.own self.ahead.1) }
 
 pub invariant_of-self : goal.invariant_of-self
 invariant_of-self c =
     let self = c.args.self.now in
     let found = c.in_ok-found.ensures in
-    record {
-      ahead = (
-        after_tree (ahead_of self),
-        subst (λ n. IsAhead (tables_of self) (bytes_of self) n (after_tree (ahead_of self))) (ap₂ (λ m n. place_of self + m + n) (sym found.own) (sym found.held))
-            (skips (tables_of self) (bytes_of self) (place_of self) self.ahead.0 self.ahead.1),
-      );
-    }
+    record { ahead = (after_tree (ahead_of self), skipped (tables_of self) (bytes_of self) (place_of self) _ _ _ found.own found.held self.ahead.1) }
 
 pub returns-clause-below : goal.returns-clause-below
 returns-clause-below c =
     let self = c.args.self.now in
     let is : IsAhead (tables_of self) (bytes_of self) (place_of self + c.in_ok-found.found.own) (after_token (ahead_of self)) =
-    subst (λ n. IsAhead (tables_of self) (bytes_of self) (place_of self + n) (after_token (ahead_of self))) (sym c.in_ok-found.ensures.own)
-    (moves (tables_of self) (bytes_of self) (place_of self) self.ahead.0 self.ahead.1) in
+    moved (tables_of self) (bytes_of self) (place_of self) _ _ c.in_ok-found.ensures.own self.ahead.1 in
     search (rules, ahead_is, is)
 
 pub returns-clause-ahead : goal.returns-clause-ahead
@@ -56,6 +43,5 @@ returns-clause-ahead c =
     let self = c.args.self.now in
     let found = c.in_ok-found.ensures in
     let is : IsAhead (tables_of self) (bytes_of self) (place_of self + c.in_ok-found.found.own + c.in_ok-found.found.held) (after_tree (ahead_of self)) =
-    subst (λ n. IsAhead (tables_of self) (bytes_of self) n (after_tree (ahead_of self))) (ap₂ (λ m n. place_of self + m + n) (sym found.own) (sym found.held))
-    (skips (tables_of self) (bytes_of self) (place_of self) self.ahead.0 self.ahead.1) in
+    skipped (tables_of self) (bytes_of self) (place_of self) _ _ _ found.own found.held self.ahead.1 in
     search (rules, ahead_is, is)
