@@ -1,7 +1,7 @@
 #!/usr/bin/env bash
-# Prints how many nanoseconds it takes to pack a token, to read one, and to skip a subtree of 100 tokens, in trees of
-# 1,000 to 1,000,000 tokens. What comes before is measured too and taken off: building the list, and for the last
-# two packing it as well.
+# Prints how many nanoseconds it takes to pack a token, to read one, to skip a subtree of 100 tokens, and to pass the
+# whole tree at once, in trees of 1,000 to 1,000,000 tokens. What comes before is measured too and taken off:
+# building the list, and for the last three packing it as well.
 set -euo pipefail
 
 cd -- "$(dirname -- "$(readlink -f -- "${BASH_SOURCE[0]}")")/../crates/tt_bench"
@@ -28,7 +28,7 @@ each() {
     awk -v all="$1" -v before="$2" 'BEGIN { printf "%.2f", (all - before) / 10000000 }'
 }
 
-printf '%10s %10s %10s %10s\n' tokens pack read skip
+printf '%10s %10s %10s %10s %10s\n' tokens pack read skip pass
 for tokens in 1000 10000 100000 1000000; do
     # Ten million tokens in all, and a hundred times as many where only each hundredth is looked at.
     rounds=$((10000000 / tokens))
@@ -37,6 +37,7 @@ for tokens in 1000 10000 100000 1000000; do
     once=$(time_of pack "$tokens" 1)
     read=$(time_of read "$tokens" "$rounds")
     skipped=$(time_of skip "$tokens" "$((rounds * 100))")
-    printf '%10d %10s %10s %10s\n' "$tokens" \
-        "$(each "$packed" "$built")" "$(each "$read" "$once")" "$(each "$skipped" "$once")"
+    passed=$(time_of pass "$tokens" 10000000)
+    printf '%10d %10s %10s %10s %10s\n' "$tokens" "$(each "$packed" "$built")" \
+        "$(each "$read" "$once")" "$(each "$skipped" "$once")" "$(each "$passed" "$once")"
 done

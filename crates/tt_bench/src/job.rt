@@ -1,7 +1,7 @@
 ghost use Rattle.std.specs.Prelude.{◌≤◌};
 
 use crate::list::list;
-use crate::walk::{read, skip};
+use crate::walk::{pass, read, skip};
 use std::alloc::Global;
 use std::env;
 use std::rt::Env;
@@ -15,6 +15,7 @@ enum Mode {
     Pack,
     Read,
     Skip,
+    Pass,
 }
 
 /// What the arguments ask for.
@@ -35,6 +36,7 @@ impl Mode {
             "pack" => Some(Mode::Pack),
             "read" => Some(Mode::Read),
             "skip" => Some(Mode::Skip),
+            "pass" => Some(Mode::Pass),
             _ => None,
         }
     }
@@ -59,12 +61,12 @@ impl Job {
     }
 
     /// Does the work, and answers the number of tokens. Trees are built anew in each round of `build` and `pack`,
-    /// and once for all rounds of `read` and `skip`.
+    /// and once for all rounds of `read`, `skip` and `pass`.
     pub fn run(self, alloc: Global) -> Result<u64, TtFault> {
         match self.mode {
             Mode::Build => self.build_all(alloc),
             Mode::Pack => self.pack_all(alloc),
-            Mode::Read | Mode::Skip => self.walk_all(alloc),
+            Mode::Read | Mode::Skip | Mode::Pass => self.walk_all(alloc),
         }
     }
 
@@ -93,6 +95,7 @@ impl Job {
         for _ in 0..self.rounds {
             count = match self.mode {
                 Mode::Skip => skip(&tree),
+                Mode::Pass => pass(&tree),
                 _ => read(&tree),
             };
         }

@@ -1,4 +1,4 @@
-//! Builds a list of many tokens, packs it, and reads or skips through the tree, as the arguments say. Prints the
+//! Builds a list of many tokens, packs it, and reads, skips through or passes the tree, as the arguments say. Prints the
 //! number of tokens: the time that it takes is measured from outside.
 #![tactic(auto)]
 
@@ -11,7 +11,7 @@ use std::process::ExitCode;
 
 fn main(rt: HostRuntime) -> ExitCode {
     let Some(job) = Job::from_args(&rt) else {
-        let _ = eprintln!(rt; "usage: tt_bench build|pack|read|skip TOKENS ROUNDS");
+        let _ = eprintln!(rt; "usage: tt_bench build|pack|read|skip|pass TOKENS ROUNDS");
         return ExitCode::FAILURE;
     };
     let count = match job.run(rt.alloc()) {

@@ -26,6 +26,15 @@ pub fn skip(tree: &Packed) -> u64 {
     count
 }
 
+/// Passes the whole tree at once, and answers how many tokens it has, by the count of its header.
+pub fn pass(tree: &Packed) -> u64 {
+    let mut reader = Reader::start(tree);
+    match reader.advance_skip() {
+        Some((token, _below)) => tokens_of(&token),
+        None => 0,
+    }
+}
+
 // How many tokens a token stands for, with all that it holds.
 fn tokens_of(token: &TokenTree) -> u64 {
     match token {
