@@ -9,7 +9,6 @@ use Rattle.tt_base.specs.declared.leaf.Leaf.TheVariants as leaf
 use Rattle.tt_base.specs.declared.literal.Literal.{Literal}
 use Rattle.tt_base.specs.declared.span.Span.{Span}
 use Rattle.tt_base.specs.declared.span.SpanPart.{SpanPart}
-use Rattle.tt_base.specs.declared.text_range.TextRange.{TextRange}
 use Rattle.tt_base.specs.declared.token_tree.TokenTree.{TokenTree}
 use Rattle.tt_base.specs.declared.token_tree.TokenTree.TheVariants as token
 use Rattle.tt_base.specs.Range.{start_of, end_of}
@@ -17,6 +16,7 @@ use Rattle.tt_base.specs.Span.{part_of}
 use Rattle.tt_base.specs.TableOrder.{place_in, IsIn}
 use Rattle.tt_base.specs.Tables.{Tables, Knows, place_of_span, leaf_entry, header_entry, entry_of}
 use Rattle.tt_base.specs.Uses.{same_part}
+use Rattle.tt_base.proofs.Ranges.{same_range}
 use Rattle.tt_base.proofs.TokenTables.{part_sound, text_sound}
 
 -- A place found in a list is the same where more follows.
@@ -63,18 +63,13 @@ symbol_is symbols a b found e =
     let (x, p, q) = same_place (bytes_eq a) (bytes_eq b) symbols found e in
     text_sound a x p ∙ sym (text_sound b x q)
 
--- Ranges with the same ends are equal.
-pub range_is : (a b : TextRange) → start_of a ≡ start_of b → end_of a ≡ end_of b → a ≡ b
-range_is a b e f =
-    λ i. record { start = record { raw = e i }; end = record { raw = f i }; ordered = is_prop→PathP (λ i. e i ≤ f i) (λ i. le_prop) a.ordered b.ordered i }
-
 -- Spans of one part that start alike and are as long are equal.
 pub span_from : (a b : Span) → part_of a ≡ part_of b → start_of a.range ≡ start_of b.range
     → end_of a.range - start_of a.range ≡ end_of b.range - start_of b.range → a ≡ b
 span_from a b part start long = λ i. record { range = range i; anchor = (part i).anchor; ctx = (part i).ctx }
   where
     range : a.range ≡ b.range
-    range = range_is a.range b.range start (omega (arith, start, long, a.range.ordered, b.range.ordered))
+    range = same_range a.range b.range start (omega (arith, start, long, a.range.ordered, b.range.ordered))
 
 -- Spans at one place are equal.
 pub span_is : (tables : Tables) (a b : Span) → IsIn same_part tables.parts (part_of a) → place_of_span tables a ≡ place_of_span tables b → a ≡ b
