@@ -7,14 +7,14 @@ set -euo pipefail
 cd -- "$(dirname -- "$(readlink -f -- "${BASH_SOURCE[0]}")")/../crates/tt_bench"
 program=out/tt_bench
 # `rt run` proves and builds the program.
-[[ -x $program ]] || rt run -- build 1 1 >/dev/null
+[[ -x $program ]] || rt run -- build 1 1 12 >/dev/null
 
 # The nanoseconds of one run of the program: the least of five.
 time_of() {
     local least="" start took
     for _ in 1 2 3 4 5; do
         start=$(date +%s%N)
-        "$program" "$@" >/dev/null
+        "$program" "$@" 12 >/dev/null
         took=$(($(date +%s%N) - start))
         if [[ -z $least ]] || ((took < least)); then
             least=$took

@@ -93,7 +93,7 @@ one_part it e =
     let (part, len) = and_parts (it.opening.part == it.closing.part) (nat_le it.len 255) front in
     eqb-true _ _ part
 
-format_1_facts : (it : HeaderEntry) → has_format_1 it ≡ true
+pub format_1_facts : (it : HeaderEntry) → has_format_1 it ≡ true
     → (it.opening.part ≡ it.closing.part) × (it.opening.length ≡ 1) × (it.closing.length ≡ 1) × (it.opening.start ≤ it.closing.start) × (distance it ≤ 2047)
 format_1_facts it e =
     let (front, near) = and_parts _ (is_within it 2047) e in

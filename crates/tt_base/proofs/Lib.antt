@@ -1,6 +1,7 @@
 pub mod Ahead
 pub mod BlockSteps
 pub mod ByteRows
+pub mod Cheapest
 pub mod CountedSteps
 pub mod CutLists
 pub mod Decoding
@@ -26,6 +27,7 @@ pub mod ReferenceReading
 mod Rows
 pub mod SameTree
 pub mod Samples
+pub mod Shortest
 pub mod SpanReading
 pub mod StoredAlike
 mod StoredRows

@@ -24,6 +24,7 @@ pub struct Job {
     mode: Mode,
     tokens: u32,
     rounds: u32,
+    names: u32,
     ghost some: { 1 ≤ tokens },
     ghost few: { tokens ≤ 100000000 },
 }
@@ -43,13 +44,14 @@ impl Mode {
 }
 
 impl Job {
-    /// A mode, a number of tokens from 1 to 100,000,000, and how often the work is done.
+    /// A mode, a number of tokens from 1 to 100,000,000, how often the work is done, and the number of different names (at least 12).
     pub fn from_args<R: Env + AllocGlobal>(rt: &R) -> Option<Job> {
         let mut args = env::args(rt).ok()?;
         let _program = args.next()?;
         let mode = Mode::named(args.next()?.as_str())?;
         let tokens = args.next()?.as_str().parse::<u32>().ok()?;
         let rounds = args.next()?.as_str().parse::<u32>().ok()?;
+        let names = args.next()?.as_str().parse::<u32>().ok()?;
         if tokens < 1 || tokens > 100000000 {
             return None;
         }
@@ -57,6 +59,7 @@ impl Job {
             mode,
             tokens,
             rounds,
+            names,
         })
     }
 
@@ -74,7 +77,7 @@ impl Job {
     fn build_all(self, alloc: Global) -> Result<u64, TtFault> {
         let mut count = 0u64;
         for _ in 0..self.rounds {
-            count = list(alloc, self.tokens)?.len() as u64;
+            count = list(alloc, self.tokens, self.names)?.len() as u64;
         }
         Ok(count)
     }
@@ -83,14 +86,14 @@ impl Job {
     fn pack_all(self, alloc: Global) -> Result<u64, TtFault> {
         let mut count = 0u64;
         for _ in 0..self.rounds {
-            count = packed(alloc, self.tokens)?.len() as u64;
+            count = packed(alloc, self.tokens, self.names)?.len() as u64;
         }
         Ok(count)
     }
 
     // The number of tokens that were found in the last round.
     fn walk_all(self, alloc: Global) -> Result<u64, TtFault> {
-        let tree = packed(alloc, self.tokens)?;
+        let tree = packed(alloc, self.tokens, self.names)?;
         let mut count = 0u64;
         for _ in 0..self.rounds {
             count = match self.mode {
@@ -104,11 +107,11 @@ impl Job {
 }
 
 // A tree of so many tokens.
-fn packed(alloc: Global, tokens: u32) -> Result<Packed, TtFault>
+fn packed(alloc: Global, tokens: u32, names: u32) -> Result<Packed, TtFault>
     requires some { 1 ≤ tokens }
     requires few { tokens ≤ 100000000 }
 {
-    match Packed::pack(alloc, list(alloc, tokens)?) {
+    match Packed::pack(alloc, list(alloc, tokens, names)?) {
         Ok(tree) => Ok(tree),
         Err(refused) => Err(fault_of(refused)),
     }

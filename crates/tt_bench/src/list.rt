@@ -50,7 +50,10 @@ fn leaf(names: &[Symbol], place: u32) -> Result<TokenTree, AllocError>
             span,
         })));
     }
-    let Some(name) = names.get(place as usize % 12) else {
+    if names.is_empty() {
+        return Err(AllocError);
+    }
+    let Some(name) = names.get(place as usize % names.len()) else {
         return Err(AllocError);
     };
     let ident = Ident {
@@ -61,22 +64,26 @@ fn leaf(names: &[Symbol], place: u32) -> Result<TokenTree, AllocError>
     Ok(TokenTree::Leaf(Leaf::Ident(ident)))
 }
 
-// The symbols of the names.
-fn symbols(alloc: Global) -> Result<Vec<Symbol>, TtFault> {
+// The symbols of the names, and of further ones.
+fn symbols(alloc: Global, count: u32) -> Result<Vec<Symbol>, TtFault> {
     let mut found = Vec::new(alloc);
     for name in NAMES {
         found.push(Symbol::new(alloc, name)?)?;
+    }
+    for number in 12..count {
+        let name = format!(in alloc; "name{number}")?;
+        found.push(Symbol::new(alloc, name.as_str())?)?;
     }
     Ok(found)
 }
 
 /// An invisible top over rows of a hundred tokens: parentheses over ten braces, and leaves in them.
 /// The last row may be shorter.
-pub fn list(alloc: Global, count: u32) -> Result<Vec<TokenTree>, TtFault>
+pub fn list(alloc: Global, count: u32, names: u32) -> Result<Vec<TokenTree>, TtFault>
     requires some { 1 ≤ count }
     requires few { count ≤ 100000000 }
 {
-    let names = symbols(alloc)?;
+    let names = symbols(alloc, names)?;
     let mut tokens = Vec::with_capacity(alloc, count as usize)?;
     tokens.push(header(DelimiterKind::Invisible, 0, count - 1))?;
     for place in 1..count {

@@ -11,7 +11,7 @@ use std::process::ExitCode;
 
 fn main(rt: HostRuntime) -> ExitCode {
     let Some(job) = Job::from_args(&rt) else {
-        let _ = eprintln!(rt; "usage: tt_bench build|pack|read|skip|pass TOKENS ROUNDS");
+        let _ = eprintln!(rt; "usage: tt_bench build|pack|read|skip|pass TOKENS ROUNDS NAMES");
         return ExitCode::FAILURE;
     };
     let count = match job.run(rt.alloc()) {

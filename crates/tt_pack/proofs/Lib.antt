@@ -1,4 +1,5 @@
 pub mod Copies
+pub mod Counting
 pub mod Decoded
 pub mod Different
 pub mod Falling
@@ -8,6 +9,7 @@ pub mod Moves
 pub mod Positions
 pub mod ReadAgain
 pub mod SameStored
+pub mod Sorted
 pub mod Storing
 pub mod UsesGrow
 pub mod Writing

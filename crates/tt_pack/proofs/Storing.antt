@@ -1,6 +1,6 @@
 -- What was written for a header and the tokens below it is what is stored for their tree.
 use Rattle.std.proofs.Common.{◌≡◌, inl, inr, ℕ, suc, ◌+◌, ◌<◌, ◌≤◌, ◌^◌, true, List, [], ◌∷◌, ◌++◌, length, reverse, ap, ap₂, sym, subst, ◌∙◌, arith}
-use Rattle.std.proofs.lemmas.List.{take_all, length-reverse}
+use Rattle.std.proofs.lemmas.List.{length-reverse}
 use Rattle.std.specs.List.{AllByRecursion}
 use Rattle.tt_base.specs.declared.delimiter.Subtree.{Subtree}
 use Rattle.tt_base.specs.declared.fault.TtFault.{TtFault}
@@ -21,19 +21,16 @@ use Rattle.tt_base.proofs.CutLists.{one_subtree_iff}
 use Rattle.tt_base.proofs.Known.{all_known}
 use Rattle.tt_base.proofs.StoredAlike.{length-root_parts}
 use Rattle.tt_base.proofs.TokenTables.{part_table_is, symbol_table_is}
-use Rattle.tt_pack.specs.Names.{first_entries}
 use Rattle.tt_pack.specs.Packed.{stored_of, root_of, tables_for, HasFewParts, HasFewSymbols, IsStoreFault}
 use Rattle.tt_pack.specs.Writing.{byte_count, IsWritten}
+use Rattle.indexmap.specs.IndexMap.{IndexMap, keys}
+use Rattle.tt_pack.specs.Hashed.{key_tables}
 use Rattle.tt_pack.proofs.Writing.{IsWriteFault}
 
--- Tables with few entries lose none.
-pub names_are : (parts : List SpanPart) (symbols : List (List ℕ)) (below : List TokenTree) → parts ≡ part_table below → symbols ≡ symbol_table below
-    → HasFewParts below → HasFewSymbols below → first_entries parts symbols ≡ tables_for below
-names_are parts symbols below e f few_parts few_symbols =
-    λ i. record {
-      parts = (take_all (2 ^ 28) parts (omega (arith, ap length e, few_parts)) ∙ e) i;
-      symbols = (take_all (2 ^ 29) symbols (omega (arith, ap length f, few_symbols)) ∙ f) i;
-    }
+-- Maps whose keys are the tables of tokens stand for their tables.
+pub names_made : {V W S T : Type 0} (parts : IndexMap SpanPart V S) (symbols : IndexMap (List ℕ) W T) (below : List TokenTree)
+    → keys parts ≡ part_table below → keys symbols ≡ symbol_table below → key_tables parts symbols ≡ tables_for below
+names_made parts symbols below e f = λ i. record { parts = e i; symbols = f i }
 
 -- The tables of tokens know them.
 pub tables_for_know : (below : List TokenTree) → AllByRecursion (Knows (tables_for below)) below

@@ -1,7 +1,9 @@
 -- What the codec's contracts speak of.
+pub mod Counted
 pub mod Entry
 pub mod FedTree
 pub mod Found
+pub mod Hashed
 pub mod Named
 pub mod Names
 pub mod NamesOf

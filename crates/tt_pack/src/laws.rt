@@ -1,9 +1,11 @@
 //! The bytes of one value alone, for tests and for readers of the format.
 
-ghost use Rattle.std.specs.Prelude.{◌≡◌, ◌+◌, ◌<◌, ◌^◌, IfOk, IfErr, MatchOption};
+ghost use Rattle.std.specs.Prelude.{◌≡◌, ◌+◌, ◌<◌, ◌^◌, length, IfOk, IfErr, MatchOption};
+ghost use Rattle.tt_base.specs.Cost.{weight};
 ghost use Rattle.tt_base.specs.ReferenceBytes.{reference_bytes};
 ghost use Rattle.tt_base.specs.SpanBytes.{span_bytes};
-ghost use Rattle.tt_base.specs.Tables.{Knows, token_bytes};
+ghost use Rattle.tt_base.specs.Shortest.{IsShortestToken};
+ghost use Rattle.tt_base.specs.Tables.{Knows, entry_of, token_bytes};
 ghost use Rattle.tt_base.specs.declared.fault.TtFault.TheVariants.{Memory};
 ghost use Rattle.tt_pack.specs.Names.{first_entries};
 ghost use Rattle.tt_pack.specs.Place.{place_at};
@@ -19,6 +21,7 @@ pub fn symbol_bytes(alloc: Global, index: u32, tag: u32) -> Result<Vec<u8>, TtFa
     requires index { index < 2 ^ 29 }
     requires tag { tag < 2 }
     ensures ok { IfOk result (λ bytes. bytes.items ≡ reference_bytes index tag) }
+    ensures weight { IfOk result (λ bytes. length bytes.items ≡ weight index) }
     ensures err { IfErr result (λ fault. fault ≡ Memory) }
 {
     let mut bytes = Vec::new(alloc);
@@ -53,6 +56,7 @@ pub fn span_bytes(
 }
 
 /// The bytes of a token below the top, or `None` where the tables do not have a part or a symbol that it uses.
+/// A header takes the shortest of the formats that can hold it.
 /// Of the tables only the first 2^28 parts and 2^29 symbols count. What a header holds takes `child_bytes` bytes.
 pub fn token_bytes(
     alloc: Global,
@@ -65,6 +69,8 @@ pub fn token_bytes(
         (Knows (first_entries parts.now symbols.now) token.now → ⊥)
         (λ bytes. Knows (first_entries parts.now symbols.now) token.now
         × (bytes.items ≡ token_bytes (first_entries parts.now symbols.now) token.now child_bytes))) }
+    ensures shortest { IfOk result (λ found. MatchOption found (Unit {0})
+        (λ bytes. IsShortestToken (entry_of (first_entries parts.now symbols.now) token.now child_bytes) bytes.items)) }
     ensures err { IfErr result (λ fault. fault ≡ Memory) }
 {
     let Some(entry) = Names::new(parts, symbols).token(token, child_bytes) else {

@@ -1,6 +1,7 @@
 //! The packed form of token trees: how tokens are written as bytes and read back, and the tables that those bytes name.
 #![tactic(auto)]
 
+mod counts;
 mod encodable;
 mod entry;
 mod header_read;
@@ -15,7 +16,6 @@ mod packed;
 mod place;
 mod reader;
 mod reference;
-mod table;
 mod tables;
 mod words;
 mod writer;

@@ -1,11 +1,13 @@
-ghost use Rattle.std.specs.Prelude.{◌≡◌, ◌≤◌, ◌+◌, ◌*◌, suc, length, IfOk, IfErr, IsTrue, ◌↔◌};
+ghost use Rattle.std.specs.Prelude.{◌≡◌, ◌≤◌, ◌+◌, ◌*◌, suc, length, IfOk, IfErr, IsTrue, ◌↔◌, bytes_eq};
 ghost use Rattle.tt_base.specs.declared.fault.TtFault.TheVariants.{Memory};
-ghost use Rattle.tt_base.specs.Forest.{size, flat_root, IsWhole};
+ghost use Rattle.tt_base.specs.Cost.{IsCheapest};
+ghost use Rattle.tt_base.specs.Forest.{size, flat, flat_root, IsWhole};
 ghost use Rattle.tt_base.specs.Meaning.{HasMeaning};
 ghost use Rattle.tt_base.specs.PackFault.{IsPackFault};
 ghost use Rattle.tt_base.specs.Stored.{packed, IsInRange, IsWithinLimits};
 ghost use Rattle.tt_base.proofs.SameTree.{same_root_iff};
 ghost use Rattle.tt_base.proofs.StoredAlike.{HasMeaning-prop};
+ghost use Rattle.tt_base.specs.Uses.{symbol_uses};
 ghost use Rattle.tt_pack.specs.FedTree.{fed_tree};
 ghost use Rattle.std.proofs.Common.{rules, ap};
 ghost use Rattle.std.specs.Cmp.Rules.{comparing};
@@ -107,9 +109,10 @@ impl Packed {
         self.parts.as_slice()
     }
 
-    /// The symbols used.
+    /// The symbols used. In no other order do the references to them take fewer bytes.
     pub fn symbols(&self) -> &[Symbol]
-        ensures { result.now ≡ (packed self.now).symbols }
+        ensures value { result.now ≡ (packed self.now).symbols }
+        ensures least { IsCheapest bytes_eq (symbol_uses (flat self.now.children)) result.now }
     {
         self.symbols.as_slice()
     }
