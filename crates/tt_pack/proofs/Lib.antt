@@ -5,11 +5,15 @@ pub mod Different
 pub mod Falling
 pub mod Found
 pub mod Joined
+pub mod Kept
 pub mod Moves
+pub mod Paired
 pub mod Positions
 pub mod ReadAgain
+pub mod RowOrder
 pub mod SameStored
 pub mod Sorted
 pub mod Storing
+pub mod TableFacts
 pub mod UsesGrow
 pub mod Writing

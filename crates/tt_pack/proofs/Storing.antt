@@ -1,6 +1,5 @@
 -- What was written for a header and the tokens below it is what is stored for their tree.
-use Rattle.std.proofs.Common.{◌≡◌, inl, inr, ℕ, suc, ◌+◌, ◌<◌, ◌≤◌, ◌^◌, true, List, [], ◌∷◌, ◌++◌, length, reverse, ap, ap₂, sym, subst, ◌∙◌, arith}
-use Rattle.std.proofs.lemmas.List.{length-reverse}
+use Rattle.std.proofs.Common.{◌≡◌, inl, inr, ℕ, suc, ◌+◌, ◌<◌, ◌≤◌, ◌^◌, true, List, [], ◌∷◌, ◌++◌, length, ap, ap₂, sym, subst, ◌∙◌, arith}
 use Rattle.std.specs.List.{AllByRecursion}
 use Rattle.tt_base.specs.declared.delimiter.Subtree.{Subtree}
 use Rattle.tt_base.specs.declared.fault.TtFault.{TtFault}
@@ -23,14 +22,12 @@ use Rattle.tt_base.proofs.StoredAlike.{length-root_parts}
 use Rattle.tt_base.proofs.TokenTables.{part_table_is, symbol_table_is}
 use Rattle.tt_pack.specs.Packed.{stored_of, root_of, tables_for, HasFewParts, HasFewSymbols, IsStoreFault}
 use Rattle.tt_pack.specs.Writing.{byte_count, IsWritten}
-use Rattle.indexmap.specs.IndexMap.{IndexMap, keys}
-use Rattle.tt_pack.specs.Hashed.{key_tables}
 use Rattle.tt_pack.proofs.Writing.{IsWriteFault}
 
--- Maps whose keys are the tables of tokens stand for their tables.
-pub names_made : {V W S T : Type 0} (parts : IndexMap SpanPart V S) (symbols : IndexMap (List ℕ) W T) (below : List TokenTree)
-    → keys parts ≡ part_table below → keys symbols ≡ symbol_table below → key_tables parts symbols ≡ tables_for below
-names_made parts symbols below e f = λ i. record { parts = e i; symbols = f i }
+-- The two tables of tokens, put together, are their tables.
+pub tables_made : (parts : List SpanPart) (symbols : List (List ℕ)) (below : List TokenTree) → parts ≡ part_table below → symbols ≡ symbol_table below
+    → record { parts = parts; symbols = symbols } ≡ tables_for below
+tables_made parts symbols below e f = λ i. record { parts = e i; symbols = f i }
 
 -- The tables of tokens know them.
 pub tables_for_know : (below : List TokenTree) → AllByRecursion (Knows (tables_for below)) below
@@ -58,33 +55,30 @@ module _ (top : Subtree) (below : List TokenTree) (w : IsWhole below) (counted :
   same_tables = ap tables_for whole
 
   -- All that was written is what is stored.
-  pub is_stored : (tables : Tables) (entry : HeaderEntry) (reversed counts all : List ℕ) (parts : List SpanPart) (symbols : List (List ℕ)) (len : ℕ)
-      → top.len < 2 ^ 32 → tables ≡ tables_for below → HasFewParts below → HasFewSymbols below → IsWritten tables below reversed counts
-      → TokenInRange (token.Subtree top) → entry ≡ top_entry (length (part_table below)) top.delimiter top.len (length reversed)
-      → all ≡ format_4 true entry ++ reverse reversed
+  pub is_stored : (tables : Tables) (entry : HeaderEntry) (written counts all : List ℕ) (parts : List SpanPart) (symbols : List (List ℕ)) (len : ℕ)
+      → top.len < 2 ^ 32 → tables ≡ tables_for below → HasFewParts below → HasFewSymbols below → IsWritten tables below written counts
+      → TokenInRange (token.Subtree top) → entry ≡ top_entry (length (part_table below)) top.delimiter top.len (length written)
+      → all ≡ format_4 true entry ++ written
       → parts ≡ part_table below ++ part_of top.delimiter.open_span ∷ part_of top.delimiter.close ∷ []
       → symbols ≡ symbol_table below → len ≡ suc (length below)
       → IsStored (stored_of all parts symbols len) (root_of top below)
   unfolding packed
-  is_stored tables entry reversed counts all parts symbols len bound same few_parts few_symbols written range e₁ e₂ e₃ e₄ e₅ = (
-    (range, subst (AllByRecursion TokenInRange) (sym whole) written.range),
+  is_stored tables entry written counts all parts symbols len bound same few_parts few_symbols done range e₁ e₂ e₃ e₄ e₅ = (
+    (range, subst (AllByRecursion TokenInRange) (sym whole) done.range),
     record {
       tokens = omega (arith, sized, bound);
       parts = omega (arith, length-root_parts (root_of top below), ap (λ t. length t.parts) same_tables, few_parts);
       symbols = omega (arith, ap (λ t. length t.symbols) same_tables, few_symbols);
-      bytes = omega (arith, long, written.few);
+      bytes = omega (arith, ap length below_are, done.few);
     },
     λ i. record { bytes = bytes_are i; parts = parts_are i; symbols = (e₄ ∙ sym (ap (λ t. t.symbols) same_tables)) i; len = (e₅ ∙ ap suc (sym counted ∙ sym sized)) i },
   )
     where
-      below_are : reverse reversed ≡ bytes_below (unflat below)
-      below_are = written.bytes ∙ ap (λ t. bytes t (unflat below)) (same ∙ sym same_tables)
-
-      long : length (bytes_below (unflat below)) ≡ length reversed
-      long = sym (ap length below_are) ∙ length-reverse reversed
+      below_are : written ≡ bytes_below (unflat below)
+      below_are = done.bytes ∙ ap (λ t. bytes t (unflat below)) (same ∙ sym same_tables)
 
       entry_is : entry ≡ top_entry (length (tables_below (unflat below)).parts) top.delimiter (size (unflat below)) (length (bytes_below (unflat below)))
-      entry_is = e₁ ∙ λ i. top_entry (length (sym same_tables i).parts) top.delimiter (sym sized i) (sym long i)
+      entry_is = e₁ ∙ λ i. top_entry (length (sym same_tables i).parts) top.delimiter (sym sized i) (length (below_are i))
 
       bytes_are : all ≡ format_4 true (top_entry (length (tables_below (unflat below)).parts) top.delimiter (size (unflat below)) (length (bytes_below (unflat below)))) ++ bytes_below (unflat below)
       bytes_are = e₂ ∙ ap₂ (λ e l. format_4 true e ++ l) entry_is below_are

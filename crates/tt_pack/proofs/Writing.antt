@@ -1,6 +1,6 @@
 -- Steps of the writer, which goes from the last token to the first.
-use Rattle.std.proofs.Common.{◌≡◌, ◌⊎◌, inl, inr, ℕ, zero, suc, ◌+◌, ◌-◌, ◌<◌, ◌≤◌, List, [], ◌∷◌, ◌++◌, length, drop, reverse, get_or, refl, ap, ap₂, sym, subst, ◌∙◌, arith, length-append}
-use Rattle.std.proofs.lemmas.List.{reverse-append, reverse-reverse, length-reverse, get_or_append_left, get_or_push, get_or_read, drop_more}
+use Rattle.std.proofs.Common.{◌≡◌, ◌⊎◌, inl, inr, ℕ, zero, suc, ◌+◌, ◌-◌, ◌<◌, ◌≤◌, List, [], ◌∷◌, ◌++◌, length, drop, get_or, refl, ap, ap₂, sym, subst, ◌∙◌, arith, length-append}
+use Rattle.std.proofs.lemmas.List.{get_or_append_left, get_or_push, get_or_read, drop_more}
 use Rattle.tt_base.specs.declared.delimiter.Subtree.{Subtree}
 use Rattle.tt_base.specs.declared.fault.TtFault.{TtFault}
 use Rattle.tt_base.specs.declared.fault.TtFault.TheVariants.{Memory, TooManyBytes}
@@ -69,51 +69,39 @@ piece_within tables (suc n) [] w = omega arith
 piece_within tables (suc n) (it ∷ others) w =
     omega (arith, piece_within tables n others (end_piece 1 (it ∷ others) w), sum_grows tables it others w)
 
+-- The bytes of a token put before those of the others are those of the list.
+written_first : (tables : Tables) (it : TokenTree) (others : List TokenTree) (entry : Entry) (child : ℕ) (piece before sums after : List ℕ)
+    → IsWhole (it ∷ others) → IsWritten tables others before sums
+    → child ≡ child_bytes tables it others → entry ≡ entry_of tables it child → piece ≡ entry_bytes entry → after ≡ piece ++ before
+    → after ≡ bytes tables (unflat (it ∷ others))
+written_first tables it others entry child piece before sums after w written e₁ e₂ e₃ e₄ =
+    e₄ ∙ ap₂ ◌++◌ (e₃ ∙ ap entry_bytes (e₂ ∙ ap (entry_of tables it) e₁)) written.bytes ∙ sym (first_written tables it others w)
+
 -- A token whose bytes are put before the others is written.
-pub one_more : (tables : Tables) (it : TokenTree) (others : List TokenTree) (entry : Entry) (child : ℕ) (piece reversed sums reversed' sums' : List ℕ)
-    → IsWhole (it ∷ others) → IsWritten tables others reversed sums → TokenInRange it
+pub one_more : (tables : Tables) (it : TokenTree) (others : List TokenTree) (entry : Entry) (child : ℕ) (piece before sums after sums' : List ℕ)
+    → IsWhole (it ∷ others) → IsWritten tables others before sums → TokenInRange it
     → child ≡ child_bytes tables it others → entry ≡ entry_of tables it child → piece ≡ entry_bytes entry
-    → reversed' ≡ reversed ++ reverse piece → length reversed' ≤ 4294967295 → sums' ≡ sums ++ length reversed' ∷ []
-    → IsWritten tables (it ∷ others) reversed' sums'
-one_more tables it others entry child piece reversed sums reversed' sums' w written range e₁ e₂ e₃ e₄ few e₅ =
+    → after ≡ piece ++ before → length after ≤ 4294967295 → sums' ≡ sums ++ length after ∷ []
+    → IsWritten tables (it ∷ others) after sums'
+one_more tables it others entry child piece before sums after sums' w written range e₁ e₂ e₃ e₄ few e₅ =
     record {
       bytes = all;
-      sums = e₅ ∙ ap₂ (λ l n. l ++ n ∷ []) written.sums counted;
+      sums = e₅ ∙ ap₂ (λ l n. l ++ n ∷ []) written.sums (ap length all);
       range = (range, written.range);
       few = few;
     }
   where
-    piece_is : piece ≡ token_bytes tables it (child_bytes tables it others)
-    piece_is = e₃ ∙ ap entry_bytes (e₂ ∙ ap (entry_of tables it) e₁)
+    all : after ≡ bytes tables (unflat (it ∷ others))
+    all = written_first tables it others entry child piece before sums after w written e₁ e₂ e₃ e₄
 
-    all : reverse reversed' ≡ bytes tables (unflat (it ∷ others))
-    all =
-        ap reverse e₄
-        ∙ reverse-append reversed (reverse piece)
-        ∙ ap₂ ◌++◌ (reverse-reverse piece ∙ piece_is) written.bytes
-        ∙ sym (first_written tables it others w)
-
-    counted : length reversed' ≡ byte_count tables (it ∷ others)
-    counted = sym (length-reverse reversed') ∙ ap length all
-
--- Where the bytes would be too many, so are those of the list.
-pub too_many : (tables : Tables) (it : TokenTree) (others : List TokenTree) (entry : Entry) (child : ℕ) (piece reversed sums : List ℕ)
-    → IsWhole (it ∷ others) → IsWritten tables others reversed sums
+-- Where the bytes are too many, so are those of the list.
+pub too_many : (tables : Tables) (it : TokenTree) (others : List TokenTree) (entry : Entry) (child : ℕ) (piece before sums after : List ℕ)
+    → IsWhole (it ∷ others) → IsWritten tables others before sums
     → child ≡ child_bytes tables it others → entry ≡ entry_of tables it child → piece ≡ entry_bytes entry
-    → 4294967295 < length reversed + length piece
+    → after ≡ piece ++ before → 4294967295 < length after
     → 4294967295 < byte_count tables (it ∷ others)
-too_many tables it others entry child piece reversed sums w written e₁ e₂ e₃ h =
-    omega (
-      arith,
-      h,
-      ap length piece_is,
-      ap length (first_written tables it others w),
-      length-append (token_bytes tables it (child_bytes tables it others)) (bytes tables (unflat others)),
-      sym (length-reverse reversed) ∙ ap length written.bytes,
-    )
-  where
-    piece_is : piece ≡ token_bytes tables it (child_bytes tables it others)
-    piece_is = e₃ ∙ ap entry_bytes (e₂ ∙ ap (entry_of tables it) e₁)
+too_many tables it others entry child piece before sums after w written e₁ e₂ e₃ e₄ h =
+    omega (arith, h, ap length (written_first tables it others entry child piece before sums after w written e₁ e₂ e₃ e₄))
 
 -- What stands at a place, and then all behind it.
 pub piece_at : (tokens : List TokenTree) (place : ℕ) (it : TokenTree) → place < length tokens → it ≡ get_or tokens place it

@@ -3,7 +3,7 @@ pub mod Counted
 pub mod Entry
 pub mod FedTree
 pub mod Found
-pub mod Hashed
+pub mod Indexed
 pub mod Named
 pub mod Names
 pub mod NamesOf
@@ -12,6 +12,8 @@ pub mod Place
 pub mod Reader
 pub mod ReaderOf
 pub mod Reference
+pub mod Rows
+pub mod TablesOf
 pub mod Words
 pub mod WriterOf
 pub mod Writing

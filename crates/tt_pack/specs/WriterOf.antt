@@ -1,19 +1,15 @@
 -- What a writer has written.
 use Rattle.std.specs.Prelude.{◌≡◌, List}
 use Rattle.tt_base.specs.declared.token_tree.TokenTree.{TokenTree}
-use Rattle.tt_base.specs.Tables.{Tables}
+use Rattle.tt_pack.specs.declared.tables.Tables.{Tables}
 use Rattle.tt_pack.specs.declared.writer.Writer.{Writer}
-use Rattle.tt_pack.specs.NamesOf.{names_of}
+use Rattle.tt_pack.specs.TablesOf.{tables_of}
 use Rattle.tt_pack.specs.Writing.{IsWritten}
-
--- the tables whose entries it names
-abbrev pub tables_of : Writer → Tables
-tables_of writer = names_of writer.names
 
 -- these tokens, which stand at the end of the list
 abbrev pub HasWritten : Writer → List TokenTree → Type 0
-HasWritten writer tokens = IsWritten (tables_of writer) tokens writer.reversed.items writer.sums.items
+HasWritten writer tokens = IsWritten (tables_of writer.tables.now) tokens writer.bytes writer.sums.items
 
 -- it names the entries of these tables, and has written these tokens
 abbrev pub HasWrittenUnder : Tables → List TokenTree → Writer → Type 0
-HasWrittenUnder tables tokens writer = (tables_of writer ≡ tables) × HasWritten writer tokens
+HasWrittenUnder tables tokens writer = (writer.tables.now ≡ tables) × HasWritten writer tokens

@@ -1,5 +1,5 @@
 -- Tokens that are written from the last to the first.
-use Rattle.std.specs.Prelude.{◌≡◌, ℕ, ◌-◌, ◌≤◌, List, [], ◌∷◌, ◌++◌, length, drop, reverse}
+use Rattle.std.specs.Prelude.{◌≡◌, ℕ, ◌-◌, ◌≤◌, List, [], ◌∷◌, ◌++◌, length, drop}
 use Rattle.std.specs.List.{AllByRecursion}
 use Rattle.tt_base.specs.declared.token_tree.TokenTree.{TokenTree}
 use Rattle.tt_base.specs.declared.token_tree.TokenTree.TheVariants as token
@@ -27,9 +27,9 @@ abbrev pub byte_sums : Tables → List TokenTree → List ℕ
 byte_sums tables [] = 0 ∷ []
 byte_sums tables (it ∷ others) = byte_sums tables others ++ byte_count tables (it ∷ others) ∷ []
 
--- the tokens are written, last byte first, and their end pieces are counted
-pub record IsWritten (tables : Tables) (tokens : List TokenTree) (reversed counts : List ℕ) : Type 0 where
-  pub bytes : reverse reversed ≡ bytes tables (unflat tokens)
+-- the bytes are those of the tokens, and their end pieces are counted
+pub record IsWritten (tables : Tables) (tokens : List TokenTree) (written counts : List ℕ) : Type 0 where
+  pub bytes : written ≡ bytes tables (unflat tokens)
   pub sums : counts ≡ byte_sums tables tokens
   pub range : AllByRecursion TokenInRange tokens
-  pub few : length reversed ≤ 4294967295
+  pub few : length written ≤ 4294967295

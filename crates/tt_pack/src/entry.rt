@@ -6,6 +6,7 @@ ghost use Rattle.tt_base.specs.LeafReading.{plain_at};
 ghost use Rattle.tt_pack.specs.Entry.{IsEntryRead, EntriesAgain, entry_of};
 ghost use Rattle.tt_pack.specs.Place.{place_of};
 
+use crate::back_buf::BackBuf;
 use crate::place::{Place, Spanned};
 use crate::words::split_byte;
 use tt_base::{DelimiterKind, IdentIsRaw, LitKind, Spacing, TtFault};
@@ -46,10 +47,10 @@ pub(crate) enum Entry {
 }
 
 impl Entry {
-    /// Appends the token's bytes.
-    pub(crate) fn write(self, into: &mut Vec<u8>) -> Result<(), TtFault>
+    /// Puts the token's bytes before the others.
+    pub(crate) fn write(self, into: &mut BackBuf) -> Result<(), TtFault>
         requires { EntryFits (entry_of self) }
-        ensures ok { OnOk result (into.new.items ≡ into.old.items ++ entry_bytes (entry_of self)) }
+        ensures ok { OnOk result (into.new ≡ entry_bytes (entry_of self) ++ into.old) }
         ensures err { IfErr result (λ fault. fault ≡ Memory) }
     {
         match self {

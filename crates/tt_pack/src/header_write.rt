@@ -6,9 +6,9 @@ ghost use Rattle.tt_base.specs.HeaderBytes.{HeaderFits, is_within, is_small, has
 ghost use Rattle.tt_base.specs.Stored.{top_entry};
 ghost use Rattle.tt_pack.specs.Entry.{header_entry_of};
 
+use crate::back_buf::BackBuf;
 use crate::entry::HeaderEntry;
 use crate::place::Place;
-use crate::words::{push_byte, push_bytes, push_half, push_word};
 use tt_base::{Subtree, TtFault};
 
 impl HeaderEntry {
@@ -70,11 +70,11 @@ impl HeaderEntry {
             && self.closing.part <= 127
     }
 
-    // Appends the first format.
-    fn write_format_1(self, into: &mut Vec<u8>) -> Result<(), TtFault>
+    // Puts the first format before the bytes.
+    fn write_format_1(self, into: &mut BackBuf) -> Result<(), TtFault>
         requires fits { HeaderFits (header_entry_of self) }
         requires format { IsTrue (has_format_1 (header_entry_of self)) }
-        ensures ok { OnOk result (into.new.items ≡ into.old.items ++ format_1 (header_entry_of self)) }
+        ensures ok { OnOk result (into.new ≡ format_1 (header_entry_of self) ++ into.old) }
         ensures err { IfErr result (λ fault. fault ≡ Memory) }
     {
         let distance = self.closing.start - self.opening.start;
@@ -83,61 +83,60 @@ impl HeaderEntry {
             start: self.opening.start,
             length: distance % 256,
         };
-        span.write(into, 0, false)?;
-        let control = self.kind as u8 * 8 + (distance / 256) as u8 * 32;
-        push_bytes(into, &[control, self.len as u8, self.bytes as u8])?;
-        Ok(())
+        into.put_byte(self.bytes as u8)?;
+        into.put_byte(self.len as u8)?;
+        into.put_byte(self.kind as u8 * 8 + (distance / 256) as u8 * 32)?;
+        span.write(into, 0, false)
     }
 
-    // Appends the second format.
-    fn write_format_2(self, into: &mut Vec<u8>) -> Result<(), TtFault>
+    // Puts the second format before the bytes.
+    fn write_format_2(self, into: &mut BackBuf) -> Result<(), TtFault>
         requires fits { HeaderFits (header_entry_of self) }
         requires format { IsTrue (has_format_2 (header_entry_of self)) }
-        ensures ok { OnOk result (into.new.items ≡ into.old.items ++ format_2 (header_entry_of self)) }
+        ensures ok { OnOk result (into.new ≡ format_2 (header_entry_of self) ++ into.old) }
         ensures err { IfErr result (λ fault. fault ≡ Memory) }
     {
         let distance = (self.closing.start - self.opening.start) as u8;
-        self.opening.write(into, 0, false)?;
-        let control = 1 + self.kind as u8 * 8 + distance * 32;
-        push_bytes(into, &[control, self.len as u8, self.bytes as u8])?;
-        Ok(())
+        into.put_byte(self.bytes as u8)?;
+        into.put_byte(self.len as u8)?;
+        into.put_byte(1 + self.kind as u8 * 8 + distance * 32)?;
+        self.opening.write(into, 0, false)
     }
 
-    // Appends the third format.
-    fn write_format_3(self, into: &mut Vec<u8>) -> Result<(), TtFault>
+    // Puts the third format before the bytes.
+    fn write_format_3(self, into: &mut BackBuf) -> Result<(), TtFault>
         requires fits { HeaderFits (header_entry_of self) }
         requires format { IsTrue (has_format_3 (header_entry_of self)) }
-        ensures ok { OnOk result (into.new.items ≡ into.old.items ++ format_3 (header_entry_of self)) }
+        ensures ok { OnOk result (into.new ≡ format_3 (header_entry_of self) ++ into.old) }
         ensures err { IfErr result (λ fault. fault ≡ Memory) }
     {
         let distance = (self.closing.start - self.opening.start) as u8;
         let part = self.closing.part as u8;
-        self.opening.write(into, 0, false)?;
-        let control = 2 + self.kind as u8 * 8 + part % 8 * 32;
-        push_bytes(into, &[control, distance, self.len as u8])?;
-        push_half(into, self.bytes as u16 * 16 + part as u16 / 8)?;
-        Ok(())
+        into.put_half(self.bytes as u16 * 16 + part as u16 / 8)?;
+        into.put_byte(self.len as u8)?;
+        into.put_byte(distance)?;
+        into.put_byte(2 + self.kind as u8 * 8 + part % 8 * 32)?;
+        self.opening.write(into, 0, false)
     }
 
-    /// Appends the fourth format, with both spans in three words where `heavy` demands them.
-    pub(crate) fn write_in_full(self, into: &mut Vec<u8>, heavy: bool) -> Result<(), TtFault>
+    /// Puts the fourth format before the bytes, with both spans in three words where `heavy` demands them.
+    pub(crate) fn write_in_full(self, into: &mut BackBuf, heavy: bool) -> Result<(), TtFault>
         requires { HeaderFits (header_entry_of self) }
-        ensures ok { OnOk result (into.new.items ≡ into.old.items ++ format_4 heavy (header_entry_of self)) }
+        ensures ok { OnOk result (into.new ≡ format_4 heavy (header_entry_of self) ++ into.old) }
         ensures err { IfErr result (λ fault. fault ≡ Memory) }
     {
-        self.opening.write(into, 0, heavy)?;
-        push_byte(into, 5 + self.kind as u8 * 8)?;
+        into.put_word(self.bytes)?;
+        into.put_word(self.len)?;
         self.closing.write(into, 0, heavy)?;
-        push_word(into, self.len)?;
-        push_word(into, self.bytes)?;
-        Ok(())
+        into.put_byte(5 + self.kind as u8 * 8)?;
+        self.opening.write(into, 0, heavy)
     }
 
-    /// Appends the header's bytes, in the first format that can say it.
+    /// Puts the header's bytes before the others, in the first format that can say it.
     #[tactic(auto, unfolding(tt_base::specs::HeaderBytes::header_bytes))]
-    pub(crate) fn write(self, into: &mut Vec<u8>) -> Result<(), TtFault>
+    pub(crate) fn write(self, into: &mut BackBuf) -> Result<(), TtFault>
         requires { HeaderFits (header_entry_of self) }
-        ensures ok { OnOk result (into.new.items ≡ into.old.items ++ header_bytes (header_entry_of self)) }
+        ensures ok { OnOk result (into.new ≡ header_bytes (header_entry_of self) ++ into.old) }
         ensures err { IfErr result (λ fault. fault ≡ Memory) }
     {
         if self.has_format_1() {

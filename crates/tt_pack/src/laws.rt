@@ -10,11 +10,18 @@ ghost use Rattle.tt_base.specs.declared.fault.TtFault.TheVariants.{Memory};
 ghost use Rattle.tt_pack.specs.Names.{first_entries};
 ghost use Rattle.tt_pack.specs.Place.{place_at};
 
+use crate::back_buf::BackBuf;
 use crate::names::Names;
 use crate::place::Place;
 use crate::reference::Reference;
 use std::alloc::Global;
 use tt_base::{SpanPart, Symbol, TokenTree, TtFault};
+
+const MOST_REFERENCE_BYTES: usize = 4;
+
+const MOST_SPAN_BYTES: usize = 12;
+
+const MOST_TOKEN_BYTES: usize = 33;
 
 /// The bytes that name a symbol: its index in a table, and a tag bit.
 pub fn symbol_bytes(alloc: Global, index: u32, tag: u32) -> Result<Vec<u8>, TtFault>
@@ -24,9 +31,9 @@ pub fn symbol_bytes(alloc: Global, index: u32, tag: u32) -> Result<Vec<u8>, TtFa
     ensures weight { IfOk result (λ bytes. length bytes.items ≡ weight index) }
     ensures err { IfErr result (λ fault. fault ≡ Memory) }
 {
-    let mut bytes = Vec::new(alloc);
+    let mut bytes = BackBuf::with_capacity(alloc, MOST_REFERENCE_BYTES)?;
     Reference { index, tag }.write(&mut bytes)?;
-    Ok(bytes)
+    Ok(bytes.into_vec())
 }
 
 /// The bytes of a span: the index of its part, its start and its length, with two extra bits.
@@ -45,14 +52,14 @@ pub fn span_bytes(
     ensures ok { IfOk result (λ bytes. bytes.items ≡ span_bytes heavy extra (place_at part start length)) }
     ensures err { IfErr result (λ fault. fault ≡ Memory) }
 {
-    let mut bytes = Vec::new(alloc);
+    let mut bytes = BackBuf::with_capacity(alloc, MOST_SPAN_BYTES)?;
     let place = Place {
         part,
         start,
         length,
     };
     place.write(&mut bytes, extra, heavy)?;
-    Ok(bytes)
+    Ok(bytes.into_vec())
 }
 
 /// The bytes of a token below the top, or `None` where the tables do not have a part or a symbol that it uses.
@@ -76,7 +83,7 @@ pub fn token_bytes(
     let Some(entry) = Names::new(parts, symbols).token(token, child_bytes) else {
         return Ok(None);
     };
-    let mut bytes = Vec::new(alloc);
+    let mut bytes = BackBuf::with_capacity(alloc, MOST_TOKEN_BYTES)?;
     entry.write(&mut bytes)?;
-    Ok(Some(bytes))
+    Ok(Some(bytes.into_vec()))
 }

@@ -6,10 +6,10 @@ ghost use Rattle.tt_base.specs.SpanBytes.{span_bytes};
 ghost use Rattle.tt_pack.specs.Entry.{leaf_entry_of};
 ghost use Rattle.tt_pack.specs.Place.{place_of};
 
+use crate::back_buf::BackBuf;
 use crate::entry::{LeafEntry, Named};
 use crate::place::Place;
 use crate::reference::Reference;
-use crate::words::{push_byte, push_bytes, push_word};
 use tt_base::{IdentIsRaw, LitKind, Spacing, TtFault};
 
 /// The number of a kind of literal.
@@ -65,98 +65,95 @@ fn short_number(kind: LitKind) -> Option<u8>
     }
 }
 
-// Appends the long form of a kind and a suffix length.
-fn write_long_form(into: &mut Vec<u8>, kind: LitKind, suffix_len: u8) -> Result<(), TtFault>
-    ensures ok { OnOk result (into.new.items ≡ into.old.items ++ long_form kind suffix_len) }
+// Puts the long form of a kind and a suffix length before the bytes.
+fn write_long_form(into: &mut BackBuf, kind: LitKind, suffix_len: u8) -> Result<(), TtFault>
+    ensures ok { OnOk result (into.new ≡ long_form kind suffix_len ++ into.old) }
     ensures err { IfErr result (λ fault. fault ≡ Memory) }
 {
     let control = 7 + kind_number(kind) * 8;
-    match hash_count(kind) {
-        Some(count) => push_bytes(into, &[control, count, suffix_len]),
-        None => push_bytes(into, &[control, suffix_len]),
+    into.put_byte(suffix_len)?;
+    if let Some(count) = hash_count(kind) {
+        into.put_byte(count)?;
     }
+    into.put_byte(control)
 }
 
-// Appends a kind and a suffix length.
+// Puts a kind and a suffix length before the bytes.
 #[tactic(auto, unfolding(tt_base::specs::LeafBytes::literal_form))]
-fn write_form(into: &mut Vec<u8>, kind: LitKind, suffix_len: u8) -> Result<(), TtFault>
-    ensures ok { OnOk result (into.new.items ≡ into.old.items ++ literal_form kind suffix_len) }
+fn write_form(into: &mut BackBuf, kind: LitKind, suffix_len: u8) -> Result<(), TtFault>
+    ensures ok { OnOk result (into.new ≡ literal_form kind suffix_len ++ into.old) }
     ensures err { IfErr result (λ fault. fault ≡ Memory) }
 {
     let Some(number) = short_number(kind) else {
         return write_long_form(into, kind, suffix_len);
     };
     if suffix_len <= 15 {
-        return push_byte(into, number + suffix_len * 16);
+        return into.put_byte(number + suffix_len * 16);
     }
     write_long_form(into, kind, suffix_len)
 }
 
 impl Place {
-    // Appends a punct that stands here.
-    fn write_punct(self, into: &mut Vec<u8>, char: char, spacing: Spacing) -> Result<(), TtFault>
+    // Puts a punct that stands here before the bytes.
+    fn write_punct(self, into: &mut BackBuf, char: char, spacing: Spacing) -> Result<(), TtFault>
         requires { self.part < 2 ^ 28 }
-        ensures ok { OnOk result (into.new.items ≡ into.old.items ++ punct_bytes char spacing (place_of self)) }
+        ensures ok { OnOk result (into.new ≡ punct_bytes char spacing (place_of self) ++ into.old) }
         ensures err { IfErr result (λ fault. fault ≡ Memory) }
     {
         let code = char as u32;
         let spacing = spacing as u8;
         if code < 128 {
-            self.write(into, 1 + spacing as u32 / 2 * 2, false)?;
-            push_byte(into, code as u8 * 2 + spacing % 2)?;
-            return Ok(());
+            into.put_byte(code as u8 * 2 + spacing % 2)?;
+            return self.write(into, 1 + spacing as u32 / 2 * 2, false);
         }
-        self.write(into, 0, false)?;
-        push_byte(into, 6 + spacing * 8)?;
-        push_word(into, code)?;
-        Ok(())
+        into.put_word(code)?;
+        into.put_byte(6 + spacing * 8)?;
+        self.write(into, 0, false)
     }
 
-    // Appends a literal that stands here.
+    // Puts a literal that stands here before the bytes.
     fn write_literal(
         self,
-        into: &mut Vec<u8>,
+        into: &mut BackBuf,
         symbol: u32,
         kind: LitKind,
         suffix_len: u8,
     ) -> Result<(), TtFault>
         requires part { self.part < 2 ^ 28 }
         requires symbol { symbol < 2 ^ 29 }
-        ensures ok { OnOk result (into.new.items ≡ into.old.items ++ (span_bytes false 0 (place_of self) ++ literal_form kind suffix_len ++ reference_bytes symbol 0)) }
+        ensures ok { OnOk result (into.new ≡ span_bytes false 0 (place_of self) ++ literal_form kind suffix_len ++ reference_bytes symbol 0 ++ into.old) }
         ensures err { IfErr result (λ fault. fault ≡ Memory) }
     {
-        self.write(into, 0, false)?;
-        write_form(into, kind, suffix_len)?;
         let reference = Reference {
             index: symbol,
             tag: 0,
         };
         reference.write(into)?;
-        Ok(())
+        write_form(into, kind, suffix_len)?;
+        self.write(into, 0, false)
     }
 
-    // Appends an ident that stands here.
-    fn write_ident(self, into: &mut Vec<u8>, symbol: u32, is_raw: IdentIsRaw) -> Result<(), TtFault>
+    // Puts an ident that stands here before the bytes.
+    fn write_ident(self, into: &mut BackBuf, symbol: u32, is_raw: IdentIsRaw) -> Result<(), TtFault>
         requires part { self.part < 2 ^ 28 }
         requires symbol { symbol < 2 ^ 29 }
-        ensures ok { OnOk result (into.new.items ≡ into.old.items ++ (span_bytes false 2 (place_of self) ++ reference_bytes symbol (raw_number is_raw))) }
+        ensures ok { OnOk result (into.new ≡ span_bytes false 2 (place_of self) ++ reference_bytes symbol (raw_number is_raw) ++ into.old) }
         ensures err { IfErr result (λ fault. fault ≡ Memory) }
     {
-        self.write(into, 2, false)?;
         let reference = Reference {
             index: symbol,
             tag: is_raw as u32,
         };
         reference.write(into)?;
-        Ok(())
+        self.write(into, 2, false)
     }
 }
 
 impl LeafEntry {
-    /// Appends the leaf's bytes.
-    pub(crate) fn write(self, into: &mut Vec<u8>) -> Result<(), TtFault>
+    /// Puts the leaf's bytes before the others.
+    pub(crate) fn write(self, into: &mut BackBuf) -> Result<(), TtFault>
         requires { LeafEntryFits (leaf_entry_of self) }
-        ensures ok { OnOk result (into.new.items ≡ into.old.items ++ leaf_bytes (leaf_entry_of self)) }
+        ensures ok { OnOk result (into.new ≡ leaf_bytes (leaf_entry_of self) ++ into.old) }
         ensures err { IfErr result (λ fault. fault ≡ Memory) }
     {
         match self.named {

@@ -1,6 +1,7 @@
 //! The packed form of token trees: how tokens are written as bytes and read back, and the tables that those bytes name.
 #![tactic(auto)]
 
+mod back_buf;
 mod counts;
 mod encodable;
 mod entry;
@@ -16,7 +17,9 @@ mod packed;
 mod place;
 mod reader;
 mod reference;
+mod table;
 mod tables;
+mod uses;
 mod words;
 mod writer;
 

@@ -1,13 +1,9 @@
 ghost use Rattle.std.specs.Prelude.{◌≡◌, ◌≤◌, ◌^◌, length, position, take};
 ghost use Rattle.tt_pack.specs.Named.{NamesLeaf, NamesHeader, NamesToken};
-ghost use Rattle.indexmap.specs.IndexMap.{keys};
-ghost use Rattle.tt_pack.specs.Hashed.{AreKeys, key_tables};
 ghost use Rattle.tt_pack.specs.Names.{IsIndex, PlacesSpan, IndexesSymbol, first_entries};
 
 use crate::entry::{Entry, HeaderEntry, LeafEntry, Named};
 use crate::place::Place;
-use indexmap::IndexMap;
-use std::hash::Hash;
 use tt_base::{Leaf, Span, SpanPart, Subtree, Symbol, TokenTree};
 
 /// The tables whose entries indices name.
@@ -15,13 +11,8 @@ use tt_base::{Leaf, Span, SpanPart, Subtree, Symbol, TokenTree};
 pub(crate) struct Names<'a> {
     pub(crate) parts: &'a [SpanPart],
     pub(crate) symbols: &'a [Symbol],
-    /// The maps whose keys they are, if there are such.
-    hashed_parts: Option<&'a IndexMap<SpanPart, usize>>,
-    hashed_symbols: Option<&'a IndexMap<Symbol, usize>>,
     pub ghost few_parts: { length parts.now ≤ 2 ^ 28 },
     pub ghost few_symbols: { length symbols.now ≤ 2 ^ 29 },
-    ghost part_keys: { AreKeys hashed_parts parts.now },
-    ghost symbol_keys: { AreKeys hashed_symbols symbols.now },
 }
 
 // At most so many of the first values.
@@ -42,28 +33,12 @@ fn first_equal<T: Eq>(values: &[T], value: &T) -> Option<usize>
     values.iter().position(|other| value == other)
 }
 
-// The first that is equal to the value. Among many values that are the keys of a map it is found by its hash.
-fn find<T: Eq + Hash>(values: &[T], hashed: Option<&IndexMap<T, usize>>, value: &T) -> Option<usize>
-    requires { AreKeys hashed values.now }
-    ensures { result ≡ position (T.eq value.now) values.now }
-{
-    match hashed {
-        Some(map) if values.len() > 16 => map.get_index_of(value),
-        _ => first_equal(values, value),
-    }
-}
-
 // The index of the first that is equal to the value.
-fn index_of<T: Eq + Hash>(
-    values: &[T],
-    hashed: Option<&IndexMap<T, usize>>,
-    value: &T,
-) -> Option<u32>
-    requires few { length values.now ≤ 2 ^ 29 }
-    requires keys { AreKeys hashed values.now }
+fn index_of<T: Eq>(values: &[T], value: &T) -> Option<u32>
+    requires { length values.now ≤ 2 ^ 29 }
     ensures { IsIndex (T.eq value.now) values.now result }
 {
-    let index = find(values, hashed, value)?;
+    let index = first_equal(values, value)?;
     Some(index as u32)
 }
 
@@ -77,25 +52,6 @@ impl<'a> Names<'a> {
         Names {
             parts: first_of(parts, 268435456),
             symbols: first_of(symbols, 536870912),
-            hashed_parts: None,
-            hashed_symbols: None,
-        }
-    }
-
-    /// The tables whose entries are the keys of two maps. They are found by their hashes.
-    pub(crate) fn of_maps(
-        parts: &'a IndexMap<SpanPart, usize>,
-        symbols: &'a IndexMap<Symbol, usize>,
-    ) -> Names<'a>
-        requires parts { length (keys parts.now) ≤ 2 ^ 28 }
-        requires symbols { length (keys symbols.now) ≤ 2 ^ 29 }
-        ensures { names_of result ≡ key_tables parts.now symbols.now }
-    {
-        Names {
-            parts: parts.keys().as_slice(),
-            symbols: symbols.keys().as_slice(),
-            hashed_parts: Some(parts),
-            hashed_symbols: Some(symbols),
         }
     }
 
@@ -103,7 +59,7 @@ impl<'a> Names<'a> {
     pub(crate) fn place(self, span: &Span) -> Option<Place>
         ensures { PlacesSpan (names_of self.entry) span.now result }
     {
-        let part = index_of(self.parts, self.hashed_parts, &SpanPart::from_span(span))?;
+        let part = index_of(self.parts, &SpanPart::from_span(span))?;
         Some(Place::of_span(part, span))
     }
 
@@ -111,7 +67,7 @@ impl<'a> Names<'a> {
     pub(crate) fn symbol(self, symbol: &Symbol) -> Option<u32>
         ensures { IndexesSymbol (names_of self.entry) symbol.now result }
     {
-        index_of(self.symbols, self.hashed_symbols, symbol)
+        index_of(self.symbols, symbol)
     }
 
     /// A leaf in numbers, or `None` where the tables do not have what it uses.

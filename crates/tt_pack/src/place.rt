@@ -6,7 +6,8 @@ ghost use Rattle.tt_base.specs.SpanBytes.{PlaceFits, first_word, middle_word, re
 ghost use Rattle.tt_pack.specs.Place.{place_of, spanned_of, IsSpanRead, SpansAgain};
 ghost use Rattle.tt_base.specs.Reading.{spanned, from_rests, after_one_word, after_two_words, span_at};
 
-use crate::words::{push_two_words, push_word, split_word};
+use crate::back_buf::BackBuf;
+use crate::words::split_word;
 use tt_base::{Span, TtFault};
 
 /// Where a span stands: the index of its part, its start, and its length.
@@ -89,45 +90,43 @@ impl Place {
         self.part / 16 <= 2047 && self.length / 256 <= 1023 && self.start / 131072 <= 1023
     }
 
-    // Appends two words.
-    fn write_middle(self, into: &mut Vec<u8>, extra: u32) -> Result<(), TtFault>
+    // Puts two words before the bytes.
+    fn write_middle(self, into: &mut BackBuf, extra: u32) -> Result<(), TtFault>
         requires extra { extra < 4 }
         requires fits { IsTrue (fits_two_words (place_of self)) }
-        ensures ok { OnOk result (into.new.items ≡ into.old.items ++ middle_span extra (place_of self)) }
+        ensures ok { OnOk result (into.new ≡ middle_span extra (place_of self) ++ into.old) }
         ensures err { IfErr result (λ fault. fault ≡ Memory) }
     {
-        push_two_words(into, self.first_word(extra, 1), self.middle_word())
+        into.put_word(self.middle_word())?;
+        into.put_word(self.first_word(extra, 1))
     }
 
-    // Appends three words.
-    fn write_heavy(self, into: &mut Vec<u8>, extra: u32) -> Result<(), TtFault>
+    // Puts three words before the bytes.
+    fn write_heavy(self, into: &mut BackBuf, extra: u32) -> Result<(), TtFault>
         requires part { self.part < 2 ^ 28 }
         requires extra { extra < 4 }
-        ensures ok { OnOk result (into.new.items ≡ into.old.items ++ heavy_span extra (place_of self)) }
+        ensures ok { OnOk result (into.new ≡ heavy_span extra (place_of self) ++ into.old) }
         ensures err { IfErr result (λ fault. fault ≡ Memory) }
     {
         let rests = self.rests();
-        push_word(into, self.first_word(extra, 1))?;
-        push_two_words(
-            into,
-            (rests / 4294967296 * 2 + 1) as u32,
-            (rests % 4294967296) as u32,
-        )
+        into.put_word((rests % 4294967296) as u32)?;
+        into.put_word((rests / 4294967296 * 2 + 1) as u32)?;
+        into.put_word(self.first_word(extra, 1))
     }
 
-    /// Appends the bytes of the span, in three words where `heavy` demands them.
+    /// Puts the bytes of the span before the others, in three words where `heavy` demands them.
     #[tactic(auto, unfolding(tt_base::specs::SpanBytes::span_bytes))]
-    pub(crate) fn write(self, into: &mut Vec<u8>, extra: u32, heavy: bool) -> Result<(), TtFault>
+    pub(crate) fn write(self, into: &mut BackBuf, extra: u32, heavy: bool) -> Result<(), TtFault>
         requires part { self.part < 2 ^ 28 }
         requires extra { extra < 4 }
-        ensures ok { OnOk result (into.new.items ≡ into.old.items ++ span_bytes heavy extra (place_of self)) }
+        ensures ok { OnOk result (into.new ≡ span_bytes heavy extra (place_of self) ++ into.old) }
         ensures err { IfErr result (λ fault. fault ≡ Memory) }
     {
         if heavy {
             return self.write_heavy(into, extra);
         }
         if self.fits_one_word() {
-            return push_word(into, self.first_word(extra, 0));
+            return into.put_word(self.first_word(extra, 0));
         }
         if self.fits_two_words() {
             return self.write_middle(into, extra);

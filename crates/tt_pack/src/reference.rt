@@ -4,7 +4,8 @@ ghost use Rattle.tt_base.specs.ReferenceBytes.{reference_bytes};
 ghost use Rattle.tt_base.specs.Reading.{after_one_byte, after_two_bytes, reference_at};
 ghost use Rattle.tt_pack.specs.Reference.{IsReferenceRead, ReferencesAgain};
 
-use crate::words::{push_byte, push_half, split_byte, split_half};
+use crate::back_buf::BackBuf;
+use crate::words::{split_byte, split_half};
 use tt_base::TtFault;
 
 /// A symbol by its index in a table, with one tag bit.
@@ -15,23 +16,24 @@ pub(crate) struct Reference {
 }
 
 impl Reference {
-    /// Appends the reference's bytes.
+    /// Puts the reference's bytes before the others.
     #[tactic(auto, unfolding(tt_base::specs::ReferenceBytes::reference_bytes))]
-    pub(crate) fn write(self, into: &mut Vec<u8>) -> Result<(), TtFault>
+    pub(crate) fn write(self, into: &mut BackBuf) -> Result<(), TtFault>
         requires index { self.index < 2 ^ 29 }
         requires tag { self.tag < 2 }
-        ensures ok { OnOk result (into.new.items ≡ into.old.items ++ reference_bytes self.index self.tag) }
+        ensures ok { OnOk result (into.new ≡ reference_bytes self.index self.tag ++ into.old) }
         ensures err { IfErr result (λ fault. fault ≡ Memory) }
     {
         if self.index < 64 {
-            return push_byte(into, (self.index * 4 + self.tag) as u8);
+            return into.put_byte((self.index * 4 + self.tag) as u8);
         }
-        push_byte(into, (self.index % 64 * 4 + 2 + self.tag) as u8)?;
         if self.index < 8192 {
-            return push_byte(into, (self.index / 64 * 2) as u8);
+            into.put_byte((self.index / 64 * 2) as u8)?;
+        } else {
+            into.put_half((self.index / 8192) as u16)?;
+            into.put_byte((self.index / 64 % 128 * 2 + 1) as u8)?;
         }
-        push_byte(into, (self.index / 64 % 128 * 2 + 1) as u8)?;
-        push_half(into, (self.index / 8192) as u16)
+        into.put_byte((self.index % 64 * 4 + 2 + self.tag) as u8)
     }
 
     // The reference, of which two bytes have been read.

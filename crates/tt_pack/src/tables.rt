@@ -1,80 +1,123 @@
-ghost use Rattle.std.specs.Prelude.{◌≡◌, ◌++◌, ℕ, List, fold, length, IfOk, IfErr, OnOk, bytes_eq};
-ghost use Rattle.indexmap.specs.IndexMap.{keys};
-ghost use Rattle.tt_base.specs.declared.fault.TtFault.TheVariants.{Memory};
-ghost use Rattle.tt_base.specs.TableOrder.{IsTable};
-ghost use Rattle.tt_base.specs.Tables.{part_table, symbol_table};
-ghost use Rattle.tt_base.specs.Uses.{same_part, token_parts, token_symbols, part_uses, symbol_uses};
-ghost use Rattle.tt_pack.specs.Counted.{count_use, counted, HasRoomFor};
+//! The two tables of a list of tokens, and tokens in numbers under them.
+ghost use Rattle.std.specs.Prelude.{◌≡◌, ◌+◌, ◌<◌, ◌≤◌, ◌^◌, Some, length, slice_get, IfOk, IfErr};
+ghost use Rattle.tt_base.specs.Tables.{Knows, part_table, symbol_table};
 ghost use Rattle.tt_pack.specs.Packed.{HasFewParts, HasFewSymbols, IsTableFault};
 
-use crate::counts::{count_use, put_in_order};
-use indexmap::IndexMap;
-use std::alloc::{AllocError, Global};
-use tt_base::{Leaf, SpanPart, Symbol, TokenTree, TtFault};
+use crate::entry::{Entry, HeaderEntry, LeafEntry, Named};
+use crate::place::Place;
+use crate::table::Table;
+use crate::uses::{TokenUses, Uses};
+use std::alloc::Global;
+use tt_base::{Leaf, SpanPart, Subtree, Symbol, TokenTree, TtFault};
 
-// Counts the parts of a token.
-fn count_parts(counts: &mut IndexMap<SpanPart, usize>, token: &TokenTree) -> Result<(), AllocError>
-    requires room { HasRoomFor 2 counts.old.entries }
-    ensures { OnOk result (counts.new.entries ≡ fold (count_use same_part) counts.old.entries (token_parts token.now)) }
+// Up to so many parts stand by first use: an index of theirs has four bits.
+const SHORT_PARTS: usize = 15;
+// Up to so many symbols: a reference to one takes one byte.
+const SHORT_SYMBOLS: usize = 63;
+// The most parts below the top. The top's two need an index too.
+const MOST_PARTS: usize = 268435454;
+
+const MOST_SYMBOLS: usize = 536870912;
+
+/// The tables of a list of tokens, and what each token uses.
+#[derive(Drop)]
+pub(crate) struct Tables {
+    pub(crate) parts: Table<SpanPart>,
+    pub(crate) symbols: Table<Symbol>,
+    pub(crate) uses: Vec<TokenUses>,
+    pub ghost few_parts: { length parts.values.items + 2 ≤ 2 ^ 28 },
+    pub ghost few_symbols: { length symbols.values.items ≤ 2 ^ 29 },
+}
+
+// The place that is noted at an index.
+fn place_at(places: &[u32], index: u32) -> u32
+    requires { index < length places.now }
+    ensures { slice_get places.now index ≡ Some result }
 {
-    match token {
-        TokenTree::Leaf(leaf) => count_use(counts, &SpanPart::from_span(leaf.span()))?,
-        TokenTree::Subtree(subtree) => {
-            count_use(counts, &SpanPart::from_span(&subtree.delimiter.open_span))?;
-            count_use(counts, &SpanPart::from_span(&subtree.delimiter.close))?;
+    places[index as usize]
+}
+
+impl Tables {
+    ghost use Rattle.tt_base.specs.declared.token_tree.TokenTree.TheVariants as token;
+    ghost use Rattle.tt_pack.specs.Named.{IsNamedLeaf, IsNamedHeader, IsNamed};
+    ghost use Rattle.tt_pack.specs.TablesOf.{tables_of, HasUses, UsesTables};
+
+    /// The tables of the tokens, where their indices can be written and the parts leave room for the top's two.
+    /// More than 15 parts or 63 symbols go by falling number of uses, ties by first use (docs/FORMATS.md).
+    pub(crate) fn of_tokens(alloc: Global, below: &[TokenTree]) -> Result<Tables, TtFault>
+        ensures parts { IfOk result (λ tables. (tables.parts.values.items ≡ part_table below.now) × HasFewParts below.now) }
+        ensures symbols { IfOk result (λ tables. (tables.symbols.values.items ≡ symbol_table below.now) × HasFewSymbols below.now) }
+        ensures uses { IfOk result (λ tables. UsesTables tables below.now) }
+        ensures err { IfErr result (IsTableFault below.now) }
+    {
+        let Uses {
+            parts,
+            symbols,
+            tokens,
+        } = Uses::of_tokens(alloc, below)?;
+        if parts.len() > MOST_PARTS {
+            return Err(TtFault::TooManySpanParts);
+        }
+        if symbols.len() > MOST_SYMBOLS {
+            return Err(TtFault::TooManySymbols);
+        }
+        let parts = Table::of_counts(alloc, &parts, SHORT_PARTS)?;
+        let symbols = Table::of_counts(alloc, &symbols, SHORT_SYMBOLS)?;
+        Ok(Tables {
+            parts,
+            symbols,
+            uses: tokens,
+        })
+    }
+
+    // A leaf in numbers.
+    fn leaf(&self, leaf: &Leaf, uses: TokenUses) -> LeafEntry
+        requires known { Knows (tables_of self.now) (token.Leaf leaf.now) }
+        requires uses { HasUses self.now (token.Leaf leaf.now) uses }
+        ensures { IsNamedLeaf (tables_of self.now) leaf.now result }
+    {
+        let place = Place::of_span(place_at(&self.parts.places, uses.part), leaf.span());
+        let named = match leaf {
+            Leaf::Literal(literal) => Named::Literal(
+                place_at(&self.symbols.places, uses.other),
+                literal.kind(),
+                literal.suffix_len(),
+            ),
+            Leaf::Punct(punct) => Named::Punct(punct.char, punct.spacing),
+            Leaf::Ident(ident) => {
+                Named::Ident(place_at(&self.symbols.places, uses.other), ident.is_raw)
+            }
+        };
+        LeafEntry { named, place }
+    }
+
+    // A header in numbers, where what it holds takes so many bytes.
+    fn header(&self, subtree: Subtree, uses: TokenUses, child_bytes: u32) -> HeaderEntry
+        requires known { Knows (tables_of self.now) (token.Subtree subtree) }
+        requires uses { HasUses self.now (token.Subtree subtree) uses }
+        ensures { IsNamedHeader (tables_of self.now) subtree child_bytes result }
+    {
+        let delimiter = &subtree.delimiter;
+        let open = place_at(&self.parts.places, uses.part);
+        let close = place_at(&self.parts.places, uses.other);
+        HeaderEntry {
+            opening: Place::of_span(open, &delimiter.open_span),
+            closing: Place::of_span(close, &delimiter.close),
+            kind: delimiter.kind,
+            len: subtree.len,
+            bytes: child_bytes,
         }
     }
-    Ok(())
-}
 
-// Counts the symbol of a token, if it has one.
-fn count_symbols(counts: &mut IndexMap<Symbol, usize>, token: &TokenTree) -> Result<(), AllocError>
-    requires room { HasRoomFor 1 counts.old.entries }
-    ensures { OnOk result (counts.new.entries ≡ fold (count_use bytes_eq) counts.old.entries (token_symbols token.now)) }
-{
-    match token {
-        TokenTree::Leaf(Leaf::Literal(literal)) => count_use(counts, literal.symbol())?,
-        TokenTree::Leaf(Leaf::Ident(ident)) => count_use(counts, &ident.sym)?,
-        TokenTree::Leaf(Leaf::Punct(_)) | TokenTree::Subtree(_) => {}
+    /// A token in numbers, which has these uses. What it holds takes so many bytes; a leaf holds nothing.
+    pub(crate) fn entry(&self, token: &TokenTree, uses: TokenUses, child_bytes: u32) -> Entry
+        requires known { Knows (tables_of self.now) token.now }
+        requires uses { HasUses self.now token.now uses }
+        ensures { IsNamed (tables_of self.now) token.now child_bytes result }
+    {
+        match token {
+            TokenTree::Leaf(leaf) => Entry::Leaf(self.leaf(leaf, uses)),
+            TokenTree::Subtree(subtree) => Entry::Header(self.header(*subtree, uses, child_bytes)),
+        }
     }
-    Ok(())
-}
-
-/// How often the tokens use each part and each symbol, in the order of first uses.
-pub(crate) fn count_all(
-    alloc: Global,
-    tokens: &[TokenTree],
-) -> Result<(IndexMap<SpanPart, usize>, IndexMap<Symbol, usize>), AllocError>
-    ensures parts { IfOk result (λ counts. counts.0.entries ≡ counted same_part (part_uses tokens.now)) }
-    ensures symbols { IfOk result (λ counts. counts.1.entries ≡ counted bytes_eq (symbol_uses tokens.now)) }
-{
-    let mut parts = IndexMap::new(alloc);
-    let mut symbols = IndexMap::new(alloc);
-    for token in tokens {
-        count_parts(&mut parts, token)?;
-        count_symbols(&mut symbols, token)?;
-    }
-    Ok((parts, symbols))
-}
-
-/// Both tables, where their indices can be written and the parts leave room for the top's two.
-/// Parts go by first use, or by falling number of uses where there are more than 15; symbols where there are more than 63.
-pub(crate) fn tables(
-    alloc: Global,
-    below: &[TokenTree],
-) -> Result<(IndexMap<SpanPart, usize>, IndexMap<Symbol, usize>), TtFault>
-    ensures parts { IfOk result (λ found. (keys found.0 ≡ part_table below.now) × HasFewParts below.now) }
-    ensures symbols { IfOk result (λ found. (keys found.1 ≡ symbol_table below.now) × HasFewSymbols below.now) }
-    ensures err { IfErr result (IsTableFault below.now) }
-{
-    let (mut parts, mut symbols) = count_all(alloc, below)?;
-    put_in_order(&mut parts, 15)?;
-    if parts.len() > 268435454 {
-        return Err(TtFault::TooManySpanParts);
-    }
-    put_in_order(&mut symbols, 63)?;
-    if symbols.len() > 536870912 {
-        return Err(TtFault::TooManySymbols);
-    }
-    Ok((parts, symbols))
 }

@@ -5,13 +5,13 @@ use Rattle.tt_pack.proofs.names.index_of.Goals as goal
 
 pub returns-in_err-index : goal.returns-in_err-index
 returns-in_err-index g c =
-    let none : c.find.result ≡ None = search rules in
+    let none : c.first_equal.result ≡ None = search rules in
     subst (IsIndex (g.T.PartialEq.eq c.args.value.now) c.args.values.now)
-    (sym c.find.ensures ∙ none ∙ sym c.from_residual.ensures)
+    (sym c.first_equal.ensures ∙ none ∙ sym c.from_residual.ensures)
     (position_is_index (g.T.PartialEq.eq c.args.value.now) c.args.values.now)
 
 pub returns : goal.returns
 returns g c =
-    let some : c.find.result ≡ Some c.in_ok-index.index = search rules in
-    subst (IsIndex (g.T.PartialEq.eq c.args.value.now) c.args.values.now) (sym c.find.ensures ∙ some)
+    let some : c.first_equal.result ≡ Some c.in_ok-index.index = search rules in
+    subst (IsIndex (g.T.PartialEq.eq c.args.value.now) c.args.values.now) (sym c.first_equal.ensures ∙ some)
     (position_is_index (g.T.PartialEq.eq c.args.value.now) c.args.values.now)

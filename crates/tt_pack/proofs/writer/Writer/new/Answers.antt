@@ -1,7 +1,15 @@
-use Rattle.std.proofs.Common.{length, refl, reverse, ap, arith, rules}
+use Rattle.std.proofs.Common.{refl, ap, arith, length, rules}
 use Rattle.tt_base.specs.Stored.{bytes}
 use Rattle.tt_pack.proofs.writer.Writer.new.Goals as goal
 
 pub returns-clause-ok : goal.returns-clause-ok
 unfolding bytes
-returns-clause-ok c = (refl, record { bytes = ap reverse c.new.ensures.items; sums = search rules; range = tt; few = omega (arith, ap length c.new.ensures.items) })
+returns-clause-ok c = (
+  refl,
+  record {
+    bytes = c.in_ok-bytes.ensures.ok;
+    sums = search rules;
+    range = tt;
+    few = omega (arith, ap length c.in_ok-bytes.ensures.ok);
+  },
+)

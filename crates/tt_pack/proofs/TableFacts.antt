@@ -1,0 +1,70 @@
+-- How long a table is, that its values differ, and where one stands in it.
+use Rattle.std.proofs.Common.{◌≡◌, ℕ, zero, suc, ◌<◌, ◌≤◌, ◌^◌, inl, inr, Bool, true, false, cond, Some, List, [], ◌∷◌, length, nat_le, slice_get, refl, ap, sym, subst, ◌∙◌, arith}
+use Rattle.std.proofs.lemmas.Bool.{leb-true, leb-false}
+use Rattle.std.proofs.lemmas.List.{length-map}
+use Rattle.std.proofs.lemmas.Option.{slice_get_within}
+use Rattle.std.specs.Cmp.{IsEquivalence}
+use Rattle.std.specs.List.{AllByRecursion, IsDistinct}
+use Rattle.tt_base.specs.TableOrder.{place_in, uses_of, IsEarlier, IsMoreUsed, Before, IsTable, different, falling, table}
+use Rattle.tt_base.proofs.Cheapest.{distinct_order}
+use Rattle.tt_base.proofs.TableOrder.{length-falling}
+use Rattle.tt_pack.specs.Counted.{counted}
+use Rattle.tt_pack.specs.Indexed.{StandsAt, HasPlaceAt}
+use Rattle.tt_pack.specs.Rows.{FindsAt}
+
+-- `same` tells whether two values are equal
+module _ {X : Type 0} (same : X → X → Bool) where
+  -- Where values differ, each is found where it stands.
+  place_in-distinct : IsEquivalence same → (values : List X) (i : ℕ) (x : X) → IsDistinct same values → slice_get values i ≡ Some x → place_in (same x) values ≡ i
+  unfolding IsDistinct
+  place_in-distinct laws [] i x distinct at = absurd (cc at)
+  place_in-distinct laws (y ∷ values) zero x distinct at = ap (λ t. cond t 0 (suc (place_in (same x) values))) (ap (same x) is ∙ laws.refl x)
+    where
+      is : y ≡ x
+      is = cc at
+  place_in-distinct laws (y ∷ values) (suc i) x distinct at =
+      ap (λ t. cond t 0 (suc (place_in (same x) values))) (laws.symm x y ∙ apart values i distinct.0 at) ∙ ap suc (place_in-distinct laws values i x distinct.1 at)
+    where
+      apart : (others : List X) (j : ℕ) → AllByRecursion (λ z. same y z ≡ false) others → slice_get others j ≡ Some x → same y x ≡ false
+      apart [] j all here = absurd (cc here)
+      apart (z ∷ others) zero all here = subst (λ v. same y v ≡ false) (is here) all.0
+        where
+          is : Some z ≡ Some x → z ≡ x
+          is e = cc e
+      apart (z ∷ others) (suc j) all here = apart others j all.1 here
+
+  module _ (sound : (x y : X) → same x y ≡ true → x ≡ y) (laws : IsEquivalence same) where
+    -- A table has as many values as are counted.
+    pub length-table : (short : ℕ) (uses : List X) → length (table same short uses) ≡ length (counted same uses)
+    unfolding table
+    length-table short uses = by_length (nat_le (length (different same uses)) short) ∙ sym (length-map (different same uses) (λ x. (x, uses_of same uses x)))
+      where
+        by_length : (t : Bool) → length (cond t (different same uses) (falling same (uses_of same uses) (different same uses))) ≡ length (different same uses)
+        by_length true = refl
+        by_length false = length-falling same sound laws.refl (uses_of same uses) (IsEarlier same uses) (different same uses)
+
+    -- The values of a table differ.
+    distinct_table : (short : ℕ) (uses values : List X) → IsTable same short uses values → IsDistinct same values
+    distinct_table short uses values is = distinct_order same sound laws.refl (Before same short (length values) uses) never values is.in_order
+      where
+        never : (x : X) → Before same short (length values) uses x x → ⊥
+        never x h = by_length (nat_le (length values) short) refl
+          where
+            more : IsMoreUsed same uses x x → ⊥
+            more (inl l) = omega (arith, l)
+            more (inr p) = omega (arith, p.1)
+
+            by_length : (t : Bool) → nat_le (length values) short ≡ t → ⊥
+            by_length true e = none (h.0 (leb-true _ _ e))
+              where
+                none : IsEarlier same uses x x → ⊥
+                none l = omega (arith, l)
+            by_length false e = more (h.1 (leb-false _ _ e))
+
+    -- Where a value stood by first use, its place in the table is noted.
+    pub place_noted : (short : ℕ) (uses values table : List X) (places : List ℕ) (i : ℕ) (x : X) → IsTable same short uses table → length values ≤ 2 ^ 32
+        → ((index : ℕ) → index < length values → FindsAt values table places index) → StandsAt values i x → HasPlaceAt same table places i x
+    place_noted short uses values table places i x is few found stands =
+        let at : slice_get values i ≡ Some x = stands few in
+        let finds : FindsAt values table places i = found i (slice_get_within values i x at) in
+        finds.1 ∙ ap Some (sym (place_in-distinct laws table finds.0 x (distinct_table short uses table is) (finds.2 ∙ at)))

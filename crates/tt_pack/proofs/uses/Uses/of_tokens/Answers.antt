@@ -1,0 +1,40 @@
+use Rattle.std.proofs.Common.{◌+◌, ◌<◌, ◌^◌, bytes_eq, length, take, sym, subst, arith}
+use Rattle.std.proofs.lemmas.List.{length-take}
+use Rattle.std.specs.List.{AllZip}
+use Rattle.indexmap.specs.IndexMap.{keys}
+use Rattle.tt_base.specs.contracts.span.SpanPartEq.TheImpl.Laws as part_eq
+use Rattle.tt_base.specs.contracts.symbol.SymbolEq.TheImpl.Laws as symbol_eq
+use Rattle.tt_base.specs.Uses.{same_part, token_parts, token_symbols, part_uses, symbol_uses}
+use Rattle.tt_base.proofs.TokenTables.{part_sound, text_sound}
+use Rattle.tt_pack.specs.Counted.{HasRoomFor}
+use Rattle.tt_pack.specs.Indexed.{StandsAt, AreUses}
+use Rattle.tt_pack.proofs.Counting.{room_counted, counted_token, few_parts, few_symbols}
+use Rattle.tt_pack.proofs.Kept.{kept_token}
+use Rattle.tt_pack.proofs.uses.Uses.of_tokens.Goals as goal
+
+pub count_token-requires-clause-parts : goal.count_token-requires-clause-parts
+count_token-requires-clause-parts c =
+    let tokens = take c.loop-token.token-index c.args.tokens.now in
+    let few : length (part_uses tokens) + 2 < 2 ^ 64 = omega (arith, few_parts tokens, length-take c.loop-token.token-index c.args.tokens.now, c.loop-token-test.true) in
+    subst (HasRoomFor 2) (sym c.loop-token.invariant.parts) (room_counted same_part 2 (part_uses tokens) few)
+
+pub count_token-requires-clause-symbols : goal.count_token-requires-clause-symbols
+count_token-requires-clause-symbols c =
+    let tokens = take c.loop-token.token-index c.args.tokens.now in
+    let few : length (symbol_uses tokens) + 1 < 2 ^ 64 = omega (arith, few_symbols tokens, length-take c.loop-token.token-index c.args.tokens.now, c.loop-token-test.true) in
+    subst (HasRoomFor 1) (sym c.loop-token.invariant.symbols) (room_counted bytes_eq 1 (symbol_uses tokens) few)
+
+pub loop-token-preserved : goal.loop-token-preserved
+loop-token-preserved c = record {
+  parts =
+      counted_token same_part part_eq.lawful.laws part_sound token_parts c.args.tokens.now c.loop-token.token-index c.token-item.result _ _
+      c.loop-token-test.true c.token-item.is c.loop-token.invariant.parts c.in_ok-found.ensures.parts;
+  symbols =
+      counted_token bytes_eq symbol_eq.lawful.laws text_sound token_symbols c.args.tokens.now c.loop-token.token-index c.token-item.result _ _
+      c.loop-token-test.true c.token-item.is c.loop-token.invariant.symbols c.in_ok-found.ensures.symbols;
+  uses =
+      subst (AllZip (AreUses (StandsAt (keys c.count_token.new.parts)) (StandsAt (keys c.count_token.new.symbols))) (take (c.loop-token.token-index + 1) c.args.tokens.now))
+      (sym c.in_ok-push.ensures.items)
+      (kept_token c.args.tokens.now c.loop-token.token-index c.token-item.result c.loop-token.uses.items c.in_ok-found.found _ _ _ _
+      c.loop-token-test.true c.token-item.is c.in_ok-found.ensures.parts c.in_ok-found.ensures.symbols c.loop-token.invariant.uses c.in_ok-found.ensures.uses);
+}
