@@ -1,6 +1,9 @@
 use std::hash::{FoldHasher, Hash, Hasher};
 use tt_base::TokenTree;
 
+// No offset is larger.
+const LAST_OFFSET: u64 = u32::MAX as u64;
+
 /// What a walk looks at in a token.
 pub trait Look {
     /// The start offset of the token's first span.
@@ -40,8 +43,6 @@ fn start_of_whole(token: &TokenTree) -> u64 {
     }
     start
 }
-
-const LAST_OFFSET: u64 = 4294967295;
 
 fn hash_of(token: &TokenTree) -> u64 {
     let mut hasher = FoldHasher::default();
