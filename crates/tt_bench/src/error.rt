@@ -6,7 +6,8 @@ use tt_base::TtFault;
 #[derive(Debug, Drop, Error)]
 pub enum BenchError {
     /// The arguments ask for nothing that there is.
-    #[error("usage: tt_bench MODE ROUNDS [apart] < ITEMS\nMODE: pack flat flat_whole skip siblings siblings_whole equal fold sip clone drop")]
+    #[error("usage: tt_bench MODE ROUNDS [apart] < ITEMS\n\
+        MODE: pack flat flat_whole skip siblings siblings_whole equal fold sip clone drop")]
     Usage,
     /// That line, counted from 1, is no `item` line.
     #[error("line {0} is no item")]

@@ -39,14 +39,14 @@ impl fmt::Display for Measured {
     }
 }
 
-/// Times the job on the tree that a text of `item` lines spells.
+/// Times the job on the tree that `item` lines spell.
 pub fn measure<R: CpuClock + AllocGlobal>(
     rt: &R,
     job: Job,
-    text: &[u8],
+    lines: &[u8],
 ) -> Result<Measured, BenchError> {
-    let list = items(rt.alloc(), text, job.texts)?;
-    let twins = Twins::new(rt.alloc(), &list, text, job.texts)?;
+    let list = items(rt.alloc(), lines, job.texts)?;
+    let twins = Twins::new(rt.alloc(), &list, lines, job.texts)?;
     let mut watch = Stopwatch::new(rt);
     let sum = measure_rounds(&mut watch, rt.alloc(), job, &list, &twins)?;
     let tree = twins.at(0);
@@ -110,8 +110,8 @@ fn walk<R: CpuClock>(
     Ok(sum)
 }
 
-// Counts the rounds in which the twins are equal. The count picks the second twin, which is the same as picking it by the
-// round. The compiler cannot know that, so each round waits for the one before it, and no comparison is left out.
+// Counts the rounds in which the twins are equal. The count picks the second twin, which comes to the same as picking it
+// by the round. The compiler cannot know that: each round needs the one before it, and no comparison is left out.
 fn equal<R: CpuClock>(
     watch: &mut Stopwatch<R>,
     twins: &Twins,

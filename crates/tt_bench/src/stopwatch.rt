@@ -1,7 +1,8 @@
 use std::io;
 use std::time::{CpuClock, Duration};
 
-/// Adds up processor time of this thread, from each start to the stop after it. So waiting for a processor does not count.
+/// Adds up processor time of this thread, from each start to the stop after it. So waiting for a processor does not
+/// count.
 #[derive(Drop)]
 pub struct Stopwatch<'a, R> {
     clock: &'a R,

@@ -1,6 +1,8 @@
+use crate::error::BenchError;
 use crate::items::Texts;
 use crate::job::Job;
-use crate::measure::measure;
+use crate::measure::{Measured, measure};
+use crate::mode::Mode;
 use std::test::Fail;
 
 // Five tokens: 33 bytes of the top, 5 of each ident, 7 of the header and 6 of the literal. Two parts are used below the
@@ -27,18 +29,28 @@ fn measures_by_each_mode(rt: HostRuntime) -> Result<(), Fail> {
     ];
     for texts in [Texts::Shared, Texts::Apart] {
         for (mode, sum) in sums {
-            let job = Job {
-                mode: mode.parse()?,
-                rounds: 3,
-                texts,
-            };
-            let measured = measure(&rt, job, ITEMS.as_bytes())?;
+            let measured = three_rounds(&rt, mode, texts)?;
             assert_eq!(rt; measured.sum, sum, "{mode}");
             let sizes = (measured.bytes, measured.parts, measured.symbols);
             assert_eq!(rt; sizes, (56, 4, 2), "{mode}");
         }
     }
+    // A hash goes by the texts, wherever they are.
+    for mode in ["fold", "sip"] {
+        let shared = three_rounds(&rt, mode, Texts::Shared)?;
+        let apart = three_rounds(&rt, mode, Texts::Apart)?;
+        assert_eq!(rt; shared.sum, apart.sum, "{mode}");
+    }
     Ok(())
+}
+
+fn three_rounds(rt: &HostRuntime, mode: &str, texts: Texts) -> Result<Measured, BenchError> {
+    let job = Job {
+        mode: mode.parse()?,
+        rounds: 3,
+        texts,
+    };
+    measure(rt, job, ITEMS.as_bytes())
 }
 
 #[test]
@@ -62,6 +74,6 @@ fn tells_what_is_wrong(rt: HostRuntime) -> Result<(), Fail> {
         let shown = format!(in rt.alloc(); "{error}")?;
         assert_eq!(rt; shown.as_str(), message);
     }
-    assert!(rt; "walk".parse::<crate::mode::Mode>().is_err());
+    assert!(rt; "walk".parse::<Mode>().is_err());
     Ok(())
 }

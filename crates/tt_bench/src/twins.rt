@@ -12,18 +12,18 @@ pub struct Twins {
 }
 
 impl Twins {
-    /// The tree of the list, twice. The twins share no block but those of their texts, and these only if texts are shared:
-    /// else the text of the list is read once more.
+    /// The tree of the list, twice. The twins share no block but those of their texts, and these only where texts are
+    /// shared; else the lines of the list are read once more.
     pub fn new(
         alloc: Global,
         list: &[TokenTree],
-        text: &[u8],
+        lines: &[u8],
         texts: Texts,
     ) -> Result<Twins, BenchError> {
         let first = packed(alloc, list.to_vec(alloc).map_err(TtFault::from)?)?;
         let second = match texts {
             Texts::Shared => first.clone(alloc)?,
-            Texts::Apart => packed(alloc, items(alloc, text, texts)?)?,
+            Texts::Apart => packed(alloc, items(alloc, lines, texts)?)?,
         };
         Ok(Twins { first, second })
     }
