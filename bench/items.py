@@ -5,8 +5,8 @@ The lines are the same on every machine for a SIZE (tokens, at least 9), a PROFI
 it is left out).
 
     mix          four span parts, which change now and then
-    many-parts   two hundred span parts, which change at each fourth token
-    deep         as mix, but going down and up between depth 2 and 500
+    many-parts   two hundred span parts, which change at about each fourth token
+    deep         as mix, but going down and up between depth 2 and 500, with leaves on the way
     syms:D       a flat brace over idents of D different names; SEED is not looked at
 
 But for syms:D, the tree is a brace (the top) over eight big braces that share the other tokens evenly.
@@ -41,7 +41,7 @@ NUMBER_SUFFIXES = ["u8", "u32", "usize"]
 
 
 class Profile(NamedTuple):
-    """How many span parts there are, at which n-th token they change, and whether it goes deep."""
+    """How many span parts there are, after how many tokens one changes (about), and whether the tree goes deep."""
     parts: int
     change: int
     deep: bool

@@ -1,5 +1,3 @@
-ghost use Rattle.std.specs.Prelude.{◌≤◌};
-
 use crate::error::BenchError;
 use crate::interner::Interner;
 use memchr::memchr;
