@@ -1,28 +1,54 @@
-//! Builds a list of many tokens, packs it, and reads, skips through or passes the tree, as the arguments say. Prints the
-//! number of tokens: the time that it takes is measured from outside.
+//! Times the packed form on one tree: `tt_bench MODE ROUNDS [apart] < ITEMS`.
+//!
+//! Standard input spells the tree's flat list, as `item` lines (docs/LANGUAGE.md). The line that is printed has the
+//! nanoseconds of all rounds, a sum to know the answer by, and how many bytes, span parts and symbols are stored.
 #![tactic(auto)]
 
+mod error;
+mod interner;
+mod items;
 mod job;
-mod list;
+mod look;
+mod measure;
+mod mode;
+mod stopwatch;
+mod twins;
 mod walk;
 
+use crate::error::BenchError;
 use crate::job::Job;
+use crate::measure::measure;
+use std::alloc::Global;
+use std::io::Read;
 use std::process::ExitCode;
+use std::rt::Env;
+use std::time::CpuClock;
+
+#[cfg(test)]
+mod tests;
 
 fn main(rt: HostRuntime) -> ExitCode {
-    let Some(job) = Job::from_args(&rt) else {
-        let _ = eprintln!(rt; "usage: tt_bench build|pack|read|skip|pass TOKENS ROUNDS NAMES");
-        return ExitCode::FAILURE;
-    };
-    let count = match job.run(rt.alloc()) {
-        Ok(count) => count,
-        Err(fault) => {
-            let _ = eprintln!(rt; "{fault}");
-            return ExitCode::FAILURE;
-        }
-    };
-    match println!(rt; "{count}") {
+    match run(&rt) {
         Ok(()) => ExitCode::SUCCESS,
-        Err(_) => ExitCode::FAILURE,
+        Err(error) => {
+            let _ = eprintln!(rt; "tt_bench: {error}");
+            ExitCode::FAILURE
+        }
     }
+}
+
+// Does what the arguments ask for.
+fn run<R: Env + Input + Print + CpuClock + AllocGlobal>(rt: &R) -> Result<(), BenchError> {
+    let job = Job::from_args(rt)?;
+    let text = all_input(rt.alloc(), rt)?;
+    let measured = measure(rt, job, text.as_slice())?;
+    println!(rt; "{measured}")?;
+    Ok(())
+}
+
+// All of standard input.
+fn all_input<R: Input>(alloc: Global, rt: &R) -> Result<Vec<u8>, BenchError> {
+    let mut text = Vec::new(alloc);
+    rt.reader().read_to_end(&mut text)?;
+    Ok(text)
 }

@@ -1,0 +1,24 @@
+use std::io;
+use thiserror::Error;
+use tt_base::TtFault;
+
+/// Why nothing was timed.
+#[derive(Debug, Drop, Error)]
+pub enum BenchError {
+    /// The arguments ask for nothing that there is.
+    #[error("usage: tt_bench MODE ROUNDS [apart] < ITEMS\n\
+        MODE: pack flat flat_whole skip siblings siblings_whole equal fold sip clone drop")]
+    Usage,
+    /// That line, counted from 1, is no `item` line.
+    #[error("line {0} is no item")]
+    BadLine(u64),
+    /// The list is refused, or memory is.
+    #[error("refused: {0}")]
+    Fault(#[from] TtFault),
+    /// A walk by siblings would need too much stack.
+    #[error("too deep to walk by siblings")]
+    TooDeep,
+    /// Input, output or the clock failed.
+    #[error(transparent)]
+    Io(#[from] io::Error),
+}

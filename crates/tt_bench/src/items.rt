@@ -1,0 +1,58 @@
+use crate::error::BenchError;
+use crate::interner::Interner;
+use memchr::memchr;
+use std::alloc::Global;
+use std::str::FromStr;
+use tt_base::{TokenTree, TtFault};
+use tt_run::Command;
+
+/// Whether tokens of one text share the block of memory that holds it.
+#[derive(Clone, Copy, Debug, PartialEq, Eq)]
+pub enum Texts {
+    /// Equal texts share one block.
+    Shared,
+    /// Each ident and each literal has a block of its own.
+    Apart,
+}
+
+impl FromStr for Texts {
+    type Err = BenchError;
+
+    fn from_str(word: &str) -> Result<Texts, BenchError> {
+        match word {
+            "apart" => Ok(Texts::Apart),
+            _ => Err(BenchError::Usage),
+        }
+    }
+}
+
+/// The tokens of the `item` lines of a text, or the number of the first line that is no such line.
+pub fn items(alloc: Global, text: &[u8], texts: Texts) -> Result<Vec<TokenTree>, BenchError> {
+    let mut interner = Interner::new(alloc);
+    let mut list = Vec::new(alloc);
+    let mut rest = text;
+    for number in 1..u64::MAX {
+        if rest.is_empty() {
+            break;
+        }
+        let (line, behind) = cut_line(rest);
+        rest = behind;
+        let Some(Command::Item(token)) = Command::parse(alloc, line)? else {
+            return Err(BenchError::BadLine(number));
+        };
+        let token = match texts {
+            Texts::Shared => interner.token(token)?,
+            Texts::Apart => token,
+        };
+        list.push(token).map_err(TtFault::from)?;
+    }
+    Ok(list)
+}
+
+// The first line, without its line feed, and what comes behind it.
+fn cut_line(text: &[u8]) -> (&[u8], &[u8]) {
+    match memchr(b'\n', text) {
+        Some(end) => (&text[..end], &text[end + 1..]),
+        None => (text, &[]),
+    }
+}

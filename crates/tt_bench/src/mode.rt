@@ -1,0 +1,43 @@
+use crate::error::BenchError;
+use crate::walk::Walk;
+use std::str::FromStr;
+
+/// What is timed.
+#[derive(Clone, Copy, Debug, PartialEq, Eq)]
+pub enum Mode {
+    /// Packing a list, and letting the list go.
+    Pack,
+    /// Reading a tree.
+    Walk(Walk),
+    /// Comparing a tree with its twin.
+    Equal,
+    /// Hashing a tree by a fast hasher, `FoldHasher`.
+    Fold,
+    /// Hashing a tree by the default hasher, which is SipHash.
+    Sip,
+    /// Copying a tree.
+    Clone,
+    /// Letting a copy of a tree go.
+    Drop,
+}
+
+impl FromStr for Mode {
+    type Err = BenchError;
+
+    fn from_str(name: &str) -> Result<Mode, BenchError> {
+        match name {
+            "pack" => Ok(Mode::Pack),
+            "flat" => Ok(Mode::Walk(Walk::Flat)),
+            "flat_whole" => Ok(Mode::Walk(Walk::FlatWhole)),
+            "skip" => Ok(Mode::Walk(Walk::Skip)),
+            "siblings" => Ok(Mode::Walk(Walk::Siblings)),
+            "siblings_whole" => Ok(Mode::Walk(Walk::SiblingsWhole)),
+            "equal" => Ok(Mode::Equal),
+            "fold" => Ok(Mode::Fold),
+            "sip" => Ok(Mode::Sip),
+            "clone" => Ok(Mode::Clone),
+            "drop" => Ok(Mode::Drop),
+            _ => Err(BenchError::Usage),
+        }
+    }
+}
