@@ -91,6 +91,7 @@ impl Place {
     }
 
     // Puts two words before the bytes.
+    #[inline(never)]
     fn write_middle(self, into: &mut BackBuf, extra: u32) -> Result<(), TtFault>
         requires extra { extra < 4 }
         requires fits { IsTrue (fits_two_words (place_of self)) }
@@ -102,6 +103,7 @@ impl Place {
     }
 
     // Puts three words before the bytes.
+    #[inline(never)]
     fn write_heavy(self, into: &mut BackBuf, extra: u32) -> Result<(), TtFault>
         requires part { self.part < 2 ^ 28 }
         requires extra { extra < 4 }
@@ -115,6 +117,8 @@ impl Place {
     }
 
     /// Puts the bytes of the span before the others, in three words where `heavy` demands them.
+    /// Most spans take one word, so that is done in place and the others by a call.
+    #[inline(always)]
     #[tactic(auto, unfolding(tt_base::specs::SpanBytes::span_bytes))]
     pub(crate) fn write(self, into: &mut BackBuf, extra: u32, heavy: bool) -> Result<(), TtFault>
         requires part { self.part < 2 ^ 28 }
