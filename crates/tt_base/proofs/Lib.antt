@@ -2,6 +2,7 @@ pub mod Ahead
 pub mod BlockSteps
 pub mod ByteRows
 pub mod Cheapest
+mod CostRows
 pub mod CountedSteps
 pub mod CutLists
 pub mod Decoding
@@ -28,6 +29,7 @@ mod Rows
 pub mod SameTree
 pub mod Samples
 pub mod Shortest
+mod ShortestRows
 pub mod SpanReading
 pub mod StoredAlike
 mod StoredRows

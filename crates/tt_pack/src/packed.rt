@@ -1,10 +1,11 @@
-ghost use Rattle.std.specs.Prelude.{◌≡◌, ◌≤◌, ◌+◌, ◌*◌, suc, length, IfOk, IfErr, IsTrue, ◌↔◌, bytes_eq};
+ghost use Rattle.std.specs.Prelude.{◌≡◌, ◌≤◌, ◌+◌, ◌*◌, suc, length, drop, IfOk, IfErr, IsTrue, ◌↔◌, bytes_eq};
 ghost use Rattle.tt_base.specs.declared.fault.TtFault.TheVariants.{Memory};
 ghost use Rattle.tt_base.specs.Cost.{IsCheapest};
 ghost use Rattle.tt_base.specs.Forest.{size, flat, flat_root, IsWhole};
 ghost use Rattle.tt_base.specs.Meaning.{HasMeaning};
 ghost use Rattle.tt_base.specs.PackFault.{IsPackFault};
-ghost use Rattle.tt_base.specs.Stored.{packed, IsInRange, IsWithinLimits};
+ghost use Rattle.tt_base.specs.Shortest.{HasShortestHeaders};
+ghost use Rattle.tt_base.specs.Stored.{packed, tables_below, IsInRange, IsWithinLimits};
 ghost use Rattle.tt_base.proofs.SameTree.{same_root_iff};
 ghost use Rattle.tt_base.proofs.StoredAlike.{HasMeaning-prop};
 ghost use Rattle.tt_base.specs.Uses.{symbol_uses};
@@ -91,13 +92,15 @@ impl Packed {
         })
     }
 
-    /// The stored bytes: 33 of the top header, and then 5 to 33 of each token below it.
+    /// The stored bytes: 33 of the top header, and then 5 to 33 of each token below it. Of the formats that can hold
+    /// a header below the top, none is shorter than its own.
     pub fn bytes(&self) -> &[u8]
         ensures value { result.now ≡ (packed self.now).bytes }
         ensures range { IsInRange self.now }
         ensures limits { IsWithinLimits self.now }
         ensures least { 33 + 5 * size self.now.children ≤ length result.now }
         ensures most { length result.now ≤ 33 * suc (size self.now.children) }
+        ensures shortest { HasShortestHeaders (tables_below self.now.children) self.now.children (drop 33 result.now) }
     {
         self.bytes.as_slice()
     }

@@ -1,10 +1,12 @@
-use crate::lists::{braces, header, punct, stored, top};
+use crate::lists::{braces, header, ident, punct, stored, top};
 use crate::tables::span;
 use std::alloc::Global;
 use std::hash::{DefaultHasher, Hash, Hasher};
 use std::process::Abort;
 use std::test::Fail;
-use tt_base::{DelimiterKind, Leaf, Punct, Spacing, SpanPart, SyntaxContext, TokenTree, TtFault};
+use tt_base::{
+    DelimiterKind, Leaf, Punct, Spacing, SpanPart, Symbol, SyntaxContext, TokenTree, TtFault,
+};
 use tt_pack::Packed;
 
 // The numbers of the files of those parts.
@@ -45,6 +47,44 @@ fn has_table(rt: &impl Abort, alloc: Global, parts: &[u32], table: &[u32]) -> Re
     let tree = Packed::pack(alloc, tokens)?;
     let found = files(alloc, tree.parts())?;
     assert_eq!(rt; found.as_slice(), table);
+    Ok(())
+}
+
+// The name s0, s1 and so on, of that number.
+fn name(alloc: Global, number: u32) -> Result<String, Fail> {
+    Ok(format!(in alloc; "s{number}")?)
+}
+
+// A top over so many idents, the names from s0 on, and a second of the last one.
+fn last_name_twice(alloc: Global, count: u32) -> Result<Packed, Fail> {
+    let last = count.checked_sub(1).ok_or("no name")?;
+    let len = count.checked_add(1).ok_or("too many names")?;
+    let mut tokens = vec![in alloc; top(len)?]?;
+    for number in 0..len {
+        let text = name(alloc, number.min(last))?;
+        tokens.push(ident(alloc, text.as_str(), (0, 0, 1))?)?;
+    }
+    Ok(Packed::pack(alloc, tokens)?)
+}
+
+// The symbols are that name, and then the others of so many, in their order.
+fn are_names(
+    rt: &impl Abort,
+    alloc: Global,
+    symbols: &[Symbol],
+    first: u32,
+    count: u32,
+) -> Result<(), Fail> {
+    let mut table = vec![in alloc; name(alloc, first)?]?;
+    for number in 0..count {
+        if number != first {
+            table.push(name(alloc, number)?)?;
+        }
+    }
+    assert_eq!(rt; symbols.len(), table.len());
+    for (symbol, text) in symbols.iter().zip(table.iter()) {
+        assert_eq!(rt; symbol.as_str(), text.as_str());
+    }
     Ok(())
 }
 
@@ -108,6 +148,24 @@ fn tables_of_parts(rt: HostRuntime) -> Result<(), Fail> {
         &[0, 1, 2, 3, 4, 5, 6, 7, 8, 9, 10, 11, 12, 13, 14, 15, 15],
         &[15, 0, 1, 2, 3, 4, 5, 6, 7, 8, 9, 10, 11, 12, 13, 14, 20, 21],
     )?;
+    Ok(())
+}
+
+#[test]
+fn tables_of_symbols(rt: HostRuntime) -> Result<(), Fail> {
+    let alloc = rt.alloc();
+    // How many names, which stands first, how many tokens, and the bytes of the top, the spans and the references.
+    let rows: [(u32, u32, usize, usize); 3] = [
+        (63, 0, 65, 33 + 64 * 4 + 64),
+        (64, 63, 66, 33 + 65 * 4 + 65),
+        (65, 64, 67, 33 + 66 * 4 + 67),
+    ];
+    for (count, first, len, bytes) in rows {
+        let tree = last_name_twice(alloc, count)?;
+        are_names(&rt, alloc, tree.symbols(), first, count)?;
+        assert_eq!(rt; tree.len(), len);
+        assert_eq!(rt; tree.bytes().len(), bytes);
+    }
     Ok(())
 }
 

@@ -1,6 +1,8 @@
-use Rattle.std.proofs.Common.{◌≡◌, length, ap, subst, arith, rules}
-use Rattle.tt_base.specs.Stored.{packed, IsInRange, IsWithinLimits}
+use Rattle.std.proofs.Common.{◌≡◌, length, drop, ap, sym, subst, arith, rules}
+use Rattle.tt_base.specs.Shortest.{HasShortestHeaders}
+use Rattle.tt_base.specs.Stored.{packed, tables_below, IsInRange, IsWithinLimits}
 use Rattle.tt_base.proofs.Lengths.{packed_length}
+use Rattle.tt_base.proofs.Shortest.{stored_shortest}
 use Rattle.tt_pack.proofs.packed.Packed.bytes.Goals as goal
 
 pub returns-clause-least : goal.returns-clause-least
@@ -18,3 +20,9 @@ returns-clause-range c = subst IsInRange c.self.view_is c.self.inside.meaning.1.
 
 pub returns-clause-limits : goal.returns-clause-limits
 returns-clause-limits c = subst IsWithinLimits c.self.view_is c.self.inside.meaning.1.1
+
+pub returns-clause-shortest : goal.returns-clause-shortest
+returns-clause-shortest c =
+    let root = c.args.self.now in
+    let value : c.as_slice.result.now ≡ (packed root).bytes = search rules in
+    subst (λ bytes. HasShortestHeaders (tables_below root.children) root.children (drop 33 bytes)) (sym value) (stored_shortest root)
