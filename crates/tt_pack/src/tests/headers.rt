@@ -3,6 +3,7 @@ ghost use Rattle.tt_base.specs.HeaderBytes.{HeaderFits};
 ghost use Rattle.tt_pack.specs.Entry.{header_entry_of};
 
 use super::{is_read, is_written};
+use crate::back_buf::BackBuf;
 use crate::entry::{Entry, HeaderEntry};
 use crate::place::Place;
 use std::alloc::Global;
@@ -271,8 +272,9 @@ fn in_full(rt: HostRuntime) -> Result<(), Fail> {
     let header = header(DelimiterKind::Parenthesis, (0, 0, 1), (1, 3, 1), (2, 10));
     let bytes =
         b"\x40\x40\x00\x00\x01\x00\x00\x00\x00\x00\x00\x00\x05\x44\xc0\x01\x00\x01\x00\x00\x00\x00\x00\x00\x00\x02\x00\x00\x00\x0a\x00\x00\x00";
-    let mut written = Vec::new(rt.alloc());
+    let mut written = BackBuf::with_capacity(rt.alloc(), bytes.len())?;
     header.write_in_full(&mut written, true)?;
+    let written = written.into_vec();
     assert_eq!(rt; written.as_slice(), bytes.as_slice());
     is_read(&rt, Entry::Header(header), written.as_slice())
 }
