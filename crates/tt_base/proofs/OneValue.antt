@@ -157,8 +157,8 @@ module _ {M : Type 1} {𝓤 : Ura M} (𝓛 : Logic 𝓤) (𝓜 : Model 𝓤 𝓛
       clash : ¬ (n.3 ≡ m.3) → ent 𝓤 (sep 𝓤 (A.named n.3 One) (sep 𝓤 (A.named m.3 Two) (sep 𝓤 (A.lft μ r) (sep 𝓤 (A.lft μ' r') (A.tok E))))) (H.⇛ Left)
       clash other = let Z : SProp 𝓤 = upd 𝓤 Closed in
           via 𝓤 (sep 𝓤 (sem 𝓛 (invs Both)) (wand 𝓤 (sem 𝓛 (bodies Both)) Z)) (qed 𝓛 (‵ (fnamed n.3 One) ∷ ‵ (fnamed m.3 Two) ∷ ‵ (flft μ r) ∷ ‵ (flft μ' r') ∷ ‵ (ftok E) ∷ []) ∵ use0 𝓛 (‵ ftrue) (id⊢ 𝓤 (emp 𝓤)) $
-            move ! (1 ∷ 2 ∷ 0 ∷ []) $ fjoin3 ! $ frame ! $ assume ! (‵ (bodies Both)) $ suffices ! _ (upd_i 𝓤 Closed) $ fsplit3 ! $ move ! (0 ∷ 3 ∷ 5 ∷ []) $
-            use3 𝓛 (‵ (ftok E) ⊛ some (λ (b : Bool). raw (Found x n.0 n.1 μ r b))) (finds x n.0 n.1 μ r below) $ split ! $ move ! (1 ∷ []) $ pick ! (λ b. keep ! (0 ∷ 1 ∷ 2 ∷ 4 ∷ []) $ by ! (at_first b)))
+          move ! (1 ∷ 2 ∷ 0 ∷ []) $ fjoin3 ! $ frame ! $ assume ! (‵ (bodies Both)) $ suffices ! _ (upd_i 𝓤 Closed) $ fsplit3 ! $ move ! (0 ∷ 3 ∷ 5 ∷ []) $
+          use3 𝓛 (‵ (ftok E) ⊛ some (λ (b : Bool). raw (Found x n.0 n.1 μ r b))) (finds x n.0 n.1 μ r below) $ split ! $ move ! (1 ∷ []) $ pick ! (λ b. keep ! (0 ∷ 1 ∷ 2 ∷ 4 ∷ []) $ by ! (at_first b)))
           (𝓛.invs.invs_acc Both Left (two_invs n.3 m.3 One Two other))
 
     -- a mark that a token shows to be of a living block, and the way back to the token
@@ -208,7 +208,7 @@ module _ {M : Type 1} {𝓤 : Ura M} (𝓛 : Logic 𝓤) (𝓜 : Model 𝓤 𝓛
       module _ (n m : Names) (μ μ' : Lft) (r r' : Share) (below : Incl μ (n.0.0 ∷ [])) (below' : Incl μ' (m.0.0 ∷ [])) (its : IsNumberOf n.2 n.3) (its' : IsNumberOf m.2 m.3) where
         decided : Dec (n.3 ≡ m.3)
             → ent 𝓤 (sep 𝓤 (A.named n.3 (inside R c x n.0 n.1)) (sep 𝓤 (A.named m.3 (inside R c y m.0 m.1)) (sep 𝓤 (A.res n.2 (R.coded.code x)) (sep 𝓤 (A.res m.2 (R.coded.code y))
-              (sep 𝓤 (A.lft μ r) (sep 𝓤 (A.lft μ' r') (sep 𝓤 (Way μ r κ q) (sep 𝓤 (Way μ' r' κ' q') (A.tok E))))))))) (H.⇛ Out)
+            (sep 𝓤 (A.lft μ r) (sep 𝓤 (A.lft μ' r') (sep 𝓤 (Way μ r κ q) (sep 𝓤 (Way μ' r' κ' q') (A.tok E))))))))) (H.⇛ Out)
         decided (yes e) = qed 𝓛 (‵ (fnamed n.3 (inside R c x n.0 n.1)) ∷ ‵ (fnamed m.3 (inside R c y m.0 m.1)) ∷ ‵ (fres n.2 (R.coded.code x)) ∷ ‵ (fres m.2 (R.coded.code y)) ∷ ‵ (flft μ r) ∷ ‵ (flft μ' r') ∷ raw (Way μ r κ q) ∷ raw (Way μ' r' κ' q') ∷ ‵ (ftok E) ∷ []) ∵
             move ! (2 ∷ 3 ∷ []) $ use2 𝓛 (raw (fact 𝓤 (x ≡ y))) (one_value n.2 m.2 (one_name n.2 m.2 n.3 its (subst (IsNumberOf m.2) (sym e) its'))) $ keep ! (3 ∷ 5 ∷ 4 ∷ 6 ∷ 7 ∷ 0 ∷ []) $ by ! (goes_out μ μ' r r' true)
         decided (no other) = qed 𝓛 (‵ (fnamed n.3 (inside R c x n.0 n.1)) ∷ ‵ (fnamed m.3 (inside R c y m.0 m.1)) ∷ ‵ (fres n.2 (R.coded.code x)) ∷ ‵ (fres m.2 (R.coded.code y)) ∷ ‵ (flft μ r) ∷ ‵ (flft μ' r') ∷ raw (Way μ r κ q) ∷ raw (Way μ' r' κ' q') ∷ ‵ (ftok E) ∷ []) ∵
@@ -285,7 +285,7 @@ module _ (R : RattleType) (L : RowLaws R) (c d : Ptr) (x y : R.Denot) {M : Type 
   -- [what is known; the owners; their tokens; the thread's token]
   pub judges : K → Soaks G → (𝓜 : Model 𝓤 𝓛.H) (κ κ' : Lft) (q q' : Share)
       → Step K 𝓛 (some (λ (b : Bool). raw (Judged R L c d x y 𝓛 𝓜 b)) ∷ ‵ (fhide (counted_shares R c x κ)) ∷ ‵ (fhide (counted_shares R d y κ')) ∷ ‵ (flft κ q) ∷ ‵ (flft κ' q') ∷ ‵ (ftok every) ∷ Γ) G
-             (‵ (fhide (counted_shares R c x κ)) ∷ ‵ (fhide (counted_shares R d y κ')) ∷ ‵ (flft κ q) ∷ ‵ (flft κ' q') ∷ ‵ (ftok every) ∷ Γ) G
+      (‵ (fhide (counted_shares R c x κ)) ∷ ‵ (fhide (counted_shares R d y κ')) ∷ ‵ (flft κ q) ∷ ‵ (flft κ' q') ∷ ‵ (ftok every) ∷ Γ) G
   judges t z 𝓜 κ κ' q q' = step (λ next. unhide t $ use1 𝓛 (‵ (counted_shares R c x κ) ⊛ ‵ (counted_shares R c x κ)) (contraction 𝓛 (counted_shares R c x) (counted_laws R L c x) κ) $ split t $ hide t $ move t (2 ∷ []) $
       unhide t $ use1 𝓛 (‵ (counted_shares R d y κ') ⊛ ‵ (counted_shares R d y κ')) (contraction 𝓛 (counted_shares R d y) (counted_laws R L d y) κ') $ split t $ hide t $
       -- [the second, hidden; the second; the first, hidden; the first; the tokens]

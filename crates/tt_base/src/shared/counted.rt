@@ -57,9 +57,8 @@ impl<T> Counted<T> {
         Counted { block }
     }
 
-    // Whether the count of the one is the count of the other, by which both are owners of one value. Pointers to two
-    // blocks may not be compared. So this writes 0 to one count, which no count of owners is, and looks at the other.
-    // A full count stays as it is, and the answer is then no.
+    // Whether both are owners of one value. Pointers to two blocks may not be compared. So this writes 0 to the one
+    // count, which no count of owners is, and looks at the other. A full count stays as it is, and the answer is then no.
     pub(crate) fn ptr_eq(&self, other: &Counted<T>) -> bool
         ensures { IsTrue result → self.now.value ≡ other.now.value }
     {

@@ -52,8 +52,8 @@ ptr_eq_spec 𝓤 𝓛 𝓜 𝓡 wired X L =
     let κ : Lft = κs.0 in let κ' : Lft = κs.1.0 in let q : Share = qs.0 in let q' : Share = qs.1.0 in let others : Fml = fsep (flft κs.1.1.0 qs.1.1.0) ftrue in let Post : Val → SProp 𝓤 = (walk_of 𝓛 En hs c).post z in
     let k : Key = key R p x in let all_but : Mask = less every k in
     let out : (answer : Bool) → (IsTrue answer → x ≡ y) → Sq 𝓛 (‵ (flft κ q) ∷ ‵ (flft κ' q') ∷ ‵ others ∷ ‵ (ftok every) ∷ []) (prop (Post (vbool answer))) = λ answer told.
-        suffices ! _ (ends_at 𝓛 En hs c z (vbool answer) answer (tt, (tt, tt)) (tt, (tt, tt))) $ owned ! bool _ (bool_Makes 𝓛) answer _ refl $ nothing ! $ nothing ! $ fjoin ! $ nothing ! $ fjoin ! $ join ! $
-        move ! (2 ∷ 3 ∷ []) $ fjoin ! $ move ! (2 ∷ 0 ∷ []) $ join ! $ join ! $ frame ! $ says ! told $ done ! in
+    suffices ! _ (ends_at 𝓛 En hs c z (vbool answer) answer (tt, (tt, tt)) (tt, (tt, tt))) $ owned ! bool _ (bool_Makes 𝓛) answer _ refl $ nothing ! $ nothing ! $ fjoin ! $ nothing ! $ fjoin ! $ join ! $
+    move ! (2 ∷ 3 ∷ []) $ fjoin ! $ move ! (2 ∷ 0 ∷ []) $ join ! $ join ! $ frame ! $ says ! told $ done ! in
     qed 𝓛 (((‵ (flft κ q) ⊛ ‵ (fsep (flft κ' q') others)) ⊛ ‵ (owns (types_at En.signature.params κs) z.0.3 z.0.4)) ∷ (‵ (ftok every) ⊛ raw ((c₀ κs z.0.3).requires z.1)) ∷ []) ∵
     split ! $ split ! $ move ! (1 ∷ []) $ fsplit ! $ move ! (4 ∷ []) $ split ! $ move ! (5 ∷ []) $ fsplit ! $ fsplit ! $ move ! (2 ∷ []) $ fsplit ! $ fsplit ! $ keep ! (4 ∷ 1 ∷ 9 ∷ 7 ∷ 5 ∷ 8 ∷ []) $
     -- [the first owner; the second; their tokens; the thread's token; the other tokens]
@@ -122,4 +122,3 @@ ptr_eq_spec 𝓤 𝓛 𝓜 𝓡 wired X L =
     -- [the thread's token; the first's token; the count; what stays; what is known; the second, hidden; its token; its word; the other tokens]
     returns_within ! Post refl (look_at ! 0 refl) $ free_all ! refl $ keep ! (1 ∷ 6 ∷ 8 ∷ 0 ∷ []) $ out false (λ never. absurd (true≢false (sym never))))
     (λ room. absurd (is_not full full room refl)))))
-
