@@ -1,12 +1,12 @@
 -- The mark of a block (`specs/Counting.antt`): its invariant's number tells a name, and the name tells the value. Assumes `Logic`.
 --     one_name      an invariant's number is kept for one name alone
 --     begins      the invariant of a first owner, and the block's mark
-use Rattle.std.proofs.Common.{◌≡◌, ℕ, ◌+◌, ◌-◌, ◌*◌, ◌^◌, ◌<◌, ◌≤◌, ◌⊎◌, inl, inr, Bool, true, false, List, [], ◌∷◌, arith, refl, sym, subst, ◌∙◌, lit<, zero, suc}
+use Rattle.std.proofs.Common.{◌≡◌, ℕ, ◌+◌, ◌-◌, ◌*◌, ◌^◌, ◌<◌, ◌≤◌, ◌⊎◌, inl, inr, Bool, true, [], ◌∷◌, arith, refl, sym, subst, ◌∙◌, lit<, zero, suc}
 use Rattle.std.proofs.Math.Nat.{mul-le-mul_left, mul-le-mul_right, mul-suc, suc-mul, le-mul_of_pos_right, eq-or-lt_of_le}
 use Rattle.std.proofs.lemmas.Bool.{cases_lt}
 use seplogic.Ra.Ura.{Ura}
 use base.Before.{before}
-use base.Fml.{Lft, Share, GName, Incl-refl, Fml, ftrue, fsep, fex, fbor, flft, finv, fnamed, fres}
+use base.Fml.{GName, Incl-refl, Fml, ftrue, fsep, fbor, finv, fnamed, fres}
 use base.Fraction.{full_share}
 use base.FractionLaws.{Counts, Counts-all}
 use base.Logic.{SProp, ent, sep, ex, all, guard, via}
@@ -70,10 +70,12 @@ module _ (R : RattleType) (c : Ptr) (x : R.Denot) {M : Type 1} {𝓤 : Ura M} (�
   abbrev box : ℕ × ℕ → Fml
   box = rc.box 64 (key R c x) (strong R c x) weak (there R c x) ftrue ftrue
 
+  -- the counts, at one owner, are the invariant
   packs : (a : ℕ × ℕ) → ent 𝓤 (sem 𝓛 (Counted a)) (sem 𝓛 (Inv a))
   packs a = qed 𝓛 (‵ (Counted a) ∷ []) ∵ fpack ! (Bool × ℕ × ℕ) (rc.counted 64 (key R c x) (strong R c x) weak (there R c x) ftrue ftrue a) (true, 1, 1) $
       fpack ! Bool (rc.state 64 (key R c x) (strong R c x) weak (there R c x) ftrue ftrue a) true $ done !
 
+  -- the whole share is all parts
   all_parts : Counts 64 full_share (2 ^ 64 - 0)
   all_parts = subst (Counts 64 full_share) (omega arith) (Counts-all 64)
 

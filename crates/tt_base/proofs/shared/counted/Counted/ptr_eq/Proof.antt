@@ -11,7 +11,7 @@ use mir.Syntax.{a_type}
 use mir.Val.{Val, vptr, vbool}
 use prog.Wp.{WpFn}
 use types.ByLocal.{alloc_all, pass_all, free_all, look_at, get, through, sets, sets_last, is, env}
-use types.Kit.{Sq, ‵, raw, ◌⊛◌, prop, at_ret, ◌$◌, ◌∵◌, !, qed, move, keep, drop, split, join, fsplit, fjoin, use1, use2, regoal, suffices, rewrite, frame, done}
+use types.Kit.{Sq, ‵, raw, ◌⊛◌, prop, at_ret, ◌$◌, ◌∵◌, !, qed, move, keep, split, join, fsplit, fjoin, use1, use2, regoal, suffices, rewrite, frame, done}
 use types.Part.{sub, whole, look_in}
 use types.Run.{look, store, stop, fld, hop, load, lit, neg_lit, false_lit, bin, of_opd, assigns, first, blocks, skips, branches, exec, returns, returns_within, enter}
 use denote.Builtin.{RefOf, bool}
