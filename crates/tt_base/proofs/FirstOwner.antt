@@ -25,8 +25,9 @@ use denote.Struct.Lending.{Lends, Lends-lies, Lends-first}
 use denote.Struct.Members.{Member, raw_tys, lawful_Lones}
 use denote.Struct.Parts.{shape_of, Struct-left, left_Struct}
 use denote.Struct.Struct.{Struct}
-use Rattle.tt_base.specs.Counting.{full, frees, Block, value_offset, key, counts, lies, rejoins, there, sees, strong_state, strong, weak, owner, counted_owns}
+use Rattle.tt_base.specs.Counting.{full, frees, Block, value_offset, key, counts, lies, rejoins, there, sees, strong_state, strong, weak, mark, marked_sees, owner, counted_owns}
 use Rattle.tt_base.proofs.CountedSteps.{Id, box, part}
+use Rattle.tt_base.proofs.Marks.{begins}
 
 module _ (X : RattleType) (L : Laws X) where
   abbrev R : RattleType
@@ -75,11 +76,11 @@ module _ (X : RattleType) (L : Laws X) where
     pub first_made : (μ : Lft) (q : Share) → Incl μ X.lives → ent 𝓤 (sep 𝓤 (sem 𝓛 (counts R c x 1)) (sep 𝓤 (sem 𝓛 (there R c x)) (A.lft μ q))) (H.⇛ (sep 𝓤 (sem 𝓛 (counted_owns R c x)) (A.lft μ q)))
     first_made μ q inc = qed 𝓛 (‵ (counts R c x 1) ∷ ‵ (there R c x) ∷ ‵ (flft μ q) ∷ []) ∵ updating ! $ flt_i ! 1 full (lit< tt) $ fjoin ! $ fpack ! Bool (strong_state R c x 1) true $
         nothing ! $ nothing ! $ fpack ! (1 ≡ 1) (λ _. ftrue) refl $ move ! (2 ∷ 0 ∷ 3 ∷ 1 ∷ []) $ group ! 4 $
-        use1 𝓛 (later (some (λ (a : Id). ‵ (part R c x a) ⊛ ‵ (box R c x a) ⊛ ‵ (fbor (a.0 ∷ []) (there R c x))))) (rc.rc_new 64 (key R c x) (strong R c x) weak (there R c x) ftrue ftrue 𝓛 (lit< tt)) $
-        await ! tt $ pick ! (λ a. split3 ! $ fpick ! (λ s. fpick ! (λ one.
-        -- [the part's token; the invariant; the borrow; the token]
-        move ! (0 ∷ 3 ∷ []) $ join ! $ move ! (2 ∷ 0 ∷ []) $
+        use1 𝓛 (later (some (λ (a : Id). ‵ (part R c x a) ⊛ ‵ (box R c x a) ⊛ ‵ (fbor (a.0 ∷ []) (there R c x)) ⊛ ‵ (mark R c x (a.0 ∷ []))))) (begins R c x 𝓛) $
+        await ! tt $ pick ! (λ a. split3 ! $ move ! (2 ∷ []) $ split ! $ move ! (2 ∷ []) $ fpick ! (λ s. fpick ! (λ one.
+        -- [the part's token; the borrow; the mark; the invariant; the token]
+        move ! (0 ∷ 4 ∷ []) $ join ! $ move ! (1 ∷ 0 ∷ []) $
         use2 𝓛 (later (‵ (sees R c x (a.0 ∷ [])) ⊛ ‵ (flft (a.0 ∷ []) s) ⊛ ‵ (flft μ q)))
-        (value_lends (a.0 ∷ []) ((a.0 ∷ [], s) ∷ (μ, q) ∷ []) (Incl-trans (meet_⊑_right (a.0 ∷ []) μ) inc) (meet_⊑_left (a.0 ∷ []) μ)) $ await ! tt $ split3 ! $
+        (value_lends (a.0 ∷ []) ((a.0 ∷ [], s) ∷ (μ, q) ∷ []) (Incl-trans (meet_⊑_right (a.0 ∷ []) μ) inc) (meet_⊑_left (a.0 ∷ []) μ)) $ await ! tt $ split3 ! $ move ! (3 ∷ 0 ∷ []) $ fjoin ! $
         move ! (1 ∷ []) $ use1 𝓛 (‵ (part R c x a)) (rc.part_in 64 𝓛 a.0 s one) $ move ! (0 ∷ 3 ∷ 1 ∷ []) $ fjoin3 ! $
-        fpack ! Id (handles.handle 64 (key R c x) (strong R c x) weak (there R c x) ftrue ftrue (sees R c x) (λ i. i.0)) a $ fpack ! Bool (owner R c x) true $ now ! $ done !)))
+        fpack ! Id (handles.handle 64 (key R c x) (strong R c x) weak (there R c x) ftrue ftrue (marked_sees R c x) (λ i. i.0)) a $ fpack ! Bool (owner R c x) true $ now ! $ done !)))

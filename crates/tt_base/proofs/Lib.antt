@@ -19,8 +19,10 @@ pub mod LeafReading
 pub mod Lengths
 pub mod Literals
 pub mod Lookups
+pub mod Marks
 pub mod Members
 pub mod Naming
+pub mod OneValue
 pub mod OwnersLent
 pub mod Pointwise
 pub mod Ranges

@@ -1,18 +1,21 @@
 -- What an owner of a counted value has. The pointer c leads to a block of the count and the value x.
 -- Below the full count each owner has a part of a lifetime for which the value is lent, and the last has the whole block.
 -- Once the count is full, it and the value are lent for good, and no part is needed any more.
-use Rattle.std.specs.Prelude.{◌≡◌, ℕ, ◌-◌, ◌^◌, Bool, true, false, [], ◌∷◌}
+-- An owner that is counted has a mark too: by it two owners of one block know that they show one value.
+use Rattle.std.specs.Prelude.{◌≡◌, ℕ, ◌+◌, ◌-◌, ◌*◌, ◌^◌, Bool, true, false, [], ◌∷◌}
 use base.Fraction.{full_share}
-use base.Fml.{Lft, Key, Fml, ftrue, fsep, fex, fwand, flt}
+use base.Fml.{Lft, Key, GName, Fml, ftrue, fsep, fex, fwand, flt, fnamed, fres}
 use mir.Syntax.{Ty}
 use mir.Raw.{raw}
 use prog.Memory.{align, up}
+use types.Na.{slot}
+use types.RcWeak.{Inv}
 use denote.Builtin.{usize}
 use denote.Memory.{lone}
 use denote.RattleType.{RattleType}
 use denote.RawPtr.{Ptr, block_of, count_of, lies_at, ◌+ₚ◌}
 use denote.RcWeak.{rc_cell_owns, rc_lends}
-use denote.Sharing.{beside, held, some}
+use denote.Sharing.{beside, ends, held, said, some}
 use denote.Struct.Lending.{lent_at}
 use denote.Struct.Tuple.{Tuple}
 use Rattle.std.specs.contracts.impls.GlobalAllocator.TheImpl.{ghosts}
@@ -28,6 +31,14 @@ frees = ghosts.dealloc_token (record { memory = record { seal = tt } })
 -- no owner is weak, so that no second count is stored
 abbrev pub weak : ℕ → Fml
 weak m = fex (m ≡ 1) (λ _. ftrue)
+
+-- one of the numbers of invariants that are kept for the name δ
+abbrev pub IsNumberOf : GName → ℕ → Type 0
+IsNumberOf δ j = (m : ℕ) × (j ≡ (δ + m) * (δ + m) + δ)
+
+-- the names of the invariant's two lifetimes, of the right to shut it, and of the value, and the invariant's number
+abbrev pub Names : Type 0
+Names = (ℕ × ℕ) × GName × GName × ℕ
 
 module _ (R : RattleType) where
   -- the count, and the value behind it
@@ -76,9 +87,25 @@ module _ (R : RattleType) (c : Ptr) (x : R.Denot) where
   abbrev pub strong : ℕ → Fml
   strong n = fex Bool (strong_state n)
 
+  -- what the invariant holds: the count with all that goes with it, or the thread's token in their place
+  abbrev pub inside : ℕ × ℕ → GName → Fml
+  inside a γ = fex Bool (slot key (Inv 64 key strong weak there ftrue ftrue a) γ)
+
+  -- the invariant's number tells a name, and the name tells the value
+  abbrev pub marked : Names → Fml
+  marked n = fex (IsNumberOf n.2 n.3) (λ _. fsep (fnamed n.3 (inside n.0 n.1)) (fres n.2 (R.coded.code x)))
+
+  -- that, for a lifetime that ends no later than the invariant's
+  abbrev pub mark : Lft → Fml
+  mark = some Names (λ n. beside (ends (n.0.0 ∷ [])) (said (marked n)))
+
+  -- what an owner that is counted sees
+  abbrev pub marked_sees : Lft → Fml
+  marked_sees = beside mark sees
+
   -- an owner that is counted has a part of the lifetime; one that has found the count full has what stays
   abbrev pub owner : Bool → Fml
-  owner true = rc_cell_owns 64 key strong weak there ftrue ftrue sees
+  owner true = rc_cell_owns 64 key strong weak there ftrue ftrue marked_sees
   owner false = stays []
 
   -- what an owner has beside its pointer
@@ -87,7 +114,7 @@ module _ (R : RattleType) (c : Ptr) (x : R.Denot) where
 
   -- a `&` to an owner of either kind
   abbrev pub lent_owner : Bool → Lft → Fml
-  lent_owner true = rc_lends 64 key strong weak there ftrue ftrue sees
+  lent_owner true = rc_lends 64 key strong weak there ftrue ftrue marked_sees
   lent_owner false = held [] stays
 
   -- what a `&` to an owner holds beside a `&` to its pointer

@@ -1,5 +1,5 @@
 //! A value on the heap with several owners.
-ghost use Rattle.std.specs.Prelude.{◌≡◌, IfOk, ⊤};
+ghost use Rattle.std.specs.Prelude.{◌≡◌, IfOk, IsTrue, ⊤};
 ghost use Rattle.tt_base.specs.Shared.{shared_value};
 
 use crate::shared::counted::Counted;
@@ -42,6 +42,13 @@ impl<T> Shared<T> {
             counted: self.counted.share(),
             alloc: self.alloc,
         }
+    }
+
+    /// Whether both are known to be owners of one value. Of a value that stays for good the answer is no.
+    pub(crate) fn ptr_eq(&self, other: &Shared<T>) -> bool
+        ensures { IsTrue result → shared_value self.now ≡ shared_value other.now }
+    {
+        self.counted.ptr_eq(&other.counted)
     }
 
     /// The value, which stays for good from then on.

@@ -64,7 +64,7 @@ impl PartialEq for Symbol {
     ghost laws = { Prim.search (comparing, rules) };
 
     fn eq(&self, other: &Symbol) -> bool {
-        self.as_str() == other.as_str()
+        self.text.ptr_eq(&other.text) || self.as_str() == other.as_str()
     }
 }
 

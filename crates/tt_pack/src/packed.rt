@@ -175,7 +175,9 @@ impl Hash for Packed {
     ghost respects_eq = { λ a b same. ap fed_tree ((same_root_iff a b).0 same) };
 
     fn hash<H: Hasher>(&self, state: &mut H) {
-        self.bytes.as_slice().hash(state);
+        let bytes = self.bytes.as_slice();
+        state.write_usize(bytes.len());
+        state.write(bytes);
         self.parts.as_slice().hash(state);
         self.symbols.as_slice().hash(state);
     }

@@ -1,7 +1,7 @@
 use crate::lists::{braces, header, ident, punct, stored, top};
 use crate::tables::span;
 use std::alloc::Global;
-use std::hash::{DefaultHasher, Hash, Hasher};
+use std::hash::{DefaultHasher, FoldHasher, Hash, Hasher};
 use std::process::Abort;
 use std::test::Fail;
 use tt_base::{
@@ -29,11 +29,22 @@ fn is_refused(rt: &impl Abort, alloc: Global, tokens: Vec<TokenTree>) -> Result<
     Ok(())
 }
 
-// The hash of a tree under a fixed hasher.
-fn hash_of(tree: &Packed) -> u64 {
-    let mut state = DefaultHasher::new();
+// What the hashers start from.
+const SEEDS: [u64; 3] = [0, 1, 0x9e37_79b9_7f4a_7c15];
+
+// The hash of a tree from that seed.
+fn hash_from<H: Hasher + Drop>(seed: u64, state: H, tree: &Packed) -> u64 {
+    let mut state = state;
+    state.write_u64(seed);
     tree.hash(&mut state);
     state.finish()
+}
+
+// The hashes of a tree from that seed, under std's hasher and under the fast one.
+fn hashes_of(tree: &Packed, seed: u64) -> (u64, u64) {
+    let sip = hash_from(seed, DefaultHasher::new(), tree);
+    let fold = hash_from(seed, FoldHasher::default(), tree);
+    (sip, fold)
 }
 
 // A top of parts 20 and 21 over a punct of each of these parts has this table.
@@ -190,23 +201,29 @@ fn equal_trees(rt: HostRuntime) -> Result<(), Fail> {
     let tree = stored(alloc, tokens.as_slice())?;
     let again = Packed::pack(alloc, tokens)?;
     assert!(rt; tree == again);
-    assert_eq!(rt; hash_of(&tree), hash_of(&again));
     let copy = tree.clone(alloc)?;
     assert!(rt; copy == tree);
     assert_eq!(rt; copy.bytes(), tree.bytes());
     assert_eq!(rt; copy.parts(), tree.parts());
     assert_eq!(rt; copy.symbols(), tree.symbols());
     assert_eq!(rt; copy.len(), tree.len());
-    assert_eq!(rt; hash_of(&copy), hash_of(&tree));
     Ok(())
 }
 
+// The blocks of the second tree's symbols are others than those of the first one's.
 #[test]
-fn trees_of_two_contexts(rt: HostRuntime) -> Result<(), Fail> {
+fn hashes_from_seeds(rt: HostRuntime) -> Result<(), Fail> {
     let alloc = rt.alloc();
     let tree = Packed::pack(alloc, braces(alloc)?)?;
+    let again = Packed::pack(alloc, braces(alloc)?)?;
     let other = Packed::pack(alloc, braces_of_another_context(alloc)?)?;
-    assert!(rt; tree != other);
-    assert!(rt; hash_of(&tree) != hash_of(&other));
+    assert!(rt; tree == again && tree != other);
+    for seed in SEEDS {
+        let (sip, fold) = hashes_of(&tree, seed);
+        let (sip_again, fold_again) = hashes_of(&again, seed);
+        assert!(rt; sip == sip_again && fold == fold_again);
+        let (other_sip, other_fold) = hashes_of(&other, seed);
+        assert!(rt; sip != other_sip && fold != other_fold);
+    }
     Ok(())
 }

@@ -1,4 +1,4 @@
-ghost use Rattle.std.specs.Prelude.{◌≡◌, IfOk, IfSome};
+ghost use Rattle.std.specs.Prelude.{◌≡◌, IfOk, IfSome, IsTrue};
 ghost use Rattle.tt_base.specs.Counting.{counted_owns, counted_shares};
 
 use crate::shared::block::Block;
@@ -55,6 +55,24 @@ impl<T> Counted<T> {
             }
         }
         Counted { block }
+    }
+
+    // Whether both are owners of one value. Pointers to two blocks may not be compared. So this writes 0 to the one
+    // count, which no count of owners is, and looks at the other. A full count stays as it is, and the answer is then no.
+    pub(crate) fn ptr_eq(&self, other: &Counted<T>) -> bool
+        ensures { IsTrue result → self.now.value ≡ other.now.value }
+    {
+        let block = self.block;
+        unsafe {
+            let count = (*block).0;
+            if count == usize::MAX {
+                return false;
+            }
+            (*block).0 = 0;
+            let is_zero = (*other.block).0 == 0;
+            (*block).0 = count;
+            is_zero
+        }
     }
 
     // Fills the count, so that the value stays for good.

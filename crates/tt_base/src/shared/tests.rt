@@ -10,9 +10,13 @@ fn the_last_owner_drops_the_value(rt: HostRuntime) -> Result<(), Fail> {
     let first = Shared::new(rt.alloc(), witness.clone()?)?;
     let second = first.share();
     let third = second.clone()?;
+    assert!(rt; first.ptr_eq(&first) && first.ptr_eq(&third) && third.ptr_eq(&second));
     drop(second);
     drop(first);
     assert_eq!(rt; Rc::strong_count(&witness), 2);
+    let other = Shared::new(rt.alloc(), witness.clone()?)?;
+    assert!(rt; !third.ptr_eq(&other) && !other.ptr_eq(&third));
+    drop(other);
     assert_eq!(rt; **third.get(), 1);
     drop(third);
     assert_eq!(rt; Rc::strong_count(&witness), 1);
@@ -52,6 +56,8 @@ fn a_full_count_stays_full(rt: HostRuntime) -> Result<(), Fail> {
     drop(second);
     let again = third.keep();
     let fourth = third.clone()?;
+    let other = Shared::new(rt.alloc(), 5u8)?;
+    assert!(rt; !third.ptr_eq(&fourth) && !third.ptr_eq(&other) && !other.ptr_eq(&third));
     drop(third);
     assert_eq!(rt; *fourth.get(), 5);
     drop(fourth);

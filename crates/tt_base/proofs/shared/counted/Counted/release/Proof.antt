@@ -74,7 +74,7 @@ release_spec 𝓤 𝓛 𝓜 𝓡 wired X L =
     use0 𝓛 (‵ ((Opt.the_row Out).own_val None (live 0 vnil ∷ []))) (none_of 𝓛 Out) $ returns_within ! Post refl (look_at ! 0 refl) $ free_all ! refl $ keep ! (0 ∷ 3 ∷ 1 ∷ []) $
     suffices ! _ (ends_at 𝓛 En hs c z (live 0 vnil) None (tt, (tt, tt)) (tt, (tt, tt))) $ nothing ! $ nothing ! $ fjoin ! $ nothing ! $ fjoin ! $ join ! $ move ! (1 ∷ 0 ∷ []) $ join ! $ frame ! $ says ! tt $ done !)
     (λ alone. let last = is_so n 1 alone in let w : Val = two (vptr cb co) h in let good = two_good B Z heap.the_row_laws ghosts cb co h fits in let made : Out.Denot = record { at = block_ptr cb co; alloc = by; value = (1, x) } in
-    rewrite ! 0 (λ (m : ℕ). ‵ (cell full_share cb co m)) last refl $ rewrite ! 1 (λ (m : ℕ). Parts R p x 𝓛 a m) last refl $
+    rewrite ! 0 (λ (m : ℕ). ‵ (cell full_share cb co m)) last refl $ rewrite ! 1 (λ (m : ℕ). Parts R p x 𝓛 every a m) last refl $
     skips ! $ exec ! C Λ Ev (after 2 fn.body) (at_ret Ev Post) $ sets ! (agg ! (and_then ! (get ! refl) (and_then ! (get ! refl) (no_more !)))) refl good $
     sets ! (agg ! (and_then ! (lit ! tt) (and_then ! (get ! refl) (no_more !)))) refl (some_Good (lone Out.mir) w good) $
     ends R p x ! tt a cb co e $ move ! (0 ∷ 2 ∷ []) $ block_in B Z heap.the_row_laws ghosts ! cb co h by (1, x) $

@@ -48,7 +48,7 @@ share_spec 𝓤 𝓛 𝓜 𝓡 wired X L =
     use1 𝓛 (‵ (hidden_shr (Data R) κ (p, tt) b o) ⊛ ‵ (fhide (counted_shares R p x κ))) (lending.lent_out 𝓛 (counted.struct R) (counted.the_codes X.Denot R.coded) (counted.the_heap R) (counted.the_lent R) κ d b o) $ split ! $
     regoal ! (λ (us : List Val). prop (WpFn 𝓤 H C Λ fn us Post)) (λ i. are.0.0 i ++ []) refl $
     enter ! C Λ fn (vptr b o ∷ []) Post $ alloc_all ! (λ l. pass_all ! refl ((tt, tt), tt) $ let Ev = env fn.locals l in let made : Row.Denot = record { block = p; value = x } in
-    lent_out R laws p x ! tt κ q b o
+    lent_out R laws p x ! tt every refl κ q b o
     (λ r a s n cb co e some_n f. let fits : n < 2 ^ 64 = omega (arith, f) in let room : n + 1 < 2 ^ 64 = omega (arith, f) in
     -- [the count; the parts; the invariant; what is seen; the word; what shuts it; the part; the other tokens]
     sets ! (is ! (of_opd ! (load ! (through ! refl (fld ! refl (stop !))) (look_in ! 4 (sub ! 0 refl (whole !))))) (ap ptr_val e)) refl (tt, tt) $ first ! $ blocks ! $
