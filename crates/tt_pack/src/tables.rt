@@ -76,19 +76,27 @@ impl Tables {
         requires uses { HasUses self.now (token.Leaf leaf.now) uses }
         ensures { IsNamedLeaf (tables_of self.now) leaf.now result }
     {
-        let place = Place::of_span(place_at(&self.parts.places, uses.part), leaf.span());
-        let named = match leaf {
-            Leaf::Literal(literal) => Named::Literal(
-                place_at(&self.symbols.places, uses.other),
-                literal.kind(),
-                literal.suffix_len(),
-            ),
-            Leaf::Punct(punct) => Named::Punct(punct.char, punct.spacing),
-            Leaf::Ident(ident) => {
-                Named::Ident(place_at(&self.symbols.places, uses.other), ident.is_raw)
+        let part = place_at(&self.parts.places, uses.part);
+        match leaf {
+            Leaf::Literal(literal) => {
+                let symbol = place_at(&self.symbols.places, uses.other);
+                LeafEntry {
+                    named: Named::Literal(symbol, literal.kind(), literal.suffix_len()),
+                    place: Place::of_span(part, literal.span()),
+                }
             }
-        };
-        LeafEntry { named, place }
+            Leaf::Punct(punct) => LeafEntry {
+                named: Named::Punct(punct.char, punct.spacing),
+                place: Place::of_span(part, &punct.span),
+            },
+            Leaf::Ident(ident) => {
+                let symbol = place_at(&self.symbols.places, uses.other);
+                LeafEntry {
+                    named: Named::Ident(symbol, ident.is_raw),
+                    place: Place::of_span(part, &ident.span),
+                }
+            }
+        }
     }
 
     // A header in numbers, where what it holds takes so many bytes.

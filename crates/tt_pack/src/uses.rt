@@ -43,13 +43,18 @@ fn count_token(
     ensures uses { IfOk result (AreUses (StandsAt (keys parts.new)) (StandsAt (keys symbols.new)) token.now) }
 {
     match token {
-        TokenTree::Leaf(leaf) => {
-            let part = count_near(parts, before, &SpanPart::from_span(leaf.span()))?;
-            let other = match leaf {
-                Leaf::Literal(literal) => count_use(symbols, literal.symbol())?,
-                Leaf::Ident(ident) => count_use(symbols, &ident.sym)?,
-                Leaf::Punct(_) => part,
-            };
+        TokenTree::Leaf(Leaf::Literal(literal)) => {
+            let part = count_near(parts, before, &SpanPart::from_span(literal.span()))?;
+            let other = count_use(symbols, literal.symbol())?;
+            Ok(TokenUses { part, other })
+        }
+        TokenTree::Leaf(Leaf::Punct(punct)) => {
+            let part = count_near(parts, before, &SpanPart::from_span(&punct.span))?;
+            Ok(TokenUses { part, other: part })
+        }
+        TokenTree::Leaf(Leaf::Ident(ident)) => {
+            let part = count_near(parts, before, &SpanPart::from_span(&ident.span))?;
+            let other = count_use(symbols, &ident.sym)?;
             Ok(TokenUses { part, other })
         }
         TokenTree::Subtree(subtree) => {
