@@ -2,7 +2,6 @@ pub mod Copies
 pub mod Counting
 pub mod Decoded
 pub mod Different
-pub mod Falling
 pub mod Found
 pub mod Joined
 pub mod Kept
