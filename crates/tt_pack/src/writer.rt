@@ -16,7 +16,7 @@ use std::alloc::Global;
 use tt_base::{TokenTree, TtFault};
 
 // Room for so many bytes a token is asked for at first. Most tokens take fewer.
-const ROOM_FOR_A_TOKEN: usize = 8;
+const ROOM_FOR_A_TOKEN: usize = 16;
 // The most bytes below the top.
 const MOST_BYTES: usize = 4294967295;
 
