@@ -1,4 +1,4 @@
-ghost use Rattle.std.specs.Prelude.{◌≡◌};
+ghost use Rattle.std.specs.Prelude.{◌≡◌, ◌<◌, ◌^◌};
 
 use crate::span::Span;
 
@@ -86,14 +86,16 @@ pub struct Subtree {
 impl Subtree {
     /// `len`, as a `usize`.
     pub fn usize_len(&self) -> usize
-        ensures { result ≡ self.now.len }
+        ensures value { result ≡ self.now.len }
+        ensures bound { result < 2 ^ 32 }
     {
         self.len as usize
     }
 
     /// `len`: all flat tokens below the header, itself not counted.
     pub fn count(&self) -> usize
-        ensures { result ≡ self.now.len }
+        ensures value { result ≡ self.now.len }
+        ensures bound { result < 2 ^ 32 }
     {
         self.usize_len()
     }

@@ -89,3 +89,12 @@ pub struct Refused<T> {
     pub fault: TtFault,
     pub value: T,
 }
+
+// A caller that has no use for the value keeps the reason, so it can write `?`.
+impl<T: Drop> From<Refused<T>> for TtFault {
+    ghost from_gives = { λ refused fault. fault ≡ refused.fault };
+
+    fn from(refused: Refused<T>) -> TtFault {
+        refused.fault
+    }
+}

@@ -6,9 +6,10 @@ ghost use Rattle.tt_base.specs.Levels.{AreLevels};
 use crate::token_tree::TokenTree;
 use std::alloc::{AllocError, Global};
 
-/// How many tokens are still to come of each subtree that is open in a flat list.
+/// How many tokens are still to come of each subtree that is open in a flat list, to see in one pass whether the list is
+/// that of some trees. It asks for memory only where a subtree goes on behind one that is open in it.
 #[derive(Drop)]
-pub(crate) struct Levels {
+pub struct Levels {
     // of the innermost one
     left: usize,
     // of those round it, each behind the one that is open in it; one with nothing to come is not kept
@@ -20,7 +21,7 @@ impl Levels {
     ghost use Rattle.tt_base.specs.OpenLevels.{open_levels, GoesBack, Opens, TakesToken};
 
     /// One level of so many tokens.
-    pub(crate) fn new(alloc: Global, len: usize) -> Levels
+    pub fn new(alloc: Global, len: usize) -> Levels
         ensures { open_levels result ≡ len ∷ [] }
     {
         Levels {
@@ -60,7 +61,7 @@ impl Levels {
     }
 
     /// Takes the next token, and answers whether it fits.
-    pub(crate) fn take(&mut self, token: &TokenTree) -> Result<bool, AllocError>
+    pub fn take(&mut self, token: &TokenTree) -> Result<bool, AllocError>
         ensures { IfOk result (TakesToken (open_levels self.old) token.now (open_levels self.new)) }
     {
         if !self.go_back() {
@@ -79,7 +80,7 @@ impl Levels {
     }
 
     /// Whether no token is to come.
-    pub(crate) fn is_done(&self) -> bool
+    pub fn is_done(&self) -> bool
         ensures { IsTrue result ↔ AreLevels [] (open_levels self.now) }
     {
         if self.left > 0 {

@@ -5,6 +5,7 @@ ghost use Rattle.std.specs.Hash as fed;
 
 use crate::fault::TtFault;
 use crate::shared::Shared;
+use crate::text::Text;
 use std::alloc::{AllocError, Global};
 use std::fmt;
 use std::hash::{Hash, Hasher};
@@ -17,17 +18,17 @@ mod tests;
 /// it takes no memory and cannot fail. A contract sees the text's bytes.
 #[derive(Drop)]
 pub struct Symbol {
-    text: Shared<String>,
+    text: Shared<Text>,
 }
 
 impl Model for Symbol {
     ghost use Rattle.std.specs.Prelude.{ℕ, List};
-    ghost use Rattle.std.specs.String.{string_bytes};
     ghost use Rattle.tt_base.specs.Shared.{shared_value};
+    ghost use Rattle.tt_base.specs.Text.{text_bytes};
 
     ghost Value = { List ℕ };
 
-    ghost view = { λ symbol. string_bytes (shared_value symbol.text) };
+    ghost view = { λ symbol. text_bytes (shared_value symbol.text) };
 }
 
 impl Symbol {
@@ -35,7 +36,7 @@ impl Symbol {
         ensures ok { IfOk result (λ symbol. symbol ≡ text.now) }
         ensures err { IfErr result (λ fault. fault ≡ TtFault.Memory) }
     {
-        let text = String::from_str(alloc, text)?;
+        let text = Text::new(alloc, text)?;
         let text = Shared::new(alloc, text)?;
         Ok(Symbol { text })
     }
@@ -44,6 +45,14 @@ impl Symbol {
         ensures { result.now ≡ self.now }
     {
         self.text.get().as_str()
+    }
+
+    // Whether the texts are equal, wherever they are.
+    #[inline(never)]
+    fn has_text_of(&self, other: &Symbol) -> bool
+        ensures { result ≡ bytes_eq self.now other.now }
+    {
+        self.as_str() == other.as_str()
     }
 }
 
@@ -63,8 +72,10 @@ impl PartialEq for Symbol {
 
     ghost laws = { Prim.search (comparing, rules) };
 
+    // Mostly equal symbols share their text, so that is tried in place, and the rest is a call.
+    #[inline(always)]
     fn eq(&self, other: &Symbol) -> bool {
-        self.text.ptr_eq(&other.text) || self.as_str() == other.as_str()
+        self.text.ptr_eq(&other.text) || self.has_text_of(other)
     }
 }
 

@@ -3,7 +3,7 @@ use Rattle.std.proofs.Common.{◌≡◌, ℕ, List, [], ◌∷◌, refl, ap₂, 
 use Rattle.std.specs.List.{AllZip}
 use Rattle.tt_base.specs.declared.span.SpanPart.{SpanPart}
 use Rattle.tt_base.specs.Forest.{Root}
-use Rattle.tt_base.specs.Meaning.{IsStored}
+use Rattle.tt_tables.specs.Meaning.{IsStored}
 use Rattle.tt_pack.specs.Packed.{stored_of}
 
 -- Where each clone is the value itself, a list of clones is the list.

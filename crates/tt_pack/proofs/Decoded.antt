@@ -6,27 +6,24 @@ use Rattle.tt_base.specs.declared.delimiter.Subtree.{Subtree}
 use Rattle.tt_base.specs.declared.leaf.Leaf.{Leaf}
 use Rattle.tt_base.specs.declared.span.Span.{Span}
 use Rattle.tt_base.specs.declared.token_tree.TokenTree.TheVariants as token
-use Rattle.tt_base.specs.Decoding.{StandsAt, LeafMeans}
-use Rattle.tt_base.specs.Entry.{of_leaf, of_header}
-use Rattle.tt_base.specs.EntryReading.{entry_at}
+use Rattle.tt_tables.specs.Decoding.{StandsAt, LeafMeans}
+use Rattle.tt_codec.specs.declared.entry.Entry.TheVariants.{Leaf as of_leaf, Header as of_header}
+use Rattle.tt_codec.specs.Entry.{entry_at}
 use Rattle.tt_base.specs.Fits.{LeafInRange, TokenInRange}
 use Rattle.tt_base.specs.Forest.{Forest, leaf, node, size}
-use Rattle.tt_base.specs.Meaning.{IsAhead, own_bytes, held_bytes}
-use Rattle.tt_base.specs.Moves.{first_token}
-use Rattle.tt_base.specs.NextToken.{LeafAhead, NodeAhead}
-use Rattle.tt_base.specs.Tables.{Tables}
-use Rattle.tt_base.proofs.Ahead.{leaf_is_ahead, node_is_ahead}
-use Rattle.tt_pack.specs.declared.entry.Entry.{Entry as StoredEntry}
-use Rattle.tt_pack.specs.declared.entry.Entry.TheVariants as stored
-use Rattle.tt_pack.specs.declared.entry.HeaderEntry.{HeaderEntry as StoredHeader}
-use Rattle.tt_pack.specs.declared.entry.LeafEntry.{LeafEntry as StoredLeaf}
-use Rattle.tt_pack.specs.declared.entry.Named.{Named}
-use Rattle.tt_pack.specs.declared.entry.Named.TheVariants as named
-use Rattle.tt_pack.specs.declared.place.Place.{Place as StoredPlace}
-use Rattle.tt_pack.specs.Entry.{named_at, leaf_entry_of, header_entry_of, entry_of}
-use Rattle.tt_pack.specs.Found.{FindsSpan, FindsLeaf, FindsSubtree, GivesLeaf, GivesSubtree}
-use Rattle.tt_pack.specs.Names.{first_entries}
-use Rattle.tt_pack.specs.Place.{place_of}
+use Rattle.tt_tables.specs.Meaning.{IsAhead, own_bytes, held_bytes}
+use Rattle.tt_tables.specs.Moves.{first_token}
+use Rattle.tt_tables.specs.NextToken.{LeafAhead, NodeAhead}
+use Rattle.tt_tables.specs.Tables.{Tables}
+use Rattle.tt_tables.proofs.Ahead.{leaf_is_ahead, node_is_ahead}
+use Rattle.tt_codec.specs.declared.entry.Entry.{Entry}
+use Rattle.tt_codec.specs.declared.entry.Entry.TheVariants as stored
+use Rattle.tt_codec.specs.declared.entry.HeaderEntry.{HeaderEntry}
+use Rattle.tt_codec.specs.declared.entry.LeafEntry.{LeafEntry}
+use Rattle.tt_codec.specs.declared.entry.LeafEntry.TheVariants.{Punct as punct, Ident as ident, Literal as literal}
+use Rattle.tt_codec.specs.declared.span.SpanNumbers.{SpanNumbers}
+use Rattle.tt_tables.specs.Found.{FindsSpan, FindsLeaf, FindsSubtree, GivesLeaf, GivesSubtree}
+use Rattle.tt_tables.specs.Names.{first_entries}
 use Rattle.tt_pack.proofs.Moves.{HasFewEntries, leaf_in_range_ahead, node_in_range_ahead}
 
 -- what stands at an index is found there
@@ -39,7 +36,7 @@ get_found (y ∷ xs) zero x h e = ap Some (e y)
 get_found (y ∷ xs) (suc i) x h e = get_found xs i x (omega arith) e
 
 -- A span that stands at a place is found there.
-pub span_is_found : (tables : Tables) (place : StoredPlace) (span : Span) → StandsAt tables (place_of place) span → FindsSpan tables place span
+pub span_is_found : (tables : Tables) (place : SpanNumbers) (span : Span) → StandsAt tables place span → FindsSpan tables place span
 span_is_found tables place span stands =
     record {
       part = get_found tables.parts place.part _ stands.listed stands.there;
@@ -48,26 +45,18 @@ span_is_found tables place span stands =
     }
 
 -- Numbers that mean a leaf find it.
-pub leaf_is_found : (tables : Tables) (what : Named) (place : StoredPlace) (it : Leaf) → LeafMeans tables (named_at what (place_of place)) it
-    → FindsLeaf tables (record { named = what; place = place }) it
-leaf_is_found tables (named.Punct char spacing) place it (found, is, e, f, stands) =
-    subst (FindsLeaf tables (record { named = named.Punct char spacing; place = place })) (sym is)
-    (record { span = span_is_found tables place found.span stands; named = (sym e, sym f) })
-leaf_is_found tables (named.Ident symbol raw) place it (found, is, spells, e, stands) =
-    subst (FindsLeaf tables (record { named = named.Ident symbol raw; place = place })) (sym is)
-    (record {
-      span = span_is_found tables place found.span stands;
-      named = (get_found tables.symbols symbol _ spells.listed spells.there, sym e);
-    })
-leaf_is_found tables (named.Literal symbol kind suffix_len) place it (found, is, spells, e, f, stands) =
-    subst (FindsLeaf tables (record { named = named.Literal symbol kind suffix_len; place = place })) (sym is)
-    (record {
-      span = span_is_found tables place found.span stands;
-      named = (get_found tables.symbols symbol _ spells.listed spells.there, sym e, sym f);
-    })
+pub leaf_is_found : (tables : Tables) (entry : LeafEntry) (it : Leaf) → LeafMeans tables entry it → FindsLeaf tables entry it
+leaf_is_found tables (punct char spacing place) it (found, is, e, f, stands) =
+    subst (FindsLeaf tables (punct char spacing place)) (sym is) (span_is_found tables place found.span stands, sym e, sym f)
+leaf_is_found tables (ident symbol raw place) it (found, is, spells, e, stands) =
+    subst (FindsLeaf tables (ident symbol raw place)) (sym is)
+    (span_is_found tables place found.span stands, get_found tables.symbols symbol _ spells.listed spells.there, sym e)
+leaf_is_found tables (literal symbol kind suffix_len place) it (found, is, spells, e, f, stands) =
+    subst (FindsLeaf tables (literal symbol kind suffix_len place)) (sym is)
+    (span_is_found tables place found.span stands, get_found tables.symbols symbol _ spells.listed spells.there, sym e, sym f)
 
 -- a leaf was decoded, behind which stand the bytes `behind`
-pub record LeafDecoded (tables : Tables) (all : List ℕ) (place : ℕ) (trees : Forest) (entry : StoredLeaf) (behind : List ℕ) : Type 0 where
+pub record LeafDecoded (tables : Tables) (all : List ℕ) (place : ℕ) (trees : Forest) (entry : LeafEntry) (behind : List ℕ) : Type 0 where
   pub it : Leaf
   pub first : first_token trees ≡ Some (token.Leaf it)
   pub finds : FindsLeaf (first_entries tables.parts tables.symbols) entry it
@@ -77,7 +66,7 @@ pub record LeafDecoded (tables : Tables) (all : List ℕ) (place : ℕ) (trees :
   pub held : held_bytes tables trees ≡ 0
 
 -- a header was decoded, behind which stand the bytes `behind`
-pub record HeaderDecoded (tables : Tables) (all : List ℕ) (place : ℕ) (trees : Forest) (entry : StoredHeader) (behind : List ℕ) : Type 0 where
+pub record HeaderDecoded (tables : Tables) (all : List ℕ) (place : ℕ) (trees : Forest) (entry : HeaderEntry) (behind : List ℕ) : Type 0 where
   pub it : Subtree
   pub first : first_token trees ≡ Some (token.Subtree it)
   pub finds : FindsSubtree (first_entries tables.parts tables.symbols) entry it
@@ -92,18 +81,18 @@ few_is_all tables few =
 
 module _ (tables : Tables) (all : List ℕ) (place : ℕ) (trees : Forest) (ahead : IsAhead tables all place trees) where
   -- What was decoded as a leaf.
-  pub leaf_decoded : (entry : StoredLeaf) (behind : List ℕ) → entry_at (drop place all) ≡ Some (of_leaf (leaf_entry_of entry), behind)
+  pub leaf_decoded : (entry : LeafEntry) (behind : List ℕ) → entry_at (drop place all) ≡ Some (of_leaf entry, behind)
       → LeafDecoded tables all place trees entry behind
-  leaf_decoded entry behind e = made (leaf_is_ahead tables all place trees (leaf_entry_of entry) behind ahead e)
+  leaf_decoded entry behind e = made (leaf_is_ahead tables all place trees entry behind ahead e)
     where
-      made : LeafAhead tables all place trees (leaf_entry_of entry) behind → LeafDecoded tables all place trees entry behind
+      made : LeafAhead tables all place trees entry behind → LeafDecoded tables all place trees entry behind
       made l =
           let here : IsAhead tables all place (leaf l.it l.behind) = subst (IsAhead tables all place) l.is ahead in
           let known = leaf_in_range_ahead tables all place l.it l.behind here in
           record {
             it = l.it;
             first = ap first_token l.is;
-            finds = subst (λ t. FindsLeaf t entry l.it) (few_is_all tables known.1) (leaf_is_found tables entry.named entry.place l.it l.means);
+            finds = subst (λ t. FindsLeaf t entry l.it) (few_is_all tables known.1) (leaf_is_found tables entry l.it l.means);
             range = known.0;
             shorter = omega (arith, l.own, length-drop place all);
             own = omega (arith, l.own, length-drop place all);
@@ -111,11 +100,11 @@ module _ (tables : Tables) (all : List ℕ) (place : ℕ) (trees : Forest) (ahea
           }
 
   -- What was decoded as a header.
-  pub header_decoded : (entry : StoredHeader) (behind : List ℕ) → entry_at (drop place all) ≡ Some (of_header (header_entry_of entry), behind)
+  pub header_decoded : (entry : HeaderEntry) (behind : List ℕ) → entry_at (drop place all) ≡ Some (of_header entry, behind)
       → HeaderDecoded tables all place trees entry behind
-  header_decoded entry behind e = made (node_is_ahead tables all place trees (header_entry_of entry) behind ahead e)
+  header_decoded entry behind e = made (node_is_ahead tables all place trees entry behind ahead e)
     where
-      made : NodeAhead tables all place trees (header_entry_of entry) behind → HeaderDecoded tables all place trees entry behind
+      made : NodeAhead tables all place trees entry behind → HeaderDecoded tables all place trees entry behind
       made n =
           let here : IsAhead tables all place (node n.delimiter n.children n.behind) = subst (IsAhead tables all place) n.is ahead in
           let known = node_in_range_ahead tables all place n.delimiter n.children n.behind here in
@@ -137,7 +126,7 @@ module _ (tables : Tables) (all : List ℕ) (place : ℕ) (trees : Forest) (ahea
           }
 
   -- What was decoded leaves no more bytes than there were.
-  pub fewer_left : (entry : StoredEntry) (behind : List ℕ) → entry_at (drop place all) ≡ Some (entry_of entry, behind) → length behind ≤ length (drop place all)
+  pub fewer_left : (entry : Entry) (behind : List ℕ) → entry_at (drop place all) ≡ Some (entry, behind) → length behind ≤ length (drop place all)
   fewer_left (stored.Leaf entry) behind e = (leaf_decoded entry behind e).shorter
   fewer_left (stored.Header entry) behind e = (header_decoded entry behind e).shorter
 
@@ -150,11 +139,11 @@ module _ (tables : Tables) (all : List ℕ) (place : ℕ) (trees : Forest) (ahea
     pub held : 0 ≡ held_bytes tables trees
 
   -- The tables have an answer for what was read as a leaf.
-  pub leaf_read : (rest behind : List ℕ) (read : StoredEntry) (entry : StoredLeaf) (names : Tables) (answer : Option Leaf) → rest ≡ drop place all
-      → entry_at rest ≡ Some (entry_of read, behind) → read ≡ stored.Leaf entry → names ≡ first_entries tables.parts tables.symbols
+  pub leaf_read : (rest behind : List ℕ) (read : Entry) (entry : LeafEntry) (names : Tables) (answer : Option Leaf) → rest ≡ drop place all
+      → entry_at rest ≡ Some (read, behind) → read ≡ stored.Leaf entry → names ≡ first_entries tables.parts tables.symbols
       → GivesLeaf names entry answer → LeafRead rest behind answer
   leaf_read rest behind read entry names answer here e is same gives =
-      let found = leaf_decoded entry behind (ap entry_at (sym here) ∙ e ∙ ap (λ r. Some (entry_of r, behind)) is) in
+      let found = leaf_decoded entry behind (ap entry_at (sym here) ∙ e ∙ ap (λ r. Some (r, behind)) is) in
       record {
         it = found.it;
         is = gives found.it (subst (λ t. FindsLeaf t entry found.it) (sym same) found.finds) found.range;
@@ -164,7 +153,7 @@ module _ (tables : Tables) (all : List ℕ) (place : ℕ) (trees : Forest) (ahea
       }
 
   -- the same of a header
-  pub record HeaderRead (rest behind : List ℕ) (entry : StoredHeader) (answer : Option Subtree) : Type 0 where
+  pub record HeaderRead (rest behind : List ℕ) (entry : HeaderEntry) (answer : Option Subtree) : Type 0 where
     pub it : Subtree
     pub is : answer ≡ Some it
     pub first : first_token trees ≡ Some (token.Subtree it)
@@ -172,11 +161,11 @@ module _ (tables : Tables) (all : List ℕ) (place : ℕ) (trees : Forest) (ahea
     pub held : entry.bytes ≡ held_bytes tables trees
 
   -- The tables have an answer for what was read as a header.
-  pub header_read : (rest behind : List ℕ) (read : StoredEntry) (entry : StoredHeader) (names : Tables) (answer : Option Subtree) → rest ≡ drop place all
-      → entry_at rest ≡ Some (entry_of read, behind) → read ≡ stored.Header entry → names ≡ first_entries tables.parts tables.symbols
+  pub header_read : (rest behind : List ℕ) (read : Entry) (entry : HeaderEntry) (names : Tables) (answer : Option Subtree) → rest ≡ drop place all
+      → entry_at rest ≡ Some (read, behind) → read ≡ stored.Header entry → names ≡ first_entries tables.parts tables.symbols
       → GivesSubtree names entry answer → HeaderRead rest behind entry answer
   header_read rest behind read entry names answer here e is same gives =
-      let found = header_decoded entry behind (ap entry_at (sym here) ∙ e ∙ ap (λ r. Some (entry_of r, behind)) is) in
+      let found = header_decoded entry behind (ap entry_at (sym here) ∙ e ∙ ap (λ r. Some (r, behind)) is) in
       record {
         it = found.it;
         is = gives found.it (subst (λ t. FindsSubtree t entry found.it) (sym same) found.finds) found.range;

@@ -7,7 +7,7 @@ use Rattle.tt_base.specs.declared.leaf.Leaf.TheVariants as leaf
 use Rattle.tt_base.specs.declared.span.SpanPart.{SpanPart}
 use Rattle.tt_base.specs.declared.token_tree.TokenTree.{TokenTree}
 use Rattle.tt_base.specs.declared.token_tree.TokenTree.TheVariants as token
-use Rattle.tt_base.specs.Uses.{same_part, token_parts, token_symbols}
+use Rattle.tt_tables.specs.Uses.{same_part, token_parts, token_symbols}
 use Rattle.tt_pack.specs.declared.uses.TokenUses.{TokenUses}
 use Rattle.tt_pack.specs.Counted.{count_use}
 use Rattle.tt_pack.specs.Indexed.{StandsAt, AreUses}

@@ -2,13 +2,10 @@ pub mod Copies
 pub mod Counting
 pub mod Decoded
 pub mod Different
-pub mod Found
 pub mod Joined
 pub mod Kept
 pub mod Moves
 pub mod Paired
-pub mod Positions
-pub mod ReadAgain
 pub mod RowOrder
 pub mod SameStored
 pub mod Sorted

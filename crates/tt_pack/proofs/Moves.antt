@@ -3,17 +3,18 @@ use Rattle.std.proofs.Common.{◌≡◌, ℕ, zero, suc, ◌+◌, ◌≤◌, ◌
 use Rattle.tt_base.specs.declared.delimiter.Delimiter.{Delimiter}
 use Rattle.tt_base.specs.declared.leaf.Leaf.{Leaf}
 use Rattle.tt_base.specs.declared.span.SpanPart.{SpanPart}
-use Rattle.tt_base.specs.Entry.{Entry, of_leaf, of_header}
-use Rattle.tt_base.specs.EntryReading.{entry_at}
+use Rattle.tt_codec.specs.declared.entry.Entry.{Entry}
+use Rattle.tt_codec.specs.declared.entry.Entry.TheVariants.{Leaf as of_leaf, Header as of_header}
+use Rattle.tt_codec.specs.Entry.{entry_at}
 use Rattle.tt_base.specs.Fits.{LeafInRange, TokenInRange}
 use Rattle.tt_base.specs.Forest.{Forest, Root, end, leaf, node, only, size, header}
-use Rattle.tt_base.specs.Meaning.{IsAhead, own_bytes, held_bytes}
-use Rattle.tt_base.specs.Moves.{first_token, after_token, after_tree}
-use Rattle.tt_base.specs.NextToken.{TokenAhead}
-use Rattle.tt_base.specs.Reading.{Read}
-use Rattle.tt_base.specs.Stored.{packed, IsInRange, IsWithinLimits}
-use Rattle.tt_base.specs.Tables.{Tables}
-use Rattle.tt_base.proofs.Ahead.{ahead_read, none_ahead, end_is_passed}
+use Rattle.tt_tables.specs.Meaning.{IsAhead, own_bytes, held_bytes}
+use Rattle.tt_tables.specs.Moves.{first_token, after_token, after_tree}
+use Rattle.tt_tables.specs.NextToken.{TokenAhead}
+use Rattle.tt_codec.specs.Read.{Read}
+use Rattle.tt_tables.specs.Stored.{packed, IsInRange, IsWithinLimits}
+use Rattle.tt_tables.specs.Tables.{Tables}
+use Rattle.tt_tables.proofs.Ahead.{ahead_read, none_ahead, end_is_passed}
 use Rattle.tt_pack.specs.Reader.{tables_from}
 
 -- A reader stands in the bytes, or at their end.

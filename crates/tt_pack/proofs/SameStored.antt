@@ -4,14 +4,14 @@ use Rattle.std.proofs.lemmas.Bool.{eqb-true, eq-eqb}
 use Rattle.std.specs.Cmp.Lexicographic.{pointwise}
 use Rattle.tt_base.specs.declared.span.SpanPart.{SpanPart}
 use Rattle.tt_base.specs.Forest.{Root}
-use Rattle.tt_base.specs.Meaning.{IsStored}
+use Rattle.tt_tables.specs.Meaning.{IsStored}
 use Rattle.tt_base.specs.SameTree.{same_root}
-use Rattle.tt_base.specs.Stored.{packed}
-use Rattle.tt_base.specs.Uses.{same_part}
+use Rattle.tt_tables.specs.Stored.{packed}
+use Rattle.tt_tables.specs.Uses.{same_part}
 use Rattle.tt_base.proofs.Pointwise.{pointwise_sound, pointwise_complete}
 use Rattle.tt_base.proofs.SameTree.{same_root_iff}
-use Rattle.tt_base.proofs.StoredAlike.{roots_alike}
-use Rattle.tt_base.proofs.TokenTables.{part_sound, part_complete, text_sound, text_complete}
+use Rattle.tt_tables.proofs.StoredAlike.{roots_alike}
+use Rattle.tt_tables.proofs.TokenTables.{part_sound, part_complete, text_sound, text_complete}
 use Rattle.tt_pack.specs.Packed.{stored_of}
 
 -- two answers that are true together are one answer

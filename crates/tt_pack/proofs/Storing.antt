@@ -3,23 +3,25 @@ use Rattle.std.proofs.Common.{◌≡◌, inl, inr, ℕ, suc, ◌+◌, ◌<◌, �
 use Rattle.std.specs.List.{AllByRecursion}
 use Rattle.tt_base.specs.declared.delimiter.Subtree.{Subtree}
 use Rattle.tt_base.specs.declared.fault.TtFault.{TtFault}
+use Rattle.tt_base.specs.declared.fault.TtFault.TheVariants.{Memory, NotOneSubtree, TooManySpanParts, TooManySymbols, TooManyBytes}
 use Rattle.tt_base.specs.declared.span.SpanPart.{SpanPart}
 use Rattle.tt_base.specs.declared.token_tree.TokenTree.{TokenTree}
 use Rattle.tt_base.specs.declared.token_tree.TokenTree.TheVariants as token
 use Rattle.tt_base.specs.Fits.{TokenInRange}
 use Rattle.tt_base.specs.Forest.{Forest, Root, size, header, flat, flat_root, IsWhole, IsOneSubtree}
 use Rattle.tt_base.specs.ForestLaws.{whole_iff, length-flat}
-use Rattle.tt_base.specs.HeaderBytes.{HeaderEntry, format_4}
-use Rattle.tt_base.specs.Meaning.{IsStored}
-use Rattle.tt_base.specs.PackFault.{HasManyParts, IsPackFault}
+use Rattle.tt_codec.specs.declared.entry.HeaderEntry.{HeaderEntry}
+use Rattle.tt_codec.specs.Header.{format_4, top_entry}
+use Rattle.tt_tables.specs.Meaning.{IsStored}
+use Rattle.tt_tables.specs.PackFault.{IsTreeWith, HasManyParts, HasManySymbols, HasManyBytes, IsPackFault}
 use Rattle.tt_base.specs.Span.{part_of}
-use Rattle.tt_base.specs.Stored.{bytes, tables_below, bytes_below, root_parts, top_entry, packed}
-use Rattle.tt_base.specs.Tables.{Tables, Knows, part_table, symbol_table}
+use Rattle.tt_tables.specs.Stored.{bytes, tables_below, bytes_below, root_parts, packed}
+use Rattle.tt_tables.specs.Tables.{Tables, Knows, part_table, symbol_table}
 use Rattle.tt_base.specs.Unflat.{unflat}
 use Rattle.tt_base.proofs.CutLists.{one_subtree_iff}
-use Rattle.tt_base.proofs.Known.{all_known}
-use Rattle.tt_base.proofs.StoredAlike.{length-root_parts}
-use Rattle.tt_base.proofs.TokenTables.{part_table_is, symbol_table_is}
+use Rattle.tt_tables.proofs.Known.{all_known}
+use Rattle.tt_tables.proofs.StoredAlike.{length-root_parts}
+use Rattle.tt_tables.proofs.TokenTables.{part_table_is, symbol_table_is}
 use Rattle.tt_pack.specs.Packed.{stored_of, root_of, tables_for, HasFewParts, HasFewSymbols, IsStoreFault}
 use Rattle.tt_pack.specs.Writing.{byte_count, IsWritten}
 use Rattle.tt_pack.proofs.Writing.{IsWriteFault}
@@ -34,11 +36,11 @@ pub tables_for_know : (below : List TokenTree) → AllByRecursion (Knows (tables
 tables_for_know below = all_known (tables_for below) below (part_table_is below).has_all (symbol_table_is below).has_all
 
 -- What cannot be written cannot be stored.
-pub write_fault_is : (tables : Tables) (below : List TokenTree) (fault : TtFault) → tables ≡ tables_for below → HasFewParts below → HasFewSymbols below
+pub write_fault_is : (tables : Tables) (below : List TokenTree) (fault : TtFault) → tables ≡ tables_for below → IsWhole below → HasFewParts below → HasFewSymbols below
     → IsWriteFault (byte_count tables below) fault → IsStoreFault below fault
-write_fault_is tables below fault same few_parts few_symbols (inl e) = inl (inl e)
-write_fault_is tables below fault same few_parts few_symbols (inr (e, over)) =
-    inr (e, few_parts, few_symbols, subst (λ t. 4294967295 < byte_count t below) same over)
+write_fault_is tables below fault same whole few_parts few_symbols (inl e) = inl (inl (inl e))
+write_fault_is tables below fault same whole few_parts few_symbols (inr (e, over)) =
+    inr (e, whole, few_parts, few_symbols, subst (λ t. 4294967295 < byte_count t below) same over)
 
 module _ (top : Subtree) (below : List TokenTree) (w : IsWhole below) (counted : top.len ≡ length below) where
   trees : Forest
@@ -101,40 +103,44 @@ module _ (top : Subtree) (below : List TokenTree) (w : IsWhole below) (counted :
   few_symbols_is : HasFewSymbols below → length (tables_below (unflat below)).symbols ≤ 536870912
   few_symbols_is h = omega (arith, h, ap (λ t. length t.symbols) same_tables)
 
-  -- What cannot be stored is refused for that reason.
-  pub store_fault_is : (fault : TtFault) → IsStoreFault below fault → IsPackFault (token.Subtree top ∷ below) fault
-  store_fault_is fault (inl (inl e)) = subst (IsPackFault (token.Subtree top ∷ below)) (sym e) tt
-  store_fault_is fault (inl (inr (inl (e, over)))) =
-      subst (IsPackFault (token.Subtree top ∷ below)) (sym e) (root_of top below, list_is, many_parts over)
-  store_fault_is fault (inl (inr (inr (e, few, over)))) =
-      subst (IsPackFault (token.Subtree top ∷ below)) (sym e)
-      (root_of top below, list_is, (few_parts_is few, omega (arith, over, ap (λ t. length t.symbols) same_tables)))
-  store_fault_is fault (inr (e, few_parts, few_symbols, over)) =
-      subst (IsPackFault (token.Subtree top ∷ below)) (sym e)
-      (root_of top below, list_is, (few_parts_is few_parts, few_symbols_is few_symbols, subst (λ t. 4294967295 < byte_count t below) (sym same_tables) over))
+  many_symbols : HasFewParts below → 536870912 < length (symbol_table below) → HasManySymbols (root_of top below)
+  many_symbols few over = (few_parts_is few, omega (arith, over, ap (λ t. length t.symbols) same_tables))
 
--- A list that is one subtree is that of its header and of the tokens below it.
+  many_bytes : HasFewParts below → HasFewSymbols below → 4294967295 < byte_count (tables_for below) below → HasManyBytes (root_of top below)
+  many_bytes few_parts few_symbols over = (few_parts_is few_parts, few_symbols_is few_symbols, subst (λ t. 4294967295 < byte_count t below) (sym same_tables) over)
+
+-- A list is that of a header, which counts them, and of the tokens below it.
 pub record Splits (tokens : List TokenTree) (top : Subtree) (below : List TokenTree) : Type 0 where
   pub list : tokens ≡ token.Subtree top ∷ below
   pub counted : top.len ≡ length below
-  pub whole : IsWhole below
   pub few : top.len ≤ 4294967295
 
-pub splits : (tokens : List TokenTree) (top : Subtree) (below : List TokenTree) → tokens ≡ token.Subtree top ∷ below → top.len < 2 ^ 32 → IsOneSubtree tokens
-    → Splits tokens top below
-splits tokens top below list fits one =
-    let parts = (one_subtree_iff top below fits).0 (subst IsOneSubtree list one) in
-    record { list = list; counted = parts.0; whole = parts.1; few = omega (arith, fits) }
-
--- Its tree is the one that is stored.
-pub stored_list : (tokens : List TokenTree) (top : Subtree) (below : List TokenTree) (root : Root) → Splits tokens top below → root ≡ root_of top below
+-- If what is below is whole, its tree is the one that is stored.
+pub stored_list : (tokens : List TokenTree) (top : Subtree) (below : List TokenTree) (root : Root) → Splits tokens top below → IsWhole below → root ≡ root_of top below
     → (tokens ≡ flat_root root) × (size root.children ≤ 4294967295)
-stored_list tokens top below root it e =
+stored_list tokens top below root it whole e =
     subst (λ r. (tokens ≡ flat_root r) × (size r.children ≤ 4294967295)) (sym e)
-    (it.list ∙ list_is top below it.whole it.counted, omega (arith, sized top below it.whole it.counted, it.few))
+    (it.list ∙ list_is top below whole it.counted, omega (arith, sized top below whole it.counted, it.few))
 
--- It is refused for the reason for which it cannot be stored.
+-- A header makes no list one subtree that counts other tokens than those below it, or tokens that are no whole list.
+pub no_subtree : (top : Subtree) (below : List TokenTree) → top.len < 2 ^ 32 → ((top.len ≡ length below) × IsWhole below → ⊥) → IsOneSubtree (token.Subtree top ∷ below) → ⊥
+no_subtree top below fits neither one = neither ((one_subtree_iff top below fits).0 one)
+
+-- What cannot be stored is refused for that reason.
 pub refused_list : (tokens : List TokenTree) (top : Subtree) (below : List TokenTree) (fault : TtFault) → Splits tokens top below → IsStoreFault below fault
     → IsPackFault tokens fault
-refused_list tokens top below fault it h =
-    subst (λ l. IsPackFault l fault) (sym it.list) (store_fault_is top below it.whole it.counted fault h)
+refused_list tokens top below fault it h = rw it.list (refused h)
+  where
+    tree_with : (P : Root → Type 0) → IsWhole below → (IsWhole below → P (root_of top below)) → IsTreeWith P (token.Subtree top ∷ below)
+    tree_with P whole has = (root_of top below, list_is top below whole it.counted, has whole)
+
+    is : (cause : TtFault) → fault ≡ cause → IsPackFault (token.Subtree top ∷ below) cause → IsPackFault (token.Subtree top ∷ below) fault
+    is cause e holds = subst (IsPackFault (token.Subtree top ∷ below)) (sym e) holds
+
+    refused : IsStoreFault below fault → IsPackFault (token.Subtree top ∷ below) fault
+    refused (inl (inl (inl e))) = is Memory e tt
+    refused (inl (inl (inr (e, broken)))) = is NotOneSubtree e (no_subtree top below (omega (arith, it.few)) (λ parts. broken parts.1))
+    refused (inl (inr (inl (e, whole, over)))) = is TooManySpanParts e (tree_with HasManyParts whole (λ w. many_parts top below w it.counted over))
+    refused (inl (inr (inr (e, whole, few, over)))) = is TooManySymbols e (tree_with HasManySymbols whole (λ w. many_symbols top below w it.counted few over))
+    refused (inr (e, whole, few_parts, few_symbols, over)) =
+        is TooManyBytes e (tree_with HasManyBytes whole (λ w. many_bytes top below w it.counted few_parts few_symbols over))

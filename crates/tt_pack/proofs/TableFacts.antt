@@ -5,9 +5,9 @@ use Rattle.std.proofs.lemmas.List.{length-map}
 use Rattle.std.proofs.lemmas.Option.{slice_get_within}
 use Rattle.std.specs.Cmp.{IsEquivalence}
 use Rattle.std.specs.List.{AllByRecursion, IsDistinct}
-use Rattle.tt_base.specs.TableOrder.{place_in, uses_of, IsEarlier, IsMoreUsed, Before, IsTable, different, falling, table}
-use Rattle.tt_base.proofs.Cheapest.{distinct_order}
-use Rattle.tt_base.proofs.TableOrder.{length-falling}
+use Rattle.tt_tables.specs.TableOrder.{index_in, uses_of, IsEarlier, IsMoreUsed, Before, IsTable, different, falling, table}
+use Rattle.tt_tables.proofs.Cheapest.{distinct_order}
+use Rattle.tt_tables.proofs.TableOrder.{length-falling}
 use Rattle.tt_pack.specs.Counted.{counted}
 use Rattle.tt_pack.specs.Indexed.{StandsAt, HasPlaceAt}
 use Rattle.tt_pack.specs.Rows.{FindsAt}
@@ -15,15 +15,15 @@ use Rattle.tt_pack.specs.Rows.{FindsAt}
 -- `same` tells whether two values are equal
 module _ {X : Type 0} (same : X → X → Bool) where
   -- Where values differ, each is found where it stands.
-  place_in-distinct : IsEquivalence same → (values : List X) (i : ℕ) (x : X) → IsDistinct same values → slice_get values i ≡ Some x → place_in (same x) values ≡ i
+  index_in-distinct : IsEquivalence same → (values : List X) (i : ℕ) (x : X) → IsDistinct same values → slice_get values i ≡ Some x → index_in (same x) values ≡ i
   unfolding IsDistinct
-  place_in-distinct laws [] i x distinct at = absurd (cc at)
-  place_in-distinct laws (y ∷ values) zero x distinct at = ap (λ t. cond t 0 (suc (place_in (same x) values))) (ap (same x) is ∙ laws.refl x)
+  index_in-distinct laws [] i x distinct at = absurd (cc at)
+  index_in-distinct laws (y ∷ values) zero x distinct at = ap (λ t. cond t 0 (suc (index_in (same x) values))) (ap (same x) is ∙ laws.refl x)
     where
       is : y ≡ x
       is = cc at
-  place_in-distinct laws (y ∷ values) (suc i) x distinct at =
-      ap (λ t. cond t 0 (suc (place_in (same x) values))) (laws.symm x y ∙ apart values i distinct.0 at) ∙ ap suc (place_in-distinct laws values i x distinct.1 at)
+  index_in-distinct laws (y ∷ values) (suc i) x distinct at =
+      ap (λ t. cond t 0 (suc (index_in (same x) values))) (laws.symm x y ∙ apart values i distinct.0 at) ∙ ap suc (index_in-distinct laws values i x distinct.1 at)
     where
       apart : (others : List X) (j : ℕ) → AllByRecursion (λ z. same y z ≡ false) others → slice_get others j ≡ Some x → same y x ≡ false
       apart [] j all here = absurd (cc here)
@@ -67,4 +67,4 @@ module _ {X : Type 0} (same : X → X → Bool) where
     place_noted short uses values table places i x is few found stands =
         let at : slice_get values i ≡ Some x = stands few in
         let finds : FindsAt values table places i = found i (slice_get_within values i x at) in
-        finds.1 ∙ ap Some (sym (place_in-distinct laws table finds.0 x (distinct_table short uses table is) (finds.2 ∙ at)))
+        finds.1 ∙ ap Some (sym (index_in-distinct laws table finds.0 x (distinct_table short uses table is) (finds.2 ∙ at)))

@@ -6,13 +6,14 @@ use Rattle.tt_base.specs.declared.fault.TtFault.{TtFault}
 use Rattle.tt_base.specs.declared.fault.TtFault.TheVariants.{Memory, TooManyBytes}
 use Rattle.tt_base.specs.declared.token_tree.TokenTree.{TokenTree}
 use Rattle.tt_base.specs.declared.token_tree.TokenTree.TheVariants as token
-use Rattle.tt_base.specs.Entry.{Entry, entry_bytes}
+use Rattle.tt_codec.specs.declared.entry.Entry.{Entry}
+use Rattle.tt_codec.specs.Entry.{entry_bytes}
 use Rattle.tt_base.specs.Fits.{TokenInRange}
 use Rattle.tt_base.specs.Forest.{IsWhole}
-use Rattle.tt_base.specs.Stored.{bytes}
-use Rattle.tt_base.specs.Tables.{Tables, entry_of, token_bytes}
+use Rattle.tt_tables.specs.Stored.{bytes}
+use Rattle.tt_tables.specs.Tables.{Tables, entry_of, token_bytes}
 use Rattle.tt_base.specs.Unflat.{unflat}
-use Rattle.tt_base.proofs.HeaderFirst.{header_first}
+use Rattle.tt_tables.proofs.HeaderFirst.{header_first}
 use Rattle.tt_base.proofs.EndPieces.{header_within}
 use Rattle.tt_base.proofs.WholeLists.{end_piece}
 use Rattle.tt_pack.specs.Writing.{byte_count, child_bytes, byte_sums, IsWritten}

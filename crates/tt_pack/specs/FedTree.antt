@@ -4,7 +4,7 @@ use Rattle.std.specs.Prelude.{List, ℕ, [], ◌∷◌, ◌++◌, length}
 use Rattle.tt_base.specs.contracts.span.SpanPartHash.TheImpl as part_impl
 use Rattle.tt_base.specs.declared.span.SpanPart.{SpanPart}
 use Rattle.tt_base.specs.Forest.{Root}
-use Rattle.tt_base.specs.Stored.{packed}
+use Rattle.tt_tables.specs.Stored.{packed}
 
 -- what a part feeds
 abbrev pub fed_part : SpanPart → List (List ℕ)

@@ -6,7 +6,7 @@ use Rattle.tt_base.specs.declared.token_tree.TokenTree.{TokenTree}
 use Rattle.tt_base.specs.declared.token_tree.TokenTree.TheVariants as token
 use Rattle.tt_base.specs.Literal.{symbol_of, span_of}
 use Rattle.tt_base.specs.Span.{part_of}
-use Rattle.tt_base.specs.TableOrder.{place_in}
+use Rattle.tt_tables.specs.TableOrder.{index_in}
 use Rattle.tt_pack.specs.declared.uses.TokenUses.{TokenUses}
 
 -- the value stands at the index, where all indices fit in four bytes
@@ -15,7 +15,7 @@ StandsAt values index x = length values ≤ 2 ^ 32 → slice_get values index �
 
 -- at the index stands the place that the value has in the table
 abbrev pub HasPlaceAt : {X : Type 0} → (same : X → X → Bool) (table : List X) (places : List ℕ) → ℕ → X → Type 0
-HasPlaceAt same table places index x = slice_get places index ≡ Some (place_in (same x) table)
+HasPlaceAt same table places index x = slice_get places index ≡ Some (index_in (same x) table)
 
 -- what the token uses stands at its indices: `IsPart` and `IsSymbol` say of parts and symbols where they stand
 module _ (IsPart : ℕ → SpanPart → Type 0) (IsSymbol : ℕ → List ℕ → Type 0) where

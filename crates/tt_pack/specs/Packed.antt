@@ -2,12 +2,12 @@
 use Rattle.std.specs.Prelude.{◌≡◌, ◌⊎◌, ◌+◌, ◌<◌, ◌≤◌, ℕ, List, length}
 use Rattle.tt_base.specs.declared.delimiter.Subtree.{Subtree}
 use Rattle.tt_base.specs.declared.fault.TtFault.{TtFault}
-use Rattle.tt_base.specs.declared.fault.TtFault.TheVariants.{Memory, TooManySpanParts, TooManySymbols, TooManyBytes}
+use Rattle.tt_base.specs.declared.fault.TtFault.TheVariants.{Memory, NotOneSubtree, TooManySpanParts, TooManySymbols, TooManyBytes}
 use Rattle.tt_base.specs.declared.span.SpanPart.{SpanPart}
 use Rattle.tt_base.specs.declared.token_tree.TokenTree.{TokenTree}
-use Rattle.tt_base.specs.Forest.{Root}
-use Rattle.tt_base.specs.Stored.{Stored}
-use Rattle.tt_base.specs.Tables.{Tables, part_table, symbol_table}
+use Rattle.tt_base.specs.Forest.{Root, IsWhole}
+use Rattle.tt_tables.specs.Stored.{Stored}
+use Rattle.tt_tables.specs.Tables.{Tables, part_table, symbol_table}
 use Rattle.tt_base.specs.Unflat.{unflat}
 use Rattle.tt_pack.specs.Writing.{byte_count}
 
@@ -31,14 +31,19 @@ HasFewParts below = length (part_table below) + 2 ≤ 268435456
 abbrev pub HasFewSymbols : List TokenTree → Type 0
 HasFewSymbols below = length (symbol_table below) ≤ 536870912
 
+-- why the uses of the tokens cannot be counted
+abbrev pub IsCountFault : List TokenTree → TtFault → Type 0
+IsCountFault below fault = (fault ≡ Memory) ⊎ ((fault ≡ NotOneSubtree) × (IsWhole below → ⊥))
+
 -- why the tables cannot be made
 abbrev pub IsTableFault : List TokenTree → TtFault → Type 0
 IsTableFault below fault =
-    (fault ≡ Memory) ⊎ ((fault ≡ TooManySpanParts) × (268435456 < length (part_table below) + 2))
-    ⊎ ((fault ≡ TooManySymbols) × HasFewParts below × (536870912 < length (symbol_table below)))
+    IsCountFault below fault
+    ⊎ ((fault ≡ TooManySpanParts) × IsWhole below × (268435456 < length (part_table below) + 2))
+    ⊎ ((fault ≡ TooManySymbols) × IsWhole below × HasFewParts below × (536870912 < length (symbol_table below)))
 
 -- why the tokens cannot be stored
 abbrev pub IsStoreFault : List TokenTree → TtFault → Type 0
 IsStoreFault below fault =
     IsTableFault below fault
-    ⊎ ((fault ≡ TooManyBytes) × HasFewParts below × HasFewSymbols below × (4294967295 < byte_count (tables_for below) below))
+    ⊎ ((fault ≡ TooManyBytes) × IsWhole below × HasFewParts below × HasFewSymbols below × (4294967295 < byte_count (tables_for below) below))

@@ -1,7 +1,7 @@
 -- The tables that a reader goes by.
 use Rattle.std.specs.Prelude.{List, ℕ}
 use Rattle.tt_base.specs.declared.span.SpanPart.{SpanPart}
-use Rattle.tt_base.specs.Tables.{Tables}
+use Rattle.tt_tables.specs.Tables.{Tables}
 
 -- parts and symbols together
 abbrev pub tables_from : List SpanPart → List (List ℕ) → Tables

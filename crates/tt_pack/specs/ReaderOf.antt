@@ -1,9 +1,9 @@
 -- What a reader stands before.
 use Rattle.std.specs.Prelude.{◌≡◌, ℕ, List, Option, Some, MatchOption}
 use Rattle.tt_base.specs.Forest.{Forest, end}
-use Rattle.tt_base.specs.Meaning.{own_bytes, held_bytes}
-use Rattle.tt_base.specs.Moves.{first_token}
-use Rattle.tt_base.specs.Tables.{Tables}
+use Rattle.tt_tables.specs.Meaning.{own_bytes, held_bytes}
+use Rattle.tt_tables.specs.Moves.{first_token}
+use Rattle.tt_tables.specs.Tables.{Tables}
 use Rattle.tt_pack.specs.declared.reader.Found.{Found}
 use Rattle.tt_pack.specs.declared.reader.Reader.{Reader}
 use Rattle.tt_pack.specs.Reader.{tables_from}

@@ -2,8 +2,8 @@
 use Rattle.std.specs.Prelude.{List, bytes_eq}
 use Rattle.std.specs.List.{AllZip}
 use Rattle.tt_base.specs.declared.token_tree.TokenTree.{TokenTree}
-use Rattle.tt_base.specs.Tables.{Tables}
-use Rattle.tt_base.specs.Uses.{same_part}
+use Rattle.tt_tables.specs.Tables.{Tables}
+use Rattle.tt_tables.specs.Uses.{same_part}
 use Rattle.tt_pack.specs.declared.tables.Tables.{Tables as StoredTables}
 use Rattle.tt_pack.specs.declared.uses.TokenUses.{TokenUses}
 use Rattle.tt_pack.specs.Indexed.{AreUses, HasPlaceAt}

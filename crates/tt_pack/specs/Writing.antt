@@ -4,8 +4,8 @@ use Rattle.std.specs.List.{AllByRecursion}
 use Rattle.tt_base.specs.declared.token_tree.TokenTree.{TokenTree}
 use Rattle.tt_base.specs.declared.token_tree.TokenTree.TheVariants as token
 use Rattle.tt_base.specs.Fits.{TokenInRange}
-use Rattle.tt_base.specs.Stored.{bytes}
-use Rattle.tt_base.specs.Tables.{Tables}
+use Rattle.tt_tables.specs.Stored.{bytes}
+use Rattle.tt_tables.specs.Tables.{Tables}
 use Rattle.tt_base.specs.Unflat.{unflat}
 
 -- how many bytes the tokens of a whole list take

@@ -1,21 +1,18 @@
 //! The bytes of one value alone, for tests and for readers of the format.
 
 ghost use Rattle.std.specs.Prelude.{◌≡◌, ◌+◌, ◌<◌, ◌^◌, length, IfOk, IfErr, MatchOption};
-ghost use Rattle.tt_base.specs.Cost.{weight};
-ghost use Rattle.tt_base.specs.ReferenceBytes.{reference_bytes};
-ghost use Rattle.tt_base.specs.SpanBytes.{span_bytes};
-ghost use Rattle.tt_base.specs.Shortest.{IsShortestToken};
-ghost use Rattle.tt_base.specs.Tables.{Knows, entry_of, token_bytes};
+ghost use Rattle.tt_tables.specs.Cost.{weight};
+ghost use Rattle.tt_codec.specs.Reference.{reference_bytes};
+ghost use Rattle.tt_codec.specs.SpanNumbers.{span_bytes, numbers_at};
+ghost use Rattle.tt_tables.specs.Shortest.{IsShortestToken};
+ghost use Rattle.tt_tables.specs.Tables.{Knows, entry_of, token_bytes};
 ghost use Rattle.tt_base.specs.declared.fault.TtFault.TheVariants.{Memory};
-ghost use Rattle.tt_pack.specs.Names.{first_entries};
-ghost use Rattle.tt_pack.specs.Place.{place_at};
+ghost use Rattle.tt_tables.specs.Names.{first_entries};
 
-use crate::back_buf::BackBuf;
-use crate::names::Names;
-use crate::place::Place;
-use crate::reference::Reference;
 use std::alloc::Global;
 use tt_base::{SpanPart, Symbol, TokenTree, TtFault};
+use tt_codec::{BackBuf, Reference, SpanNumbers};
+use tt_tables::Names;
 
 const MOST_REFERENCE_BYTES: usize = 4;
 
@@ -49,16 +46,16 @@ pub fn span_bytes(
     requires part { part < 2 ^ 28 }
     requires extra { extra < 4 }
     requires end { start + length < 2 ^ 32 }
-    ensures ok { IfOk result (λ bytes. bytes.items ≡ span_bytes heavy extra (place_at part start length)) }
+    ensures ok { IfOk result (λ bytes. bytes.items ≡ span_bytes heavy extra (numbers_at part start length)) }
     ensures err { IfErr result (λ fault. fault ≡ Memory) }
 {
     let mut bytes = BackBuf::with_capacity(alloc, MOST_SPAN_BYTES)?;
-    let place = Place {
+    let numbers = SpanNumbers {
         part,
         start,
         length,
     };
-    place.write(&mut bytes, extra, heavy)?;
+    numbers.write(&mut bytes, extra, heavy)?;
     Ok(bytes.into_vec())
 }
 

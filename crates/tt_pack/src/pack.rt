@@ -1,14 +1,14 @@
-//! From a whole list to what is stored for it.
+//! From a list to what is stored for it.
 ghost use Rattle.std.specs.Prelude.{◌≡◌, ◌+◌, length, IfOk, IfErr};
 ghost use Rattle.tt_base.specs.Forest.{IsWhole};
-ghost use Rattle.tt_base.specs.Meaning.{IsStored};
+ghost use Rattle.tt_tables.specs.Meaning.{IsStored};
 ghost use Rattle.tt_pack.specs.Packed.{stored_of, root_of, IsStoreFault};
 
-use crate::entry::HeaderEntry;
 use crate::tables::Tables;
 use crate::writer::Writer;
 use std::alloc::Global;
 use tt_base::{SpanPart, Subtree, Symbol, TokenTree, TtFault};
+use tt_codec::HeaderEntry;
 
 /// The bytes, the parts and the symbols that are stored for a header and the tokens below it.
 pub(crate) fn write_tree(
@@ -16,8 +16,8 @@ pub(crate) fn write_tree(
     top: Subtree,
     below: &[TokenTree],
 ) -> Result<(Vec<u8>, Vec<SpanPart>, Vec<Symbol>), TtFault>
-    requires whole { IsWhole below.now }
     requires counted { top.len ≡ length below.now }
+    ensures whole { IfOk result (λ found. IsWhole below.now) }
     ensures ok { IfOk result (λ found. IsStored (stored_of found.0.items found.1.items found.2.items (length below.now + 1)) (root_of top below.now)) }
     ensures err { IfErr result (IsStoreFault below.now) }
 {

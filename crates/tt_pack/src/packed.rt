@@ -1,14 +1,15 @@
+//! A tree as it is stored, and the calls that make it and show it.
 ghost use Rattle.std.specs.Prelude.{◌≡◌, ◌≤◌, ◌+◌, ◌*◌, suc, length, drop, IfOk, IfErr, IsTrue, ◌↔◌, bytes_eq};
 ghost use Rattle.tt_base.specs.declared.fault.TtFault.TheVariants.{Memory};
-ghost use Rattle.tt_base.specs.Cost.{IsCheapest};
+ghost use Rattle.tt_tables.specs.Cost.{IsCheapest};
 ghost use Rattle.tt_base.specs.Forest.{size, flat, flat_root, IsWhole};
-ghost use Rattle.tt_base.specs.Meaning.{HasMeaning};
-ghost use Rattle.tt_base.specs.PackFault.{IsPackFault};
-ghost use Rattle.tt_base.specs.Shortest.{HasShortestHeaders};
-ghost use Rattle.tt_base.specs.Stored.{packed, tables_below, IsInRange, IsWithinLimits};
+ghost use Rattle.tt_tables.specs.Meaning.{HasMeaning};
+ghost use Rattle.tt_tables.specs.PackFault.{IsPackFault};
+ghost use Rattle.tt_tables.specs.Shortest.{HasShortestHeaders};
+ghost use Rattle.tt_tables.specs.Stored.{packed, tables_below, IsInRange, IsWithinLimits};
 ghost use Rattle.tt_base.proofs.SameTree.{same_root_iff};
-ghost use Rattle.tt_base.proofs.StoredAlike.{HasMeaning-prop};
-ghost use Rattle.tt_base.specs.Uses.{symbol_uses};
+ghost use Rattle.tt_tables.proofs.StoredAlike.{HasMeaning-prop};
+ghost use Rattle.tt_tables.specs.Uses.{symbol_uses};
 ghost use Rattle.tt_pack.specs.FedTree.{fed_tree};
 ghost use Rattle.std.proofs.Common.{rules, ap};
 ghost use Rattle.std.specs.Cmp.Rules.{comparing};
@@ -20,7 +21,7 @@ use crate::pack::write_tree;
 use std::alloc::Global;
 use std::hash::{Hash, Hasher};
 use std::marker::Model;
-use tt_base::{Refused, SpanPart, Subtree, Symbol, TokenTree, TtFault, is_one_subtree};
+use tt_base::{Refused, SpanPart, Subtree, Symbol, TokenTree, TtFault};
 
 /// A token tree as bytes and two tables. A contract sees the tree; its bytes and tables are a function of it
 /// (docs/FORMATS.md), so equal trees are stored alike.
@@ -70,17 +71,16 @@ impl Packed {
         let Some((TokenTree::Subtree(top), below)) = tokens.split_first() else {
             return Err(TtFault::NotOneSubtree);
         };
-        if !is_one_subtree(alloc, tokens)? {
+        if top.len as usize != below.len() {
             return Err(TtFault::NotOneSubtree);
         }
         Packed::store(alloc, *top, below)
     }
 
-    // What is stored for a header and the tokens below it.
+    // What is stored for a header and the tokens below it, if these are a whole list.
     fn store(alloc: Global, top: Subtree, below: &[TokenTree]) -> Result<Packed, TtFault>
-        requires whole { IsWhole below.now }
         requires counted { top.len ≡ length below.now }
-        ensures ok { IfOk result (λ stored. stored ≡ root_of top below.now) }
+        ensures ok { IfOk result (λ stored. IsWhole below.now × (stored ≡ root_of top below.now)) }
         ensures err { IfErr result (IsStoreFault below.now) }
     {
         let (bytes, parts, symbols) = write_tree(alloc, top, below)?;

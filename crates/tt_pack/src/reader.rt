@@ -1,15 +1,19 @@
-ghost use Rattle.std.specs.Prelude.{◌≡◌, ◌+◌, ◌≤◌, ◌↔◌, length, drop, MatchOption, IfSome, Some, None};
-ghost use Rattle.tt_base.specs.Forest.{only};
-ghost use Rattle.tt_base.specs.Meaning.{HasAhead, own_bytes, held_bytes};
-ghost use Rattle.tt_base.specs.Stored.{packed as what_is_stored};
-ghost use Rattle.tt_base.specs.Moves.{first_token, after_token, after_tree, step_after};
-ghost use Rattle.tt_base.proofs.StoredAlike.{HasAhead-prop};
+//! Reading what is stored, one token a call.
+ghost use Rattle.std.specs.Prelude.{◌≡◌, ◌+◌, ◌≤◌, ◌↔◌, length, drop, MatchOption, IfSome, Some, None, []};
+ghost use Rattle.tt_base.specs.Forest.{end, only};
+ghost use Rattle.tt_tables.specs.Meaning.{HasAhead, own_bytes, held_bytes};
+ghost use Rattle.tt_tables.specs.Stored.{packed as what_is_stored};
+ghost use Rattle.tt_tables.specs.Moves.{first_token, after_token, after_tree, step_after};
+ghost use Rattle.tt_tables.proofs.StoredAlike.{HasAhead-prop};
 ghost use Rattle.tt_pack.specs.Reader.{tables_from};
 
-use crate::entry::Entry;
-use crate::names::Names;
 use crate::packed::Packed;
 use tt_base::{SpanPart, Symbol, TokenTree};
+use tt_codec::Entry;
+use tt_tables::Names;
+
+// Where the bytes of the top header stand.
+const TOP_HEADER: usize = 0;
 
 /// A place in the bytes of a stored tree, from which its tokens are read one by one. A read decodes one token,
 /// takes no memory and searches nothing. A contract sees the trees ahead: at the start the whole tree, and
@@ -49,6 +53,23 @@ impl<'a> Reader<'a> {
             bytes: packed.bytes(),
             parts: packed.parts(),
             symbols: packed.symbols(),
+            place: TOP_HEADER,
+            steps: 0,
+        }
+    }
+
+    /// Before nothing, for a view of no tree.
+    pub fn empty() -> Reader<'a>
+        ensures ahead { ahead_of result ≡ end }
+        ensures bytes { bytes_of result ≡ [] }
+        ensures tables { tables_of result ≡ tables_from [] [] }
+        ensures place { place_of result ≡ 0 }
+        ensures steps { steps_of result ≡ 0 }
+    {
+        Reader {
+            bytes: &[],
+            parts: &[],
+            symbols: &[],
             place: 0,
             steps: 0,
         }
@@ -125,6 +146,7 @@ impl<'a> Reader<'a> {
     /// all that a header holds, which the other one stands before.
     pub fn advance_skip(&mut self) -> Option<(TokenTree, Reader<'a>)>
         ensures token { MatchOption result (first_token (ahead_of self.old) ≡ None) (λ found. first_token (ahead_of self.old) ≡ Some found.0) }
+        ensures end { (result ≡ None) ↔ (length (bytes_of self.old) ≤ place_of self.old) }
         ensures below { IfSome result (λ found. ahead_of found.1 ≡ after_token (ahead_of self.old)) }
         ensures below_same { IfSome result (λ found. ReadsSame found.1 self.old) }
         ensures below_place { IfSome result (λ found. place_of found.1 ≡ place_of self.old + own_bytes (tables_of self.old) (place_of self.old) (ahead_of self.old)) }

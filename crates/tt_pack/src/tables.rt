@@ -1,14 +1,14 @@
 //! The two tables of a list of tokens, and tokens in numbers under them.
 ghost use Rattle.std.specs.Prelude.{◌≡◌, ◌+◌, ◌<◌, ◌≤◌, ◌^◌, Some, length, slice_get, IfOk, IfErr};
-ghost use Rattle.tt_base.specs.Tables.{Knows, part_table, symbol_table};
+ghost use Rattle.tt_base.specs.Forest.{IsWhole};
+ghost use Rattle.tt_tables.specs.Tables.{Knows, part_table, symbol_table};
 ghost use Rattle.tt_pack.specs.Packed.{HasFewParts, HasFewSymbols, IsTableFault};
 
-use crate::entry::{Entry, HeaderEntry, LeafEntry, Named};
-use crate::place::Place;
 use crate::table::Table;
 use crate::uses::{TokenUses, Uses};
 use std::alloc::Global;
 use tt_base::{Leaf, SpanPart, Subtree, Symbol, TokenTree, TtFault};
+use tt_codec::{Entry, HeaderEntry, LeafEntry, SpanNumbers};
 
 // Up to so many parts stand by first use: an index of theirs has four bits.
 const SHORT_PARTS: usize = 15;
@@ -16,7 +16,7 @@ const SHORT_PARTS: usize = 15;
 const SHORT_SYMBOLS: usize = 63;
 // The most parts below the top. The top's two need an index too.
 const MOST_PARTS: usize = 268435454;
-
+// The most symbols. An index of one has 29 bits.
 const MOST_SYMBOLS: usize = 536870912;
 
 /// The tables of a list of tokens, and what each token uses.
@@ -39,12 +39,14 @@ fn place_at(places: &[u32], index: u32) -> u32
 
 impl Tables {
     ghost use Rattle.tt_base.specs.declared.token_tree.TokenTree.TheVariants as token;
-    ghost use Rattle.tt_pack.specs.Named.{IsNamedLeaf, IsNamedHeader, IsNamed};
+    ghost use Rattle.tt_tables.specs.Named.{IsNamedLeaf, IsNamedHeader, IsNamed};
     ghost use Rattle.tt_pack.specs.TablesOf.{tables_of, HasUses, UsesTables};
 
-    /// The tables of the tokens, where their indices can be written and the parts leave room for the top's two.
+    /// The tables of the tokens, where these are a whole list, their indices can be written and the parts leave room for
+    /// the top's two.
     /// More than 15 parts or 63 symbols go by falling number of uses, ties by first use (docs/FORMATS.md).
     pub(crate) fn of_tokens(alloc: Global, below: &[TokenTree]) -> Result<Tables, TtFault>
+        ensures whole { IfOk result (λ tables. IsWhole below.now) }
         ensures parts { IfOk result (λ tables. (tables.parts.values.items ≡ part_table below.now) × HasFewParts below.now) }
         ensures symbols { IfOk result (λ tables. (tables.symbols.values.items ≡ symbol_table below.now) × HasFewSymbols below.now) }
         ensures uses { IfOk result (λ tables. UsesTables tables below.now) }
@@ -80,21 +82,17 @@ impl Tables {
         match leaf {
             Leaf::Literal(literal) => {
                 let symbol = place_at(&self.symbols.places, uses.other);
-                LeafEntry {
-                    named: Named::Literal(symbol, literal.kind(), literal.suffix_len()),
-                    place: Place::of_span(part, literal.span()),
-                }
+                let numbers = SpanNumbers::of_span(part, literal.span());
+                LeafEntry::Literal(symbol, literal.kind(), literal.suffix_len(), numbers)
             }
-            Leaf::Punct(punct) => LeafEntry {
-                named: Named::Punct(punct.char, punct.spacing),
-                place: Place::of_span(part, &punct.span),
-            },
+            Leaf::Punct(punct) => {
+                let numbers = SpanNumbers::of_span(part, &punct.span);
+                LeafEntry::Punct(punct.char, punct.spacing, numbers)
+            }
             Leaf::Ident(ident) => {
                 let symbol = place_at(&self.symbols.places, uses.other);
-                LeafEntry {
-                    named: Named::Ident(symbol, ident.is_raw),
-                    place: Place::of_span(part, &ident.span),
-                }
+                let numbers = SpanNumbers::of_span(part, &ident.span);
+                LeafEntry::Ident(symbol, ident.is_raw, numbers)
             }
         }
     }
@@ -109,8 +107,8 @@ impl Tables {
         let open = place_at(&self.parts.places, uses.part);
         let close = place_at(&self.parts.places, uses.other);
         HeaderEntry {
-            opening: Place::of_span(open, &delimiter.open_span),
-            closing: Place::of_span(close, &delimiter.close),
+            opening: SpanNumbers::of_span(open, &delimiter.open_span),
+            closing: SpanNumbers::of_span(close, &delimiter.close),
             kind: delimiter.kind,
             len: subtree.len,
             bytes: child_bytes,

@@ -1,15 +1,17 @@
 //! What a list of tokens uses: its different parts and symbols, how often each is used, and which of them each token uses.
-ghost use Rattle.std.specs.Prelude.{◌≡◌, fold, IfOk, OnOk, bytes_eq};
+ghost use Rattle.std.specs.Prelude.{◌≡◌, fold, IfOk, IfErr, OnOk, bytes_eq};
 ghost use Rattle.std.specs.List.{AllZip};
 ghost use Rattle.indexmap.specs.IndexMap.{keys};
-ghost use Rattle.tt_base.specs.Uses.{same_part, token_parts, token_symbols, part_uses, symbol_uses};
+ghost use Rattle.tt_base.specs.Forest.{IsWhole};
+ghost use Rattle.tt_tables.specs.Uses.{same_part, token_parts, token_symbols, part_uses, symbol_uses};
 ghost use Rattle.tt_pack.specs.Counted.{count_use, counted, HasRoomFor};
 ghost use Rattle.tt_pack.specs.Indexed.{StandsAt, AreUses};
+ghost use Rattle.tt_pack.specs.Packed.{IsCountFault};
 
 use crate::counts::{count_near, count_use};
 use indexmap::IndexMap;
 use std::alloc::{AllocError, Global};
-use tt_base::{Leaf, SpanPart, Symbol, TokenTree};
+use tt_base::{Leaf, Levels, SpanPart, Symbol, TokenTree, TtFault};
 
 /// What a token uses, by indices in the order of first uses.
 #[derive(Debug, Clone, Copy, PartialEq)]
@@ -67,20 +69,29 @@ fn count_token(
 }
 
 impl Uses {
-    /// Counts what the tokens use.
-    pub(crate) fn of_tokens(alloc: Global, tokens: &[TokenTree]) -> Result<Uses, AllocError>
+    /// Counts what the tokens use, and sees in the same pass that they are a whole list.
+    pub(crate) fn of_tokens(alloc: Global, tokens: &[TokenTree]) -> Result<Uses, TtFault>
+        ensures whole { IfOk result (λ uses. IsWhole tokens.now) }
         ensures parts { IfOk result (λ uses. uses.parts.entries ≡ counted same_part (part_uses tokens.now)) }
         ensures symbols { IfOk result (λ uses. uses.symbols.entries ≡ counted bytes_eq (symbol_uses tokens.now)) }
         ensures tokens { IfOk result (λ uses. AllZip (AreUses (StandsAt (keys uses.parts)) (StandsAt (keys uses.symbols))) tokens.now uses.tokens.items) }
+        ensures err { IfErr result (IsCountFault tokens.now) }
     {
         let mut parts = IndexMap::new(alloc);
         let mut symbols = IndexMap::new(alloc);
         let mut uses = Vec::with_capacity(alloc, tokens.len())?;
         let mut before = 0;
+        let mut levels = Levels::new(alloc, tokens.len());
         for token in tokens {
+            if !levels.take(token)? {
+                return Err(TtFault::NotOneSubtree);
+            }
             let found = count_token(&mut parts, &mut symbols, before, token)?;
             before = found.part;
             uses.push(found)?;
+        }
+        if !levels.is_done() {
+            return Err(TtFault::NotOneSubtree);
         }
         Ok(Uses {
             parts,

@@ -3,17 +3,15 @@ ghost use Rattle.std.specs.Prelude.{◌≡◌, ◌⊎◌, ◌+◌, ◌<◌, ◌+
 ghost use Rattle.std.specs.List.{AllByRecursion};
 ghost use Rattle.tt_base.specs.declared.fault.TtFault.TheVariants.{Memory, TooManyBytes};
 ghost use Rattle.tt_base.specs.Forest.{IsWhole};
-ghost use Rattle.tt_base.specs.HeaderBytes.{HeaderFits, format_4};
-ghost use Rattle.tt_base.specs.Tables.{Knows};
-ghost use Rattle.tt_pack.specs.Entry.{header_entry_of};
+ghost use Rattle.tt_codec.specs.Header.{HeaderFits, format_4};
+ghost use Rattle.tt_tables.specs.Tables.{Knows};
 ghost use Rattle.tt_pack.specs.TablesOf.{tables_of, UsesTables};
 ghost use Rattle.tt_pack.specs.Writing.{byte_count, first_child_bytes, IsWritten};
 
-use crate::back_buf::BackBuf;
-use crate::entry::HeaderEntry;
 use crate::tables::Tables;
 use std::alloc::Global;
 use tt_base::{TokenTree, TtFault};
+use tt_codec::{BackBuf, HeaderEntry};
 
 // Room for so many bytes a token is asked for at first. Most tokens take fewer.
 const ROOM_FOR_A_TOKEN: usize = 16;
@@ -85,8 +83,8 @@ impl<'a> Writer<'a> {
 
     /// All bytes, with a header before them that is written in full.
     pub(crate) fn finish(self, top: HeaderEntry) -> Result<Vec<u8>, TtFault>
-        requires { HeaderFits (header_entry_of top) }
-        ensures ok { IfOk result (λ bytes. bytes.items ≡ format_4 true (header_entry_of top) ++ self.entry.bytes) }
+        requires { HeaderFits top }
+        ensures ok { IfOk result (λ bytes. bytes.items ≡ format_4 true top ++ self.entry.bytes) }
         ensures err { IfErr result (λ fault. fault ≡ Memory) }
     {
         let Writer { mut bytes, .. } = self;

@@ -1,10 +1,8 @@
 use Rattle.std.proofs.Common.{◌≡◌, ◌<◌, ◌^◌, ◌++◌, ◌∷◌, [], length, vec_len, true, Err, append_assoc, sym, subst, ap, ap₂, ◌∙◌, arith, rules}
 use Rattle.std.specs.List.{AllByRecursion}
-use Rattle.tt_base.specs.HeaderBytes.{format_4}
+use Rattle.tt_codec.specs.Header.{format_4, top_entry}
 use Rattle.tt_base.specs.Span.{part_of}
-use Rattle.tt_base.specs.Stored.{top_entry}
-use Rattle.tt_base.specs.Tables.{Knows, part_table}
-use Rattle.tt_pack.specs.Entry.{header_entry_of}
+use Rattle.tt_tables.specs.Tables.{Knows, part_table}
 use Rattle.tt_pack.specs.Packed.{tables_for}
 use Rattle.tt_pack.specs.TablesOf.{tables_of}
 use Rattle.tt_pack.specs.Writing.{byte_count}
@@ -23,7 +21,7 @@ returns-in_err-writer-clause-err c =
     let made : tables_of c.in_ok-tables.tables ≡ tables_for c.args.below.now = tables_made _ _ _ c.in_ok-tables.ensures.parts.0 c.in_ok-tables.ensures.symbols.0 in
     let told : IsWriteFault (byte_count (tables_of c.in_ok-tables.tables) c.args.below.now) c.in_err-writer.field-0.0 = search rules in
     let is : c.from_residual-in_err-writer.result ≡ Err c.in_err-writer.field-0.0 = search rules in
-    rw is (write_fault_is _ _ _ made (search rules) (search rules) told)
+    rw is (write_fault_is _ _ _ made c.in_ok-tables.ensures.whole (search rules) (search rules) told)
 
 pub returns-clause-ok : goal.returns-clause-ok
 returns-clause-ok c =
@@ -33,10 +31,10 @@ returns-clause-ok c =
     let written : HasWrittenUnder tables below c.in_ok-writer.writer = search rules in
     let bound : c.args.top.len < 2 ^ 32 = search rules in
     let counted : vec_len tables.parts.values ≡ length tables.parts.values.items = search rules in
-    let entry : header_entry_of c.of_top-entry.result ≡ top_entry (length (part_table below)) c.args.top.delimiter c.args.top.len (length c.in_ok-writer.writer.bytes) =
+    let entry : c.of_top-entry.result ≡ top_entry (length (part_table below)) c.args.top.delimiter c.args.top.len (length c.in_ok-writer.writer.bytes) =
     c.of_top-entry.ensures.value
     ∙ ap₂ (λ n m. top_entry n c.args.top.delimiter c.args.top.len m) (c.len.ensures ∙ counted ∙ ap length c.in_ok-tables.ensures.parts.0) c.len-2.ensures in
-    let all : c.in_ok-bytes.bytes.items ≡ format_4 true (header_entry_of c.of_top-entry.result) ++ c.in_ok-writer.writer.bytes = search rules in
+    let all : c.in_ok-bytes.bytes.items ≡ format_4 true c.of_top-entry.result ++ c.in_ok-writer.writer.bytes = search rules in
     let kept : c.reserve_exact.new.self.items ≡ part_table below = c.reserve_exact.ensures.items ∙ c.in_ok-tables.ensures.parts.0 in
     let opened : c.push.new.self.items ≡ c.reserve_exact.new.self.items ++ part_of c.args.top.delimiter.open_span ∷ [] = search rules in
     let closed : c.push-2.new.self.items ≡ c.push.new.self.items ++ part_of c.args.top.delimiter.close ∷ [] = search rules in
@@ -44,6 +42,6 @@ returns-clause-ok c =
     closed
     ∙ ap (λ l. l ++ part_of c.args.top.delimiter.close ∷ []) (opened ∙ ap (λ l. l ++ part_of c.args.top.delimiter.open_span ∷ []) kept)
     ∙ append_assoc (part_table below) (part_of c.args.top.delimiter.open_span ∷ []) (part_of c.args.top.delimiter.close ∷ []) in
-    is_stored c.args.top below c.requires.whole c.requires.counted _ _ _ _ _ _ _ _
+    is_stored c.args.top below c.in_ok-tables.ensures.whole c.requires.counted _ _ _ _ _ _ _ _
     bound (ap tables_of written.0 ∙ made) c.in_ok-tables.ensures.parts.1 c.in_ok-tables.ensures.symbols.1 written.1 c.of_top-entry.ensures.range entry all with_top
     c.in_ok-tables.ensures.symbols.0 (omega arith)

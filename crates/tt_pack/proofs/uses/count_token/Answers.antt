@@ -2,7 +2,7 @@ use Rattle.std.proofs.Common.{sym, subst, arith}
 use Rattle.indexmap.specs.IndexMap.{keys}
 use Rattle.std.specs.Map.{keys_of}
 use Rattle.tt_base.specs.Span.{part_of}
-use Rattle.tt_base.specs.Uses.{same_part}
+use Rattle.tt_tables.specs.Uses.{same_part}
 use Rattle.tt_pack.specs.Counted.{HasRoomFor}
 use Rattle.tt_pack.specs.Indexed.{StandsAt, AreUses}
 use Rattle.tt_pack.proofs.Counting.{room_used}

@@ -33,15 +33,15 @@ write_trees-split_at-requires g t c =
     let after = c.in-Some.after.now in
     let head = c.in-Some.ensures.cases.0 ∙ ap (λ t. t ∷ after) c.in-Subtree.is in
     let splits = splits_at c.in-Subtree.subtree after (subst IsWhole head c.loop-token.invariant.whole) in
-    omega (arith, splits.within, c.usize_len.ensures)
+    omega (arith, splits.within, c.usize_len.ensures.value)
 
 pub write_trees-write_subtree-requires : goal.write_trees-write_subtree-requires
 write_trees-write_subtree-requires g t c =
     let after = c.in-Some.after.now in
     let head = c.in-Some.ensures.cases.0 ∙ ap (λ t. t ∷ after) c.in-Subtree.is in
     let splits = splits_at c.in-Subtree.subtree after (subst IsWhole head c.loop-token.invariant.whole) in
-    let shorter : length c.split_at.result.0.now + 1 ≤ length c.args.tokens.now = omega (arith, ap length head, c.loop-token.invariant.shorter, c.split_at.ensures.front_len, splits.within, c.usize_len.ensures) in
-    let whole : IsWhole c.split_at.result.0.now = rw (c.split_at.ensures.front, c.usize_len.ensures) splits.children in
+    let shorter : length c.split_at.result.0.now + 1 ≤ length c.args.tokens.now = omega (arith, ap length head, c.loop-token.invariant.shorter, c.split_at.ensures.front_len, splits.within, c.usize_len.ensures.value) in
+    let whole : IsWhole c.split_at.result.0.now = rw (c.split_at.ensures.front, c.usize_len.ensures.value) splits.children in
     search rules
 
 pub write_trees-loop-token-preserved : goal.write_trees-loop-token-preserved
@@ -50,8 +50,8 @@ write_trees-loop-token-preserved g t c =
     let subtree = c.in-Subtree.subtree in
     let head = c.in-Some.ensures.cases.0 ∙ ap (λ t. t ∷ after) c.in-Subtree.is in
     let splits = splits_at subtree after (subst IsWhole head c.loop-token.invariant.whole) in
-    let front = rw c.usize_len.ensures at c.split_at.ensures.front in
-    let back = rw c.usize_len.ensures at c.split_at.ensures.back in
+    let front = rw c.usize_len.ensures.value at c.split_at.ensures.front in
+    let back = rw c.usize_len.ensures.value at c.split_at.ensures.back in
     record {
       shorter = omega (arith, ap length head, c.loop-token.invariant.shorter, c.split_at.ensures.back_len);
       whole = rw back splits.behind;

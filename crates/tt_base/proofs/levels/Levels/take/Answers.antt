@@ -14,10 +14,10 @@ returns-in_default c =
 pub returns-then-self-below : goal.returns-then-self-below
 returns-then-self-below c =
     let back : GoesBack (open_levels c.args.self.now) (open_levels c.go_back.new.self) true = c.if-not-go_back.ensures.levels in
-    rw c.in-Subtree.is (takes_no_node (open_levels c.args.self.now) (reverse c.go_back.new.self.outer.items) (open_levels c.go_back.new.self) c.go_back.new.self.left c.in-Subtree.subtree back c.if-not-go_back.ensures.room (omega (arith, c.if-self-below.true, c.usize_len-below.ensures)))
+    rw c.in-Subtree.is (takes_no_node (open_levels c.args.self.now) (reverse c.go_back.new.self.outer.items) (open_levels c.go_back.new.self) c.go_back.new.self.left c.in-Subtree.subtree back c.if-not-go_back.ensures.room (omega (arith, c.if-self-below.true, c.usize_len-below.ensures.value)))
 
 pub returns : goal.returns
 returns c =
     let back : GoesBack (open_levels c.args.self.now) (open_levels c.go_back.new.self) true = c.if-not-go_back.ensures.levels in
-    let opens : Opens (open_levels c.go_back.new.self) c.in-Subtree.subtree.len (open_levels c.open.new.self) = rw c.usize_len-below.ensures at c.in_ok-open.ensures in
-    rw c.in-Subtree.is (takes_node (open_levels c.args.self.now) (reverse c.go_back.new.self.outer.items) (open_levels c.open.new.self) c.go_back.new.self.left c.in-Subtree.subtree back (omega (arith, c.if-self-below.false, c.usize_len-below.ensures)) opens)
+    let opens : Opens (open_levels c.go_back.new.self) c.in-Subtree.subtree.len (open_levels c.open.new.self) = rw c.usize_len-below.ensures.value at c.in_ok-open.ensures in
+    rw c.in-Subtree.is (takes_node (open_levels c.args.self.now) (reverse c.go_back.new.self.outer.items) (open_levels c.open.new.self) c.go_back.new.self.left c.in-Subtree.subtree back (omega (arith, c.if-self-below.false, c.usize_len-below.ensures.value)) opens)

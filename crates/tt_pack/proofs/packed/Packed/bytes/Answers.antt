@@ -1,8 +1,8 @@
 use Rattle.std.proofs.Common.{◌≡◌, length, drop, ap, sym, subst, arith, rules}
-use Rattle.tt_base.specs.Shortest.{HasShortestHeaders}
-use Rattle.tt_base.specs.Stored.{packed, tables_below, IsInRange, IsWithinLimits}
-use Rattle.tt_base.proofs.Lengths.{packed_length}
-use Rattle.tt_base.proofs.Shortest.{stored_shortest}
+use Rattle.tt_tables.specs.Shortest.{HasShortestHeaders}
+use Rattle.tt_tables.specs.Stored.{packed, tables_below, IsInRange, IsWithinLimits}
+use Rattle.tt_tables.proofs.Lengths.{packed_length}
+use Rattle.tt_tables.proofs.Shortest.{stored_shortest}
 use Rattle.tt_pack.proofs.packed.Packed.bytes.Goals as goal
 
 pub returns-clause-least : goal.returns-clause-least

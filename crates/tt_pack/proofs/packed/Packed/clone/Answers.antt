@@ -1,6 +1,6 @@
 use Rattle.std.proofs.Common.{subst, rules}
-use Rattle.tt_base.specs.Meaning.{IsStored}
-use Rattle.tt_base.proofs.StoredAlike.{meaning_is}
+use Rattle.tt_tables.specs.Meaning.{IsStored}
+use Rattle.tt_tables.proofs.StoredAlike.{meaning_is}
 use Rattle.tt_pack.specs.Packed.{stored_of}
 use Rattle.tt_pack.proofs.Copies.{stored_again}
 use Rattle.tt_pack.proofs.packed.Packed.clone.Goals as goal

@@ -1,6 +1,6 @@
 use Rattle.std.proofs.Common.{◌≡◌, suc, ap, ◌∙◌, rules}
 use Rattle.tt_base.specs.Forest.{size}
-use Rattle.tt_base.specs.Stored.{packed}
+use Rattle.tt_tables.specs.Stored.{packed}
 use Rattle.tt_pack.proofs.packed.Packed.len.Goals as goal
 
 pub returns : goal.returns

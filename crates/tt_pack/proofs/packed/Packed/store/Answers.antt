@@ -1,6 +1,6 @@
 use Rattle.std.proofs.Common.{◌+◌, length, rules}
-use Rattle.tt_base.specs.Meaning.{IsStored}
-use Rattle.tt_base.proofs.StoredAlike.{meaning_is}
+use Rattle.tt_tables.specs.Meaning.{IsStored}
+use Rattle.tt_tables.proofs.StoredAlike.{meaning_is}
 use Rattle.tt_pack.specs.Packed.{stored_of, root_of}
 use Rattle.tt_pack.proofs.packed.Packed.store.Goals as goal
 
@@ -12,4 +12,4 @@ invariant_of-result c =
 pub returns-clause-ok : goal.returns-clause-ok
 returns-clause-ok c =
     let is : IsStored (stored_of c.in_ok-bytes.bytes.items c.in_ok-bytes.parts.items c.in_ok-bytes.symbols.items (length c.args.below.now + 1)) (root_of c.args.top c.args.below.now) = search rules in
-    search (rules, meaning_is, is)
+    (c.in_ok-bytes.ensures.whole, search (rules, meaning_is, is))

@@ -1,7 +1,7 @@
 use Rattle.std.proofs.Common.{◌≡◌, ◌==◌, true, false, bytes_eq, ◌↔◌, sym, subst, ◌∙◌, rules}
 use Rattle.std.specs.Cmp.Lexicographic.{pointwise}
-use Rattle.tt_base.specs.Meaning.{IsStored}
-use Rattle.tt_base.specs.Uses.{same_part}
+use Rattle.tt_tables.specs.Meaning.{IsStored}
+use Rattle.tt_tables.specs.Uses.{same_part}
 use Rattle.tt_base.proofs.SameTree.{same_root_iff}
 use Rattle.tt_pack.proofs.SameStored.{other_bytes, other_parts, symbols_decide}
 use Rattle.tt_pack.proofs.packed.PackedPartialEq.eq.Goals as goal

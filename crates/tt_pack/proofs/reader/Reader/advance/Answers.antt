@@ -1,7 +1,7 @@
 use Rattle.std.proofs.Common.{◌≡◌, ◌+◌, ◌<◌, ◌≤◌, ◌^◌, ◌↔◌, None, length, subst, arith, rules}
-use Rattle.tt_base.specs.Meaning.{IsAhead}
-use Rattle.tt_base.specs.Moves.{first_token, after_token}
-use Rattle.tt_base.proofs.StoredAlike.{ahead_is}
+use Rattle.tt_tables.specs.Meaning.{IsAhead}
+use Rattle.tt_tables.specs.Moves.{first_token, after_token}
+use Rattle.tt_tables.proofs.StoredAlike.{ahead_is}
 use Rattle.tt_pack.specs.ReaderOf.{tables_of, bytes_of, place_of, ahead_of}
 use Rattle.tt_pack.proofs.Moves.{ends, moved, room}
 use Rattle.tt_pack.proofs.reader.Reader.advance.Goals as goal

@@ -1,9 +1,9 @@
-use Rattle.std.proofs.Common.{◌+◌, ◌<◌, ◌^◌, length, arith, rules}
-use Rattle.tt_base.specs.Meaning.{IsAhead}
-use Rattle.tt_base.specs.Moves.{after_token, after_tree}
-use Rattle.tt_base.proofs.StoredAlike.{ahead_is}
+use Rattle.std.proofs.Common.{◌≡◌, ◌+◌, ◌<◌, ◌^◌, None, length, sym, ◌∙◌, arith, rules}
+use Rattle.tt_tables.specs.Meaning.{IsAhead}
+use Rattle.tt_tables.specs.Moves.{first_token, after_token, after_tree}
+use Rattle.tt_tables.proofs.StoredAlike.{ahead_is}
 use Rattle.tt_pack.specs.ReaderOf.{tables_of, bytes_of, place_of, ahead_of}
-use Rattle.tt_pack.proofs.Moves.{moved, skipped, room}
+use Rattle.tt_pack.proofs.Moves.{ends, moved, skipped, room}
 use Rattle.tt_pack.proofs.reader.Reader.advance_skip.Goals as goal
 
 pub overflow_add-below : goal.overflow_add-below
@@ -45,3 +45,17 @@ returns-clause-ahead c =
     let is : IsAhead (tables_of self) (bytes_of self) (place_of self + c.in_ok-found.found.own + c.in_ok-found.found.held) (after_tree (ahead_of self)) =
     skipped (tables_of self) (bytes_of self) (place_of self) _ _ _ found.own found.held self.ahead.1 in
     search (rules, ahead_is, is)
+
+pub returns-in_err-found-clause-end : goal.returns-in_err-found-clause-end
+returns-in_err-found-clause-end c =
+    let self = c.args.self.now in
+    let none : first_token (ahead_of self) ≡ None = search rules in
+    let is : c.from_residual.result ≡ None = search rules in
+    let past = ends _ _ _ _ self.ahead.1 in
+    (λ _. past.0 none, λ _. is)
+
+pub returns-clause-end : goal.returns-clause-end
+returns-clause-end c =
+    let self = c.args.self.now in
+    let past = ends _ _ _ _ self.ahead.1 in
+    (λ none. cc none, λ at_end. cc (sym c.in_ok-found.ensures.token ∙ past.1 at_end))

@@ -1,7 +1,7 @@
 use Rattle.std.proofs.Common.{◌≡◌, Some, None, length, ap, sym, ◌∙◌, arith, rules}
 use Rattle.tt_base.specs.declared.token_tree.TokenTree.TheVariants as token
-use Rattle.tt_base.specs.EntryReading.{entry_at}
-use Rattle.tt_base.proofs.Ahead.{none_read}
+use Rattle.tt_codec.specs.Entry.{entry_at}
+use Rattle.tt_tables.proofs.Ahead.{none_read}
 use Rattle.tt_pack.specs.ReaderOf.{tables_of, bytes_of, place_of}
 use Rattle.tt_pack.proofs.Decoded.{leaf_read, header_read, fewer_left}
 use Rattle.tt_pack.proofs.reader.Reader.decode.Goals as goal

@@ -3,8 +3,8 @@ use Rattle.std.proofs.lemmas.Map.Entries.{length-keys_of}
 use Rattle.indexmap.specs.IndexMap.{keys}
 use Rattle.tt_base.specs.contracts.span.SpanPartEq.TheImpl.Laws as part_eq
 use Rattle.tt_base.specs.contracts.symbol.SymbolEq.TheImpl.Laws as symbol_eq
-use Rattle.tt_base.specs.Uses.{same_part, part_uses, symbol_uses}
-use Rattle.tt_base.proofs.TokenTables.{part_sound, text_sound, part_table_only, symbol_table_only}
+use Rattle.tt_tables.specs.Uses.{same_part, part_uses, symbol_uses}
+use Rattle.tt_tables.proofs.TokenTables.{part_sound, text_sound, part_table_only, symbol_table_only}
 use Rattle.tt_pack.specs.Packed.{HasFewParts}
 use Rattle.tt_pack.proofs.Kept.{uses_map}
 use Rattle.tt_pack.proofs.Paired.{paired_map}
@@ -14,7 +14,7 @@ use Rattle.tt_pack.proofs.tables.Tables.of_tokens.Goals as goal
 pub returns-then-len-gt-MOST_PARTS-clause-err : goal.returns-then-len-gt-MOST_PARTS-clause-err
 returns-then-len-gt-MOST_PARTS-clause-err c =
     let many = length-table same_part part_sound part_eq.lawful.laws 15 (part_uses c.args.below.now) in
-    inr (inl (refl, omega (arith, c.if-len-gt-MOST_PARTS.true, c.len.ensures.len, ap length c.in_ok-parts.ensures.parts, many)))
+    inr (inl (refl, c.in_ok-parts.ensures.whole, omega (arith, c.if-len-gt-MOST_PARTS.true, c.len.ensures.len, ap length c.in_ok-parts.ensures.parts, many)))
 
 pub returns-then-len-gt-MOST_SYMBOLS-clause-err : goal.returns-then-len-gt-MOST_SYMBOLS-clause-err
 returns-then-len-gt-MOST_SYMBOLS-clause-err c =
@@ -22,7 +22,7 @@ returns-then-len-gt-MOST_SYMBOLS-clause-err c =
     let few : HasFewParts c.args.below.now =
     omega (arith, c.if-len-gt-MOST_PARTS.false, c.len.ensures.len, ap length c.in_ok-parts.ensures.parts, many) in
     let over = length-table bytes_eq text_sound symbol_eq.lawful.laws 63 (symbol_uses c.args.below.now) in
-    inr (inr (refl, few, omega (arith, c.if-len-gt-MOST_SYMBOLS.true, c.len-2.ensures.len, ap length c.in_ok-parts.ensures.symbols, over)))
+    inr (inr (refl, c.in_ok-parts.ensures.whole, few, omega (arith, c.if-len-gt-MOST_SYMBOLS.true, c.len-2.ensures.len, ap length c.in_ok-parts.ensures.symbols, over)))
 
 pub returns-clause-parts : goal.returns-clause-parts
 returns-clause-parts c =

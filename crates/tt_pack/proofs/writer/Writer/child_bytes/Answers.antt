@@ -23,21 +23,21 @@ overflow_sub-last-2 c =
     let held : HeldAt (tables_of c.args.self.now.tables.now) c.args.tokens.now c.args.place c.in-Subtree.subtree c.args.self.now.sums.items =
     held_at _ _ _ _ _ _ c.requires.place c.requires.whole c.index-tokens-place.is c.in-Subtree.is c.requires.written.sums in
     let counted : vec_len c.args.self.now.sums ≡ length c.args.self.now.sums.items = search rules in
-    omega (arith, held.room, c.len-last.ensures, counted, c.usize_len.ensures)
+    omega (arith, held.room, c.len-last.ensures, counted, c.usize_len.ensures.value)
 
 pub index-requires-2 : goal.index-requires-2
 index-requires-2 c =
     let held : HeldAt (tables_of c.args.self.now.tables.now) c.args.tokens.now c.args.place c.in-Subtree.subtree c.args.self.now.sums.items =
     held_at _ _ _ _ _ _ c.requires.place c.requires.whole c.index-tokens-place.is c.in-Subtree.is c.requires.written.sums in
     let counted : vec_len c.args.self.now.sums ≡ length c.args.self.now.sums.items = search rules in
-    omega (arith, held.room, c.len-last.ensures, counted, c.usize_len.ensures)
+    omega (arith, held.room, c.len-last.ensures, counted, c.usize_len.ensures.value)
 
 pub overflow_sub-result : goal.overflow_sub-result
 overflow_sub-result c =
     let held : HeldAt (tables_of c.args.self.now.tables.now) c.args.tokens.now c.args.place c.in-Subtree.subtree c.args.self.now.sums.items =
     held_at _ _ _ _ _ _ c.requires.place c.requires.whole c.index-tokens-place.is c.in-Subtree.is c.requires.written.sums in
     let counted : vec_len c.args.self.now.sums ≡ length c.args.self.now.sums.items = search rules in
-    let sums = held_sums _ _ _ _ _ _ _ _ _ held (c.len-last.ensures ∙ counted) c.usize_len.ensures c.index.ensures c.index-2.ensures in
+    let sums = held_sums _ _ _ _ _ _ _ _ _ held (c.len-last.ensures ∙ counted) c.usize_len.ensures.value c.index.ensures c.index-2.ensures in
     omega (arith, held.within, sums.0, sums.1)
 
 pub returns : goal.returns
@@ -45,5 +45,5 @@ returns c =
     let held : HeldAt (tables_of c.args.self.now.tables.now) c.args.tokens.now c.args.place c.in-Subtree.subtree c.args.self.now.sums.items =
     held_at _ _ _ _ _ _ c.requires.place c.requires.whole c.index-tokens-place.is c.in-Subtree.is c.requires.written.sums in
     let counted : vec_len c.args.self.now.sums ≡ length c.args.self.now.sums.items = search rules in
-    let sums = held_sums _ _ _ _ _ _ _ _ _ held (c.len-last.ensures ∙ counted) c.usize_len.ensures c.index.ensures c.index-2.ensures in
+    let sums = held_sums _ _ _ _ _ _ _ _ _ held (c.len-last.ensures ∙ counted) c.usize_len.ensures.value c.index.ensures c.index-2.ensures in
     ap₂ ◌-◌ sums.0 sums.1 ∙ sym (ap (first_child_bytes (tables_of c.args.self.now.tables.now)) held.here)

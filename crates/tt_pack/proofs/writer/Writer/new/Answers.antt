@@ -1,5 +1,5 @@
 use Rattle.std.proofs.Common.{refl, ap, arith, length, rules}
-use Rattle.tt_base.specs.Stored.{bytes}
+use Rattle.tt_tables.specs.Stored.{bytes}
 use Rattle.tt_pack.proofs.writer.Writer.new.Goals as goal
 
 pub returns-clause-ok : goal.returns-clause-ok

@@ -1,7 +1,7 @@
 use Rattle.std.proofs.Common.{◌≡◌, List, ◌++◌, ◌∷◌, [], drop, ◌+◌, ◌<◌, ◌≤◌, length, inr, ap, sym, subst, ◌∙◌, refl, arith}
 use Rattle.tt_base.specs.declared.token_tree.TokenTree.{TokenTree}
 use Rattle.tt_base.specs.Forest.{IsWhole}
-use Rattle.tt_base.specs.Tables.{Tables}
+use Rattle.tt_tables.specs.Tables.{Tables}
 use Rattle.tt_pack.specs.TablesOf.{tables_of, HasUses}
 use Rattle.tt_pack.specs.Writing.{byte_count, child_bytes, first_child_bytes, IsWritten}
 use Rattle.tt_pack.proofs.Paired.{length-paired, paired_at}

@@ -1,0 +1,8 @@
+-- A token in numbers, and its bytes, written and read.
+pub mod Entry
+pub mod Header
+pub mod Leaf
+pub mod Read
+pub mod Reference
+pub mod SpanNumbers
+pub mod Words

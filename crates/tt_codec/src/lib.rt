@@ -1,0 +1,24 @@
+//! A token in numbers, and its bytes, written and read (docs/FORMATS.md).
+//!
+//! It knows nothing of tables or trees: parts and symbols are indices here.
+#![tactic(auto)]
+
+mod back_buf;
+mod encodable;
+mod entry;
+mod header_read;
+mod header_write;
+mod leaf_read;
+mod leaf_write;
+mod reference;
+mod span;
+mod words;
+
+pub use back_buf::BackBuf;
+pub use encodable::Encodable;
+pub use entry::{Entry, HeaderEntry, LeafEntry};
+pub use reference::Reference;
+pub use span::SpanNumbers;
+
+#[cfg(test)]
+mod tests;

@@ -1,0 +1,21 @@
+pub mod Ahead
+pub mod Cheapest
+mod CostRows
+pub mod Decoding
+pub mod Found
+pub mod HeaderFirst
+pub mod Known
+pub mod Lengths
+pub mod Lookups
+pub mod Members
+pub mod Naming
+pub mod Positions
+pub mod Shortest
+mod ShortestRows
+pub mod StoredAlike
+mod StoredRows
+pub mod TableOrder
+mod TableRows
+pub mod TableUnique
+pub mod TokenTables
+pub mod TreesAlike

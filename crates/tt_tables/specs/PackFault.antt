@@ -1,0 +1,39 @@
+-- Why a flat list is not packed: the first of these that holds, want of memory aside.
+use Rattle.std.specs.Prelude.{◌≡◌, ◌<◌, ◌≤◌, List, length}
+use Rattle.tt_base.specs.declared.fault.TtFault.{TtFault}
+use Rattle.tt_base.specs.declared.fault.TtFault.TheVariants.{Memory, NotOneSubtree, NoSuchPlace, NotALeaf, SuffixTooLong, BadScan, TooManyTokens, TooManySpanParts, TooManySymbols, TooManyBytes, PointsSpent}
+use Rattle.tt_base.specs.declared.token_tree.TokenTree.{TokenTree}
+use Rattle.tt_base.specs.Forest.{Root, flat_root, IsOneSubtree}
+use Rattle.tt_tables.specs.Stored.{root_parts, tables_below, bytes_below}
+
+-- the list is that of a tree of which this holds
+abbrev pub IsTreeWith : (Root → Type 0) → List TokenTree → Type 0
+IsTreeWith P tokens = (root : Root) × (tokens ≡ flat_root root) × P root
+
+-- too many span parts, the top's two included
+abbrev pub HasManyParts : Root → Type 0
+HasManyParts root = 268435456 < length (root_parts root)
+
+-- few parts, and too many symbols
+abbrev pub HasManySymbols : Root → Type 0
+HasManySymbols root = (length (root_parts root) ≤ 268435456) × (536870912 < length (tables_below root.children).symbols)
+
+-- few parts and symbols, and too many bytes below the top
+abbrev pub HasManyBytes : Root → Type 0
+HasManyBytes root =
+    (length (root_parts root) ≤ 268435456) × (length (tables_below root.children).symbols ≤ 536870912)
+    × (4294967295 < length (bytes_below root.children))
+
+-- the list is refused for that reason; memory may be refused for any list
+abbrev pub IsPackFault : List TokenTree → TtFault → Type 0
+IsPackFault tokens Memory = Unit {0}
+IsPackFault tokens NotOneSubtree = IsOneSubtree tokens → ⊥
+IsPackFault tokens NoSuchPlace = ⊥
+IsPackFault tokens NotALeaf = ⊥
+IsPackFault tokens SuffixTooLong = ⊥
+IsPackFault tokens BadScan = ⊥
+IsPackFault tokens TooManyTokens = ⊥
+IsPackFault tokens TooManySpanParts = IsTreeWith HasManyParts tokens
+IsPackFault tokens TooManySymbols = IsTreeWith HasManySymbols tokens
+IsPackFault tokens TooManyBytes = IsTreeWith HasManyBytes tokens
+IsPackFault tokens PointsSpent = ⊥

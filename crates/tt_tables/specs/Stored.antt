@@ -1,0 +1,64 @@
+-- What is stored for a tree: its bytes, the two tables, and the number of its tokens.
+use Rattle.std.specs.Prelude.{ℕ, suc, ◌≤◌, true, List, [], ◌∷◌, ◌++◌, length}
+use Rattle.std.specs.List.{AllByRecursion}
+use Rattle.tt_base.specs.declared.span.SpanPart.{SpanPart}
+use Rattle.tt_base.specs.declared.token_tree.TokenTree.TheVariants as token
+use Rattle.tt_base.specs.Fits.{TokenInRange}
+use Rattle.tt_base.specs.Forest.{Forest, end, leaf, node, Root, size, header, flat, flat_root}
+use Rattle.tt_codec.specs.Header.{format_4, top_entry}
+use Rattle.tt_base.specs.Span.{part_of}
+use Rattle.tt_tables.specs.Tables.{Tables, part_table, symbol_table, token_bytes}
+
+-- the bytes of each token in reading order; a header counts the bytes of all that it holds
+unfoldable pub bytes : Tables → Forest → List ℕ
+bytes tables end = []
+bytes tables (leaf it rest) = token_bytes tables (token.Leaf it) 0 ++ bytes tables rest
+bytes tables (node delimiter children rest) =
+    token_bytes tables (header delimiter (size children)) (length (bytes tables children)) ++ bytes tables children ++ bytes tables rest
+
+-- what is stored
+pub record Stored : Type 0 where
+  pub bytes : List ℕ
+  pub parts : List SpanPart
+  pub symbols : List (List ℕ)
+  pub len : ℕ
+
+-- the tables of what is below the top
+abbrev pub tables_below : Forest → Tables
+tables_below trees = record { parts = part_table (flat trees); symbols = symbol_table (flat trees) }
+
+-- the bytes of all below the top
+abbrev pub bytes_below : Forest → List ℕ
+bytes_below trees = bytes (tables_below trees) trees
+
+-- the top header in full, whatever its spans, and then the bytes below it
+abbrev pub root_bytes : Root → List ℕ
+root_bytes root =
+    format_4 true (top_entry (length (tables_below root.children).parts) root.delimiter (size root.children) (length (bytes_below root.children)))
+    ++ bytes_below root.children
+
+-- the parts used below the top, and always two more: those of the top's two spans
+abbrev pub root_parts : Root → List SpanPart
+root_parts root =
+    (tables_below root.children).parts ++ part_of root.delimiter.open_span ∷ part_of root.delimiter.close ∷ []
+
+-- what is stored for a tree
+unfoldable pub packed : Root → Stored
+packed root =
+    record {
+      bytes = root_bytes root;
+      parts = root_parts root;
+      symbols = (tables_below root.children).symbols;
+      len = suc (size root.children);
+    }
+
+-- the numbers of its tokens are in range
+abbrev pub IsInRange : Root → Type 0
+IsInRange root = AllByRecursion TokenInRange (flat_root root)
+
+-- the most tokens and bytes below the top, parts with the top's two, and symbols
+pub record IsWithinLimits (root : Root) : Type 0 where
+  pub tokens : size root.children ≤ 4294967295
+  pub parts : length (root_parts root) ≤ 268435456
+  pub symbols : length (tables_below root.children).symbols ≤ 536870912
+  pub bytes : length (bytes_below root.children) ≤ 4294967295
