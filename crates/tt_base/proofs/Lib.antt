@@ -4,6 +4,7 @@ pub mod CutLists
 pub mod EndPieces
 pub mod Equality
 pub mod FirstOwner
+pub mod HashInputs
 pub mod Literals
 pub mod Marks
 pub mod OneValue

@@ -1,3 +1,4 @@
+//! Delimiters, and the header of a subtree.
 ghost use Rattle.std.specs.Prelude.{◌≡◌, ◌<◌, ◌^◌};
 
 use crate::span::Span;

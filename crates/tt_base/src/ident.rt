@@ -1,3 +1,4 @@
+//! Names and keywords.
 ghost use Rattle.std.specs.Prelude.{◌≡◌, ◌↔◌, IsTrue, IfOk, IfErr, Some};
 ghost use Rattle.tt_base.specs.declared.fault.TtFault.TheVariants.{Memory};
 

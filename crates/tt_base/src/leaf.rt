@@ -1,3 +1,4 @@
+//! Tokens that hold no others.
 ghost use Rattle.std.specs.Prelude.{◌≡◌, Some};
 ghost use Rattle.tt_base.specs.declared.leaf.Leaf.TheVariants as leaf;
 

@@ -1,3 +1,4 @@
+//! Literals: one text with a suffix at its end.
 ghost use Rattle.std.specs.Prelude.{◌≡◌, ◌-◌, ◌≤◌, ◌++◌, length, IsCharBoundary, IfOk, IfErr, MatchOption, Some, if◌then◌else◌, nat_lt, ⊤};
 ghost use Rattle.std.proofs.Props.{props};
 ghost use Rattle.tt_base.specs.declared.fault.TtFault.TheVariants.{Memory, SuffixTooLong};

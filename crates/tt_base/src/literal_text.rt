@@ -1,3 +1,4 @@
+//! How a literal is printed.
 ghost use Rattle.std.specs.Prelude.{◌++◌, codes, Some};
 ghost use Rattle.std.specs.Fmt.{WritesOnOk};
 ghost use Rattle.tt_base.specs.LeafText.{hashes, literal_text};

@@ -1,3 +1,4 @@
+//! Punctuation, one character at a time.
 ghost use Rattle.std.specs.Prelude.{◌≡◌, Some, encode_utf8};
 
 use crate::span::{ErasedFileAstId, FileId, Span, SpanAnchor, SyntaxContext};

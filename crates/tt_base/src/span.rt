@@ -1,3 +1,4 @@
+//! Where a token comes from.
 ghost use Rattle.std.specs.Prelude.{◌≡◌};
 
 use crate::text_range::TextRange;

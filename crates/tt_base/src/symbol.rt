@@ -1,3 +1,4 @@
+//! Texts that are shared.
 ghost use Rattle.std.specs.Prelude.{◌≡◌, IfOk, IfErr, Some, bytes_eq, ⊤};
 ghost use Rattle.std.proofs.Common.{rules};
 ghost use Rattle.std.specs.Cmp.Rules.{comparing, hashing};

@@ -1,3 +1,4 @@
+//! What tokens say of themselves, beside the formats and the texts that are documented.
 ghost use Rattle.std.specs.Prelude.{◌≤◌};
 
 use crate::{

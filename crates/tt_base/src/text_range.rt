@@ -1,3 +1,4 @@
+//! Offsets and ranges in a text.
 ghost use Rattle.std.specs.Prelude.{◌≡◌, ◌+◌, ◌-◌, ◌^◌, ◌<◌, ◌≤◌, ◌↔◌, IsTrue, MatchOption};
 
 /// A place in a text, or a length, in bytes.

@@ -1,3 +1,4 @@
+//! One token of a flat list.
 ghost use Rattle.std.specs.Prelude.{◌≡◌};
 ghost use Rattle.tt_base.specs.declared.token_tree.TokenTree.TheVariants as token;
 

@@ -1,3 +1,4 @@
+//! Whether a flat list is one subtree.
 ghost use Rattle.std.specs.Prelude.{◌↔◌, IsTrue, IfOk};
 ghost use Rattle.tt_base.specs.Forest.{IsWhole, IsOneSubtree};
 

@@ -1,3 +1,4 @@
+//! The memory of a value with several owners.
 ghost use Rattle.std.specs.Prelude.{◌≡◌};
 ghost use Rattle.std_alloc.specs.Box.Ownership.{box_owns};
 

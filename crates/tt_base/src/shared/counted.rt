@@ -1,3 +1,4 @@
+//! Owners, and how many there are.
 ghost use Rattle.std.specs.Prelude.{◌≡◌, IfOk, IfSome, IsTrue};
 ghost use Rattle.tt_base.specs.Counting.{counted_owns, counted_shares};
 

@@ -1,3 +1,4 @@
+//! When a shared value goes.
 use super::*;
 use std::collections::VecDeque;
 use std::mem::size_of;

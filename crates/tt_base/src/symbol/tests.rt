@@ -1,3 +1,4 @@
+//! Symbols and copies of them.
 ghost use Rattle.std.specs.Prelude.{◌≡◌};
 
 use crate::{Ident, Leaf, LitKind, Literal, Punct, Symbol, TokenTree, TtFault};

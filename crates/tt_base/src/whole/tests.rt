@@ -1,3 +1,4 @@
+//! Flat lists that are one subtree, and some that are not.
 use crate::{Delimiter, Leaf, Punct, Subtree, TokenTree, is_one_subtree};
 use std::alloc::Global;
 use std::process::Abort;
