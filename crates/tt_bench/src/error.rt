@@ -1,3 +1,4 @@
+//! Why nothing was timed.
 use std::io;
 use thiserror::Error;
 use tt_base::TtFault;

@@ -1,3 +1,4 @@
+//! Equal texts as one symbol.
 use std::alloc::Global;
 use std::collections::HashSet;
 use tt_base::{Ident, Leaf, Literal, Symbol, TokenTree, TtFault};

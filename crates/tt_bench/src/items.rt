@@ -1,3 +1,4 @@
+//! From `item` lines to tokens.
 use crate::error::BenchError;
 use crate::interner::Interner;
 use memchr::memchr;

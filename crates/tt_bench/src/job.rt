@@ -1,3 +1,4 @@
+//! What the arguments ask for.
 use crate::error::BenchError;
 use crate::items::Texts;
 use crate::mode::Mode;

@@ -1,3 +1,4 @@
+//! What a walk looks at in a token.
 use std::hash::{FoldHasher, Hash, Hasher};
 use tt_base::TokenTree;
 

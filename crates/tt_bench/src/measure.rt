@@ -1,3 +1,4 @@
+//! One measurement, from a job to its line of numbers.
 use crate::error::BenchError;
 use crate::items::items;
 use crate::job::Job;

@@ -1,3 +1,4 @@
+//! What can be timed.
 use crate::error::BenchError;
 use crate::walk::Walk;
 use std::str::FromStr;

@@ -1,3 +1,4 @@
+//! Processor time.
 use std::io;
 use std::time::{CpuClock, Duration};
 

@@ -1,3 +1,4 @@
+//! Each mode once, and what is wrong with arguments and lines.
 use crate::error::BenchError;
 use crate::items::Texts;
 use crate::job::Job;

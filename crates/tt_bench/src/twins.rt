@@ -1,3 +1,4 @@
+//! Two equal trees.
 use crate::error::BenchError;
 use crate::items::{Texts, items};
 use std::alloc::Global;

@@ -1,3 +1,4 @@
+//! Ways to read a tree.
 use crate::error::BenchError;
 use crate::look::{AtStart, AtWhole, Look};
 use tt_base::TokenTree;

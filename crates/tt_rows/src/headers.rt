@@ -1,80 +1,54 @@
+//! The bytes of a header under given tables.
 use crate::lists::header;
 use crate::tables::{Spot, Tables};
-use std::alloc::Global;
-use std::process::Abort;
 use std::test::Fail;
 use tt_base::DelimiterKind;
 
-// The two spans of a pair of parentheses, and its bytes.
-type Pair<'a> = (Spot, Spot, &'a [u8]);
-
-// Parentheses around nothing have these bytes.
-fn are_empty(rt: &impl Abort, alloc: Global, pairs: &[Pair]) -> Result<(), Fail> {
-    let tables = Tables::new(alloc, 129, &[])?;
-    for (opening, closing, bytes) in pairs {
-        let token = header(DelimiterKind::Parenthesis, *opening, *closing, 0)?;
-        tables.give(rt, alloc, &token, 0, bytes)?;
-    }
-    Ok(())
-}
-
 #[test]
-fn delimiters_of_length_1(rt: HostRuntime) -> Result<(), Fail> {
-    let open = (0, 0, 1);
-    let pairs: [Pair; 5] = [
-        (open, (0, 1, 2), b"\x40\x00\x00\x00\x00\x00\x00"),
-        (open, (0, 300, 301), b"\x00\x0b\x00\x00\x20\x00\x00"),
-        (open, (0, 2047, 2048), b"\xc0\x3f\x00\x00\xe0\x00\x00"),
+fn parentheses_around_nothing(rt: HostRuntime) -> Result<(), Fail> {
+    let alloc = rt.alloc();
+    let tables = Tables::new(alloc, 129, &[])?;
+    let long = (0, 0, 2);
+    let short = (0, 0, 1);
+    let cases: [(Spot, Spot, &[u8]); 12] = [
+        (short, (0, 1, 2), b"\x40\x00\x00\x00\x00\x00\x00"),
+        (short, (0, 300, 301), b"\x00\x0b\x00\x00\x20\x00\x00"),
+        (short, (0, 2047, 2048), b"\xc0\x3f\x00\x00\xe0\x00\x00"),
         (
-            open,
+            short,
             (0, 2048, 2049),
             b"\x40\x00\x00\x00\x05\x40\x00\x00\x04\x00\x00\x00\x00\x00\x00\x00\x00",
         ),
         (
             (0, 5, 6),
-            (0, 0, 1),
+            short,
             b"\x40\x80\x02\x00\x05\x40\x00\x00\x00\x00\x00\x00\x00\x00\x00\x00\x00",
         ),
-    ];
-    are_empty(&rt, rt.alloc(), &pairs)
-}
-
-#[test]
-fn delimiters_of_length_2(rt: HostRuntime) -> Result<(), Fail> {
-    let open = (0, 0, 2);
-    let pairs: [Pair; 4] = [
-        (open, (0, 7, 9), b"\x80\x00\x00\x00\xe1\x00\x00"),
-        (open, (0, 8, 10), b"\x80\x00\x00\x00\x02\x08\x00\x00\x00"),
-        (open, (0, 255, 257), b"\x80\x00\x00\x00\x02\xff\x00\x00\x00"),
+        (long, (0, 7, 9), b"\x80\x00\x00\x00\xe1\x00\x00"),
+        (long, (0, 8, 10), b"\x80\x00\x00\x00\x02\x08\x00\x00\x00"),
+        (long, (0, 255, 257), b"\x80\x00\x00\x00\x02\xff\x00\x00\x00"),
         (
-            open,
+            long,
             (0, 256, 258),
             b"\x80\x00\x00\x00\x05\x80\x00\x80\x00\x00\x00\x00\x00\x00\x00\x00\x00",
         ),
-    ];
-    are_empty(&rt, rt.alloc(), &pairs)
-}
-
-#[test]
-fn closes_of_another_part(rt: HostRuntime) -> Result<(), Fail> {
-    let pairs: [Pair; 3] = [
         (
             (0, 10, 11),
             (1, 20, 21),
             b"\x40\x00\x05\x00\x22\x0a\x00\x00\x00",
         ),
+        (short, (127, 1, 2), b"\x40\x00\x00\x00\xe2\x01\x00\x0f\x00"),
         (
-            (0, 0, 1),
-            (127, 1, 2),
-            b"\x40\x00\x00\x00\xe2\x01\x00\x0f\x00",
-        ),
-        (
-            (0, 0, 1),
+            short,
             (128, 1, 2),
             b"\x40\x00\x00\x00\x05\x40\xc0\x00\x00\x10\x00\x00\x00\x00\x00\x00\x00\x00\x00\x00\x00",
         ),
     ];
-    are_empty(&rt, rt.alloc(), &pairs)
+    for (opening, closing, bytes) in cases {
+        let token = header(DelimiterKind::Parenthesis, opening, closing, 0)?;
+        tables.give(&rt, alloc, &token, 0, bytes)?;
+    }
+    Ok(())
 }
 
 #[test]

@@ -1,3 +1,4 @@
+//! What is stored for a list, and when two stored trees are equal.
 use crate::lists::{braces, header, ident, punct, stored, top};
 use crate::tables::span;
 use std::alloc::Global;

@@ -1,3 +1,4 @@
+//! Reading what is stored, token by token and sibling by sibling.
 ghost use Rattle.std.specs.Prelude.{◌≤◌, ◌<◌, ◌-◌};
 
 use crate::lists::{braces, header, ident, is_read, punct, stored, top};

@@ -1,3 +1,4 @@
+//! The bytes of a leaf under given tables.
 use crate::tables::{Tables, span};
 use std::alloc::Global;
 use std::test::Fail;
