@@ -28,7 +28,7 @@ is_within it most = nat_le it.opening.start it.closing.start && nat_le (distance
 
 -- both delimiters are of one part, and what is between them is small
 abbrev pub is_small : HeaderEntry → Bool
-is_small it = it.opening.part == it.closing.part && nat_le it.len 255 && nat_le it.bytes 255
+is_small it = it.opening.part == it.closing.part && nat_le it.len 255 && nat_le it.child_bytes 255
 
 -- small, with delimiters of length 1
 abbrev pub has_format_1 : HeaderEntry → Bool
@@ -41,28 +41,28 @@ has_format_2 it = is_small it && it.opening.length == it.closing.length && is_wi
 -- delimiters of one length, and one of the first parts at the close
 abbrev pub has_format_3 : HeaderEntry → Bool
 has_format_3 it =
-    nat_le it.len 255 && nat_le it.bytes 4095 && it.opening.length == it.closing.length && is_within it 255 && nat_le it.closing.part 127
+    nat_le it.len 255 && nat_le it.child_bytes 4095 && it.opening.length == it.closing.length && is_within it 255 && nat_le it.closing.part 127
 
 -- the low bits of the distance stand in the span where its length would
 abbrev pub format_1 : HeaderEntry → List ℕ
 format_1 it =
     span_bytes false 0 (record { part = it.opening.part; start = it.opening.start; length = distance it % 256 })
-    ++ (delimiter_number it.kind * 8 + distance it / 256 * 32) ∷ it.len ∷ it.bytes ∷ []
+    ++ (delimiter_number it.kind * 8 + distance it / 256 * 32) ∷ it.len ∷ it.child_bytes ∷ []
 
 -- the distance stands beside the kind
 abbrev pub format_2 : HeaderEntry → List ℕ
-format_2 it = span_bytes false 0 it.opening ++ (1 + delimiter_number it.kind * 8 + distance it * 32) ∷ it.len ∷ it.bytes ∷ []
+format_2 it = span_bytes false 0 it.opening ++ (1 + delimiter_number it.kind * 8 + distance it * 32) ∷ it.len ∷ it.child_bytes ∷ []
 
 -- the close's part stands beside the kind and beside the number of bytes
 abbrev pub format_3 : HeaderEntry → List ℕ
 format_3 it =
     span_bytes false 0 it.opening
-    ++ (2 + delimiter_number it.kind * 8 + it.closing.part % 8 * 32) ∷ distance it ∷ it.len ∷ to_le_bytes w16 (it.bytes * 16 + it.closing.part / 8)
+    ++ (2 + delimiter_number it.kind * 8 + it.closing.part % 8 * 32) ∷ distance it ∷ it.len ∷ to_le_bytes w16 (it.child_bytes * 16 + it.closing.part / 8)
 
 -- everything in full; heavy demands the longest form of both spans
 abbrev pub format_4 : (heavy : Bool) → HeaderEntry → List ℕ
 format_4 heavy it =
-    span_bytes heavy 0 it.opening ++ (5 + delimiter_number it.kind * 8) ∷ span_bytes heavy 0 it.closing ++ word it.len ++ word it.bytes
+    span_bytes heavy 0 it.opening ++ (5 + delimiter_number it.kind * 8) ∷ span_bytes heavy 0 it.closing ++ word it.len ++ word it.child_bytes
 
 -- the first format whose condition holds
 unfoldable pub header_bytes : HeaderEntry → List ℕ
@@ -77,17 +77,17 @@ pub record HeaderFits (it : HeaderEntry) : Type 0 where
   pub opening : SpanFits it.opening
   pub closing : SpanFits it.closing
   pub len : it.len < 2 ^ 32
-  pub bytes : it.bytes < 2 ^ 32
+  pub child_bytes : it.child_bytes < 2 ^ 32
 
 -- the top header in numbers: its two parts have the two indices from `part` on
-abbrev pub top_entry : (part : ℕ) → Delimiter → (len bytes : ℕ) → HeaderEntry
-top_entry part delimiter len bytes =
+abbrev pub top_entry : (part : ℕ) → Delimiter → (len child_bytes : ℕ) → HeaderEntry
+top_entry part delimiter len child_bytes =
     record {
       opening = span_numbers part delimiter.open_span;
       closing = span_numbers (suc part) delimiter.close;
       kind = delimiter.kind;
       len = len;
-      bytes = bytes;
+      child_bytes = child_bytes;
     }
 
 -- ---- how it is read
@@ -106,7 +106,7 @@ start_behind start distance = if nat_lt (start + distance) (2 ^ 32) then Some (s
 abbrev pub format_1_at : (high : ℕ) → SpanNumbers → List ℕ → Read Entry
 format_1_at high numbers rest =
     delimiter_kind_from (high % 4) >>= λ kind. start_behind numbers.start (numbers.length + high / 4 * 256) >>= λ close.
-    byte_at rest >>= λ len. byte_at len.1 >>= λ bytes.
+    byte_at rest >>= λ len. byte_at len.1 >>= λ child_bytes.
     Some (
       of_header
           (record {
@@ -114,16 +114,16 @@ format_1_at high numbers rest =
             closing = record { part = numbers.part; start = close; length = 1 };
             kind = kind;
             len = len.0;
-            bytes = bytes.0;
+            child_bytes = child_bytes.0;
           }),
-      bytes.1,
+      child_bytes.1,
     )
 
 -- the same of the second format
 abbrev pub format_2_at : (high : ℕ) → SpanNumbers → List ℕ → Read Entry
 format_2_at high numbers rest =
     delimiter_kind_from (high % 4) >>= λ kind. start_behind numbers.start (high / 4) >>= λ close.
-    byte_at rest >>= λ len. byte_at len.1 >>= λ bytes.
+    byte_at rest >>= λ len. byte_at len.1 >>= λ child_bytes.
     Some (
       of_header
           (record {
@@ -131,9 +131,9 @@ format_2_at high numbers rest =
             closing = record { part = numbers.part; start = close; length = numbers.length };
             kind = kind;
             len = len.0;
-            bytes = bytes.0;
+            child_bytes = child_bytes.0;
           }),
-      bytes.1,
+      child_bytes.1,
     )
 
 -- the same of the third format
@@ -148,7 +148,7 @@ format_3_at high numbers rest =
             closing = record { part = high / 4 + half.0 % 16 * 8; start = close; length = numbers.length };
             kind = kind;
             len = len.0;
-            bytes = half.0 / 16;
+            child_bytes = half.0 / 16;
           }),
       half.1,
     )
@@ -156,5 +156,5 @@ format_3_at high numbers rest =
 -- the same of the fourth format
 abbrev pub format_4_at : (high : ℕ) → SpanNumbers → List ℕ → Read Entry
 format_4_at high numbers rest =
-    delimiter_kind_from high >>= λ kind. span_at rest >>= λ closing. word_at closing.1 >>= λ len. word_at len.1 >>= λ bytes.
-    Some (of_header (record { opening = numbers; closing = closing.0.numbers; kind = kind; len = len.0; bytes = bytes.0 }), bytes.1)
+    delimiter_kind_from high >>= λ kind. span_at rest >>= λ closing. word_at closing.1 >>= λ len. word_at len.1 >>= λ child_bytes.
+    Some (of_header (record { opening = numbers; closing = closing.0.numbers; kind = kind; len = len.0; child_bytes = child_bytes.0 }), child_bytes.1)

@@ -30,7 +30,7 @@ pub struct HeaderEntry {
     /// How many tokens follow that belong to it, at any depth.
     pub len: u32,
     /// In how many bytes these are stored.
-    pub bytes: u32,
+    pub child_bytes: u32,
 }
 
 /// A token in numbers, as it is stored.

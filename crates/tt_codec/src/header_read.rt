@@ -38,7 +38,7 @@ impl SpanNumbers {
         let kind = delimiter_kind_from(high % 4)?;
         let start = self.start_behind(self.length as u64 + high as u64 / 4 * 256)?;
         let (len, rest) = split_byte(from)?;
-        let (bytes, rest) = split_byte(rest)?;
+        let (child_bytes, rest) = split_byte(rest)?;
         let header = HeaderEntry {
             opening: SpanNumbers { length: 1, ..self },
             closing: SpanNumbers {
@@ -48,7 +48,7 @@ impl SpanNumbers {
             },
             kind,
             len: len as u32,
-            bytes: bytes as u32,
+            child_bytes: child_bytes as u32,
         };
         Some((Entry::Header(header), rest))
     }
@@ -60,13 +60,13 @@ impl SpanNumbers {
         let kind = delimiter_kind_from(high % 4)?;
         let start = self.start_behind(high as u64 / 4)?;
         let (len, rest) = split_byte(from)?;
-        let (bytes, rest) = split_byte(rest)?;
+        let (child_bytes, rest) = split_byte(rest)?;
         let header = HeaderEntry {
             opening: self,
             closing: SpanNumbers { start, ..self },
             kind,
             len: len as u32,
-            bytes: bytes as u32,
+            child_bytes: child_bytes as u32,
         };
         Some((Entry::Header(header), rest))
     }
@@ -89,7 +89,7 @@ impl SpanNumbers {
             },
             kind,
             len: len as u32,
-            bytes: half as u32 / 16,
+            child_bytes: half as u32 / 16,
         };
         Some((Entry::Header(header), rest))
     }
@@ -101,13 +101,13 @@ impl SpanNumbers {
         let kind = delimiter_kind_from(high)?;
         let (closing, rest) = Spanned::read(from)?;
         let (len, rest) = split_word(rest)?;
-        let (bytes, rest) = split_word(rest)?;
+        let (child_bytes, rest) = split_word(rest)?;
         let header = HeaderEntry {
             opening: self,
             closing: closing.numbers,
             kind,
             len,
-            bytes,
+            child_bytes,
         };
         Some((Entry::Header(header), rest))
     }

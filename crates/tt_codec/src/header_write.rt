@@ -12,9 +12,9 @@ use tt_base::{Subtree, TtFault};
 
 impl HeaderEntry {
     /// The top's header, whose two parts have the two indices from `part` on, and which holds so many bytes.
-    pub fn of_top(part: u32, top: Subtree, bytes: u32) -> HeaderEntry
+    pub fn of_top(part: u32, top: Subtree, child_bytes: u32) -> HeaderEntry
         requires { part + 1 < 2 ^ 28 }
-        ensures value { result ≡ top_entry part top.delimiter top.len bytes }
+        ensures value { result ≡ top_entry part top.delimiter top.len child_bytes }
         ensures fits { HeaderFits result }
         ensures range { TokenInRange (token.Subtree top) }
     {
@@ -23,7 +23,7 @@ impl HeaderEntry {
             closing: SpanNumbers::of_span(part + 1, &top.delimiter.close),
             kind: top.delimiter.kind,
             len: top.len,
-            bytes,
+            child_bytes,
         }
     }
 
@@ -38,7 +38,7 @@ impl HeaderEntry {
     fn is_small(self) -> bool
         ensures { result ≡ is_small self }
     {
-        self.opening.part == self.closing.part && self.len <= 255 && self.bytes <= 255
+        self.opening.part == self.closing.part && self.len <= 255 && self.child_bytes <= 255
     }
 
     // Whether the first format can say it.
@@ -63,7 +63,7 @@ impl HeaderEntry {
         ensures { result ≡ has_format_3 self }
     {
         self.len <= 255
-            && self.bytes <= 4095
+            && self.child_bytes <= 4095
             && self.opening.length == self.closing.length
             && self.is_within(255)
             && self.closing.part <= 127
@@ -82,7 +82,7 @@ impl HeaderEntry {
             start: self.opening.start,
             length: distance % 256,
         };
-        into.put_byte(self.bytes as u8)?;
+        into.put_byte(self.child_bytes as u8)?;
         into.put_byte(self.len as u8)?;
         into.put_byte(self.kind as u8 * 8 + (distance / 256) as u8 * 32)?;
         span.write(into, 0, false)
@@ -96,7 +96,7 @@ impl HeaderEntry {
         ensures err { IfErr result (λ fault. fault ≡ Memory) }
     {
         let distance = (self.closing.start - self.opening.start) as u8;
-        into.put_byte(self.bytes as u8)?;
+        into.put_byte(self.child_bytes as u8)?;
         into.put_byte(self.len as u8)?;
         into.put_byte(1 + self.kind as u8 * 8 + distance * 32)?;
         self.opening.write(into, 0, false)
@@ -111,7 +111,7 @@ impl HeaderEntry {
     {
         let distance = (self.closing.start - self.opening.start) as u8;
         let part = self.closing.part as u8;
-        into.put_half(self.bytes as u16 * 16 + part as u16 / 8)?;
+        into.put_half(self.child_bytes as u16 * 16 + part as u16 / 8)?;
         into.put_byte(self.len as u8)?;
         into.put_byte(distance)?;
         into.put_byte(2 + self.kind as u8 * 8 + part % 8 * 32)?;
@@ -124,7 +124,7 @@ impl HeaderEntry {
         ensures ok { OnOk result (into.new ≡ format_4 heavy self ++ into.old) }
         ensures err { IfErr result (λ fault. fault ≡ Memory) }
     {
-        into.put_word(self.bytes)?;
+        into.put_word(self.child_bytes)?;
         into.put_word(self.len)?;
         self.closing.write(into, 0, heavy)?;
         into.put_byte(5 + self.kind as u8 * 8)?;

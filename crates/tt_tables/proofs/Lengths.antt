@@ -81,7 +81,7 @@ format_3_length it = wider 9 17 _ (lit≤ tt) (lit≤ tt) (both 4 12 5 5 (span_b
 format_4_length : (it : HeaderEntry) → IsBetween 5 33 (format_4 false it)
 format_4_length it =
     wider 17 33 _ (lit≤ tt) (lit≤ tt)
-    (both 13 29 4 4 _ (word it.bytes)
+    (both 13 29 4 4 _ (word it.child_bytes)
     (both 9 25 4 4 _ (word it.len)
     (both 4 12 5 13 (span_bytes false 0 it.opening) _ (span_length 0 it.opening)
     (both 1 1 4 12 ((5 + delimiter_number it.kind * 8) ∷ []) (span_bytes false 0 it.closing) (lit≤ tt, lit≤ tt) (span_length 0 it.closing)))

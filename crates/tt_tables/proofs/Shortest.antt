@@ -57,7 +57,7 @@ module _ (it : HeaderEntry) where
   count_4 =
       omega (
         arith,
-        length-append ((span_bytes false 0 it.opening ++ (5 + delimiter_number it.kind * 8) ∷ span_bytes false 0 it.closing) ++ word it.len) (word it.bytes),
+        length-append ((span_bytes false 0 it.opening ++ (5 + delimiter_number it.kind * 8) ∷ span_bytes false 0 it.closing) ++ word it.len) (word it.child_bytes),
         length-append (span_bytes false 0 it.opening ++ (5 + delimiter_number it.kind * 8) ∷ span_bytes false 0 it.closing) (word it.len),
         length-append (span_bytes false 0 it.opening) ((5 + delimiter_number it.kind * 8) ∷ span_bytes false 0 it.closing),
       )
