@@ -6,6 +6,7 @@ ghost use Rattle.tt_codec.specs.Leaf.{plain_at};
 ghost use Rattle.tt_codec.specs.Read.{IsRead};
 
 use crate::back_buf::BackBuf;
+use crate::header_read::{read_format_1, read_format_2, read_format_3, read_format_4};
 use crate::span::{SpanNumbers, Spanned};
 use crate::words::split_byte;
 use tt_base::{DelimiterKind, IdentIsRaw, LitKind, Spacing, TtFault};
@@ -53,13 +54,51 @@ impl Entry {
         }
     }
 
+    // A leaf whose span has no extra bits, of which the first byte has been read.
+    fn read_plain_leaf(
+        numbers: SpanNumbers,
+        low: u8,
+        high: u8,
+        from: &[u8],
+    ) -> Option<(Entry, &[u8])>
+        ensures { IsRead (as_entry (plain_at low high numbers from.now)) result }
+    {
+        let (leaf, rest) = LeafEntry::read_plain(numbers, low, high, from)?;
+        Some((Entry::Leaf(leaf), rest))
+    }
+
+    // A token whose span has no extra bits, of which the first byte has been read.
+    fn read_plain(numbers: SpanNumbers, low: u8, high: u8, from: &[u8]) -> Option<(Entry, &[u8])>
+        ensures { IsRead (plain_entry_at low high numbers from.now) result }
+    {
+        match low {
+            0 => read_format_1(numbers, high, from),
+            1 => read_format_2(numbers, high, from),
+            2 => read_format_3(numbers, high, from),
+            5 => read_format_4(numbers, high, from),
+            _ => Entry::read_plain_leaf(numbers, low, high, from),
+        }
+    }
+
+    // A token, of which the span has been read.
+    fn read_behind(span: Spanned, from: &[u8]) -> Option<(Entry, &[u8])>
+        ensures { IsRead (entry_behind_span span.extra span.numbers from.now) result }
+    {
+        if span.extra == 0 {
+            let (control, rest) = split_byte(from)?;
+            return Entry::read_plain(span.numbers, control % 8, control / 8, rest);
+        }
+        let (leaf, rest) = LeafEntry::read_behind(span, from)?;
+        Some((Entry::Leaf(leaf), rest))
+    }
+
     // The token that the bytes begin with, and the bytes behind it.
     #[tactic(auto, unfolding(crate::specs::Entry::entry_at))]
     fn split(from: &[u8]) -> Option<(Entry, &[u8])>
         ensures { IsRead (entry_at from.now) result }
     {
         let (span, rest) = Spanned::read(from)?;
-        span.numbers.read_entry_behind(span.extra, rest)
+        Entry::read_behind(span, rest)
     }
 
     /// The token that the bytes begin with, and the bytes behind it.
@@ -68,40 +107,5 @@ impl Entry {
         ensures again { EntriesAgain from.now result }
     {
         Entry::split(from)
-    }
-}
-
-impl SpanNumbers {
-    // A leaf whose span has no extra bits, of which the first byte has been read.
-    fn read_plain_leaf(self, low: u8, high: u8, from: &[u8]) -> Option<(Entry, &[u8])>
-        ensures { IsRead (as_entry (plain_at low high self from.now)) result }
-    {
-        let (leaf, rest) = self.read_plain(low, high, from)?;
-        Some((Entry::Leaf(leaf), rest))
-    }
-
-    // A token whose span has no extra bits, of which the first byte has been read.
-    fn read_plain_entry(self, low: u8, high: u8, from: &[u8]) -> Option<(Entry, &[u8])>
-        ensures { IsRead (plain_entry_at low high self from.now) result }
-    {
-        match low {
-            0 => self.read_format_1(high, from),
-            1 => self.read_format_2(high, from),
-            2 => self.read_format_3(high, from),
-            5 => self.read_format_4(high, from),
-            _ => self.read_plain_leaf(low, high, from),
-        }
-    }
-
-    // A token, of which the span has been read.
-    fn read_entry_behind(self, extra: u32, from: &[u8]) -> Option<(Entry, &[u8])>
-        ensures { IsRead (entry_behind_span extra self from.now) result }
-    {
-        if extra == 0 {
-            let (control, rest) = split_byte(from)?;
-            return self.read_plain_entry(control % 8, control / 8, rest);
-        }
-        let (leaf, rest) = self.read_behind(extra, from)?;
-        Some((Entry::Leaf(leaf), rest))
     }
 }

@@ -21,94 +21,95 @@ fn delimiter_kind_from(number: u8) -> Option<DelimiterKind>
     }
 }
 
-impl SpanNumbers {
-    // The offset so far behind the start, where four bytes can say it.
-    #[tactic(auto, unfolding(crate::specs::Header::start_behind))]
-    fn start_behind(self, distance: u64) -> Option<u32>
-        requires { distance < 2 ^ 63 }
-        ensures { result ≡ start_behind self.start distance }
-    {
-        u32::try_from(self.start as u64 + distance).ok()
-    }
+// The offset so far behind a start, where four bytes can say it.
+#[tactic(auto, unfolding(crate::specs::Header::start_behind))]
+fn start_behind(start: u32, distance: u64) -> Option<u32>
+    requires { distance < 2 ^ 63 }
+    ensures { result ≡ start_behind start distance }
+{
+    u32::try_from(start as u64 + distance).ok()
+}
 
-    /// A header of the first format, of which the span and one byte have been read: that byte's high bits are given.
-    pub(crate) fn read_format_1(self, high: u8, from: &[u8]) -> Option<(Entry, &[u8])>
-        ensures { IsRead (format_1_at high self from.now) result }
-    {
-        let kind = delimiter_kind_from(high % 4)?;
-        let start = self.start_behind(self.length as u64 + high as u64 / 4 * 256)?;
-        let (len, rest) = split_byte(from)?;
-        let (child_bytes, rest) = split_byte(rest)?;
-        let header = HeaderEntry {
-            opening: SpanNumbers { length: 1, ..self },
-            closing: SpanNumbers {
-                part: self.part,
-                start,
-                length: 1,
-            },
-            kind,
-            len: len as u32,
-            child_bytes: child_bytes as u32,
-        };
-        Some((Entry::Header(header), rest))
-    }
+/// A header of the first format, of which the span and one byte have been read: that byte's high bits are given.
+pub(crate) fn read_format_1(opening: SpanNumbers, high: u8, from: &[u8]) -> Option<(Entry, &[u8])>
+    ensures { IsRead (format_1_at high opening from.now) result }
+{
+    let kind = delimiter_kind_from(high % 4)?;
+    let start = start_behind(opening.start, opening.length as u64 + high as u64 / 4 * 256)?;
+    let (len, rest) = split_byte(from)?;
+    let (child_bytes, rest) = split_byte(rest)?;
+    let header = HeaderEntry {
+        opening: SpanNumbers {
+            length: 1,
+            ..opening
+        },
+        closing: SpanNumbers {
+            part: opening.part,
+            start,
+            length: 1,
+        },
+        kind,
+        len: len as u32,
+        child_bytes: child_bytes as u32,
+    };
+    Some((Entry::Header(header), rest))
+}
 
-    /// The same of the second format.
-    pub(crate) fn read_format_2(self, high: u8, from: &[u8]) -> Option<(Entry, &[u8])>
-        ensures { IsRead (format_2_at high self from.now) result }
-    {
-        let kind = delimiter_kind_from(high % 4)?;
-        let start = self.start_behind(high as u64 / 4)?;
-        let (len, rest) = split_byte(from)?;
-        let (child_bytes, rest) = split_byte(rest)?;
-        let header = HeaderEntry {
-            opening: self,
-            closing: SpanNumbers { start, ..self },
-            kind,
-            len: len as u32,
-            child_bytes: child_bytes as u32,
-        };
-        Some((Entry::Header(header), rest))
-    }
+/// The same of the second format.
+pub(crate) fn read_format_2(opening: SpanNumbers, high: u8, from: &[u8]) -> Option<(Entry, &[u8])>
+    ensures { IsRead (format_2_at high opening from.now) result }
+{
+    let kind = delimiter_kind_from(high % 4)?;
+    let start = start_behind(opening.start, high as u64 / 4)?;
+    let (len, rest) = split_byte(from)?;
+    let (child_bytes, rest) = split_byte(rest)?;
+    let header = HeaderEntry {
+        opening,
+        closing: SpanNumbers { start, ..opening },
+        kind,
+        len: len as u32,
+        child_bytes: child_bytes as u32,
+    };
+    Some((Entry::Header(header), rest))
+}
 
-    /// The same of the third format.
-    pub(crate) fn read_format_3(self, high: u8, from: &[u8]) -> Option<(Entry, &[u8])>
-        ensures { IsRead (format_3_at high self from.now) result }
-    {
-        let kind = delimiter_kind_from(high % 4)?;
-        let (distance, rest) = split_byte(from)?;
-        let start = self.start_behind(distance as u64)?;
-        let (len, rest) = split_byte(rest)?;
-        let (half, rest) = split_half(rest)?;
-        let header = HeaderEntry {
-            opening: self,
-            closing: SpanNumbers {
-                part: high as u32 / 4 + half as u32 % 16 * 8,
-                start,
-                length: self.length,
-            },
-            kind,
-            len: len as u32,
-            child_bytes: half as u32 / 16,
-        };
-        Some((Entry::Header(header), rest))
-    }
+/// The same of the third format.
+pub(crate) fn read_format_3(opening: SpanNumbers, high: u8, from: &[u8]) -> Option<(Entry, &[u8])>
+    ensures { IsRead (format_3_at high opening from.now) result }
+{
+    let kind = delimiter_kind_from(high % 4)?;
+    let (distance, rest) = split_byte(from)?;
+    let start = start_behind(opening.start, distance as u64)?;
+    let (len, rest) = split_byte(rest)?;
+    let (half, rest) = split_half(rest)?;
+    let header = HeaderEntry {
+        opening,
+        closing: SpanNumbers {
+            part: high as u32 / 4 + half as u32 % 16 * 8,
+            start,
+            length: opening.length,
+        },
+        kind,
+        len: len as u32,
+        child_bytes: half as u32 / 16,
+    };
+    Some((Entry::Header(header), rest))
+}
 
-    /// The same of the fourth format.
-    pub(crate) fn read_format_4(self, high: u8, from: &[u8]) -> Option<(Entry, &[u8])>
-        ensures { IsRead (format_4_at high self from.now) result }
-    {
-        let kind = delimiter_kind_from(high)?;
-        let (closing, rest) = Spanned::read(from)?;
-        let (len, rest) = split_word(rest)?;
-        let (child_bytes, rest) = split_word(rest)?;
-        let header = HeaderEntry {
-            opening: self,
-            closing: closing.numbers,
-            kind,
-            len,
-            child_bytes,
-        };
-        Some((Entry::Header(header), rest))
-    }
+/// The same of the fourth format.
+pub(crate) fn read_format_4(opening: SpanNumbers, high: u8, from: &[u8]) -> Option<(Entry, &[u8])>
+    ensures { IsRead (format_4_at high opening from.now) result }
+{
+    let kind = delimiter_kind_from(high)?;
+    let (closing, rest) = Spanned::read(from)?;
+    let (len, rest) = split_word(rest)?;
+    let (child_bytes, rest) = split_word(rest)?;
+    let header = HeaderEntry {
+        opening,
+        closing: closing.numbers,
+        kind,
+        len,
+        child_bytes,
+    };
+    Some((Entry::Header(header), rest))
 }

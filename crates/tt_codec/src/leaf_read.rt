@@ -5,7 +5,7 @@ ghost use Rattle.tt_codec.specs.Leaf.{raw_from, spacing_from, plain_kind, kind_a
 
 use crate::entry::LeafEntry;
 use crate::reference::Reference;
-use crate::span::SpanNumbers;
+use crate::span::{SpanNumbers, Spanned};
 use crate::words::{split_byte, split_word};
 use tt_base::{IdentIsRaw, LitKind, Spacing};
 
@@ -78,37 +78,51 @@ fn read_char(from: &[u8]) -> Option<(char, &[u8])>
     Some((char, rest))
 }
 
-impl SpanNumbers {
+impl LeafEntry {
     // A literal, of which all but the reference has been read.
-    fn read_literal(self, kind: LitKind, suffix_len: u8, from: &[u8]) -> Option<(LeafEntry, &[u8])>
-        ensures { IsRead (literal_at kind suffix_len self from.now) result }
+    fn read_literal(
+        numbers: SpanNumbers,
+        kind: LitKind,
+        suffix_len: u8,
+        from: &[u8],
+    ) -> Option<(LeafEntry, &[u8])>
+        ensures { IsRead (literal_at kind suffix_len numbers from.now) result }
     {
         let (symbol, rest) = Reference::read(from)?;
-        let leaf = LeafEntry::Literal(symbol.index, kind, suffix_len, self);
+        let leaf = LeafEntry::Literal(symbol.index, kind, suffix_len, numbers);
         Some((leaf, rest))
     }
 
     // A literal of the long form, of which the first byte has been read.
-    fn read_long_literal(self, number: u8, from: &[u8]) -> Option<(LeafEntry, &[u8])>
-        ensures { IsRead (long_literal_at number self from.now) result }
+    fn read_long_literal(
+        numbers: SpanNumbers,
+        number: u8,
+        from: &[u8],
+    ) -> Option<(LeafEntry, &[u8])>
+        ensures { IsRead (long_literal_at number numbers from.now) result }
     {
         let (kind, rest) = read_kind(number, from)?;
         let (suffix_len, rest) = split_byte(rest)?;
-        self.read_literal(kind, suffix_len, rest)
+        LeafEntry::read_literal(numbers, kind, suffix_len, rest)
     }
 
     // A punct that is not ASCII, of which the first byte has been read.
-    fn read_other_punct(self, number: u8, from: &[u8]) -> Option<(LeafEntry, &[u8])>
-        ensures { IsRead (other_punct_at number self from.now) result }
+    fn read_other_punct(numbers: SpanNumbers, number: u8, from: &[u8]) -> Option<(LeafEntry, &[u8])>
+        ensures { IsRead (other_punct_at number numbers from.now) result }
     {
         let (char, rest) = read_char(from)?;
         let spacing = spacing_from(number)?;
-        Some((LeafEntry::Punct(char, spacing, self), rest))
+        Some((LeafEntry::Punct(char, spacing, numbers), rest))
     }
 
     /// A leaf whose span has no extra bits, of which the first byte has been read.
-    pub(crate) fn read_plain(self, low: u8, high: u8, from: &[u8]) -> Option<(LeafEntry, &[u8])>
-        ensures { IsRead (plain_at low high self from.now) result }
+    pub(crate) fn read_plain(
+        numbers: SpanNumbers,
+        low: u8,
+        high: u8,
+        from: &[u8],
+    ) -> Option<(LeafEntry, &[u8])>
+        ensures { IsRead (plain_at low high numbers from.now) result }
     {
         if low == 3 {
             let kind = if high % 2 == 0 {
@@ -116,7 +130,7 @@ impl SpanNumbers {
             } else {
                 LitKind::StrRaw(1)
             };
-            return self.read_literal(kind, high / 2, from);
+            return LeafEntry::read_literal(numbers, kind, high / 2, from);
         }
         if low == 4 {
             let kind = if high % 2 == 0 {
@@ -124,29 +138,33 @@ impl SpanNumbers {
             } else {
                 LitKind::Integer
             };
-            return self.read_literal(kind, high / 2, from);
+            return LeafEntry::read_literal(numbers, kind, high / 2, from);
         }
         if low == 6 {
-            return self.read_other_punct(high, from);
+            return LeafEntry::read_other_punct(numbers, high, from);
         }
         if low == 7 {
-            return self.read_long_literal(high, from);
+            return LeafEntry::read_long_literal(numbers, high, from);
         }
         None
     }
 
     // An ident, of which the span has been read.
-    fn read_ident(self, from: &[u8]) -> Option<(LeafEntry, &[u8])>
-        ensures { IsRead (ident_at self from.now) result }
+    fn read_ident(numbers: SpanNumbers, from: &[u8]) -> Option<(LeafEntry, &[u8])>
+        ensures { IsRead (ident_at numbers from.now) result }
     {
         let (symbol, rest) = Reference::read(from)?;
-        let leaf = LeafEntry::Ident(symbol.index, raw_from(symbol.tag), self);
+        let leaf = LeafEntry::Ident(symbol.index, raw_from(symbol.tag), numbers);
         Some((leaf, rest))
     }
 
     // An ASCII punct, of which the span has been read. `hidden` is 1 where it is joint hidden.
-    fn read_ascii_punct(self, hidden: u32, from: &[u8]) -> Option<(LeafEntry, &[u8])>
-        ensures { IsRead (ascii_at hidden self from.now) result }
+    fn read_ascii_punct(
+        numbers: SpanNumbers,
+        hidden: u32,
+        from: &[u8],
+    ) -> Option<(LeafEntry, &[u8])>
+        ensures { IsRead (ascii_at hidden numbers from.now) result }
     {
         let (byte, rest) = split_byte(from)?;
         let spacing = if hidden == 1 {
@@ -156,21 +174,21 @@ impl SpanNumbers {
         } else {
             Spacing::Joint
         };
-        let leaf = LeafEntry::Punct((byte / 2) as char, spacing, self);
+        let leaf = LeafEntry::Punct((byte / 2) as char, spacing, numbers);
         Some((leaf, rest))
     }
 
     /// A leaf, of which the span has been read.
-    pub(crate) fn read_behind(self, extra: u32, from: &[u8]) -> Option<(LeafEntry, &[u8])>
-        ensures { IsRead (behind_span extra self from.now) result }
+    pub(crate) fn read_behind(span: Spanned, from: &[u8]) -> Option<(LeafEntry, &[u8])>
+        ensures { IsRead (behind_span span.extra span.numbers from.now) result }
     {
-        if extra == 0 {
+        if span.extra == 0 {
             let (control, rest) = split_byte(from)?;
-            return self.read_plain(control % 8, control / 8, rest);
+            return LeafEntry::read_plain(span.numbers, control % 8, control / 8, rest);
         }
-        if extra == 2 {
-            return self.read_ident(from);
+        if span.extra == 2 {
+            return LeafEntry::read_ident(span.numbers, from);
         }
-        self.read_ascii_punct(extra / 2, from)
+        LeafEntry::read_ascii_punct(span.numbers, span.extra / 2, from)
     }
 }

@@ -92,60 +92,68 @@ fn write_form(into: &mut BackBuf, kind: LitKind, suffix_len: u8) -> Result<(), T
     write_long_form(into, kind, suffix_len)
 }
 
-impl SpanNumbers {
-    // Puts a punct that stands here before the bytes.
-    fn write_punct(self, into: &mut BackBuf, char: char, spacing: Spacing) -> Result<(), TtFault>
-        requires { self.part < 2 ^ 28 }
-        ensures ok { OnOk result (into.new ≡ punct_bytes char spacing self ++ into.old) }
-        ensures err { IfErr result (λ fault. fault ≡ Memory) }
-    {
-        let code = char as u32;
-        let spacing = spacing as u8;
-        if code < 128 {
-            into.put_byte(code as u8 * 2 + spacing % 2)?;
-            return self.write(into, 1 + spacing as u32 / 2 * 2, false);
-        }
-        into.put_word(code)?;
-        into.put_byte(6 + spacing * 8)?;
-        self.write(into, 0, false)
+// Puts a punct before the bytes.
+fn write_punct(
+    into: &mut BackBuf,
+    char: char,
+    spacing: Spacing,
+    numbers: SpanNumbers,
+) -> Result<(), TtFault>
+    requires { numbers.part < 2 ^ 28 }
+    ensures ok { OnOk result (into.new ≡ punct_bytes char spacing numbers ++ into.old) }
+    ensures err { IfErr result (λ fault. fault ≡ Memory) }
+{
+    let code = char as u32;
+    let spacing = spacing as u8;
+    if code < 128 {
+        into.put_byte(code as u8 * 2 + spacing % 2)?;
+        return numbers.write(into, 1 + spacing as u32 / 2 * 2, false);
     }
+    into.put_word(code)?;
+    into.put_byte(6 + spacing * 8)?;
+    numbers.write(into, 0, false)
+}
 
-    // Puts a literal that stands here before the bytes.
-    fn write_literal(
-        self,
-        into: &mut BackBuf,
-        symbol: u32,
-        kind: LitKind,
-        suffix_len: u8,
-    ) -> Result<(), TtFault>
-        requires part { self.part < 2 ^ 28 }
-        requires symbol { symbol < 2 ^ 29 }
-        ensures ok { OnOk result (into.new ≡ span_bytes false 0 self ++ literal_form kind suffix_len ++ reference_bytes symbol 0 ++ into.old) }
-        ensures err { IfErr result (λ fault. fault ≡ Memory) }
-    {
-        let reference = Reference {
-            index: symbol,
-            tag: 0,
-        };
-        reference.write(into)?;
-        write_form(into, kind, suffix_len)?;
-        self.write(into, 0, false)
-    }
+// Puts a literal before the bytes.
+fn write_literal(
+    into: &mut BackBuf,
+    symbol: u32,
+    kind: LitKind,
+    suffix_len: u8,
+    numbers: SpanNumbers,
+) -> Result<(), TtFault>
+    requires part { numbers.part < 2 ^ 28 }
+    requires symbol { symbol < 2 ^ 29 }
+    ensures ok { OnOk result (into.new ≡ span_bytes false 0 numbers ++ literal_form kind suffix_len ++ reference_bytes symbol 0 ++ into.old) }
+    ensures err { IfErr result (λ fault. fault ≡ Memory) }
+{
+    let reference = Reference {
+        index: symbol,
+        tag: 0,
+    };
+    reference.write(into)?;
+    write_form(into, kind, suffix_len)?;
+    numbers.write(into, 0, false)
+}
 
-    // Puts an ident that stands here before the bytes.
-    fn write_ident(self, into: &mut BackBuf, symbol: u32, is_raw: IdentIsRaw) -> Result<(), TtFault>
-        requires part { self.part < 2 ^ 28 }
-        requires symbol { symbol < 2 ^ 29 }
-        ensures ok { OnOk result (into.new ≡ span_bytes false 2 self ++ reference_bytes symbol (raw_number is_raw) ++ into.old) }
-        ensures err { IfErr result (λ fault. fault ≡ Memory) }
-    {
-        let reference = Reference {
-            index: symbol,
-            tag: is_raw as u32,
-        };
-        reference.write(into)?;
-        self.write(into, 2, false)
-    }
+// Puts an ident before the bytes.
+fn write_ident(
+    into: &mut BackBuf,
+    symbol: u32,
+    is_raw: IdentIsRaw,
+    numbers: SpanNumbers,
+) -> Result<(), TtFault>
+    requires part { numbers.part < 2 ^ 28 }
+    requires symbol { symbol < 2 ^ 29 }
+    ensures ok { OnOk result (into.new ≡ span_bytes false 2 numbers ++ reference_bytes symbol (raw_number is_raw) ++ into.old) }
+    ensures err { IfErr result (λ fault. fault ≡ Memory) }
+{
+    let reference = Reference {
+        index: symbol,
+        tag: is_raw as u32,
+    };
+    reference.write(into)?;
+    numbers.write(into, 2, false)
 }
 
 impl LeafEntry {
@@ -156,10 +164,10 @@ impl LeafEntry {
         ensures err { IfErr result (λ fault. fault ≡ Memory) }
     {
         match self {
-            LeafEntry::Punct(char, spacing, numbers) => numbers.write_punct(into, char, spacing),
-            LeafEntry::Ident(symbol, is_raw, numbers) => numbers.write_ident(into, symbol, is_raw),
+            LeafEntry::Punct(char, spacing, numbers) => write_punct(into, char, spacing, numbers),
+            LeafEntry::Ident(symbol, is_raw, numbers) => write_ident(into, symbol, is_raw, numbers),
             LeafEntry::Literal(symbol, kind, suffix_len, numbers) => {
-                numbers.write_literal(into, symbol, kind, suffix_len)
+                write_literal(into, symbol, kind, suffix_len, numbers)
             }
         }
     }
