@@ -26,34 +26,34 @@ distance it = it.closing.start - it.opening.start
 abbrev pub is_within : HeaderEntry → ℕ → Bool
 is_within it most = nat_le it.opening.start it.closing.start && nat_le (distance it) most
 
--- both delimiters are of one part, and what is between them is small
+-- both delimiters are of one part, and what is between them can be counted in one byte each
 abbrev pub is_small : HeaderEntry → Bool
 is_small it = it.opening.part == it.closing.part && nat_le it.len 255 && nat_le it.child_bytes 255
 
--- small, with delimiters of length 1
+-- small, with delimiters of length 1, whose distance has 11 bits
 abbrev pub has_format_1 : HeaderEntry → Bool
 has_format_1 it = is_small it && it.opening.length == 1 && it.closing.length == 1 && is_within it 2047
 
--- small, with delimiters of one length, near to each other
+-- small, with delimiters of one length, whose distance has 3 bits
 abbrev pub has_format_2 : HeaderEntry → Bool
 has_format_2 it = is_small it && it.opening.length == it.closing.length && is_within it 7
 
--- delimiters of one length, and one of the first parts at the close
+-- delimiters of one length, with 8 bits for the count, 12 for the bytes, 8 for the distance and 7 for the close's part
 abbrev pub has_format_3 : HeaderEntry → Bool
 has_format_3 it =
     nat_le it.len 255 && nat_le it.child_bytes 4095 && it.opening.length == it.closing.length && is_within it 255 && nat_le it.closing.part 127
 
--- the low bits of the distance stand in the span where its length would
+-- the 8 low bits of the distance stand in the span where its length would, the others behind the kind
 abbrev pub format_1 : HeaderEntry → List ℕ
 format_1 it =
     span_bytes false 0 (record { part = it.opening.part; start = it.opening.start; length = distance it % 256 })
     ++ (delimiter_number it.kind * 8 + distance it / 256 * 32) ∷ it.len ∷ it.child_bytes ∷ []
 
--- the distance stands beside the kind
+-- the distance stands behind the kind
 abbrev pub format_2 : HeaderEntry → List ℕ
 format_2 it = span_bytes false 0 it.opening ++ (1 + delimiter_number it.kind * 8 + distance it * 32) ∷ it.len ∷ it.child_bytes ∷ []
 
--- the close's part stands beside the kind and beside the number of bytes
+-- the 3 low bits of the close's part stand behind the kind, the 4 others in front of the number of bytes
 abbrev pub format_3 : HeaderEntry → List ℕ
 format_3 it =
     span_bytes false 0 it.opening

@@ -6,6 +6,7 @@ ghost use Rattle.tt_codec.specs.Leaf.{plain_at};
 ghost use Rattle.tt_codec.specs.Read.{IsRead};
 
 use crate::back_buf::BackBuf;
+use crate::form::{FORM_BITS, FORM_MASK, FORMAT_1, FORMAT_2, FORMAT_3, FORMAT_4, PLAIN};
 use crate::header_read::{read_format_1, read_format_2, read_format_3, read_format_4};
 use crate::span::{SpanNumbers, Spanned};
 use crate::words::split_byte;
@@ -72,10 +73,10 @@ impl Entry {
         ensures { IsRead (plain_entry_at low high numbers from.now) result }
     {
         match low {
-            0 => read_format_1(numbers, high, from),
-            1 => read_format_2(numbers, high, from),
-            2 => read_format_3(numbers, high, from),
-            5 => read_format_4(numbers, high, from),
+            FORMAT_1 => read_format_1(numbers, high, from),
+            FORMAT_2 => read_format_2(numbers, high, from),
+            FORMAT_3 => read_format_3(numbers, high, from),
+            FORMAT_4 => read_format_4(numbers, high, from),
             _ => Entry::read_plain_leaf(numbers, low, high, from),
         }
     }
@@ -84,9 +85,14 @@ impl Entry {
     fn read_behind(span: Spanned, from: &[u8]) -> Option<(Entry, &[u8])>
         ensures { IsRead (entry_behind_span span.extra span.numbers from.now) result }
     {
-        if span.extra == 0 {
+        if span.extra == PLAIN {
             let (control, rest) = split_byte(from)?;
-            return Entry::read_plain(span.numbers, control % 8, control / 8, rest);
+            return Entry::read_plain(
+                span.numbers,
+                control & FORM_MASK,
+                control >> FORM_BITS,
+                rest,
+            );
         }
         let (leaf, rest) = LeafEntry::read_behind(span, from)?;
         Some((Entry::Leaf(leaf), rest))

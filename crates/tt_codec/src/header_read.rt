@@ -4,6 +4,7 @@ ghost use Rattle.tt_codec.specs.Header.{delimiter_kind_from, start_behind, forma
 ghost use Rattle.tt_codec.specs.Read.{IsRead};
 
 use crate::entry::{Entry, HeaderEntry};
+use crate::form::{HIGH_BITS, KIND_BITS, KIND_MASK, LOW_DISTANCE_BITS, PART_BITS, PART_MASK};
 use crate::span::{SpanNumbers, Spanned};
 use crate::words::{split_byte, split_half, split_word};
 use tt_base::DelimiterKind;
@@ -34,8 +35,9 @@ fn start_behind(start: u32, distance: u64) -> Option<u32>
 pub(crate) fn read_format_1(opening: SpanNumbers, high: u8, from: &[u8]) -> Option<(Entry, &[u8])>
     ensures { IsRead (format_1_at high opening from.now) result }
 {
-    let kind = delimiter_kind_from(high % 4)?;
-    let start = start_behind(opening.start, opening.length as u64 + high as u64 / 4 * 256)?;
+    let kind = delimiter_kind_from(high & KIND_MASK)?;
+    let high_distance = ((high >> KIND_BITS) as u64) << LOW_DISTANCE_BITS;
+    let start = start_behind(opening.start, opening.length as u64 + high_distance)?;
     let (len, rest) = split_byte(from)?;
     let (child_bytes, rest) = split_byte(rest)?;
     let header = HeaderEntry {
@@ -59,8 +61,8 @@ pub(crate) fn read_format_1(opening: SpanNumbers, high: u8, from: &[u8]) -> Opti
 pub(crate) fn read_format_2(opening: SpanNumbers, high: u8, from: &[u8]) -> Option<(Entry, &[u8])>
     ensures { IsRead (format_2_at high opening from.now) result }
 {
-    let kind = delimiter_kind_from(high % 4)?;
-    let start = start_behind(opening.start, high as u64 / 4)?;
+    let kind = delimiter_kind_from(high & KIND_MASK)?;
+    let start = start_behind(opening.start, (high >> KIND_BITS) as u64)?;
     let (len, rest) = split_byte(from)?;
     let (child_bytes, rest) = split_byte(rest)?;
     let header = HeaderEntry {
@@ -77,7 +79,7 @@ pub(crate) fn read_format_2(opening: SpanNumbers, high: u8, from: &[u8]) -> Opti
 pub(crate) fn read_format_3(opening: SpanNumbers, high: u8, from: &[u8]) -> Option<(Entry, &[u8])>
     ensures { IsRead (format_3_at high opening from.now) result }
 {
-    let kind = delimiter_kind_from(high % 4)?;
+    let kind = delimiter_kind_from(high & KIND_MASK)?;
     let (distance, rest) = split_byte(from)?;
     let start = start_behind(opening.start, distance as u64)?;
     let (len, rest) = split_byte(rest)?;
@@ -85,13 +87,13 @@ pub(crate) fn read_format_3(opening: SpanNumbers, high: u8, from: &[u8]) -> Opti
     let header = HeaderEntry {
         opening,
         closing: SpanNumbers {
-            part: high as u32 / 4 + half as u32 % 16 * 8,
+            part: (high >> KIND_BITS) as u32 + (((half & PART_MASK) as u32) << HIGH_BITS),
             start,
             length: opening.length,
         },
         kind,
         len: len as u32,
-        child_bytes: half as u32 / 16,
+        child_bytes: (half >> PART_BITS) as u32,
     };
     Some((Entry::Header(header), rest))
 }

@@ -4,6 +4,7 @@ ghost use Rattle.tt_codec.specs.Read.{IsRead};
 ghost use Rattle.tt_codec.specs.Leaf.{raw_from, spacing_from, plain_kind, kind_at, literal_at, long_literal_at, char_at, other_punct_at, plain_at, ident_at, ascii_at, behind_span};
 
 use crate::entry::LeafEntry;
+use crate::form::{FORM_BITS, FORM_MASK, IDENT, LONG_LITERAL, OTHER_PUNCT, PLAIN};
 use crate::reference::Reference;
 use crate::span::{SpanNumbers, Spanned};
 use crate::words::{split_byte, split_word};
@@ -125,25 +126,25 @@ impl LeafEntry {
         ensures { IsRead (plain_at low high numbers from.now) result }
     {
         if low == 3 {
-            let kind = if high % 2 == 0 {
+            let kind = if high & 1 == 0 {
                 LitKind::Str
             } else {
                 LitKind::StrRaw(1)
             };
-            return LeafEntry::read_literal(numbers, kind, high / 2, from);
+            return LeafEntry::read_literal(numbers, kind, high >> 1, from);
         }
         if low == 4 {
-            let kind = if high % 2 == 0 {
+            let kind = if high & 1 == 0 {
                 LitKind::StrRaw(0)
             } else {
                 LitKind::Integer
             };
-            return LeafEntry::read_literal(numbers, kind, high / 2, from);
+            return LeafEntry::read_literal(numbers, kind, high >> 1, from);
         }
-        if low == 6 {
+        if low == OTHER_PUNCT {
             return LeafEntry::read_other_punct(numbers, high, from);
         }
-        if low == 7 {
+        if low == LONG_LITERAL {
             return LeafEntry::read_long_literal(numbers, high, from);
         }
         None
@@ -169,12 +170,12 @@ impl LeafEntry {
         let (byte, rest) = split_byte(from)?;
         let spacing = if hidden == 1 {
             Spacing::JointHidden
-        } else if byte % 2 == 0 {
+        } else if byte & 1 == 0 {
             Spacing::Alone
         } else {
             Spacing::Joint
         };
-        let leaf = LeafEntry::Punct((byte / 2) as char, spacing, numbers);
+        let leaf = LeafEntry::Punct((byte >> 1) as char, spacing, numbers);
         Some((leaf, rest))
     }
 
@@ -182,13 +183,18 @@ impl LeafEntry {
     pub(crate) fn read_behind(span: Spanned, from: &[u8]) -> Option<(LeafEntry, &[u8])>
         ensures { IsRead (behind_span span.extra span.numbers from.now) result }
     {
-        if span.extra == 0 {
+        if span.extra == PLAIN {
             let (control, rest) = split_byte(from)?;
-            return LeafEntry::read_plain(span.numbers, control % 8, control / 8, rest);
+            return LeafEntry::read_plain(
+                span.numbers,
+                control & FORM_MASK,
+                control >> FORM_BITS,
+                rest,
+            );
         }
-        if span.extra == 2 {
+        if span.extra == IDENT {
             return LeafEntry::read_ident(span.numbers, from);
         }
-        LeafEntry::read_ascii_punct(span.numbers, span.extra / 2, from)
+        LeafEntry::read_ascii_punct(span.numbers, span.extra >> 1, from)
     }
 }

@@ -7,6 +7,10 @@ ghost use Rattle.tt_codec.specs.SpanNumbers.{span_bytes};
 
 use crate::back_buf::BackBuf;
 use crate::entry::LeafEntry;
+use crate::form::{
+    ASCII_PUNCT, FORM_BITS, HIDDEN_PUNCT, IDENT, LONG_LITERAL, MOST_SHORT_SUFFIX, OTHER_PUNCT,
+    PLAIN, SHORT_KIND_BITS,
+};
 use crate::reference::Reference;
 use crate::span::SpanNumbers;
 use tt_base::{IdentIsRaw, LitKind, Spacing, TtFault};
@@ -69,12 +73,11 @@ fn write_long_form(into: &mut BackBuf, kind: LitKind, suffix_len: u8) -> Result<
     ensures ok { OnOk result (into.new ≡ long_form kind suffix_len ++ into.old) }
     ensures err { IfErr result (λ fault. fault ≡ Memory) }
 {
-    let control = 7 + kind_number(kind) * 8;
     into.put_byte(suffix_len)?;
     if let Some(count) = hash_count(kind) {
         into.put_byte(count)?;
     }
-    into.put_byte(control)
+    into.put_byte(LONG_LITERAL | kind_number(kind) << FORM_BITS)
 }
 
 // Puts a kind and a suffix length before the bytes.
@@ -86,8 +89,8 @@ fn write_form(into: &mut BackBuf, kind: LitKind, suffix_len: u8) -> Result<(), T
     let Some(number) = short_number(kind) else {
         return write_long_form(into, kind, suffix_len);
     };
-    if suffix_len <= 15 {
-        return into.put_byte(number + suffix_len * 16);
+    if suffix_len <= MOST_SHORT_SUFFIX {
+        return into.put_byte(number | suffix_len << SHORT_KIND_BITS);
     }
     write_long_form(into, kind, suffix_len)
 }
@@ -103,15 +106,17 @@ fn write_punct(
     ensures ok { OnOk result (into.new ≡ punct_bytes char spacing numbers ++ into.old) }
     ensures err { IfErr result (λ fault. fault ≡ Memory) }
 {
-    let code = char as u32;
-    let spacing = spacing as u8;
-    if code < 128 {
-        into.put_byte(code as u8 * 2 + spacing % 2)?;
-        return numbers.write(into, 1 + spacing as u32 / 2 * 2, false);
+    if char.is_ascii() {
+        into.put_byte((char as u8) << 1 | spacing as u8 & 1)?;
+        let extra = match spacing {
+            Spacing::Alone | Spacing::Joint => ASCII_PUNCT,
+            Spacing::JointHidden => HIDDEN_PUNCT,
+        };
+        return numbers.write(into, extra, false);
     }
-    into.put_word(code)?;
-    into.put_byte(6 + spacing * 8)?;
-    numbers.write(into, 0, false)
+    into.put_word(char as u32)?;
+    into.put_byte(OTHER_PUNCT | (spacing as u8) << FORM_BITS)?;
+    numbers.write(into, PLAIN, false)
 }
 
 // Puts a literal before the bytes.
@@ -133,7 +138,7 @@ fn write_literal(
     };
     reference.write(into)?;
     write_form(into, kind, suffix_len)?;
-    numbers.write(into, 0, false)
+    numbers.write(into, PLAIN, false)
 }
 
 // Puts an ident before the bytes.
@@ -153,7 +158,7 @@ fn write_ident(
         tag: is_raw as u32,
     };
     reference.write(into)?;
-    numbers.write(into, 2, false)
+    numbers.write(into, IDENT, false)
 }
 
 impl LeafEntry {

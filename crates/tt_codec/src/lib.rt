@@ -6,6 +6,7 @@
 mod back_buf;
 mod encodable;
 mod entry;
+mod form;
 mod header_read;
 mod header_write;
 mod leaf_read;
@@ -17,8 +18,8 @@ mod words;
 pub use back_buf::BackBuf;
 pub use encodable::Encodable;
 pub use entry::{Entry, HeaderEntry, LeafEntry};
-pub use reference::Reference;
-pub use span::SpanNumbers;
+pub use reference::{MOST_SYMBOLS, Reference};
+pub use span::{MOST_PARTS, SpanNumbers};
 
 #[cfg(test)]
 mod tests;
