@@ -1,13 +1,15 @@
 -- A written header is read again, whatever follows it.
-use Rattle.std.proofs.Common.{◌≡◌, ℕ, ◌+◌, ◌*◌, ◌/◌, ◌%◌, ◌^◌, ◌<◌, ◌≤◌, Bool, true, false, cond, ◌==◌, nat_le, nat_lt, List, ◌∷◌, ◌++◌, Option, Some, None, append_assoc, refl, ap, ap₂, sym, ◌∙◌, arith, w16}
+use Rattle.std.proofs.Common.{◌≡◌, ℕ, ◌+◌, ◌*◌, ◌/◌, ◌%◌, ◌^◌, ◌<◌, ◌≤◌, Bool, true, false, cond, ◌==◌, nat_le, nat_lt, List, ◌∷◌, ◌++◌, Option, Some, None, append_assoc, refl, ap, ap₂, sym, ◌∙◌, arith, w16, if◌then◌else◌}
 use Rattle.std.specs.Int.{to_le_bytes}
 use Rattle.std.proofs.lemmas.Bool.{and_parts, eqb-true, leb-true, ltb-false}
 use Rattle.tt_base.specs.declared.delimiter.DelimiterKind.{DelimiterKind}
 use Rattle.tt_base.specs.declared.delimiter.DelimiterKind.TheVariants.{Parenthesis, Brace, Bracket, Invisible}
 use Rattle.tt_codec.specs.declared.entry.Entry.{Entry}
 use Rattle.tt_codec.specs.declared.entry.Entry.TheVariants.{Header as of_header}
-use Rattle.tt_codec.specs.Header.{delimiter_kind_from, start_behind, HeaderFits, delimiter_number, distance, is_within, is_small, has_format_1, has_format_2, has_format_3, format_1, format_2, format_3, format_4, header_bytes}
-use Rattle.tt_codec.specs.Entry.{plain_entry_at, entry_behind_span, entry_at}
+use Rattle.tt_codec.specs.Kinds.{delimiter_number, delimiter_kind_from}
+use Rattle.tt_codec.specs.Header.{start_behind, HeaderFits, distance, is_within, is_small, has_format_1, has_format_2, has_format_3, format_1, format_2, format_3, format_4, header_bytes, format_1_at, format_2_at, format_3_at, format_4_at}
+use Rattle.tt_codec.specs.Entry.{as_entry, entry_behind_span, entry_at}
+use Rattle.tt_codec.specs.Leaf.{plain_at}
 use Rattle.tt_codec.specs.declared.entry.HeaderEntry.{HeaderEntry}
 use Rattle.tt_codec.specs.declared.span.Spanned.{Spanned}
 use Rattle.tt_codec.specs.Read.{Read, ◌>>=◌, word_at}
@@ -15,6 +17,15 @@ use Rattle.tt_codec.specs.declared.span.SpanNumbers.{SpanNumbers}
 use Rattle.tt_codec.specs.SpanNumbers.{SpanFits, word, span_bytes}
 use Rattle.tt_codec.proofs.ReferenceReading.{half_at-half}
 use Rattle.tt_codec.proofs.SpanReading.{word_at-word, span_again}
+
+-- a token whose byte behind the span has these low and high bits
+abbrev pub by_form : (low high control : ℕ) → SpanNumbers → List ℕ → Read Entry
+by_form low high control numbers rest =
+    if low == 0 then format_1_at high numbers rest
+    else if low == 1 then format_2_at high numbers rest
+    else if low == 2 then format_3_at high numbers rest
+    else if low == 5 then format_4_at high numbers rest
+    else as_entry (plain_at control numbers rest)
 
 -- a token, and the bytes behind it
 abbrev pub token_read : Entry → List ℕ → Read Entry
@@ -110,7 +121,7 @@ pub format_1_again : (it : HeaderEntry) (rest : List ℕ) → HeaderFits it → 
 format_1_again it rest fits e =
     ap entry_at (append_assoc (span_bytes false 0 at) _ rest)
     ∙ entry_after_span false 0 at _ (omega arith) (record { part = fits.opening.part; start = fits.opening.start; length = short })
-    ∙ ap₂ (λ low high. plain_entry_at low high at (it.len ∷ it.child_bytes ∷ rest)) low_bits high_bits
+    ∙ ap₂ (λ low high. by_form low high first at (it.len ∷ it.child_bytes ∷ rest)) low_bits high_bits
     ∙ kind_then (high % 4) it.kind _ kind_bits
     ∙ close_then it.opening.start (distance it % 256 + high / 4 * 256) it.closing.start _ start_again fits.closing.start
     ∙ header_is it _ _ _ _ _ _ _ rest refl refl (sym facts.1) facts.0 refl (sym facts.2) refl
@@ -157,7 +168,7 @@ pub format_2_again : (it : HeaderEntry) (rest : List ℕ) → HeaderFits it → 
 format_2_again it rest fits e =
     ap entry_at (append_assoc (span_bytes false 0 it.opening) _ rest)
     ∙ entry_after_span false 0 it.opening _ (omega arith) fits.opening
-    ∙ ap₂ (λ low high. plain_entry_at low high it.opening (it.len ∷ it.child_bytes ∷ rest)) low_bits high_bits
+    ∙ ap₂ (λ low high. by_form low high first it.opening (it.len ∷ it.child_bytes ∷ rest)) low_bits high_bits
     ∙ kind_then (high % 4) it.kind _ kind_bits
     ∙ close_then it.opening.start (high / 4) it.closing.start _ start_again fits.closing.start
     ∙ header_is it _ _ _ _ _ _ _ rest refl refl refl facts.0 refl facts.1 refl
@@ -200,7 +211,7 @@ pub format_3_again : (it : HeaderEntry) (rest : List ℕ) → HeaderFits it → 
 format_3_again it rest fits e =
     ap entry_at (append_assoc (span_bytes false 0 it.opening) _ rest)
     ∙ entry_after_span false 0 it.opening _ (omega arith) fits.opening
-    ∙ ap₂ (λ low high. plain_entry_at low high it.opening (distance it ∷ it.len ∷ to_le_bytes w16 both ++ rest)) low_bits high_bits
+    ∙ ap₂ (λ low high. by_form low high first it.opening (distance it ∷ it.len ∷ to_le_bytes w16 both ++ rest)) low_bits high_bits
     ∙ kind_then (high % 4) it.kind _ kind_bits
     ∙ close_then it.opening.start (distance it) it.closing.start _ start_again fits.closing.start
     ∙ ap (λ r. r >>= behind_half) (half_at-half both rest both_bound)
@@ -261,7 +272,7 @@ pub format_4_again : (heavy : Bool) (it : HeaderEntry) (rest : List ℕ) → Hea
 format_4_again heavy it rest fits =
     ap entry_at regrouped
     ∙ entry_after_span heavy 0 it.opening _ (omega arith) fits.opening
-    ∙ ap₂ (λ low high. plain_entry_at low high it.opening (span_bytes heavy 0 it.closing ++ (word it.len ++ (word it.child_bytes ++ rest)))) low_bits high_bits
+    ∙ ap₂ (λ low high. by_form low high first it.opening (span_bytes heavy 0 it.closing ++ (word it.len ++ (word it.child_bytes ++ rest)))) low_bits high_bits
     ∙ kind_then number it.kind _ refl
     ∙ ap (λ r. r >>= behind_closing) (span_again heavy 0 it.closing (word it.len ++ (word it.child_bytes ++ rest)) (omega arith) fits.closing)
     ∙ ap (λ r. r >>= behind_len) (word_at-word it.len (word it.child_bytes ++ rest) fits.len)

@@ -2,21 +2,13 @@
 use Rattle.std.specs.Int.{w16, to_le_bytes}
 use Rattle.std.specs.Prelude.{ℕ, suc, ◌+◌, ◌-◌, ◌*◌, ◌/◌, ◌%◌, ◌^◌, ◌<◌, Bool, false, ◌&&◌, ◌==◌, nat_le, if◌then◌else◌, List, [], ◌∷◌, ◌++◌, nat_lt, Option, Some, None}
 use Rattle.tt_base.specs.declared.delimiter.Delimiter.{Delimiter}
-use Rattle.tt_base.specs.declared.delimiter.DelimiterKind.TheVariants.{Parenthesis, Brace, Bracket, Invisible}
-use Rattle.tt_base.specs.declared.delimiter.DelimiterKind.{DelimiterKind}
+use Rattle.tt_codec.specs.Kinds.{delimiter_number, delimiter_kind_from}
 use Rattle.tt_codec.specs.Read.{Read, ◌>>=◌, byte_at, half_at, word_at}
 use Rattle.tt_codec.specs.SpanNumbers.{SpanFits, word, span_bytes, span_numbers, span_at}
 use Rattle.tt_codec.specs.declared.entry.Entry.TheVariants.{Header as of_header}
 use Rattle.tt_codec.specs.declared.entry.Entry.{Entry}
 use Rattle.tt_codec.specs.declared.entry.HeaderEntry.{HeaderEntry}
 use Rattle.tt_codec.specs.declared.span.SpanNumbers.{SpanNumbers}
-
--- the number of a kind of delimiter
-abbrev pub delimiter_number : DelimiterKind → ℕ
-delimiter_number Parenthesis = 0
-delimiter_number Brace = 1
-delimiter_number Bracket = 2
-delimiter_number Invisible = 3
 
 -- from the start of the opening to the start of the closing
 abbrev pub distance : HeaderEntry → ℕ
@@ -91,12 +83,6 @@ top_entry part delimiter len child_bytes =
     }
 
 -- ---- how it is read
-
--- the kind of a number
-abbrev pub delimiter_kind_from : ℕ → Option DelimiterKind
-delimiter_kind_from number =
-    if number == 0 then Some Parenthesis else if number == 1 then Some Brace
-    else if number == 2 then Some Bracket else if number == 3 then Some Invisible else None
 
 -- the offset so far behind a start, where four bytes can say it
 unfoldable pub start_behind : (start distance : ℕ) → Option ℕ

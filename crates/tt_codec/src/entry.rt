@@ -55,29 +55,25 @@ impl Entry {
         }
     }
 
-    // A leaf whose span has no extra bits, of which the first byte has been read.
-    fn read_plain_leaf(
-        numbers: SpanNumbers,
-        low: u8,
-        high: u8,
-        from: &[u8],
-    ) -> Option<(Entry, &[u8])>
-        ensures { IsRead (as_entry (plain_at low high numbers from.now)) result }
+    // A leaf whose span has no extra bits, of which the byte behind the span has been read.
+    fn read_plain_leaf(numbers: SpanNumbers, control: u8, from: &[u8]) -> Option<(Entry, &[u8])>
+        ensures { IsRead (as_entry (plain_at control numbers from.now)) result }
     {
-        let (leaf, rest) = LeafEntry::read_plain(numbers, low, high, from)?;
+        let (leaf, rest) = LeafEntry::read_plain(numbers, control, from)?;
         Some((Entry::Leaf(leaf), rest))
     }
 
-    // A token whose span has no extra bits, of which the first byte has been read.
-    fn read_plain(numbers: SpanNumbers, low: u8, high: u8, from: &[u8]) -> Option<(Entry, &[u8])>
-        ensures { IsRead (plain_entry_at low high numbers from.now) result }
+    // A token whose span has no extra bits, of which the byte behind the span has been read.
+    fn read_plain(numbers: SpanNumbers, control: u8, from: &[u8]) -> Option<(Entry, &[u8])>
+        ensures { IsRead (plain_entry_at control numbers from.now) result }
     {
-        match low {
+        let high = control >> FORM_BITS;
+        match control & FORM_MASK {
             FORMAT_1 => read_format_1(numbers, high, from),
             FORMAT_2 => read_format_2(numbers, high, from),
             FORMAT_3 => read_format_3(numbers, high, from),
             FORMAT_4 => read_format_4(numbers, high, from),
-            _ => Entry::read_plain_leaf(numbers, low, high, from),
+            _ => Entry::read_plain_leaf(numbers, control, from),
         }
     }
 
@@ -87,14 +83,9 @@ impl Entry {
     {
         if span.extra == PLAIN {
             let (control, rest) = split_byte(from)?;
-            return Entry::read_plain(
-                span.numbers,
-                control & FORM_MASK,
-                control >> FORM_BITS,
-                rest,
-            );
+            return Entry::read_plain(span.numbers, control, rest);
         }
-        let (leaf, rest) = LeafEntry::read_behind(span, from)?;
+        let (leaf, rest) = LeafEntry::read_marked(span, from)?;
         Some((Entry::Leaf(leaf), rest))
     }
 

@@ -46,5 +46,7 @@ pub(crate) const PART_MASK: u16 = (1 << PART_BITS) - 1;
 
 /// So many low bits tell the kind of a literal in the short form. The others have the length of the suffix.
 pub(crate) const SHORT_KIND_BITS: u32 = 4;
+/// These bits.
+pub(crate) const SHORT_KIND_MASK: u8 = (1 << SHORT_KIND_BITS) - 1;
 /// The largest length that these can say.
 pub(crate) const MOST_SHORT_SUFFIX: u8 = 15;

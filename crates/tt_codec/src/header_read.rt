@@ -1,26 +1,13 @@
 //! Headers below the top, read in each of their four formats (docs/FORMATS.md, "Bytes of a header").
 ghost use Rattle.std.specs.Prelude.{◌≡◌, ◌<◌, ◌^◌};
-ghost use Rattle.tt_codec.specs.Header.{delimiter_kind_from, start_behind, format_1_at, format_2_at, format_3_at, format_4_at};
+ghost use Rattle.tt_codec.specs.Header.{start_behind, format_1_at, format_2_at, format_3_at, format_4_at};
 ghost use Rattle.tt_codec.specs.Read.{IsRead};
 
 use crate::entry::{Entry, HeaderEntry};
 use crate::form::{HIGH_BITS, KIND_BITS, KIND_MASK, LOW_DISTANCE_BITS, PART_BITS, PART_MASK};
+use crate::kinds::delimiter_kind_from;
 use crate::span::{SpanNumbers, Spanned};
 use crate::words::{split_byte, split_half, split_word};
-use tt_base::DelimiterKind;
-
-// The kind of a number.
-fn delimiter_kind_from(number: u8) -> Option<DelimiterKind>
-    ensures { result ≡ delimiter_kind_from number }
-{
-    match number {
-        0 => Some(DelimiterKind::Parenthesis),
-        1 => Some(DelimiterKind::Brace),
-        2 => Some(DelimiterKind::Bracket),
-        3 => Some(DelimiterKind::Invisible),
-        _ => None,
-    }
-}
 
 // The offset so far behind a start, where four bytes can say it.
 #[tactic(auto, unfolding(crate::specs::Header::start_behind))]

@@ -3,7 +3,8 @@ ghost use Rattle.std.specs.Prelude.{◌≡◌, ◌<◌, ◌^◌, ◌+◌, ◌*�
 ghost use Rattle.tt_base.specs.declared.fault.TtFault.TheVariants.{Memory};
 ghost use Rattle.tt_base.specs.declared.token_tree.TokenTree.TheVariants as token;
 ghost use Rattle.tt_base.specs.Fits.{TokenInRange};
-ghost use Rattle.tt_codec.specs.Header.{delimiter_number, HeaderFits, is_within, is_small, has_format_1, has_format_2, has_format_3, format_1, format_2, format_3, format_4, header_bytes, top_entry};
+ghost use Rattle.tt_codec.specs.Kinds.{delimiter_number};
+ghost use Rattle.tt_codec.specs.Header.{HeaderFits, is_within, is_small, has_format_1, has_format_2, has_format_3, format_1, format_2, format_3, format_4, header_bytes, top_entry};
 
 use crate::back_buf::BackBuf;
 use crate::entry::HeaderEntry;
@@ -11,6 +12,7 @@ use crate::form::{
     FORM_BITS, FORMAT_1, FORMAT_2, FORMAT_3, FORMAT_4, HIGH_AT, HIGH_BITS, HIGH_MASK,
     LOW_DISTANCE_BITS, PART_BITS, PLAIN,
 };
+use crate::kinds::delimiter_number;
 use crate::span::SpanNumbers;
 use tt_base::{DelimiterKind, Subtree, TtFault};
 
@@ -33,7 +35,7 @@ fn control(form: u8, kind: DelimiterKind, high: u8) -> u8
     requires high { high < 8 }
     ensures { result ≡ form + delimiter_number kind * 8 + high * 32 }
 {
-    form | (kind as u8) << FORM_BITS | high << HIGH_AT
+    form | delimiter_number(kind) << FORM_BITS | high << HIGH_AT
 }
 
 impl HeaderEntry {

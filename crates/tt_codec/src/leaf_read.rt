@@ -1,73 +1,27 @@
 //! Leaves, read (docs/FORMATS.md, "Bytes of a leaf").
-ghost use Rattle.std.specs.Prelude.{◌≡◌, ◌<◌};
 ghost use Rattle.tt_codec.specs.Read.{IsRead};
-ghost use Rattle.tt_codec.specs.Leaf.{raw_from, spacing_from, plain_kind, kind_at, literal_at, long_literal_at, char_at, other_punct_at, plain_at, ident_at, ascii_at, behind_span};
+ghost use Rattle.tt_codec.specs.Leaf.{kind_at, literal_at, long_literal_at, char_at, other_punct_at, plain_at, ident_at, ascii_at, marked_at};
 
 use crate::entry::LeafEntry;
-use crate::form::{FORM_BITS, FORM_MASK, IDENT, LONG_LITERAL, OTHER_PUNCT, PLAIN};
+use crate::form::{
+    FORM_BITS, FORM_MASK, IDENT, LONG_LITERAL, OTHER_PUNCT, SHORT_KIND_BITS, SHORT_KIND_MASK,
+};
+use crate::kinds::{plain_kind_from, raw_from, raw_kind_from, short_kind_from, spacing_from};
 use crate::reference::Reference;
 use crate::span::{SpanNumbers, Spanned};
 use crate::words::{split_byte, split_word};
 use tt_base::{IdentIsRaw, LitKind, Spacing};
 
-// The rawness of a tag.
-fn raw_from(tag: u32) -> IdentIsRaw
-    ensures { result ≡ raw_from tag }
-{
-    if tag == 0 {
-        IdentIsRaw::No
-    } else {
-        IdentIsRaw::Yes
-    }
-}
-
-// The spacing of a number.
-fn spacing_from(number: u8) -> Option<Spacing>
-    ensures { result ≡ spacing_from number }
-{
-    match number {
-        0 => Some(Spacing::Alone),
-        1 => Some(Spacing::Joint),
-        2 => Some(Spacing::JointHidden),
-        _ => None,
-    }
-}
-
-// The kind of a number, of those that are not raw.
-fn plain_kind(number: u8) -> Option<LitKind>
-    ensures { result ≡ plain_kind number }
-{
-    match number {
-        0 => Some(LitKind::Byte),
-        1 => Some(LitKind::Char),
-        2 => Some(LitKind::Integer),
-        3 => Some(LitKind::Float),
-        4 => Some(LitKind::Str),
-        6 => Some(LitKind::ByteStr),
-        8 => Some(LitKind::CStr),
-        10 => Some(LitKind::Err(())),
-        _ => None,
-    }
-}
-
 // The kind of a number, with its hashes behind it where it is raw.
 fn read_kind(number: u8, from: &[u8]) -> Option<(LitKind, &[u8])>
     ensures { IsRead (kind_at number from.now) result }
 {
-    if number == 5 {
-        let (count, rest) = split_byte(from)?;
-        return Some((LitKind::StrRaw(count), rest));
+    if let Some(kind) = plain_kind_from(number) {
+        return Some((kind, from));
     }
-    if number == 7 {
-        let (count, rest) = split_byte(from)?;
-        return Some((LitKind::ByteStrRaw(count), rest));
-    }
-    if number == 9 {
-        let (count, rest) = split_byte(from)?;
-        return Some((LitKind::CStrRaw(count), rest));
-    }
-    let kind = plain_kind(number)?;
-    Some((kind, from))
+    let (count, rest) = split_byte(from)?;
+    let kind = raw_kind_from(number, count)?;
+    Some((kind, rest))
 }
 
 // A character of four bytes.
@@ -116,38 +70,22 @@ impl LeafEntry {
         Some((LeafEntry::Punct(char, spacing, numbers), rest))
     }
 
-    /// A leaf whose span has no extra bits, of which the first byte has been read.
+    /// A leaf whose span has no extra bits, of which the byte behind the span has been read.
     pub(crate) fn read_plain(
         numbers: SpanNumbers,
-        low: u8,
-        high: u8,
+        control: u8,
         from: &[u8],
     ) -> Option<(LeafEntry, &[u8])>
-        ensures { IsRead (plain_at low high numbers from.now) result }
+        ensures { IsRead (plain_at control numbers from.now) result }
     {
-        if low == 3 {
-            let kind = if high & 1 == 0 {
-                LitKind::Str
-            } else {
-                LitKind::StrRaw(1)
-            };
-            return LeafEntry::read_literal(numbers, kind, high >> 1, from);
+        match control & FORM_MASK {
+            OTHER_PUNCT => LeafEntry::read_other_punct(numbers, control >> FORM_BITS, from),
+            LONG_LITERAL => LeafEntry::read_long_literal(numbers, control >> FORM_BITS, from),
+            _ => {
+                let kind = short_kind_from(control & SHORT_KIND_MASK)?;
+                LeafEntry::read_literal(numbers, kind, control >> SHORT_KIND_BITS, from)
+            }
         }
-        if low == 4 {
-            let kind = if high & 1 == 0 {
-                LitKind::StrRaw(0)
-            } else {
-                LitKind::Integer
-            };
-            return LeafEntry::read_literal(numbers, kind, high >> 1, from);
-        }
-        if low == OTHER_PUNCT {
-            return LeafEntry::read_other_punct(numbers, high, from);
-        }
-        if low == LONG_LITERAL {
-            return LeafEntry::read_long_literal(numbers, high, from);
-        }
-        None
     }
 
     // An ident, of which the span has been read.
@@ -179,19 +117,10 @@ impl LeafEntry {
         Some((leaf, rest))
     }
 
-    /// A leaf, of which the span has been read.
-    pub(crate) fn read_behind(span: Spanned, from: &[u8]) -> Option<(LeafEntry, &[u8])>
-        ensures { IsRead (behind_span span.extra span.numbers from.now) result }
+    /// An ident or an ASCII punct, of which the span has been read.
+    pub(crate) fn read_marked(span: Spanned, from: &[u8]) -> Option<(LeafEntry, &[u8])>
+        ensures { IsRead (marked_at span.extra span.numbers from.now) result }
     {
-        if span.extra == PLAIN {
-            let (control, rest) = split_byte(from)?;
-            return LeafEntry::read_plain(
-                span.numbers,
-                control & FORM_MASK,
-                control >> FORM_BITS,
-                rest,
-            );
-        }
         if span.extra == IDENT {
             return LeafEntry::read_ident(span.numbers, from);
         }

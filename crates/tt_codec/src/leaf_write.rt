@@ -1,7 +1,8 @@
 //! Leaves, written (docs/FORMATS.md, "Bytes of a leaf").
-ghost use Rattle.std.specs.Prelude.{◌≡◌, ◌<◌, ◌≤◌, ◌^◌, ◌++◌, IfErr, IfSome, OnOk, false};
+ghost use Rattle.std.specs.Prelude.{◌≡◌, ◌<◌, ◌^◌, ◌++◌, IfErr, OnOk, false};
 ghost use Rattle.tt_base.specs.declared.fault.TtFault.TheVariants.{Memory};
-ghost use Rattle.tt_codec.specs.Leaf.{LeafEntryFits, raw_number, kind_number, hash_count, short_number, long_form, literal_form, punct_bytes, leaf_bytes};
+ghost use Rattle.tt_codec.specs.Kinds.{raw_number};
+ghost use Rattle.tt_codec.specs.Leaf.{LeafEntryFits, long_form, literal_form, punct_bytes, leaf_bytes};
 ghost use Rattle.tt_codec.specs.Reference.{reference_bytes};
 ghost use Rattle.tt_codec.specs.SpanNumbers.{span_bytes};
 
@@ -11,62 +12,10 @@ use crate::form::{
     ASCII_PUNCT, FORM_BITS, HIDDEN_PUNCT, IDENT, LONG_LITERAL, MOST_SHORT_SUFFIX, OTHER_PUNCT,
     PLAIN, SHORT_KIND_BITS,
 };
+use crate::kinds::{hash_count, kind_number, raw_number, short_number, spacing_number};
 use crate::reference::Reference;
 use crate::span::SpanNumbers;
 use tt_base::{IdentIsRaw, LitKind, Spacing, TtFault};
-
-/// The number of a kind of literal.
-fn kind_number(kind: LitKind) -> u8
-    ensures value { result ≡ kind_number kind }
-    ensures bound { result ≤ 10 }
-{
-    match kind {
-        LitKind::Byte => 0,
-        LitKind::Char => 1,
-        LitKind::Integer => 2,
-        LitKind::Float => 3,
-        LitKind::Str => 4,
-        LitKind::StrRaw(_) => 5,
-        LitKind::ByteStr => 6,
-        LitKind::ByteStrRaw(_) => 7,
-        LitKind::CStr => 8,
-        LitKind::CStrRaw(_) => 9,
-        LitKind::Err(()) => 10,
-    }
-}
-
-/// The hashes of a raw kind.
-fn hash_count(kind: LitKind) -> Option<u8>
-    ensures { result ≡ hash_count kind }
-{
-    match kind {
-        LitKind::StrRaw(count) | LitKind::ByteStrRaw(count) | LitKind::CStrRaw(count) => {
-            Some(count)
-        }
-        LitKind::Byte
-        | LitKind::Char
-        | LitKind::Integer
-        | LitKind::Float
-        | LitKind::Str
-        | LitKind::ByteStr
-        | LitKind::CStr
-        | LitKind::Err(()) => None,
-    }
-}
-
-/// The number that a kind has in the short form.
-fn short_number(kind: LitKind) -> Option<u8>
-    ensures value { result ≡ short_number kind }
-    ensures bound { IfSome result (λ number. number ≤ 12) }
-{
-    match kind {
-        LitKind::Str => Some(3),
-        LitKind::StrRaw(0) => Some(4),
-        LitKind::StrRaw(1) => Some(11),
-        LitKind::Integer => Some(12),
-        _ => None,
-    }
-}
 
 // Puts the long form of a kind and a suffix length before the bytes.
 fn write_long_form(into: &mut BackBuf, kind: LitKind, suffix_len: u8) -> Result<(), TtFault>
@@ -107,7 +56,7 @@ fn write_punct(
     ensures err { IfErr result (λ fault. fault ≡ Memory) }
 {
     if char.is_ascii() {
-        into.put_byte((char as u8) << 1 | spacing as u8 & 1)?;
+        into.put_byte((char as u8) << 1 | spacing_number(spacing) & 1)?;
         let extra = match spacing {
             Spacing::Alone | Spacing::Joint => ASCII_PUNCT,
             Spacing::JointHidden => HIDDEN_PUNCT,
@@ -115,7 +64,7 @@ fn write_punct(
         return numbers.write(into, extra, false);
     }
     into.put_word(char as u32)?;
-    into.put_byte(OTHER_PUNCT | (spacing as u8) << FORM_BITS)?;
+    into.put_byte(OTHER_PUNCT | spacing_number(spacing) << FORM_BITS)?;
     numbers.write(into, PLAIN, false)
 }
 
@@ -155,7 +104,7 @@ fn write_ident(
 {
     let reference = Reference {
         index: symbol,
-        tag: is_raw as u32,
+        tag: raw_number(is_raw),
     };
     reference.write(into)?;
     numbers.write(into, IDENT, false)

@@ -9,6 +9,7 @@ mod entry;
 mod form;
 mod header_read;
 mod header_write;
+mod kinds;
 mod leaf_read;
 mod leaf_write;
 mod reference;
