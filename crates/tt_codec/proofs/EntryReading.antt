@@ -10,12 +10,12 @@ use Rattle.tt_codec.specs.Entry.{EntryFits, entry_bytes, as_entry, entry_behind_
 use Rattle.tt_codec.specs.declared.entry.LeafEntry.{LeafEntry}
 use Rattle.tt_codec.specs.declared.entry.LeafEntry.TheVariants.{Punct as punct, Ident as ident, Literal as literal}
 use Rattle.tt_codec.specs.Kinds.{spacing_number, raw_number, kind_number}
-use Rattle.tt_codec.specs.Leaf.{LeafEntryFits, leaf_bytes, long_form, form_of, literal_form, plain_at, behind_span, leaf_at}
+use Rattle.tt_codec.specs.Leaf.{LeafEntryFits, leaf_bytes, long_form, form_of, literal_form, plain_at}
 use Rattle.tt_codec.specs.Reference.{reference_bytes}
 use Rattle.tt_codec.specs.declared.span.SpanNumbers.{SpanNumbers}
 use Rattle.tt_codec.specs.SpanNumbers.{SpanFits, word, span_bytes}
 use Rattle.tt_codec.proofs.HeaderReading.{by_form, token_read, entry_after_span, header_again}
-use Rattle.tt_codec.proofs.LeafReading.{leaf_after_span, extra_bound, leaf_again}
+use Rattle.tt_codec.proofs.LeafReading.{behind_span, leaf_at, leaf_after_span, extra_bound, leaf_again}
 
 -- behind a span with these extra bits, the bytes are read as a leaf
 abbrev AsLeaf : (extra : ℕ) → SpanNumbers → List ℕ → Type 0

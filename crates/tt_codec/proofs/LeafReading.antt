@@ -13,13 +13,23 @@ use Rattle.tt_base.specs.declared.punct.Spacing.TheVariants.{Alone, Joint, Joint
 use Rattle.tt_codec.specs.declared.entry.LeafEntry.{LeafEntry}
 use Rattle.tt_codec.specs.declared.entry.LeafEntry.TheVariants.{Punct as punct, Ident as ident, Literal as literal}
 use Rattle.tt_codec.specs.Kinds.{spacing_number, raw_number, raw_from, short_kind_from}
-use Rattle.tt_codec.specs.Leaf.{LeafEntryFits, leaf_bytes, long_form, form_of, literal_form, char_at, literal_at, long_literal_at, other_punct_at, behind_span, leaf_at}
+use Rattle.tt_codec.specs.Leaf.{LeafEntryFits, leaf_bytes, long_form, form_of, literal_form, char_at, literal_at, long_literal_at, other_punct_at, plain_at, marked_at}
 use Rattle.tt_codec.specs.Reference.{reference_bytes}
 use Rattle.tt_codec.specs.declared.span.SpanNumbers.{SpanNumbers}
-use Rattle.tt_codec.specs.SpanNumbers.{SpanFits, word, span_bytes}
-use Rattle.tt_codec.specs.Read.{Read, ◌>>=◌}
+use Rattle.tt_codec.specs.SpanNumbers.{SpanFits, word, span_bytes, span_at}
+use Rattle.tt_codec.specs.Read.{Read, ◌>>=◌, byte_at}
 use Rattle.tt_codec.proofs.ReferenceReading.{bit_0, bit_1, reference_again}
 use Rattle.tt_codec.proofs.SpanReading.{word_at-word, span_again}
+
+-- a leaf, of which the span has been read
+abbrev pub behind_span : (extra : ℕ) → SpanNumbers → List ℕ → Read LeafEntry
+behind_span extra numbers bytes =
+    if extra == 0 then (byte_at bytes >>= λ control. plain_at control.0 numbers control.1)
+    else marked_at extra numbers bytes
+
+-- a leaf
+unfoldable pub leaf_at : List ℕ → Read LeafEntry
+leaf_at bytes = span_at bytes >>= λ span. behind_span span.0.extra span.0.numbers span.1
 
 abbrev pub entered : LeafEntry → List ℕ → Read LeafEntry
 entered e rest = Some (e, rest)

@@ -7,7 +7,7 @@ use Rattle.tt_base.specs.declared.punct.Spacing.{Spacing}
 use Rattle.tt_codec.specs.Kinds.{spacing_number, raw_number, kind_number, hash_count, short_number, raw_from, spacing_from, plain_kind_from, raw_kind_from, short_kind_from}
 use Rattle.tt_codec.specs.Read.{Read, ◌>>=◌, byte_at, word_at}
 use Rattle.tt_codec.specs.Reference.{reference_bytes, reference_at}
-use Rattle.tt_codec.specs.SpanNumbers.{SpanFits, word, span_bytes, span_at}
+use Rattle.tt_codec.specs.SpanNumbers.{SpanFits, word, span_bytes}
 use Rattle.tt_codec.specs.declared.entry.LeafEntry.TheVariants.{Punct as punct, Ident as ident, Literal as literal}
 use Rattle.tt_codec.specs.declared.entry.LeafEntry.{LeafEntry}
 use Rattle.tt_codec.specs.declared.span.SpanNumbers.{SpanNumbers}
@@ -96,13 +96,3 @@ ascii_at hidden numbers bytes =
 -- an ident or an ASCII punct, of which the span has been read
 abbrev pub marked_at : (extra : ℕ) → SpanNumbers → List ℕ → Read LeafEntry
 marked_at extra numbers bytes = if extra == 2 then ident_at numbers bytes else ascii_at (extra / 2) numbers bytes
-
--- a leaf, of which the span has been read
-abbrev pub behind_span : (extra : ℕ) → SpanNumbers → List ℕ → Read LeafEntry
-behind_span extra numbers bytes =
-    if extra == 0 then (byte_at bytes >>= λ control. plain_at control.0 numbers control.1)
-    else marked_at extra numbers bytes
-
--- a leaf
-unfoldable pub leaf_at : List ℕ → Read LeafEntry
-leaf_at bytes = span_at bytes >>= λ span. behind_span span.0.extra span.0.numbers span.1

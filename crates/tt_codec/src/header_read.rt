@@ -33,9 +33,9 @@ pub(crate) fn read_format_1(opening: SpanNumbers, high: u8, from: &[u8]) -> Opti
             ..opening
         },
         closing: SpanNumbers {
-            part: opening.part,
             start,
             length: 1,
+            ..opening
         },
         kind,
         len: len as u32,

@@ -110,9 +110,8 @@ impl HeaderEntry {
     {
         let distance = self.closing.start - self.opening.start;
         let span = SpanNumbers {
-            part: self.opening.part,
-            start: self.opening.start,
             length: distance & LOW_DISTANCE_MASK,
+            ..self.opening
         };
         into.put_byte(self.child_bytes as u8)?;
         into.put_byte(self.len as u8)?;

@@ -15,15 +15,15 @@ pub const MOST_SYMBOLS: usize = 1 << 29;
 const MORE_AT: u32 = 1;
 // Last are low bits of the index.
 const FIRST_AT: u32 = 2;
-// So many.
+// Their number.
 const FIRST_BITS: u32 = 6;
-// These bits.
+// Their mask.
 const FIRST_MASK: u32 = (1 << FIRST_BITS) - 1;
 // Behind a bit that says whether two more bytes follow, the second byte has the next bits of the index.
 const SECOND_AT: u32 = 1;
-// So many.
+// Their number.
 const SECOND_BITS: u32 = 7;
-// These bits.
+// Their mask.
 const SECOND_MASK: u32 = (1 << SECOND_BITS) - 1;
 // The first two bytes have so many. The two bytes behind them have 16 more.
 const BOTH_BITS: u32 = FIRST_BITS + SECOND_BITS;

@@ -16,47 +16,47 @@ pub const MOST_PARTS: usize = 1 << 28;
 const EXTRA_MASK: u32 = 0b11;
 // Behind them are low bits of the part.
 const PART_AT: u32 = 2;
-// So many. What they leave over is the part's rest.
+// Their number. What they leave over is the part's rest.
 const PART_BITS: u32 = 4;
-// These bits.
+// Their mask.
 const PART_MASK: u32 = (1 << PART_BITS) - 1;
 // Then come low bits of the length.
 const LENGTH_AT: u32 = PART_AT + PART_BITS;
-// So many. What they leave over is the length's rest.
+// Their number. What they leave over is the length's rest.
 const LENGTH_BITS: u32 = 8;
-// These bits.
+// Their mask.
 const LENGTH_MASK: u32 = (1 << LENGTH_BITS) - 1;
 // Then one bit says whether another word follows.
 const MORE_AT: u32 = LENGTH_AT + LENGTH_BITS;
 // Last are low bits of the start.
 const START_AT: u32 = MORE_AT + 1;
-// So many, which fill the word. What they leave over is the start's rest.
+// Their number, which fills the word. What they leave over is the start's rest.
 const START_BITS: u32 = 32 - START_AT;
-// These bits.
+// Their mask.
 const START_MASK: u32 = (1 << START_BITS) - 1;
 
 // The second of two words has a bit that is 0, and behind it the part's rest.
 const MIDDLE_PART_AT: u32 = 1;
-// Of 11 bits.
+// The largest that has room there: it has 11 bits.
 const MIDDLE_PART_MASK: u32 = (1 << 11) - 1;
 // Then comes the length's rest.
 const MIDDLE_LENGTH_AT: u32 = 12;
-// Of 10 bits.
+// The largest that has room there: it has 10 bits.
 const MIDDLE_LENGTH_MASK: u32 = (1 << 10) - 1;
 // Last is the start's rest.
 const MIDDLE_START_AT: u32 = 22;
-// Of 10 bits.
+// The largest that has room there: it has 10 bits.
 const MIDDLE_START_MASK: u32 = (1 << 10) - 1;
 
 // As one number the rests have first that of the part, and then that of the length.
 const RESTS_LENGTH_AT: u32 = 24;
 // Last is that of the start.
 const RESTS_START_AT: u32 = 48;
-// The first two have 24 bits each: a part has 4 + 24 bits, and a length 8 + 24.
+// The mask of each of these two. A part has 4 + 24 bits, and a length 8 + 24.
 const REST_MASK: u64 = (1 << 24) - 1;
-// The last of three words has so many low bits of that number. The second has a bit that is 1, and behind it the others.
+// The last of three words has so many low bits of that number. The second has a bit that is 1, and the others behind it.
 const WORD_BITS: u32 = 32;
-// These bits.
+// Their mask.
 const WORD_MASK: u64 = (1 << WORD_BITS) - 1;
 
 /// A span in numbers: the index of its part, its start, and its length.
