@@ -6,15 +6,16 @@ use Rattle.tt_base.specs.declared.punct.Spacing.{Spacing}
 use Rattle.tt_base.specs.declared.punct.Spacing.TheVariants.{Alone, Joint, JointHidden}
 use Rattle.tt_codec.specs.declared.entry.Entry.{Entry}
 use Rattle.tt_codec.specs.declared.entry.Entry.TheVariants.{Leaf as of_leaf, Header as of_header}
-use Rattle.tt_codec.specs.Entry.{EntryFits, entry_bytes, as_entry, plain_entry_at, entry_behind_span, entry_at}
+use Rattle.tt_codec.specs.Entry.{EntryFits, entry_bytes, as_entry, entry_behind_span, entry_at}
 use Rattle.tt_codec.specs.declared.entry.LeafEntry.{LeafEntry}
 use Rattle.tt_codec.specs.declared.entry.LeafEntry.TheVariants.{Punct as punct, Ident as ident, Literal as literal}
-use Rattle.tt_codec.specs.Leaf.{LeafEntryFits, leaf_bytes, spacing_number, raw_number, kind_number, long_form, form_of, literal_form, plain_at, behind_span, leaf_at}
+use Rattle.tt_codec.specs.Kinds.{spacing_number, raw_number, kind_number}
+use Rattle.tt_codec.specs.Leaf.{LeafEntryFits, leaf_bytes, long_form, form_of, literal_form, plain_at}
 use Rattle.tt_codec.specs.Reference.{reference_bytes}
 use Rattle.tt_codec.specs.declared.span.SpanNumbers.{SpanNumbers}
 use Rattle.tt_codec.specs.SpanNumbers.{SpanFits, word, span_bytes}
-use Rattle.tt_codec.proofs.HeaderReading.{token_read, entry_after_span, header_again}
-use Rattle.tt_codec.proofs.LeafReading.{leaf_after_span, extra_bound, leaf_again}
+use Rattle.tt_codec.proofs.HeaderReading.{by_form, token_read, entry_after_span, header_again}
+use Rattle.tt_codec.proofs.LeafReading.{behind_span, leaf_at, leaf_after_span, extra_bound, leaf_again}
 
 -- behind a span with these extra bits, the bytes are read as a leaf
 abbrev AsLeaf : (extra : ℕ) → SpanNumbers → List ℕ → Type 0
@@ -22,9 +23,9 @@ AsLeaf extra at tail = entry_behind_span extra at tail ≡ as_entry (behind_span
 
 -- the low bits of the byte behind the span are those of a leaf
 leaf_control : (control low : ℕ) (at : SpanNumbers) (tail : List ℕ) → control % 8 ≡ low
-    → plain_entry_at low (control / 8) at tail ≡ as_entry (plain_at low (control / 8) at tail) → AsLeaf 0 at (control ∷ tail)
+    → by_form low (control / 8) control at tail ≡ as_entry (plain_at control at tail) → AsLeaf 0 at (control ∷ tail)
 leaf_control control low at tail e h =
-    subst (λ n. plain_entry_at n (control / 8) at tail ≡ as_entry (plain_at n (control / 8) at tail)) (sym e) h
+    subst (λ n. by_form n (control / 8) control at tail ≡ as_entry (plain_at control at tail)) (sym e) h
 
 long_control : (kind : LitKind) (suffix_len : ℕ) (at : SpanNumbers) (tail : List ℕ) → AsLeaf 0 at (long_form kind suffix_len ++ tail)
 long_control kind suffix_len at tail = leaf_control (7 + kind_number kind * 8) 7 at _ (omega arith) refl

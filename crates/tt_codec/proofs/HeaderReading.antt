@@ -1,13 +1,15 @@
 -- A written header is read again, whatever follows it.
-use Rattle.std.proofs.Common.{◌≡◌, ℕ, ◌+◌, ◌*◌, ◌/◌, ◌%◌, ◌^◌, ◌<◌, ◌≤◌, Bool, true, false, cond, ◌==◌, nat_le, nat_lt, List, ◌∷◌, ◌++◌, Option, Some, None, append_assoc, refl, ap, ap₂, sym, ◌∙◌, arith, w16}
+use Rattle.std.proofs.Common.{◌≡◌, ℕ, ◌+◌, ◌*◌, ◌/◌, ◌%◌, ◌^◌, ◌<◌, ◌≤◌, Bool, true, false, cond, ◌==◌, nat_le, nat_lt, List, ◌∷◌, ◌++◌, Option, Some, None, append_assoc, refl, ap, ap₂, sym, ◌∙◌, arith, w16, if◌then◌else◌}
 use Rattle.std.specs.Int.{to_le_bytes}
 use Rattle.std.proofs.lemmas.Bool.{and_parts, eqb-true, leb-true, ltb-false}
 use Rattle.tt_base.specs.declared.delimiter.DelimiterKind.{DelimiterKind}
 use Rattle.tt_base.specs.declared.delimiter.DelimiterKind.TheVariants.{Parenthesis, Brace, Bracket, Invisible}
 use Rattle.tt_codec.specs.declared.entry.Entry.{Entry}
 use Rattle.tt_codec.specs.declared.entry.Entry.TheVariants.{Header as of_header}
-use Rattle.tt_codec.specs.Header.{delimiter_kind_from, start_behind, HeaderFits, delimiter_number, distance, is_within, is_small, has_format_1, has_format_2, has_format_3, format_1, format_2, format_3, format_4, header_bytes}
-use Rattle.tt_codec.specs.Entry.{plain_entry_at, entry_behind_span, entry_at}
+use Rattle.tt_codec.specs.Kinds.{delimiter_number, delimiter_kind_from}
+use Rattle.tt_codec.specs.Header.{start_behind, HeaderFits, distance, is_within, is_small, has_format_1, has_format_2, has_format_3, format_1, format_2, format_3, format_4, header_bytes, format_1_at, format_2_at, format_3_at, format_4_at}
+use Rattle.tt_codec.specs.Entry.{as_entry, entry_behind_span, entry_at}
+use Rattle.tt_codec.specs.Leaf.{plain_at}
 use Rattle.tt_codec.specs.declared.entry.HeaderEntry.{HeaderEntry}
 use Rattle.tt_codec.specs.declared.span.Spanned.{Spanned}
 use Rattle.tt_codec.specs.Read.{Read, ◌>>=◌, word_at}
@@ -15,6 +17,15 @@ use Rattle.tt_codec.specs.declared.span.SpanNumbers.{SpanNumbers}
 use Rattle.tt_codec.specs.SpanNumbers.{SpanFits, word, span_bytes}
 use Rattle.tt_codec.proofs.ReferenceReading.{half_at-half}
 use Rattle.tt_codec.proofs.SpanReading.{word_at-word, span_again}
+
+-- a token whose byte behind the span has these low and high bits
+abbrev pub by_form : (low high control : ℕ) → SpanNumbers → List ℕ → Read Entry
+by_form low high control numbers rest =
+    if low == 0 then format_1_at high numbers rest
+    else if low == 1 then format_2_at high numbers rest
+    else if low == 2 then format_3_at high numbers rest
+    else if low == 5 then format_4_at high numbers rest
+    else as_entry (plain_at control numbers rest)
 
 -- a token, and the bytes behind it
 abbrev pub token_read : Entry → List ℕ → Read Entry
@@ -59,9 +70,9 @@ kind_bound Bracket = omega arith
 kind_bound Invisible = omega arith
 
 -- a header with these numbers is read as `it`
-header_is : (it : HeaderEntry) (part start length part' start' length' bytes : ℕ) (rest : List ℕ)
+header_is : (it : HeaderEntry) (part start length part' start' length' child_bytes : ℕ) (rest : List ℕ)
     → part ≡ it.opening.part → start ≡ it.opening.start → length ≡ it.opening.length
-    → part' ≡ it.closing.part → start' ≡ it.closing.start → length' ≡ it.closing.length → bytes ≡ it.bytes
+    → part' ≡ it.closing.part → start' ≡ it.closing.start → length' ≡ it.closing.length → child_bytes ≡ it.child_bytes
     → token_read
     (of_header
     (record {
@@ -69,11 +80,11 @@ header_is : (it : HeaderEntry) (part start length part' start' length' bytes : �
       closing = record { part = part'; start = start'; length = length' };
       kind = it.kind;
       len = it.len;
-      bytes = bytes;
+      child_bytes = child_bytes;
     }))
     rest
     ≡ token_read (of_header it) rest
-header_is it part start length part' start' length' bytes rest e₁ e₂ e₃ e₄ e₅ e₆ e₇ =
+header_is it part start length part' start' length' child_bytes rest e₁ e₂ e₃ e₄ e₅ e₆ e₇ =
     λ i. Some (
       of_header
           (record {
@@ -81,7 +92,7 @@ header_is it part start length part' start' length' bytes rest e₁ e₂ e₃ e�
             closing = record { part = e₄ i; start = e₅ i; length = e₆ i };
             kind = it.kind;
             len = it.len;
-            bytes = e₇ i;
+            child_bytes = e₇ i;
           }),
       rest,
     )
@@ -93,7 +104,7 @@ within it most e =
 
 one_part : (it : HeaderEntry) → is_small it ≡ true → it.opening.part ≡ it.closing.part
 one_part it e =
-    let (front, bytes) = and_parts _ (nat_le it.bytes 255) e in
+    let (front, child_bytes) = and_parts _ (nat_le it.child_bytes 255) e in
     let (part, len) = and_parts (it.opening.part == it.closing.part) (nat_le it.len 255) front in
     eqb-true _ _ part
 
@@ -110,7 +121,7 @@ pub format_1_again : (it : HeaderEntry) (rest : List ℕ) → HeaderFits it → 
 format_1_again it rest fits e =
     ap entry_at (append_assoc (span_bytes false 0 at) _ rest)
     ∙ entry_after_span false 0 at _ (omega arith) (record { part = fits.opening.part; start = fits.opening.start; length = short })
-    ∙ ap₂ (λ low high. plain_entry_at low high at (it.len ∷ it.bytes ∷ rest)) low_bits high_bits
+    ∙ ap₂ (λ low high. by_form low high first at (it.len ∷ it.child_bytes ∷ rest)) low_bits high_bits
     ∙ kind_then (high % 4) it.kind _ kind_bits
     ∙ close_then it.opening.start (distance it % 256 + high / 4 * 256) it.closing.start _ start_again fits.closing.start
     ∙ header_is it _ _ _ _ _ _ _ rest refl refl (sym facts.1) facts.0 refl (sym facts.2) refl
@@ -157,7 +168,7 @@ pub format_2_again : (it : HeaderEntry) (rest : List ℕ) → HeaderFits it → 
 format_2_again it rest fits e =
     ap entry_at (append_assoc (span_bytes false 0 it.opening) _ rest)
     ∙ entry_after_span false 0 it.opening _ (omega arith) fits.opening
-    ∙ ap₂ (λ low high. plain_entry_at low high it.opening (it.len ∷ it.bytes ∷ rest)) low_bits high_bits
+    ∙ ap₂ (λ low high. by_form low high first it.opening (it.len ∷ it.child_bytes ∷ rest)) low_bits high_bits
     ∙ kind_then (high % 4) it.kind _ kind_bits
     ∙ close_then it.opening.start (high / 4) it.closing.start _ start_again fits.closing.start
     ∙ header_is it _ _ _ _ _ _ _ rest refl refl refl facts.0 refl facts.1 refl
@@ -187,26 +198,26 @@ format_2_again it rest fits e =
     start_again = omega (arith, kind_bound it.kind, facts.2)
 
 format_3_facts : (it : HeaderEntry) → has_format_3 it ≡ true
-    → (it.bytes ≤ 4095) × (it.opening.length ≡ it.closing.length) × (it.opening.start ≤ it.closing.start) × (it.closing.part ≤ 127)
+    → (it.child_bytes ≤ 4095) × (it.opening.length ≡ it.closing.length) × (it.opening.start ≤ it.closing.start) × (it.closing.part ≤ 127)
 format_3_facts it e =
     let (front, part) = and_parts _ (nat_le it.closing.part 127) e in
     let (small, near) = and_parts _ (is_within it 255) front in
     let (few, lengths) = and_parts _ (it.opening.length == it.closing.length) small in
-    let (len, bytes) = and_parts (nat_le it.len 255) (nat_le it.bytes 4095) few in
-    (leb-true _ _ bytes, eqb-true _ _ lengths, (within it 255 near).0, leb-true _ _ part)
+    let (len, child_bytes) = and_parts (nat_le it.len 255) (nat_le it.child_bytes 4095) few in
+    (leb-true _ _ child_bytes, eqb-true _ _ lengths, (within it 255 near).0, leb-true _ _ part)
 
 -- The third format is read again.
 pub format_3_again : (it : HeaderEntry) (rest : List ℕ) → HeaderFits it → has_format_3 it ≡ true → entry_at (format_3 it ++ rest) ≡ token_read (of_header it) rest
 format_3_again it rest fits e =
     ap entry_at (append_assoc (span_bytes false 0 it.opening) _ rest)
     ∙ entry_after_span false 0 it.opening _ (omega arith) fits.opening
-    ∙ ap₂ (λ low high. plain_entry_at low high it.opening (distance it ∷ it.len ∷ to_le_bytes w16 both ++ rest)) low_bits high_bits
+    ∙ ap₂ (λ low high. by_form low high first it.opening (distance it ∷ it.len ∷ to_le_bytes w16 both ++ rest)) low_bits high_bits
     ∙ kind_then (high % 4) it.kind _ kind_bits
     ∙ close_then it.opening.start (distance it) it.closing.start _ start_again fits.closing.start
     ∙ ap (λ r. r >>= behind_half) (half_at-half both rest both_bound)
     ∙ header_is it _ _ _ _ _ _ _ rest refl refl refl part_again refl facts.1 bytes_again
   where
-    facts : (it.bytes ≤ 4095) × (it.opening.length ≡ it.closing.length) × (it.opening.start ≤ it.closing.start) × (it.closing.part ≤ 127)
+    facts : (it.child_bytes ≤ 4095) × (it.opening.length ≡ it.closing.length) × (it.opening.start ≤ it.closing.start) × (it.closing.part ≤ 127)
     facts = format_3_facts it e
 
     number : ℕ
@@ -219,7 +230,7 @@ format_3_again it rest fits e =
     high = number + it.closing.part % 8 * 4
 
     both : ℕ
-    both = it.bytes * 16 + it.closing.part / 8
+    both = it.child_bytes * 16 + it.closing.part / 8
 
     behind_half : ℕ × List ℕ → Read Entry
     behind_half half =
@@ -230,7 +241,7 @@ format_3_again it rest fits e =
                 closing = record { part = high / 4 + half.0 % 16 * 8; start = it.closing.start; length = it.opening.length };
                 kind = it.kind;
                 len = it.len;
-                bytes = half.0 / 16;
+                child_bytes = half.0 / 16;
               }),
           half.1,
         )
@@ -253,7 +264,7 @@ format_3_again it rest fits e =
     start_again : it.opening.start + distance it ≡ it.closing.start
     start_again = omega (arith, facts.2)
 
-    bytes_again : both / 16 ≡ it.bytes
+    bytes_again : both / 16 ≡ it.child_bytes
     bytes_again = omega (arith, facts.3)
 
 -- The fourth format is read again, also where the longest form of both spans was demanded.
@@ -261,11 +272,11 @@ pub format_4_again : (heavy : Bool) (it : HeaderEntry) (rest : List ℕ) → Hea
 format_4_again heavy it rest fits =
     ap entry_at regrouped
     ∙ entry_after_span heavy 0 it.opening _ (omega arith) fits.opening
-    ∙ ap₂ (λ low high. plain_entry_at low high it.opening (span_bytes heavy 0 it.closing ++ (word it.len ++ (word it.bytes ++ rest)))) low_bits high_bits
+    ∙ ap₂ (λ low high. by_form low high first it.opening (span_bytes heavy 0 it.closing ++ (word it.len ++ (word it.child_bytes ++ rest)))) low_bits high_bits
     ∙ kind_then number it.kind _ refl
-    ∙ ap (λ r. r >>= behind_closing) (span_again heavy 0 it.closing (word it.len ++ (word it.bytes ++ rest)) (omega arith) fits.closing)
-    ∙ ap (λ r. r >>= behind_len) (word_at-word it.len (word it.bytes ++ rest) fits.len)
-    ∙ ap (λ r. r >>= behind_bytes) (word_at-word it.bytes rest fits.bytes)
+    ∙ ap (λ r. r >>= behind_closing) (span_again heavy 0 it.closing (word it.len ++ (word it.child_bytes ++ rest)) (omega arith) fits.closing)
+    ∙ ap (λ r. r >>= behind_len) (word_at-word it.len (word it.child_bytes ++ rest) fits.len)
+    ∙ ap (λ r. r >>= behind_bytes) (word_at-word it.child_bytes rest fits.child_bytes)
   where
     number : ℕ
     number = delimiter_number it.kind
@@ -279,23 +290,23 @@ format_4_again heavy it rest fits =
     high_bits : first / 8 ≡ number
     high_bits = omega arith
 
-    made : SpanNumbers → (len bytes : ℕ) → Entry
-    made closing len bytes = of_header (record { opening = it.opening; closing = closing; kind = it.kind; len = len; bytes = bytes })
+    made : SpanNumbers → (len child_bytes : ℕ) → Entry
+    made closing len child_bytes = of_header (record { opening = it.opening; closing = closing; kind = it.kind; len = len; child_bytes = child_bytes })
 
     behind_bytes : ℕ × List ℕ → Read Entry
-    behind_bytes bytes = Some (made it.closing it.len bytes.0, bytes.1)
+    behind_bytes child_bytes = Some (made it.closing it.len child_bytes.0, child_bytes.1)
 
     behind_len : ℕ × List ℕ → Read Entry
-    behind_len len = word_at len.1 >>= λ bytes. Some (made it.closing len.0 bytes.0, bytes.1)
+    behind_len len = word_at len.1 >>= λ child_bytes. Some (made it.closing len.0 child_bytes.0, child_bytes.1)
 
     behind_closing : Spanned × List ℕ → Read Entry
-    behind_closing closing = word_at closing.1 >>= λ len. word_at len.1 >>= λ bytes. Some (made closing.0.numbers len.0 bytes.0, bytes.1)
+    behind_closing closing = word_at closing.1 >>= λ len. word_at len.1 >>= λ child_bytes. Some (made closing.0.numbers len.0 child_bytes.0, child_bytes.1)
 
-    regrouped : format_4 heavy it ++ rest ≡ span_bytes heavy 0 it.opening ++ (first ∷ (span_bytes heavy 0 it.closing ++ (word it.len ++ (word it.bytes ++ rest))))
+    regrouped : format_4 heavy it ++ rest ≡ span_bytes heavy 0 it.opening ++ (first ∷ (span_bytes heavy 0 it.closing ++ (word it.len ++ (word it.child_bytes ++ rest))))
     regrouped =
-        append_assoc ((span_bytes heavy 0 it.opening ++ first ∷ span_bytes heavy 0 it.closing) ++ word it.len) (word it.bytes) rest
-        ∙ append_assoc (span_bytes heavy 0 it.opening ++ first ∷ span_bytes heavy 0 it.closing) (word it.len) (word it.bytes ++ rest)
-        ∙ append_assoc (span_bytes heavy 0 it.opening) (first ∷ span_bytes heavy 0 it.closing) (word it.len ++ (word it.bytes ++ rest))
+        append_assoc ((span_bytes heavy 0 it.opening ++ first ∷ span_bytes heavy 0 it.closing) ++ word it.len) (word it.child_bytes) rest
+        ∙ append_assoc (span_bytes heavy 0 it.opening ++ first ∷ span_bytes heavy 0 it.closing) (word it.len) (word it.child_bytes ++ rest)
+        ∙ append_assoc (span_bytes heavy 0 it.opening) (first ∷ span_bytes heavy 0 it.closing) (word it.len ++ (word it.child_bytes ++ rest))
 
 -- A header is read again.
 pub header_again : (it : HeaderEntry) (rest : List ℕ) → HeaderFits it → entry_at (header_bytes it ++ rest) ≡ token_read (of_header it) rest

@@ -9,8 +9,8 @@ use Rattle.tt_codec.specs.SpanNumbers.{span_bytes}
 use Rattle.tt_codec.proofs.ByteRows.{at}
 use Rattle.tt_base.proofs.Samples.{hex}
 
-abbrev round : DelimiterKind → (opening closing : SpanNumbers) → (len bytes : ℕ) → HeaderEntry
-round kind opening closing len bytes = record { opening = opening; closing = closing; kind = kind; len = len; bytes = bytes }
+abbrev round : DelimiterKind → (opening closing : SpanNumbers) → (len child_bytes : ℕ) → HeaderEntry
+round kind opening closing len child_bytes = record { opening = opening; closing = closing; kind = kind; len = len; child_bytes = child_bytes }
 
 -- a parenthesis that holds nothing
 abbrev empty : (opening closing : SpanNumbers) → HeaderEntry

@@ -12,13 +12,24 @@ use Rattle.tt_base.specs.declared.punct.Spacing.{Spacing}
 use Rattle.tt_base.specs.declared.punct.Spacing.TheVariants.{Alone, Joint, JointHidden}
 use Rattle.tt_codec.specs.declared.entry.LeafEntry.{LeafEntry}
 use Rattle.tt_codec.specs.declared.entry.LeafEntry.TheVariants.{Punct as punct, Ident as ident, Literal as literal}
-use Rattle.tt_codec.specs.Leaf.{LeafEntryFits, leaf_bytes, spacing_number, raw_number, long_form, form_of, literal_form, raw_from, char_at, literal_at, plain_at, behind_span, leaf_at}
+use Rattle.tt_codec.specs.Kinds.{spacing_number, raw_number, raw_from, short_kind_from}
+use Rattle.tt_codec.specs.Leaf.{LeafEntryFits, leaf_bytes, long_form, form_of, literal_form, char_at, literal_at, long_literal_at, other_punct_at, plain_at, marked_at}
 use Rattle.tt_codec.specs.Reference.{reference_bytes}
 use Rattle.tt_codec.specs.declared.span.SpanNumbers.{SpanNumbers}
-use Rattle.tt_codec.specs.SpanNumbers.{SpanFits, word, span_bytes}
-use Rattle.tt_codec.specs.Read.{Read, ◌>>=◌}
+use Rattle.tt_codec.specs.SpanNumbers.{SpanFits, word, span_bytes, span_at}
+use Rattle.tt_codec.specs.Read.{Read, ◌>>=◌, byte_at}
 use Rattle.tt_codec.proofs.ReferenceReading.{bit_0, bit_1, reference_again}
 use Rattle.tt_codec.proofs.SpanReading.{word_at-word, span_again}
+
+-- a leaf, of which the span has been read
+abbrev pub behind_span : (extra : ℕ) → SpanNumbers → List ℕ → Read LeafEntry
+behind_span extra numbers bytes =
+    if extra == 0 then (byte_at bytes >>= λ control. plain_at control.0 numbers control.1)
+    else marked_at extra numbers bytes
+
+-- a leaf
+unfoldable pub leaf_at : List ℕ → Read LeafEntry
+leaf_at bytes = span_at bytes >>= λ span. behind_span span.0.extra span.0.numbers span.1
 
 abbrev pub entered : LeafEntry → List ℕ → Read LeafEntry
 entered e rest = Some (e, rest)
@@ -87,20 +98,33 @@ ident_again symbol raw at rest h fits =
     ∙ ap (λ r. r >>= λ r. Some (ident r.0.index (raw_from r.0.tag) at, r.1)) (reference_again symbol (raw_number raw) rest h (raw_bound raw))
     ∙ ap (λ r. entered (ident symbol r at) rest) (raw_again raw)
 
--- a short form is one byte: n, and the suffix above its four bits
-short_again : (n low bit : ℕ) (suffix_len : ℕ) (at : SpanNumbers) (tail : List ℕ) → n ≡ low + bit * 8 → low < 8 → bit < 2
-    → behind_span 0 at ((n + suffix_len * 16) ∷ tail) ≡ plain_at low (bit + suffix_len * 2) at tail
-short_again n low bit suffix_len at tail e hl hb = ap₂ (λ l h. plain_at l h at tail) low_bits high_bits
+-- a leaf whose byte behind the span has these low bits
+abbrev by_low : (low control : ℕ) → SpanNumbers → List ℕ → Read LeafEntry
+by_low low control numbers rest =
+    if low == 6 then other_punct_at (control / 8) numbers rest
+    else if low == 7 then long_literal_at (control / 8) numbers rest
+    else (short_kind_from (control % 16) >>= λ kind. literal_at kind (control / 16) numbers rest)
+
+-- a short form is one byte: the number of the kind, and the suffix above its four bits
+short_again : (number low : ℕ) (suffix_len : ℕ) (at : SpanNumbers) (tail : List ℕ) → number % 8 ≡ low
+    → behind_span 0 at ((number + suffix_len * 16) ∷ tail) ≡ by_low low (number + suffix_len * 16) at tail
+short_again number low suffix_len at tail e = ap (λ bits. by_low bits (number + suffix_len * 16) at tail) low_bits
   where
-    low_bits : (n + suffix_len * 16) % 8 ≡ low
+    low_bits : (number + suffix_len * 16) % 8 ≡ low
     low_bits = omega arith
 
-    high_bits : (n + suffix_len * 16) / 8 ≡ bit + suffix_len * 2
-    high_bits = omega arith
+-- what is read of that byte
+short_kind : (number : ℕ) (kind : LitKind) (suffix_len : ℕ) (at : SpanNumbers) (tail : List ℕ) → number < 16 → short_kind_from number ≡ Some kind
+    → (short_kind_from ((number + suffix_len * 16) % 16) >>= λ kind. literal_at kind ((number + suffix_len * 16) / 16) at tail) ≡ literal_at kind suffix_len at tail
+short_kind number kind suffix_len at tail small e =
+    ap₂ (λ number suffix. short_kind_from number >>= λ kind. literal_at kind suffix at tail) number_again suffix_again
+    ∙ ap (λ found. found >>= λ kind. literal_at kind suffix_len at tail) e
+  where
+    number_again : (number + suffix_len * 16) % 16 ≡ number
+    number_again = omega arith
 
-literal_kind : (test : ℕ) (a b kind : LitKind) (suffix suffix_len : ℕ) (at : SpanNumbers) (tail : List ℕ) → (if test == 0 then a else b) ≡ kind → suffix ≡ suffix_len
-    → literal_at (if test == 0 then a else b) suffix at tail ≡ literal_at kind suffix_len at tail
-literal_kind test a b kind suffix suffix_len at tail e f = ap₂ (λ k s. literal_at k s at tail) e f
+    suffix_again : (number + suffix_len * 16) / 16 ≡ suffix_len
+    suffix_again = omega arith
 
 form_again : (kind : LitKind) (suffix_len : ℕ) (at : SpanNumbers) (tail : List ℕ) → behind_span 0 at (literal_form kind suffix_len ++ tail) ≡ literal_at kind suffix_len at tail
 unfolding literal_form
@@ -109,22 +133,22 @@ form_again lit.Char suffix_len at tail = refl
 form_again lit.Integer suffix_len at tail = by_form (nat_le suffix_len 15)
   where
     by_form : (short : Bool) → behind_span 0 at (cond short ((12 + suffix_len * 16) ∷ []) (long_form lit.Integer suffix_len) ++ tail) ≡ literal_at lit.Integer suffix_len at tail
-    by_form true = short_again 12 4 1 suffix_len at tail refl (omega arith) (omega arith) ∙ literal_kind ((1 + suffix_len * 2) % 2) (lit.StrRaw 0) lit.Integer lit.Integer ((1 + suffix_len * 2) / 2) suffix_len at tail (bit_1 ((1 + suffix_len * 2) % 2) _ _ (omega arith)) (omega arith)
+    by_form true = short_again 12 4 suffix_len at tail refl ∙ short_kind 12 lit.Integer suffix_len at tail (omega arith) refl
     by_form false = refl
 form_again lit.Float suffix_len at tail = refl
 form_again lit.Str suffix_len at tail = by_form (nat_le suffix_len 15)
   where
     by_form : (short : Bool) → behind_span 0 at (cond short ((3 + suffix_len * 16) ∷ []) (long_form lit.Str suffix_len) ++ tail) ≡ literal_at lit.Str suffix_len at tail
-    by_form true = short_again 3 3 0 suffix_len at tail refl (omega arith) (omega arith) ∙ literal_kind ((0 + suffix_len * 2) % 2) lit.Str (lit.StrRaw 1) lit.Str ((0 + suffix_len * 2) / 2) suffix_len at tail (bit_0 ((0 + suffix_len * 2) % 2) _ _ (omega arith)) (omega arith)
+    by_form true = short_again 3 3 suffix_len at tail refl ∙ short_kind 3 lit.Str suffix_len at tail (omega arith) refl
     by_form false = refl
 form_again (lit.StrRaw count) suffix_len at tail = by_count (count == 0) refl (count == 1) refl
   where
     none : (short : Bool) → behind_span 0 at (cond short ((4 + suffix_len * 16) ∷ []) (long_form (lit.StrRaw 0) suffix_len) ++ tail) ≡ literal_at (lit.StrRaw 0) suffix_len at tail
-    none true = short_again 4 4 0 suffix_len at tail refl (omega arith) (omega arith) ∙ literal_kind ((0 + suffix_len * 2) % 2) (lit.StrRaw 0) lit.Integer (lit.StrRaw 0) ((0 + suffix_len * 2) / 2) suffix_len at tail (bit_0 ((0 + suffix_len * 2) % 2) _ _ (omega arith)) (omega arith)
+    none true = short_again 4 4 suffix_len at tail refl ∙ short_kind 4 (lit.StrRaw 0) suffix_len at tail (omega arith) refl
     none false = refl
 
     one : (short : Bool) → behind_span 0 at (cond short ((11 + suffix_len * 16) ∷ []) (long_form (lit.StrRaw 1) suffix_len) ++ tail) ≡ literal_at (lit.StrRaw 1) suffix_len at tail
-    one true = short_again 11 3 1 suffix_len at tail refl (omega arith) (omega arith) ∙ literal_kind ((1 + suffix_len * 2) % 2) lit.Str (lit.StrRaw 1) (lit.StrRaw 1) ((1 + suffix_len * 2) / 2) suffix_len at tail (bit_1 ((1 + suffix_len * 2) % 2) _ _ (omega arith)) (omega arith)
+    one true = short_again 11 3 suffix_len at tail refl ∙ short_kind 11 (lit.StrRaw 1) suffix_len at tail (omega arith) refl
     one false = refl
 
     by_count : (is_none : Bool) → (count == 0) ≡ is_none → (is_one : Bool) → (count == 1) ≡ is_one

@@ -2,7 +2,7 @@
 use Rattle.std.specs.Borrow.{Bor}
 use Rattle.std.specs.Prelude.{List, ℕ, ◌/◌, ◌%◌, ◌==◌, if◌then◌else◌, Option, Some, ◌≡◌, ◌++◌, IsSomeAnd}
 use Rattle.tt_codec.specs.Header.{HeaderFits, header_bytes, format_1_at, format_2_at, format_3_at, format_4_at}
-use Rattle.tt_codec.specs.Leaf.{LeafEntryFits, leaf_bytes, plain_at, behind_span}
+use Rattle.tt_codec.specs.Leaf.{LeafEntryFits, leaf_bytes, plain_at, marked_at}
 use Rattle.tt_codec.specs.Read.{Read, ◌>>=◌, byte_at}
 use Rattle.tt_codec.specs.SpanNumbers.{span_at}
 use Rattle.tt_codec.specs.declared.entry.Entry.TheVariants.{Leaf as of_leaf, Header as of_header}
@@ -26,20 +26,20 @@ EntryFits (of_header it) = HeaderFits it
 abbrev pub as_entry : Read LeafEntry → Read Entry
 as_entry read = read >>= λ found. Some (of_leaf found.0, found.1)
 
--- a token whose span has no extra bits: a byte with these low three bits and these high bits has been read
-abbrev pub plain_entry_at : (low high : ℕ) → SpanNumbers → List ℕ → Read Entry
-plain_entry_at low high numbers rest =
-    if low == 0 then format_1_at high numbers rest
-    else if low == 1 then format_2_at high numbers rest
-    else if low == 2 then format_3_at high numbers rest
-    else if low == 5 then format_4_at high numbers rest
-    else as_entry (plain_at low high numbers rest)
+-- a token whose span has no extra bits: this byte has been read behind it
+abbrev pub plain_entry_at : (control : ℕ) → SpanNumbers → List ℕ → Read Entry
+plain_entry_at control numbers rest =
+    if control % 8 == 0 then format_1_at (control / 8) numbers rest
+    else if control % 8 == 1 then format_2_at (control / 8) numbers rest
+    else if control % 8 == 2 then format_3_at (control / 8) numbers rest
+    else if control % 8 == 5 then format_4_at (control / 8) numbers rest
+    else as_entry (plain_at control numbers rest)
 
 -- a token, of which the span has been read
 abbrev pub entry_behind_span : (extra : ℕ) → SpanNumbers → List ℕ → Read Entry
 entry_behind_span extra numbers bytes =
-    if extra == 0 then (byte_at bytes >>= λ control. plain_entry_at (control.0 % 8) (control.0 / 8) numbers control.1)
-    else as_entry (behind_span extra numbers bytes)
+    if extra == 0 then (byte_at bytes >>= λ control. plain_entry_at control.0 numbers control.1)
+    else as_entry (marked_at extra numbers bytes)
 
 -- a token
 unfoldable pub entry_at : List ℕ → Read Entry

@@ -2,21 +2,13 @@
 use Rattle.std.specs.Int.{w16, to_le_bytes}
 use Rattle.std.specs.Prelude.{ℕ, suc, ◌+◌, ◌-◌, ◌*◌, ◌/◌, ◌%◌, ◌^◌, ◌<◌, Bool, false, ◌&&◌, ◌==◌, nat_le, if◌then◌else◌, List, [], ◌∷◌, ◌++◌, nat_lt, Option, Some, None}
 use Rattle.tt_base.specs.declared.delimiter.Delimiter.{Delimiter}
-use Rattle.tt_base.specs.declared.delimiter.DelimiterKind.TheVariants.{Parenthesis, Brace, Bracket, Invisible}
-use Rattle.tt_base.specs.declared.delimiter.DelimiterKind.{DelimiterKind}
+use Rattle.tt_codec.specs.Kinds.{delimiter_number, delimiter_kind_from}
 use Rattle.tt_codec.specs.Read.{Read, ◌>>=◌, byte_at, half_at, word_at}
 use Rattle.tt_codec.specs.SpanNumbers.{SpanFits, word, span_bytes, span_numbers, span_at}
 use Rattle.tt_codec.specs.declared.entry.Entry.TheVariants.{Header as of_header}
 use Rattle.tt_codec.specs.declared.entry.Entry.{Entry}
 use Rattle.tt_codec.specs.declared.entry.HeaderEntry.{HeaderEntry}
 use Rattle.tt_codec.specs.declared.span.SpanNumbers.{SpanNumbers}
-
--- the number of a kind of delimiter
-abbrev pub delimiter_number : DelimiterKind → ℕ
-delimiter_number Parenthesis = 0
-delimiter_number Brace = 1
-delimiter_number Bracket = 2
-delimiter_number Invisible = 3
 
 -- from the start of the opening to the start of the closing
 abbrev pub distance : HeaderEntry → ℕ
@@ -26,43 +18,43 @@ distance it = it.closing.start - it.opening.start
 abbrev pub is_within : HeaderEntry → ℕ → Bool
 is_within it most = nat_le it.opening.start it.closing.start && nat_le (distance it) most
 
--- both delimiters are of one part, and what is between them is small
+-- both delimiters are of one part, and what is between them can be counted in one byte each
 abbrev pub is_small : HeaderEntry → Bool
-is_small it = it.opening.part == it.closing.part && nat_le it.len 255 && nat_le it.bytes 255
+is_small it = it.opening.part == it.closing.part && nat_le it.len 255 && nat_le it.child_bytes 255
 
--- small, with delimiters of length 1
+-- small, with delimiters of length 1, whose distance has 11 bits
 abbrev pub has_format_1 : HeaderEntry → Bool
 has_format_1 it = is_small it && it.opening.length == 1 && it.closing.length == 1 && is_within it 2047
 
--- small, with delimiters of one length, near to each other
+-- small, with delimiters of one length, whose distance has 3 bits
 abbrev pub has_format_2 : HeaderEntry → Bool
 has_format_2 it = is_small it && it.opening.length == it.closing.length && is_within it 7
 
--- delimiters of one length, and one of the first parts at the close
+-- delimiters of one length, with 8 bits for the count, 12 for the bytes, 8 for the distance and 7 for the close's part
 abbrev pub has_format_3 : HeaderEntry → Bool
 has_format_3 it =
-    nat_le it.len 255 && nat_le it.bytes 4095 && it.opening.length == it.closing.length && is_within it 255 && nat_le it.closing.part 127
+    nat_le it.len 255 && nat_le it.child_bytes 4095 && it.opening.length == it.closing.length && is_within it 255 && nat_le it.closing.part 127
 
--- the low bits of the distance stand in the span where its length would
+-- the 8 low bits of the distance stand in the span where its length would, the others behind the kind
 abbrev pub format_1 : HeaderEntry → List ℕ
 format_1 it =
     span_bytes false 0 (record { part = it.opening.part; start = it.opening.start; length = distance it % 256 })
-    ++ (delimiter_number it.kind * 8 + distance it / 256 * 32) ∷ it.len ∷ it.bytes ∷ []
+    ++ (delimiter_number it.kind * 8 + distance it / 256 * 32) ∷ it.len ∷ it.child_bytes ∷ []
 
--- the distance stands beside the kind
+-- the distance stands behind the kind
 abbrev pub format_2 : HeaderEntry → List ℕ
-format_2 it = span_bytes false 0 it.opening ++ (1 + delimiter_number it.kind * 8 + distance it * 32) ∷ it.len ∷ it.bytes ∷ []
+format_2 it = span_bytes false 0 it.opening ++ (1 + delimiter_number it.kind * 8 + distance it * 32) ∷ it.len ∷ it.child_bytes ∷ []
 
--- the close's part stands beside the kind and beside the number of bytes
+-- the 3 low bits of the close's part stand behind the kind, the 4 others in front of the number of bytes
 abbrev pub format_3 : HeaderEntry → List ℕ
 format_3 it =
     span_bytes false 0 it.opening
-    ++ (2 + delimiter_number it.kind * 8 + it.closing.part % 8 * 32) ∷ distance it ∷ it.len ∷ to_le_bytes w16 (it.bytes * 16 + it.closing.part / 8)
+    ++ (2 + delimiter_number it.kind * 8 + it.closing.part % 8 * 32) ∷ distance it ∷ it.len ∷ to_le_bytes w16 (it.child_bytes * 16 + it.closing.part / 8)
 
 -- everything in full; heavy demands the longest form of both spans
 abbrev pub format_4 : (heavy : Bool) → HeaderEntry → List ℕ
 format_4 heavy it =
-    span_bytes heavy 0 it.opening ++ (5 + delimiter_number it.kind * 8) ∷ span_bytes heavy 0 it.closing ++ word it.len ++ word it.bytes
+    span_bytes heavy 0 it.opening ++ (5 + delimiter_number it.kind * 8) ∷ span_bytes heavy 0 it.closing ++ word it.len ++ word it.child_bytes
 
 -- the first format whose condition holds
 unfoldable pub header_bytes : HeaderEntry → List ℕ
@@ -77,26 +69,20 @@ pub record HeaderFits (it : HeaderEntry) : Type 0 where
   pub opening : SpanFits it.opening
   pub closing : SpanFits it.closing
   pub len : it.len < 2 ^ 32
-  pub bytes : it.bytes < 2 ^ 32
+  pub child_bytes : it.child_bytes < 2 ^ 32
 
 -- the top header in numbers: its two parts have the two indices from `part` on
-abbrev pub top_entry : (part : ℕ) → Delimiter → (len bytes : ℕ) → HeaderEntry
-top_entry part delimiter len bytes =
+abbrev pub top_entry : (part : ℕ) → Delimiter → (len child_bytes : ℕ) → HeaderEntry
+top_entry part delimiter len child_bytes =
     record {
       opening = span_numbers part delimiter.open_span;
       closing = span_numbers (suc part) delimiter.close;
       kind = delimiter.kind;
       len = len;
-      bytes = bytes;
+      child_bytes = child_bytes;
     }
 
 -- ---- how it is read
-
--- the kind of a number
-abbrev pub delimiter_kind_from : ℕ → Option DelimiterKind
-delimiter_kind_from number =
-    if number == 0 then Some Parenthesis else if number == 1 then Some Brace
-    else if number == 2 then Some Bracket else if number == 3 then Some Invisible else None
 
 -- the offset so far behind a start, where four bytes can say it
 unfoldable pub start_behind : (start distance : ℕ) → Option ℕ
@@ -106,7 +92,7 @@ start_behind start distance = if nat_lt (start + distance) (2 ^ 32) then Some (s
 abbrev pub format_1_at : (high : ℕ) → SpanNumbers → List ℕ → Read Entry
 format_1_at high numbers rest =
     delimiter_kind_from (high % 4) >>= λ kind. start_behind numbers.start (numbers.length + high / 4 * 256) >>= λ close.
-    byte_at rest >>= λ len. byte_at len.1 >>= λ bytes.
+    byte_at rest >>= λ len. byte_at len.1 >>= λ child_bytes.
     Some (
       of_header
           (record {
@@ -114,16 +100,16 @@ format_1_at high numbers rest =
             closing = record { part = numbers.part; start = close; length = 1 };
             kind = kind;
             len = len.0;
-            bytes = bytes.0;
+            child_bytes = child_bytes.0;
           }),
-      bytes.1,
+      child_bytes.1,
     )
 
 -- the same of the second format
 abbrev pub format_2_at : (high : ℕ) → SpanNumbers → List ℕ → Read Entry
 format_2_at high numbers rest =
     delimiter_kind_from (high % 4) >>= λ kind. start_behind numbers.start (high / 4) >>= λ close.
-    byte_at rest >>= λ len. byte_at len.1 >>= λ bytes.
+    byte_at rest >>= λ len. byte_at len.1 >>= λ child_bytes.
     Some (
       of_header
           (record {
@@ -131,9 +117,9 @@ format_2_at high numbers rest =
             closing = record { part = numbers.part; start = close; length = numbers.length };
             kind = kind;
             len = len.0;
-            bytes = bytes.0;
+            child_bytes = child_bytes.0;
           }),
-      bytes.1,
+      child_bytes.1,
     )
 
 -- the same of the third format
@@ -148,7 +134,7 @@ format_3_at high numbers rest =
             closing = record { part = high / 4 + half.0 % 16 * 8; start = close; length = numbers.length };
             kind = kind;
             len = len.0;
-            bytes = half.0 / 16;
+            child_bytes = half.0 / 16;
           }),
       half.1,
     )
@@ -156,5 +142,5 @@ format_3_at high numbers rest =
 -- the same of the fourth format
 abbrev pub format_4_at : (high : ℕ) → SpanNumbers → List ℕ → Read Entry
 format_4_at high numbers rest =
-    delimiter_kind_from high >>= λ kind. span_at rest >>= λ closing. word_at closing.1 >>= λ len. word_at len.1 >>= λ bytes.
-    Some (of_header (record { opening = numbers; closing = closing.0.numbers; kind = kind; len = len.0; bytes = bytes.0 }), bytes.1)
+    delimiter_kind_from high >>= λ kind. span_at rest >>= λ closing. word_at closing.1 >>= λ len. word_at len.1 >>= λ child_bytes.
+    Some (of_header (record { opening = numbers; closing = closing.0.numbers; kind = kind; len = len.0; child_bytes = child_bytes.0 }), child_bytes.1)

@@ -1,6 +1,7 @@
 -- A token in numbers, and its bytes, written and read.
 pub mod Entry
 pub mod Header
+pub mod Kinds
 pub mod Leaf
 pub mod Read
 pub mod Reference

@@ -5,7 +5,7 @@ use Rattle.std.specs.Prelude.{ℕ, ◌+◌, ◌*◌, ◌/◌, ◌%◌, ◌^◌, 
 use Rattle.tt_codec.specs.Read.{Read, ◌>>=◌, byte_at, half_at}
 use Rattle.tt_codec.specs.declared.reference.Reference.{Reference}
 
--- the bytes of an index and a tag
+-- the bytes of an index and a tag: the first byte has 6 bits of the index, the second 7, the other two 16
 unfoldable pub reference_bytes : (index tag : ℕ) → List ℕ
 reference_bytes index tag =
     if nat_lt index 64 then (index * 4 + tag) ∷ []

@@ -12,20 +12,20 @@ use Rattle.tt_codec.specs.declared.span.Spanned.{Spanned}
 abbrev pub word : ℕ → List ℕ
 word n = to_le_bytes w32 n
 
--- the low bits of all three, the extra bits, and the bit that says whether more follows
+-- from the lowest bit on: 2 extra bits, 4 low bits of the part, 8 of the length, one that says whether more follows, 17 of the start
 abbrev pub first_word : (extra more : ℕ) → SpanNumbers → ℕ
 first_word extra more numbers =
     extra + numbers.part % 16 * 2 ^ 2 + numbers.length % 256 * 2 ^ 6 + more * 2 ^ 14 + numbers.start % 2 ^ 17 * 2 ^ 15
 
--- what the first word leaves of the part
+-- what the first word leaves of the part, of which it has 4 bits
 abbrev pub part_rest : SpanNumbers → ℕ
 part_rest numbers = numbers.part / 16
 
--- what it leaves of the length
+-- what it leaves of the length, of which it has 8 bits
 abbrev pub length_rest : SpanNumbers → ℕ
 length_rest numbers = numbers.length / 256
 
--- what it leaves of the start
+-- what it leaves of the start, of which it has 17 bits
 abbrev pub start_rest : SpanNumbers → ℕ
 start_rest numbers = numbers.start / 2 ^ 17
 
@@ -33,7 +33,7 @@ start_rest numbers = numbers.start / 2 ^ 17
 abbrev pub fits_one_word : SpanNumbers → Bool
 fits_one_word numbers = part_rest numbers == 0 && length_rest numbers == 0 && start_rest numbers == 0
 
--- whether one more word can hold what it leaves
+-- whether one more word can hold what it leaves: 11 bits for the part, 10 for the length and 10 for the start
 abbrev pub fits_two_words : SpanNumbers → Bool
 fits_two_words numbers = nat_le (part_rest numbers) 2047 && nat_le (length_rest numbers) 1023 && nat_le (start_rest numbers) 1023
 
@@ -41,7 +41,7 @@ fits_two_words numbers = nat_le (part_rest numbers) 2047 && nat_le (length_rest 
 abbrev pub light_span : ℕ → SpanNumbers → List ℕ
 light_span extra numbers = word (first_word extra 0 numbers)
 
--- the second of two words
+-- the second of two words: a bit that is 0, and what the first leaves of the part, the length and the start
 abbrev pub middle_word : SpanNumbers → ℕ
 middle_word numbers = part_rest numbers * 2 + length_rest numbers * 2 ^ 12 + start_rest numbers * 2 ^ 22
 
@@ -49,11 +49,11 @@ middle_word numbers = part_rest numbers * 2 + length_rest numbers * 2 ^ 12 + sta
 abbrev pub middle_span : ℕ → SpanNumbers → List ℕ
 middle_span extra numbers = word (first_word extra 1 numbers) ++ word (middle_word numbers)
 
--- what is left of all three, as one number below 2^63
+-- what is left of all three, as one number of 63 bits: 24 for the part, 24 for the length and 15 for the start
 abbrev pub rests : SpanNumbers → ℕ
 rests numbers = part_rest numbers + length_rest numbers * 2 ^ 24 + start_rest numbers * 2 ^ 48
 
--- three words
+-- three words: the second has a bit that is 1 and the high bits of the number, the third its 32 low bits
 abbrev pub heavy_span : ℕ → SpanNumbers → List ℕ
 heavy_span extra numbers =
     word (first_word extra 1 numbers) ++ word (rests numbers / 2 ^ 32 * 2 + 1) ++ word (rests numbers % 2 ^ 32)

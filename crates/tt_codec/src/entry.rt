@@ -6,6 +6,8 @@ ghost use Rattle.tt_codec.specs.Leaf.{plain_at};
 ghost use Rattle.tt_codec.specs.Read.{IsRead};
 
 use crate::back_buf::BackBuf;
+use crate::form::{FORM_BITS, FORM_MASK, FORMAT_1, FORMAT_2, FORMAT_3, FORMAT_4, PLAIN};
+use crate::header_read::{read_format_1, read_format_2, read_format_3, read_format_4};
 use crate::span::{SpanNumbers, Spanned};
 use crate::words::split_byte;
 use tt_base::{DelimiterKind, IdentIsRaw, LitKind, Spacing, TtFault};
@@ -30,7 +32,7 @@ pub struct HeaderEntry {
     /// How many tokens follow that belong to it, at any depth.
     pub len: u32,
     /// In how many bytes these are stored.
-    pub bytes: u32,
+    pub child_bytes: u32,
 }
 
 /// A token in numbers, as it is stored.
@@ -53,13 +55,47 @@ impl Entry {
         }
     }
 
+    // A leaf whose span has no extra bits, of which the byte behind the span has been read.
+    fn read_plain_leaf(numbers: SpanNumbers, control: u8, from: &[u8]) -> Option<(Entry, &[u8])>
+        ensures { IsRead (as_entry (plain_at control numbers from.now)) result }
+    {
+        let (leaf, rest) = LeafEntry::read_plain(numbers, control, from)?;
+        Some((Entry::Leaf(leaf), rest))
+    }
+
+    // A token whose span has no extra bits, of which the byte behind the span has been read.
+    fn read_plain(numbers: SpanNumbers, control: u8, from: &[u8]) -> Option<(Entry, &[u8])>
+        ensures { IsRead (plain_entry_at control numbers from.now) result }
+    {
+        let high = control >> FORM_BITS;
+        match control & FORM_MASK {
+            FORMAT_1 => read_format_1(numbers, high, from),
+            FORMAT_2 => read_format_2(numbers, high, from),
+            FORMAT_3 => read_format_3(numbers, high, from),
+            FORMAT_4 => read_format_4(numbers, high, from),
+            _ => Entry::read_plain_leaf(numbers, control, from),
+        }
+    }
+
+    // A token, of which the span has been read.
+    fn read_behind(span: Spanned, from: &[u8]) -> Option<(Entry, &[u8])>
+        ensures { IsRead (entry_behind_span span.extra span.numbers from.now) result }
+    {
+        if span.extra == PLAIN {
+            let (control, rest) = split_byte(from)?;
+            return Entry::read_plain(span.numbers, control, rest);
+        }
+        let (leaf, rest) = LeafEntry::read_marked(span, from)?;
+        Some((Entry::Leaf(leaf), rest))
+    }
+
     // The token that the bytes begin with, and the bytes behind it.
     #[tactic(auto, unfolding(crate::specs::Entry::entry_at))]
     fn split(from: &[u8]) -> Option<(Entry, &[u8])>
         ensures { IsRead (entry_at from.now) result }
     {
         let (span, rest) = Spanned::read(from)?;
-        span.numbers.read_entry_behind(span.extra, rest)
+        Entry::read_behind(span, rest)
     }
 
     /// The token that the bytes begin with, and the bytes behind it.
@@ -68,40 +104,5 @@ impl Entry {
         ensures again { EntriesAgain from.now result }
     {
         Entry::split(from)
-    }
-}
-
-impl SpanNumbers {
-    // A leaf whose span has no extra bits, of which the first byte has been read.
-    fn read_plain_leaf(self, low: u8, high: u8, from: &[u8]) -> Option<(Entry, &[u8])>
-        ensures { IsRead (as_entry (plain_at low high self from.now)) result }
-    {
-        let (leaf, rest) = self.read_plain(low, high, from)?;
-        Some((Entry::Leaf(leaf), rest))
-    }
-
-    // A token whose span has no extra bits, of which the first byte has been read.
-    fn read_plain_entry(self, low: u8, high: u8, from: &[u8]) -> Option<(Entry, &[u8])>
-        ensures { IsRead (plain_entry_at low high self from.now) result }
-    {
-        match low {
-            0 => self.read_format_1(high, from),
-            1 => self.read_format_2(high, from),
-            2 => self.read_format_3(high, from),
-            5 => self.read_format_4(high, from),
-            _ => self.read_plain_leaf(low, high, from),
-        }
-    }
-
-    // A token, of which the span has been read.
-    fn read_entry_behind(self, extra: u32, from: &[u8]) -> Option<(Entry, &[u8])>
-        ensures { IsRead (entry_behind_span extra self from.now) result }
-    {
-        if extra == 0 {
-            let (control, rest) = split_byte(from)?;
-            return self.read_plain_entry(control % 8, control / 8, rest);
-        }
-        let (leaf, rest) = self.read_behind(extra, from)?;
-        Some((Entry::Leaf(leaf), rest))
     }
 }

@@ -1,114 +1,104 @@
 //! Headers below the top, read in each of their four formats (docs/FORMATS.md, "Bytes of a header").
 ghost use Rattle.std.specs.Prelude.{◌≡◌, ◌<◌, ◌^◌};
-ghost use Rattle.tt_codec.specs.Header.{delimiter_kind_from, start_behind, format_1_at, format_2_at, format_3_at, format_4_at};
+ghost use Rattle.tt_codec.specs.Header.{start_behind, format_1_at, format_2_at, format_3_at, format_4_at};
 ghost use Rattle.tt_codec.specs.Read.{IsRead};
 
 use crate::entry::{Entry, HeaderEntry};
+use crate::form::{HIGH_BITS, KIND_BITS, KIND_MASK, LOW_DISTANCE_BITS, PART_BITS, PART_MASK};
+use crate::kinds::delimiter_kind_from;
 use crate::span::{SpanNumbers, Spanned};
 use crate::words::{split_byte, split_half, split_word};
-use tt_base::DelimiterKind;
 
-// The kind of a number.
-fn delimiter_kind_from(number: u8) -> Option<DelimiterKind>
-    ensures { result ≡ delimiter_kind_from number }
+// The offset so far behind a start, where four bytes can say it.
+#[tactic(auto, unfolding(crate::specs::Header::start_behind))]
+fn start_behind(start: u32, distance: u64) -> Option<u32>
+    requires { distance < 2 ^ 63 }
+    ensures { result ≡ start_behind start distance }
 {
-    match number {
-        0 => Some(DelimiterKind::Parenthesis),
-        1 => Some(DelimiterKind::Brace),
-        2 => Some(DelimiterKind::Bracket),
-        3 => Some(DelimiterKind::Invisible),
-        _ => None,
-    }
+    u32::try_from(start as u64 + distance).ok()
 }
 
-impl SpanNumbers {
-    // The offset so far behind the start, where four bytes can say it.
-    #[tactic(auto, unfolding(crate::specs::Header::start_behind))]
-    fn start_behind(self, distance: u64) -> Option<u32>
-        requires { distance < 2 ^ 63 }
-        ensures { result ≡ start_behind self.start distance }
-    {
-        u32::try_from(self.start as u64 + distance).ok()
-    }
+/// A header of the first format, of which the span and one byte have been read: that byte's high bits are given.
+pub(crate) fn read_format_1(opening: SpanNumbers, high: u8, from: &[u8]) -> Option<(Entry, &[u8])>
+    ensures { IsRead (format_1_at high opening from.now) result }
+{
+    let kind = delimiter_kind_from(high & KIND_MASK)?;
+    let high_distance = ((high >> KIND_BITS) as u64) << LOW_DISTANCE_BITS;
+    let start = start_behind(opening.start, opening.length as u64 + high_distance)?;
+    let (len, rest) = split_byte(from)?;
+    let (child_bytes, rest) = split_byte(rest)?;
+    let header = HeaderEntry {
+        opening: SpanNumbers {
+            length: 1,
+            ..opening
+        },
+        closing: SpanNumbers {
+            start,
+            length: 1,
+            ..opening
+        },
+        kind,
+        len: len as u32,
+        child_bytes: child_bytes as u32,
+    };
+    Some((Entry::Header(header), rest))
+}
 
-    /// A header of the first format, of which the span and one byte have been read: that byte's high bits are given.
-    pub(crate) fn read_format_1(self, high: u8, from: &[u8]) -> Option<(Entry, &[u8])>
-        ensures { IsRead (format_1_at high self from.now) result }
-    {
-        let kind = delimiter_kind_from(high % 4)?;
-        let start = self.start_behind(self.length as u64 + high as u64 / 4 * 256)?;
-        let (len, rest) = split_byte(from)?;
-        let (bytes, rest) = split_byte(rest)?;
-        let header = HeaderEntry {
-            opening: SpanNumbers { length: 1, ..self },
-            closing: SpanNumbers {
-                part: self.part,
-                start,
-                length: 1,
-            },
-            kind,
-            len: len as u32,
-            bytes: bytes as u32,
-        };
-        Some((Entry::Header(header), rest))
-    }
+/// The same of the second format.
+pub(crate) fn read_format_2(opening: SpanNumbers, high: u8, from: &[u8]) -> Option<(Entry, &[u8])>
+    ensures { IsRead (format_2_at high opening from.now) result }
+{
+    let kind = delimiter_kind_from(high & KIND_MASK)?;
+    let start = start_behind(opening.start, (high >> KIND_BITS) as u64)?;
+    let (len, rest) = split_byte(from)?;
+    let (child_bytes, rest) = split_byte(rest)?;
+    let header = HeaderEntry {
+        opening,
+        closing: SpanNumbers { start, ..opening },
+        kind,
+        len: len as u32,
+        child_bytes: child_bytes as u32,
+    };
+    Some((Entry::Header(header), rest))
+}
 
-    /// The same of the second format.
-    pub(crate) fn read_format_2(self, high: u8, from: &[u8]) -> Option<(Entry, &[u8])>
-        ensures { IsRead (format_2_at high self from.now) result }
-    {
-        let kind = delimiter_kind_from(high % 4)?;
-        let start = self.start_behind(high as u64 / 4)?;
-        let (len, rest) = split_byte(from)?;
-        let (bytes, rest) = split_byte(rest)?;
-        let header = HeaderEntry {
-            opening: self,
-            closing: SpanNumbers { start, ..self },
-            kind,
-            len: len as u32,
-            bytes: bytes as u32,
-        };
-        Some((Entry::Header(header), rest))
-    }
+/// The same of the third format.
+pub(crate) fn read_format_3(opening: SpanNumbers, high: u8, from: &[u8]) -> Option<(Entry, &[u8])>
+    ensures { IsRead (format_3_at high opening from.now) result }
+{
+    let kind = delimiter_kind_from(high & KIND_MASK)?;
+    let (distance, rest) = split_byte(from)?;
+    let start = start_behind(opening.start, distance as u64)?;
+    let (len, rest) = split_byte(rest)?;
+    let (half, rest) = split_half(rest)?;
+    let header = HeaderEntry {
+        opening,
+        closing: SpanNumbers {
+            part: (high >> KIND_BITS) as u32 + (((half & PART_MASK) as u32) << HIGH_BITS),
+            start,
+            length: opening.length,
+        },
+        kind,
+        len: len as u32,
+        child_bytes: (half >> PART_BITS) as u32,
+    };
+    Some((Entry::Header(header), rest))
+}
 
-    /// The same of the third format.
-    pub(crate) fn read_format_3(self, high: u8, from: &[u8]) -> Option<(Entry, &[u8])>
-        ensures { IsRead (format_3_at high self from.now) result }
-    {
-        let kind = delimiter_kind_from(high % 4)?;
-        let (distance, rest) = split_byte(from)?;
-        let start = self.start_behind(distance as u64)?;
-        let (len, rest) = split_byte(rest)?;
-        let (half, rest) = split_half(rest)?;
-        let header = HeaderEntry {
-            opening: self,
-            closing: SpanNumbers {
-                part: high as u32 / 4 + half as u32 % 16 * 8,
-                start,
-                length: self.length,
-            },
-            kind,
-            len: len as u32,
-            bytes: half as u32 / 16,
-        };
-        Some((Entry::Header(header), rest))
-    }
-
-    /// The same of the fourth format.
-    pub(crate) fn read_format_4(self, high: u8, from: &[u8]) -> Option<(Entry, &[u8])>
-        ensures { IsRead (format_4_at high self from.now) result }
-    {
-        let kind = delimiter_kind_from(high)?;
-        let (closing, rest) = Spanned::read(from)?;
-        let (len, rest) = split_word(rest)?;
-        let (bytes, rest) = split_word(rest)?;
-        let header = HeaderEntry {
-            opening: self,
-            closing: closing.numbers,
-            kind,
-            len,
-            bytes,
-        };
-        Some((Entry::Header(header), rest))
-    }
+/// The same of the fourth format.
+pub(crate) fn read_format_4(opening: SpanNumbers, high: u8, from: &[u8]) -> Option<(Entry, &[u8])>
+    ensures { IsRead (format_4_at high opening from.now) result }
+{
+    let kind = delimiter_kind_from(high)?;
+    let (closing, rest) = Spanned::read(from)?;
+    let (len, rest) = split_word(rest)?;
+    let (child_bytes, rest) = split_word(rest)?;
+    let header = HeaderEntry {
+        opening,
+        closing: closing.numbers,
+        kind,
+        len,
+        child_bytes,
+    };
+    Some((Entry::Header(header), rest))
 }

@@ -1,20 +1,48 @@
 //! Headers, written in the first of four formats whose condition holds (docs/FORMATS.md, "Bytes of a header").
-ghost use Rattle.std.specs.Prelude.{◌≡◌, ◌<◌, ◌^◌, ◌+◌, ◌++◌, IsTrue, IfErr, OnOk};
+ghost use Rattle.std.specs.Prelude.{◌≡◌, ◌<◌, ◌^◌, ◌+◌, ◌*◌, ◌++◌, IsTrue, IfErr, OnOk};
 ghost use Rattle.tt_base.specs.declared.fault.TtFault.TheVariants.{Memory};
 ghost use Rattle.tt_base.specs.declared.token_tree.TokenTree.TheVariants as token;
 ghost use Rattle.tt_base.specs.Fits.{TokenInRange};
+ghost use Rattle.tt_codec.specs.Kinds.{delimiter_number};
 ghost use Rattle.tt_codec.specs.Header.{HeaderFits, is_within, is_small, has_format_1, has_format_2, has_format_3, format_1, format_2, format_3, format_4, header_bytes, top_entry};
 
 use crate::back_buf::BackBuf;
 use crate::entry::HeaderEntry;
+use crate::form::{
+    FORM_BITS, FORMAT_1, FORMAT_2, FORMAT_3, FORMAT_4, HIGH_AT, HIGH_BITS, HIGH_MASK,
+    LOW_DISTANCE_BITS, PART_BITS, PLAIN,
+};
+use crate::kinds::delimiter_number;
 use crate::span::SpanNumbers;
-use tt_base::{Subtree, TtFault};
+use tt_base::{DelimiterKind, Subtree, TtFault};
+
+// The count, the bytes of a small header and the distance of the third format take a byte each.
+const MOST_IN_BYTE: u32 = u8::MAX as u32;
+// The distance of the first format has its low bits in the span, and the others behind the kind.
+const FORMAT_1_DISTANCE: u32 = (1 << (LOW_DISTANCE_BITS + HIGH_BITS)) - 1;
+// Those low bits.
+const LOW_DISTANCE_MASK: u32 = (1 << LOW_DISTANCE_BITS) - 1;
+// The distance of the second format stands behind the kind.
+const FORMAT_2_DISTANCE: u32 = HIGH_MASK as u32;
+// The number of bytes in the third format fills two bytes, together with bits of the close's part.
+const FORMAT_3_BYTES: u32 = (1 << (16 - PART_BITS)) - 1;
+// The close's part has its low bits behind the kind there, and the others in front of that number.
+const FORMAT_3_PART: u32 = (1 << (HIGH_BITS + PART_BITS)) - 1;
+
+// The byte behind the open span: the form, the kind, and what the form has its high bits for.
+fn control(form: u8, kind: DelimiterKind, high: u8) -> u8
+    requires form { form < 8 }
+    requires high { high < 8 }
+    ensures { result ≡ form + delimiter_number kind * 8 + high * 32 }
+{
+    form | delimiter_number(kind) << FORM_BITS | high << HIGH_AT
+}
 
 impl HeaderEntry {
     /// The top's header, whose two parts have the two indices from `part` on, and which holds so many bytes.
-    pub fn of_top(part: u32, top: Subtree, bytes: u32) -> HeaderEntry
+    pub fn of_top(part: u32, top: Subtree, child_bytes: u32) -> HeaderEntry
         requires { part + 1 < 2 ^ 28 }
-        ensures value { result ≡ top_entry part top.delimiter top.len bytes }
+        ensures value { result ≡ top_entry part top.delimiter top.len child_bytes }
         ensures fits { HeaderFits result }
         ensures range { TokenInRange (token.Subtree top) }
     {
@@ -23,7 +51,7 @@ impl HeaderEntry {
             closing: SpanNumbers::of_span(part + 1, &top.delimiter.close),
             kind: top.delimiter.kind,
             len: top.len,
-            bytes,
+            child_bytes,
         }
     }
 
@@ -38,7 +66,9 @@ impl HeaderEntry {
     fn is_small(self) -> bool
         ensures { result ≡ is_small self }
     {
-        self.opening.part == self.closing.part && self.len <= 255 && self.bytes <= 255
+        self.opening.part == self.closing.part
+            && self.len <= MOST_IN_BYTE
+            && self.child_bytes <= MOST_IN_BYTE
     }
 
     // Whether the first format can say it.
@@ -48,25 +78,27 @@ impl HeaderEntry {
         self.is_small()
             && self.opening.length == 1
             && self.closing.length == 1
-            && self.is_within(2047)
+            && self.is_within(FORMAT_1_DISTANCE)
     }
 
     // Whether the second format can say it.
     fn has_format_2(self) -> bool
         ensures { result ≡ has_format_2 self }
     {
-        self.is_small() && self.opening.length == self.closing.length && self.is_within(7)
+        self.is_small()
+            && self.opening.length == self.closing.length
+            && self.is_within(FORMAT_2_DISTANCE)
     }
 
     // Whether the third format can say it.
     fn has_format_3(self) -> bool
         ensures { result ≡ has_format_3 self }
     {
-        self.len <= 255
-            && self.bytes <= 4095
+        self.len <= MOST_IN_BYTE
+            && self.child_bytes <= FORMAT_3_BYTES
             && self.opening.length == self.closing.length
-            && self.is_within(255)
-            && self.closing.part <= 127
+            && self.is_within(MOST_IN_BYTE)
+            && self.closing.part <= FORMAT_3_PART
     }
 
     // Puts the first format before the bytes.
@@ -78,14 +110,14 @@ impl HeaderEntry {
     {
         let distance = self.closing.start - self.opening.start;
         let span = SpanNumbers {
-            part: self.opening.part,
-            start: self.opening.start,
-            length: distance % 256,
+            length: distance & LOW_DISTANCE_MASK,
+            ..self.opening
         };
-        into.put_byte(self.bytes as u8)?;
+        into.put_byte(self.child_bytes as u8)?;
         into.put_byte(self.len as u8)?;
-        into.put_byte(self.kind as u8 * 8 + (distance / 256) as u8 * 32)?;
-        span.write(into, 0, false)
+        let high = (distance >> LOW_DISTANCE_BITS) as u8;
+        into.put_byte(control(FORMAT_1, self.kind, high))?;
+        span.write(into, PLAIN, false)
     }
 
     // Puts the second format before the bytes.
@@ -96,10 +128,10 @@ impl HeaderEntry {
         ensures err { IfErr result (λ fault. fault ≡ Memory) }
     {
         let distance = (self.closing.start - self.opening.start) as u8;
-        into.put_byte(self.bytes as u8)?;
+        into.put_byte(self.child_bytes as u8)?;
         into.put_byte(self.len as u8)?;
-        into.put_byte(1 + self.kind as u8 * 8 + distance * 32)?;
-        self.opening.write(into, 0, false)
+        into.put_byte(control(FORMAT_2, self.kind, distance))?;
+        self.opening.write(into, PLAIN, false)
     }
 
     // Puts the third format before the bytes.
@@ -111,11 +143,11 @@ impl HeaderEntry {
     {
         let distance = (self.closing.start - self.opening.start) as u8;
         let part = self.closing.part as u8;
-        into.put_half(self.bytes as u16 * 16 + part as u16 / 8)?;
+        into.put_half((part >> HIGH_BITS) as u16 | (self.child_bytes as u16) << PART_BITS)?;
         into.put_byte(self.len as u8)?;
         into.put_byte(distance)?;
-        into.put_byte(2 + self.kind as u8 * 8 + part % 8 * 32)?;
-        self.opening.write(into, 0, false)
+        into.put_byte(control(FORMAT_3, self.kind, part & HIGH_MASK))?;
+        self.opening.write(into, PLAIN, false)
     }
 
     /// Puts the fourth format before the bytes, with both spans in three words where `heavy` demands them.
@@ -124,11 +156,11 @@ impl HeaderEntry {
         ensures ok { OnOk result (into.new ≡ format_4 heavy self ++ into.old) }
         ensures err { IfErr result (λ fault. fault ≡ Memory) }
     {
-        into.put_word(self.bytes)?;
+        into.put_word(self.child_bytes)?;
         into.put_word(self.len)?;
-        self.closing.write(into, 0, heavy)?;
-        into.put_byte(5 + self.kind as u8 * 8)?;
-        self.opening.write(into, 0, heavy)
+        self.closing.write(into, PLAIN, heavy)?;
+        into.put_byte(control(FORMAT_4, self.kind, 0))?;
+        self.opening.write(into, PLAIN, heavy)
     }
 
     /// Puts the header's bytes before the others, in the first format that can say it.

@@ -1,72 +1,27 @@
 //! Leaves, read (docs/FORMATS.md, "Bytes of a leaf").
-ghost use Rattle.std.specs.Prelude.{◌≡◌, ◌<◌};
 ghost use Rattle.tt_codec.specs.Read.{IsRead};
-ghost use Rattle.tt_codec.specs.Leaf.{raw_from, spacing_from, plain_kind, kind_at, literal_at, long_literal_at, char_at, other_punct_at, plain_at, ident_at, ascii_at, behind_span};
+ghost use Rattle.tt_codec.specs.Leaf.{kind_at, literal_at, long_literal_at, char_at, other_punct_at, plain_at, ident_at, ascii_at, marked_at};
 
 use crate::entry::LeafEntry;
+use crate::form::{
+    FORM_BITS, FORM_MASK, IDENT, LONG_LITERAL, OTHER_PUNCT, SHORT_KIND_BITS, SHORT_KIND_MASK,
+};
+use crate::kinds::{plain_kind_from, raw_from, raw_kind_from, short_kind_from, spacing_from};
 use crate::reference::Reference;
-use crate::span::SpanNumbers;
+use crate::span::{SpanNumbers, Spanned};
 use crate::words::{split_byte, split_word};
 use tt_base::{IdentIsRaw, LitKind, Spacing};
-
-// The rawness of a tag.
-fn raw_from(tag: u32) -> IdentIsRaw
-    ensures { result ≡ raw_from tag }
-{
-    if tag == 0 {
-        IdentIsRaw::No
-    } else {
-        IdentIsRaw::Yes
-    }
-}
-
-// The spacing of a number.
-fn spacing_from(number: u8) -> Option<Spacing>
-    ensures { result ≡ spacing_from number }
-{
-    match number {
-        0 => Some(Spacing::Alone),
-        1 => Some(Spacing::Joint),
-        2 => Some(Spacing::JointHidden),
-        _ => None,
-    }
-}
-
-// The kind of a number, of those that are not raw.
-fn plain_kind(number: u8) -> Option<LitKind>
-    ensures { result ≡ plain_kind number }
-{
-    match number {
-        0 => Some(LitKind::Byte),
-        1 => Some(LitKind::Char),
-        2 => Some(LitKind::Integer),
-        3 => Some(LitKind::Float),
-        4 => Some(LitKind::Str),
-        6 => Some(LitKind::ByteStr),
-        8 => Some(LitKind::CStr),
-        10 => Some(LitKind::Err(())),
-        _ => None,
-    }
-}
 
 // The kind of a number, with its hashes behind it where it is raw.
 fn read_kind(number: u8, from: &[u8]) -> Option<(LitKind, &[u8])>
     ensures { IsRead (kind_at number from.now) result }
 {
-    if number == 5 {
-        let (count, rest) = split_byte(from)?;
-        return Some((LitKind::StrRaw(count), rest));
+    if let Some(kind) = plain_kind_from(number) {
+        return Some((kind, from));
     }
-    if number == 7 {
-        let (count, rest) = split_byte(from)?;
-        return Some((LitKind::ByteStrRaw(count), rest));
-    }
-    if number == 9 {
-        let (count, rest) = split_byte(from)?;
-        return Some((LitKind::CStrRaw(count), rest));
-    }
-    let kind = plain_kind(number)?;
-    Some((kind, from))
+    let (count, rest) = split_byte(from)?;
+    let kind = raw_kind_from(number, count)?;
+    Some((kind, rest))
 }
 
 // A character of four bytes.
@@ -78,99 +33,97 @@ fn read_char(from: &[u8]) -> Option<(char, &[u8])>
     Some((char, rest))
 }
 
-impl SpanNumbers {
+impl LeafEntry {
     // A literal, of which all but the reference has been read.
-    fn read_literal(self, kind: LitKind, suffix_len: u8, from: &[u8]) -> Option<(LeafEntry, &[u8])>
-        ensures { IsRead (literal_at kind suffix_len self from.now) result }
+    fn read_literal(
+        numbers: SpanNumbers,
+        kind: LitKind,
+        suffix_len: u8,
+        from: &[u8],
+    ) -> Option<(LeafEntry, &[u8])>
+        ensures { IsRead (literal_at kind suffix_len numbers from.now) result }
     {
         let (symbol, rest) = Reference::read(from)?;
-        let leaf = LeafEntry::Literal(symbol.index, kind, suffix_len, self);
+        let leaf = LeafEntry::Literal(symbol.index, kind, suffix_len, numbers);
         Some((leaf, rest))
     }
 
     // A literal of the long form, of which the first byte has been read.
-    fn read_long_literal(self, number: u8, from: &[u8]) -> Option<(LeafEntry, &[u8])>
-        ensures { IsRead (long_literal_at number self from.now) result }
+    fn read_long_literal(
+        numbers: SpanNumbers,
+        number: u8,
+        from: &[u8],
+    ) -> Option<(LeafEntry, &[u8])>
+        ensures { IsRead (long_literal_at number numbers from.now) result }
     {
         let (kind, rest) = read_kind(number, from)?;
         let (suffix_len, rest) = split_byte(rest)?;
-        self.read_literal(kind, suffix_len, rest)
+        LeafEntry::read_literal(numbers, kind, suffix_len, rest)
     }
 
     // A punct that is not ASCII, of which the first byte has been read.
-    fn read_other_punct(self, number: u8, from: &[u8]) -> Option<(LeafEntry, &[u8])>
-        ensures { IsRead (other_punct_at number self from.now) result }
+    fn read_other_punct(numbers: SpanNumbers, number: u8, from: &[u8]) -> Option<(LeafEntry, &[u8])>
+        ensures { IsRead (other_punct_at number numbers from.now) result }
     {
         let (char, rest) = read_char(from)?;
         let spacing = spacing_from(number)?;
-        Some((LeafEntry::Punct(char, spacing, self), rest))
+        Some((LeafEntry::Punct(char, spacing, numbers), rest))
     }
 
-    /// A leaf whose span has no extra bits, of which the first byte has been read.
-    pub(crate) fn read_plain(self, low: u8, high: u8, from: &[u8]) -> Option<(LeafEntry, &[u8])>
-        ensures { IsRead (plain_at low high self from.now) result }
+    /// A leaf whose span has no extra bits, of which the byte behind the span has been read.
+    pub(crate) fn read_plain(
+        numbers: SpanNumbers,
+        control: u8,
+        from: &[u8],
+    ) -> Option<(LeafEntry, &[u8])>
+        ensures { IsRead (plain_at control numbers from.now) result }
     {
-        if low == 3 {
-            let kind = if high % 2 == 0 {
-                LitKind::Str
-            } else {
-                LitKind::StrRaw(1)
-            };
-            return self.read_literal(kind, high / 2, from);
+        match control & FORM_MASK {
+            OTHER_PUNCT => LeafEntry::read_other_punct(numbers, control >> FORM_BITS, from),
+            LONG_LITERAL => LeafEntry::read_long_literal(numbers, control >> FORM_BITS, from),
+            _ => {
+                let kind = short_kind_from(control & SHORT_KIND_MASK)?;
+                LeafEntry::read_literal(numbers, kind, control >> SHORT_KIND_BITS, from)
+            }
         }
-        if low == 4 {
-            let kind = if high % 2 == 0 {
-                LitKind::StrRaw(0)
-            } else {
-                LitKind::Integer
-            };
-            return self.read_literal(kind, high / 2, from);
-        }
-        if low == 6 {
-            return self.read_other_punct(high, from);
-        }
-        if low == 7 {
-            return self.read_long_literal(high, from);
-        }
-        None
     }
 
     // An ident, of which the span has been read.
-    fn read_ident(self, from: &[u8]) -> Option<(LeafEntry, &[u8])>
-        ensures { IsRead (ident_at self from.now) result }
+    fn read_ident(numbers: SpanNumbers, from: &[u8]) -> Option<(LeafEntry, &[u8])>
+        ensures { IsRead (ident_at numbers from.now) result }
     {
         let (symbol, rest) = Reference::read(from)?;
-        let leaf = LeafEntry::Ident(symbol.index, raw_from(symbol.tag), self);
+        let leaf = LeafEntry::Ident(symbol.index, raw_from(symbol.tag), numbers);
         Some((leaf, rest))
     }
 
     // An ASCII punct, of which the span has been read. `hidden` is 1 where it is joint hidden.
-    fn read_ascii_punct(self, hidden: u32, from: &[u8]) -> Option<(LeafEntry, &[u8])>
-        ensures { IsRead (ascii_at hidden self from.now) result }
+    fn read_ascii_punct(
+        numbers: SpanNumbers,
+        hidden: u32,
+        from: &[u8],
+    ) -> Option<(LeafEntry, &[u8])>
+        ensures { IsRead (ascii_at hidden numbers from.now) result }
     {
         let (byte, rest) = split_byte(from)?;
         let spacing = if hidden == 1 {
             Spacing::JointHidden
-        } else if byte % 2 == 0 {
+        } else if byte & 1 == 0 {
             Spacing::Alone
         } else {
             Spacing::Joint
         };
-        let leaf = LeafEntry::Punct((byte / 2) as char, spacing, self);
+        let leaf = LeafEntry::Punct((byte >> 1) as char, spacing, numbers);
         Some((leaf, rest))
     }
 
-    /// A leaf, of which the span has been read.
-    pub(crate) fn read_behind(self, extra: u32, from: &[u8]) -> Option<(LeafEntry, &[u8])>
-        ensures { IsRead (behind_span extra self from.now) result }
+    /// An ident or an ASCII punct, of which the span has been read.
+    pub(crate) fn read_marked(span: Spanned, from: &[u8]) -> Option<(LeafEntry, &[u8])>
+        ensures { IsRead (marked_at span.extra span.numbers from.now) result }
     {
-        if extra == 0 {
-            let (control, rest) = split_byte(from)?;
-            return self.read_plain(control % 8, control / 8, rest);
+        if span.extra == IDENT {
+            return LeafEntry::read_ident(span.numbers, from);
         }
-        if extra == 2 {
-            return self.read_ident(from);
-        }
-        self.read_ascii_punct(extra / 2, from)
+        LeafEntry::read_ascii_punct(span.numbers, span.extra >> 1, from)
     }
 }

@@ -1,80 +1,32 @@
 //! Leaves, written (docs/FORMATS.md, "Bytes of a leaf").
-ghost use Rattle.std.specs.Prelude.{◌≡◌, ◌<◌, ◌≤◌, ◌^◌, ◌++◌, IfErr, IfSome, OnOk, false};
+ghost use Rattle.std.specs.Prelude.{◌≡◌, ◌<◌, ◌^◌, ◌++◌, IfErr, OnOk, false};
 ghost use Rattle.tt_base.specs.declared.fault.TtFault.TheVariants.{Memory};
-ghost use Rattle.tt_codec.specs.Leaf.{LeafEntryFits, raw_number, kind_number, hash_count, short_number, long_form, literal_form, punct_bytes, leaf_bytes};
+ghost use Rattle.tt_codec.specs.Kinds.{raw_number};
+ghost use Rattle.tt_codec.specs.Leaf.{LeafEntryFits, long_form, literal_form, punct_bytes, leaf_bytes};
 ghost use Rattle.tt_codec.specs.Reference.{reference_bytes};
 ghost use Rattle.tt_codec.specs.SpanNumbers.{span_bytes};
 
 use crate::back_buf::BackBuf;
 use crate::entry::LeafEntry;
+use crate::form::{
+    ASCII_PUNCT, FORM_BITS, HIDDEN_PUNCT, IDENT, LONG_LITERAL, MOST_SHORT_SUFFIX, OTHER_PUNCT,
+    PLAIN, SHORT_KIND_BITS,
+};
+use crate::kinds::{hash_count, kind_number, raw_number, short_number, spacing_number};
 use crate::reference::Reference;
 use crate::span::SpanNumbers;
 use tt_base::{IdentIsRaw, LitKind, Spacing, TtFault};
-
-/// The number of a kind of literal.
-fn kind_number(kind: LitKind) -> u8
-    ensures value { result ≡ kind_number kind }
-    ensures bound { result ≤ 10 }
-{
-    match kind {
-        LitKind::Byte => 0,
-        LitKind::Char => 1,
-        LitKind::Integer => 2,
-        LitKind::Float => 3,
-        LitKind::Str => 4,
-        LitKind::StrRaw(_) => 5,
-        LitKind::ByteStr => 6,
-        LitKind::ByteStrRaw(_) => 7,
-        LitKind::CStr => 8,
-        LitKind::CStrRaw(_) => 9,
-        LitKind::Err(()) => 10,
-    }
-}
-
-/// The hashes of a raw kind.
-fn hash_count(kind: LitKind) -> Option<u8>
-    ensures { result ≡ hash_count kind }
-{
-    match kind {
-        LitKind::StrRaw(count) | LitKind::ByteStrRaw(count) | LitKind::CStrRaw(count) => {
-            Some(count)
-        }
-        LitKind::Byte
-        | LitKind::Char
-        | LitKind::Integer
-        | LitKind::Float
-        | LitKind::Str
-        | LitKind::ByteStr
-        | LitKind::CStr
-        | LitKind::Err(()) => None,
-    }
-}
-
-/// The number that a kind has in the short form.
-fn short_number(kind: LitKind) -> Option<u8>
-    ensures value { result ≡ short_number kind }
-    ensures bound { IfSome result (λ number. number ≤ 12) }
-{
-    match kind {
-        LitKind::Str => Some(3),
-        LitKind::StrRaw(0) => Some(4),
-        LitKind::StrRaw(1) => Some(11),
-        LitKind::Integer => Some(12),
-        _ => None,
-    }
-}
 
 // Puts the long form of a kind and a suffix length before the bytes.
 fn write_long_form(into: &mut BackBuf, kind: LitKind, suffix_len: u8) -> Result<(), TtFault>
     ensures ok { OnOk result (into.new ≡ long_form kind suffix_len ++ into.old) }
     ensures err { IfErr result (λ fault. fault ≡ Memory) }
 {
-    let control = 7 + kind_number(kind) * 8;
     into.put_byte(suffix_len)?;
     if let Some(count) = hash_count(kind) {
         into.put_byte(count)?;
     }
-    into.put_byte(control)
+    into.put_byte(LONG_LITERAL | kind_number(kind) << FORM_BITS)
 }
 
 // Puts a kind and a suffix length before the bytes.
@@ -86,66 +38,76 @@ fn write_form(into: &mut BackBuf, kind: LitKind, suffix_len: u8) -> Result<(), T
     let Some(number) = short_number(kind) else {
         return write_long_form(into, kind, suffix_len);
     };
-    if suffix_len <= 15 {
-        return into.put_byte(number + suffix_len * 16);
+    if suffix_len <= MOST_SHORT_SUFFIX {
+        return into.put_byte(number | suffix_len << SHORT_KIND_BITS);
     }
     write_long_form(into, kind, suffix_len)
 }
 
-impl SpanNumbers {
-    // Puts a punct that stands here before the bytes.
-    fn write_punct(self, into: &mut BackBuf, char: char, spacing: Spacing) -> Result<(), TtFault>
-        requires { self.part < 2 ^ 28 }
-        ensures ok { OnOk result (into.new ≡ punct_bytes char spacing self ++ into.old) }
-        ensures err { IfErr result (λ fault. fault ≡ Memory) }
-    {
-        let code = char as u32;
-        let spacing = spacing as u8;
-        if code < 128 {
-            into.put_byte(code as u8 * 2 + spacing % 2)?;
-            return self.write(into, 1 + spacing as u32 / 2 * 2, false);
-        }
-        into.put_word(code)?;
-        into.put_byte(6 + spacing * 8)?;
-        self.write(into, 0, false)
-    }
-
-    // Puts a literal that stands here before the bytes.
-    fn write_literal(
-        self,
-        into: &mut BackBuf,
-        symbol: u32,
-        kind: LitKind,
-        suffix_len: u8,
-    ) -> Result<(), TtFault>
-        requires part { self.part < 2 ^ 28 }
-        requires symbol { symbol < 2 ^ 29 }
-        ensures ok { OnOk result (into.new ≡ span_bytes false 0 self ++ literal_form kind suffix_len ++ reference_bytes symbol 0 ++ into.old) }
-        ensures err { IfErr result (λ fault. fault ≡ Memory) }
-    {
-        let reference = Reference {
-            index: symbol,
-            tag: 0,
+// Puts a punct before the bytes.
+fn write_punct(
+    into: &mut BackBuf,
+    char: char,
+    spacing: Spacing,
+    numbers: SpanNumbers,
+) -> Result<(), TtFault>
+    requires { numbers.part < 2 ^ 28 }
+    ensures ok { OnOk result (into.new ≡ punct_bytes char spacing numbers ++ into.old) }
+    ensures err { IfErr result (λ fault. fault ≡ Memory) }
+{
+    if char.is_ascii() {
+        into.put_byte((char as u8) << 1 | spacing_number(spacing) & 1)?;
+        let extra = match spacing {
+            Spacing::Alone | Spacing::Joint => ASCII_PUNCT,
+            Spacing::JointHidden => HIDDEN_PUNCT,
         };
-        reference.write(into)?;
-        write_form(into, kind, suffix_len)?;
-        self.write(into, 0, false)
+        return numbers.write(into, extra, false);
     }
+    into.put_word(char as u32)?;
+    into.put_byte(OTHER_PUNCT | spacing_number(spacing) << FORM_BITS)?;
+    numbers.write(into, PLAIN, false)
+}
 
-    // Puts an ident that stands here before the bytes.
-    fn write_ident(self, into: &mut BackBuf, symbol: u32, is_raw: IdentIsRaw) -> Result<(), TtFault>
-        requires part { self.part < 2 ^ 28 }
-        requires symbol { symbol < 2 ^ 29 }
-        ensures ok { OnOk result (into.new ≡ span_bytes false 2 self ++ reference_bytes symbol (raw_number is_raw) ++ into.old) }
-        ensures err { IfErr result (λ fault. fault ≡ Memory) }
-    {
-        let reference = Reference {
-            index: symbol,
-            tag: is_raw as u32,
-        };
-        reference.write(into)?;
-        self.write(into, 2, false)
-    }
+// Puts a literal before the bytes.
+fn write_literal(
+    into: &mut BackBuf,
+    symbol: u32,
+    kind: LitKind,
+    suffix_len: u8,
+    numbers: SpanNumbers,
+) -> Result<(), TtFault>
+    requires part { numbers.part < 2 ^ 28 }
+    requires symbol { symbol < 2 ^ 29 }
+    ensures ok { OnOk result (into.new ≡ span_bytes false 0 numbers ++ literal_form kind suffix_len ++ reference_bytes symbol 0 ++ into.old) }
+    ensures err { IfErr result (λ fault. fault ≡ Memory) }
+{
+    let reference = Reference {
+        index: symbol,
+        tag: 0,
+    };
+    reference.write(into)?;
+    write_form(into, kind, suffix_len)?;
+    numbers.write(into, PLAIN, false)
+}
+
+// Puts an ident before the bytes.
+fn write_ident(
+    into: &mut BackBuf,
+    symbol: u32,
+    is_raw: IdentIsRaw,
+    numbers: SpanNumbers,
+) -> Result<(), TtFault>
+    requires part { numbers.part < 2 ^ 28 }
+    requires symbol { symbol < 2 ^ 29 }
+    ensures ok { OnOk result (into.new ≡ span_bytes false 2 numbers ++ reference_bytes symbol (raw_number is_raw) ++ into.old) }
+    ensures err { IfErr result (λ fault. fault ≡ Memory) }
+{
+    let reference = Reference {
+        index: symbol,
+        tag: raw_number(is_raw),
+    };
+    reference.write(into)?;
+    numbers.write(into, IDENT, false)
 }
 
 impl LeafEntry {
@@ -156,10 +118,10 @@ impl LeafEntry {
         ensures err { IfErr result (λ fault. fault ≡ Memory) }
     {
         match self {
-            LeafEntry::Punct(char, spacing, numbers) => numbers.write_punct(into, char, spacing),
-            LeafEntry::Ident(symbol, is_raw, numbers) => numbers.write_ident(into, symbol, is_raw),
+            LeafEntry::Punct(char, spacing, numbers) => write_punct(into, char, spacing, numbers),
+            LeafEntry::Ident(symbol, is_raw, numbers) => write_ident(into, symbol, is_raw, numbers),
             LeafEntry::Literal(symbol, kind, suffix_len, numbers) => {
-                numbers.write_literal(into, symbol, kind, suffix_len)
+                write_literal(into, symbol, kind, suffix_len, numbers)
             }
         }
     }

@@ -6,8 +6,10 @@
 mod back_buf;
 mod encodable;
 mod entry;
+mod form;
 mod header_read;
 mod header_write;
+mod kinds;
 mod leaf_read;
 mod leaf_write;
 mod reference;
@@ -17,8 +19,8 @@ mod words;
 pub use back_buf::BackBuf;
 pub use encodable::Encodable;
 pub use entry::{Entry, HeaderEntry, LeafEntry};
-pub use reference::Reference;
-pub use span::SpanNumbers;
+pub use reference::{MOST_SYMBOLS, Reference};
+pub use span::{MOST_PARTS, SpanNumbers};
 
 #[cfg(test)]
 mod tests;

@@ -8,6 +8,26 @@ use crate::back_buf::BackBuf;
 use crate::words::{split_byte, split_half};
 use tt_base::TtFault;
 
+/// How many symbols there are at most: four bytes have room for 29 bits of an index.
+pub const MOST_SYMBOLS: usize = 1 << 29;
+
+// Behind the tag, a bit of the first byte says whether another byte follows.
+const MORE_AT: u32 = 1;
+// Last are low bits of the index.
+const FIRST_AT: u32 = 2;
+// Their number.
+const FIRST_BITS: u32 = 6;
+// Their mask.
+const FIRST_MASK: u32 = (1 << FIRST_BITS) - 1;
+// Behind a bit that says whether two more bytes follow, the second byte has the next bits of the index.
+const SECOND_AT: u32 = 1;
+// Their number.
+const SECOND_BITS: u32 = 7;
+// Their mask.
+const SECOND_MASK: u32 = (1 << SECOND_BITS) - 1;
+// The first two bytes have so many. The two bytes behind them have 16 more.
+const BOTH_BITS: u32 = FIRST_BITS + SECOND_BITS;
+
 /// A symbol by its index in a table, with one tag bit.
 #[derive(Debug, Clone, Copy, PartialEq)]
 pub struct Reference {
@@ -24,29 +44,30 @@ impl Reference {
         ensures ok { OnOk result (into.new ≡ reference_bytes self.index self.tag ++ into.old) }
         ensures err { IfErr result (λ fault. fault ≡ Memory) }
     {
-        if self.index < 64 {
-            return into.put_byte((self.index * 4 + self.tag) as u8);
+        if self.index < 1 << FIRST_BITS {
+            return into.put_byte((self.tag | self.index << FIRST_AT) as u8);
         }
-        if self.index < 8192 {
-            into.put_byte((self.index / 64 * 2) as u8)?;
+        let middle = self.index >> FIRST_BITS;
+        if self.index < 1 << BOTH_BITS {
+            into.put_byte((middle << SECOND_AT) as u8)?;
         } else {
-            into.put_half((self.index / 8192) as u16)?;
-            into.put_byte((self.index / 64 % 128 * 2 + 1) as u8)?;
+            into.put_half((self.index >> BOTH_BITS) as u16)?;
+            into.put_byte(((middle & SECOND_MASK) << SECOND_AT | 1) as u8)?;
         }
-        into.put_byte((self.index % 64 * 4 + 2 + self.tag) as u8)
+        into.put_byte((self.tag | 1 << MORE_AT | (self.index & FIRST_MASK) << FIRST_AT) as u8)
     }
 
     // The reference, of which two bytes have been read.
     fn after_two_bytes(first: u8, second: u8, rest: &[u8]) -> Option<(Reference, &[u8])>
         ensures { IsRead (after_two_bytes first second rest.now) result }
     {
-        let index = first as u32 / 4 + second as u32 / 2 * 64;
-        let tag = first as u32 % 2;
-        if second % 2 == 0 {
+        let index = first as u32 >> FIRST_AT | (second as u32 >> SECOND_AT) << FIRST_BITS;
+        let tag = first as u32 & 1;
+        if second & 1 == 0 {
             return Some((Reference { index, tag }, rest));
         }
         let (half, rest) = split_half(rest)?;
-        let index = index + half as u32 * 8192;
+        let index = index | (half as u32) << BOTH_BITS;
         Some((Reference { index, tag }, rest))
     }
 
@@ -54,9 +75,9 @@ impl Reference {
     fn after_one_byte(first: u8, rest: &[u8]) -> Option<(Reference, &[u8])>
         ensures { IsRead (after_one_byte first rest.now) result }
     {
-        if first / 2 % 2 == 0 {
-            let index = first as u32 / 4;
-            let tag = first as u32 % 2;
+        if (first >> MORE_AT) & 1 == 0 {
+            let index = first as u32 >> FIRST_AT;
+            let tag = first as u32 & 1;
             return Some((Reference { index, tag }, rest));
         }
         let (second, rest) = split_byte(rest)?;

@@ -9,6 +9,56 @@ use crate::back_buf::BackBuf;
 use crate::words::split_word;
 use tt_base::{Span, TtFault};
 
+/// How many parts there are at most: three words have room for 28 bits of an index.
+pub const MOST_PARTS: usize = 1 << 28;
+
+// The first word has the extra bits in front.
+const EXTRA_MASK: u32 = 0b11;
+// Behind them are low bits of the part.
+const PART_AT: u32 = 2;
+// Their number. What they leave over is the part's rest.
+const PART_BITS: u32 = 4;
+// Their mask.
+const PART_MASK: u32 = (1 << PART_BITS) - 1;
+// Then come low bits of the length.
+const LENGTH_AT: u32 = PART_AT + PART_BITS;
+// Their number. What they leave over is the length's rest.
+const LENGTH_BITS: u32 = 8;
+// Their mask.
+const LENGTH_MASK: u32 = (1 << LENGTH_BITS) - 1;
+// Then one bit says whether another word follows.
+const MORE_AT: u32 = LENGTH_AT + LENGTH_BITS;
+// Last are low bits of the start.
+const START_AT: u32 = MORE_AT + 1;
+// Their number, which fills the word. What they leave over is the start's rest.
+const START_BITS: u32 = 32 - START_AT;
+// Their mask.
+const START_MASK: u32 = (1 << START_BITS) - 1;
+
+// The second of two words has a bit that is 0, and behind it the part's rest.
+const MIDDLE_PART_AT: u32 = 1;
+// The largest that has room there: it has 11 bits.
+const MIDDLE_PART_MASK: u32 = (1 << 11) - 1;
+// Then comes the length's rest.
+const MIDDLE_LENGTH_AT: u32 = 12;
+// The largest that has room there: it has 10 bits.
+const MIDDLE_LENGTH_MASK: u32 = (1 << 10) - 1;
+// Last is the start's rest.
+const MIDDLE_START_AT: u32 = 22;
+// The largest that has room there: it has 10 bits.
+const MIDDLE_START_MASK: u32 = (1 << 10) - 1;
+
+// As one number the rests have first that of the part, and then that of the length.
+const RESTS_LENGTH_AT: u32 = 24;
+// Last is that of the start.
+const RESTS_START_AT: u32 = 48;
+// The mask of each of these two. A part has 4 + 24 bits, and a length 8 + 24.
+const REST_MASK: u64 = (1 << 24) - 1;
+// The last of three words has so many low bits of that number. The second has a bit that is 1, and the others behind it.
+const WORD_BITS: u32 = 32;
+// Their mask.
+const WORD_MASK: u64 = (1 << WORD_BITS) - 1;
+
 /// A span in numbers: the index of its part, its start, and its length.
 #[derive(Debug, Clone, Copy, PartialEq)]
 pub struct SpanNumbers {
@@ -48,10 +98,10 @@ impl SpanNumbers {
         ensures { result ≡ first_word extra more self }
     {
         extra
-            + self.part % 16 * 4
-            + self.length % 256 * 64
-            + more * 16384
-            + self.start % 131072 * 32768
+            | (self.part & PART_MASK) << PART_AT
+            | (self.length & LENGTH_MASK) << LENGTH_AT
+            | more << MORE_AT
+            | (self.start & START_MASK) << START_AT
     }
 
     // The second word of two.
@@ -61,7 +111,9 @@ impl SpanNumbers {
         requires start { start_rest self < 1024 }
         ensures { result ≡ middle_word self }
     {
-        self.part / 16 * 2 + self.length / 256 * 4096 + self.start / 131072 * 4194304
+        (self.part >> PART_BITS) << MIDDLE_PART_AT
+            | (self.length >> LENGTH_BITS) << MIDDLE_LENGTH_AT
+            | (self.start >> START_BITS) << MIDDLE_START_AT
     }
 
     // What the first word leaves over, as one number.
@@ -70,23 +122,27 @@ impl SpanNumbers {
         ensures value { result ≡ rests self }
         ensures bound { result < 2 ^ 63 }
     {
-        (self.part / 16) as u64
-            + (self.length / 256) as u64 * 16777216
-            + (self.start / 131072) as u64 * 281474976710656
+        (self.part >> PART_BITS) as u64
+            | ((self.length >> LENGTH_BITS) as u64) << RESTS_LENGTH_AT
+            | ((self.start >> START_BITS) as u64) << RESTS_START_AT
     }
 
     // Whether the first word leaves nothing over.
     fn fits_one_word(self) -> bool
         ensures { result ≡ fits_one_word self }
     {
-        self.part / 16 == 0 && self.length / 256 == 0 && self.start / 131072 == 0
+        self.part >> PART_BITS == 0
+            && self.length >> LENGTH_BITS == 0
+            && self.start >> START_BITS == 0
     }
 
     // Whether one more word can hold what the first leaves over.
     fn fits_two_words(self) -> bool
         ensures { result ≡ fits_two_words self }
     {
-        self.part / 16 <= 2047 && self.length / 256 <= 1023 && self.start / 131072 <= 1023
+        self.part >> PART_BITS <= MIDDLE_PART_MASK
+            && self.length >> LENGTH_BITS <= MIDDLE_LENGTH_MASK
+            && self.start >> START_BITS <= MIDDLE_START_MASK
     }
 
     // Puts two words before the bytes.
@@ -110,8 +166,8 @@ impl SpanNumbers {
         ensures err { IfErr result (λ fault. fault ≡ Memory) }
     {
         let rests = self.rests();
-        into.put_word((rests % 4294967296) as u32)?;
-        into.put_word((rests / 4294967296 * 2 + 1) as u32)?;
+        into.put_word((rests & WORD_MASK) as u32)?;
+        into.put_word(((rests >> WORD_BITS) as u32) << 1 | 1)?;
         into.put_word(self.first_word(extra, 1))
     }
 
@@ -147,12 +203,12 @@ impl Spanned {
         ensures { result ≡ spanned first part_rest length_rest start_rest }
     {
         let numbers = SpanNumbers {
-            part: first / 4 % 16 + part_rest * 16,
-            start: first / 32768 + start_rest * 131072,
-            length: first / 64 % 256 + length_rest * 256,
+            part: (first >> PART_AT) & PART_MASK | part_rest << PART_BITS,
+            start: first >> START_AT | start_rest << START_BITS,
+            length: (first >> LENGTH_AT) & LENGTH_MASK | length_rest << LENGTH_BITS,
         };
         Spanned {
-            extra: first % 4,
+            extra: first & EXTRA_MASK,
             numbers,
         }
     }
@@ -162,9 +218,9 @@ impl Spanned {
         requires { rests < 2 ^ 63 }
         ensures { result ≡ from_rests first rests }
     {
-        let part_rest = (rests % 16777216) as u32;
-        let length_rest = (rests / 16777216 % 16777216) as u32;
-        let start_rest = (rests / 281474976710656) as u32;
+        let part_rest = (rests & REST_MASK) as u32;
+        let length_rest = ((rests >> RESTS_LENGTH_AT) & REST_MASK) as u32;
+        let start_rest = (rests >> RESTS_START_AT) as u32;
         Spanned::from_rests(first, part_rest, length_rest, start_rest)
     }
 
@@ -172,15 +228,15 @@ impl Spanned {
     fn after_two_words(first: u32, second: u32, rest: &[u8]) -> Option<(Spanned, &[u8])>
         ensures { IsRead (after_two_words first second rest.now) result }
     {
-        if second % 2 == 0 {
-            let part_rest = second / 2 % 2048;
-            let length_rest = second / 4096 % 1024;
-            let start_rest = second / 4194304;
+        if second & 1 == 0 {
+            let part_rest = (second >> MIDDLE_PART_AT) & MIDDLE_PART_MASK;
+            let length_rest = (second >> MIDDLE_LENGTH_AT) & MIDDLE_LENGTH_MASK;
+            let start_rest = second >> MIDDLE_START_AT;
             let span = Spanned::from_rests(first, part_rest, length_rest, start_rest);
             return Some((span, rest));
         }
         let (third, rest) = split_word(rest)?;
-        let rests = (second / 2) as u64 * 4294967296 + third as u64;
+        let rests = ((second >> 1) as u64) << WORD_BITS | third as u64;
         Some((Spanned::from_one_rest(first, rests), rest))
     }
 
@@ -188,7 +244,7 @@ impl Spanned {
     fn after_one_word(first: u32, rest: &[u8]) -> Option<(Spanned, &[u8])>
         ensures { IsRead (after_one_word first rest.now) result }
     {
-        if first / 16384 % 2 == 0 {
+        if (first >> MORE_AT) & 1 == 0 {
             return Some((Spanned::from_rests(first, 0, 0, 0), rest));
         }
         let (second, rest) = split_word(rest)?;

@@ -73,7 +73,7 @@ pub record HeaderDecoded (tables : Tables) (all : List ℕ) (place : ℕ) (trees
   pub range : TokenInRange (token.Subtree it)
   pub shorter : length behind ≤ length (drop place all)
   pub own : length (drop place all) - length behind ≡ own_bytes tables place trees
-  pub held : held_bytes tables trees ≡ entry.bytes
+  pub held : held_bytes tables trees ≡ entry.child_bytes
 
 few_is_all : (tables : Tables) → HasFewEntries tables → tables ≡ first_entries tables.parts tables.symbols
 few_is_all tables few =
@@ -158,7 +158,7 @@ module _ (tables : Tables) (all : List ℕ) (place : ℕ) (trees : Forest) (ahea
     pub is : answer ≡ Some it
     pub first : first_token trees ≡ Some (token.Subtree it)
     pub own : length rest - length behind ≡ own_bytes tables place trees
-    pub held : entry.bytes ≡ held_bytes tables trees
+    pub held : entry.child_bytes ≡ held_bytes tables trees
 
   -- The tables have an answer for what was read as a header.
   pub header_read : (rest behind : List ℕ) (read : Entry) (entry : HeaderEntry) (names : Tables) (answer : Option Subtree) → rest ≡ drop place all

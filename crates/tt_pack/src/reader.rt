@@ -121,7 +121,7 @@ impl<'a> Reader<'a> {
                 Some(Found {
                     token: TokenTree::Subtree(subtree),
                     own,
-                    held: entry.bytes as usize,
+                    held: entry.child_bytes as usize,
                 })
             }
         }

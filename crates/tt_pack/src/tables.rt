@@ -111,7 +111,7 @@ impl Tables {
             closing: SpanNumbers::of_span(close, &delimiter.close),
             kind: delimiter.kind,
             len: subtree.len,
-            bytes: child_bytes,
+            child_bytes,
         }
     }
 

@@ -9,9 +9,10 @@ use Rattle.tt_codec.specs.declared.entry.Entry.TheVariants.{Leaf as of_leaf, Hea
 use Rattle.tt_codec.specs.Entry.{entry_bytes}
 use Rattle.tt_base.specs.Forest.{Forest, end, leaf, node, Root, size, header}
 use Rattle.tt_codec.specs.declared.entry.HeaderEntry.{HeaderEntry}
-use Rattle.tt_codec.specs.Header.{delimiter_number, format_1, format_2, format_3, format_4, has_format_1, has_format_2, has_format_3, header_bytes, top_entry}
+use Rattle.tt_codec.specs.Header.{format_1, format_2, format_3, format_4, has_format_1, has_format_2, has_format_3, header_bytes, top_entry}
 use Rattle.tt_codec.specs.declared.entry.LeafEntry.TheVariants.{Punct as punct, Ident as ident, Literal as literal}
-use Rattle.tt_codec.specs.Leaf.{spacing_number, raw_number, form_of, long_form, literal_form}
+use Rattle.tt_codec.specs.Kinds.{delimiter_number, spacing_number, raw_number}
+use Rattle.tt_codec.specs.Leaf.{form_of, long_form, literal_form}
 use Rattle.tt_codec.specs.Reference.{reference_bytes}
 use Rattle.tt_codec.specs.declared.span.SpanNumbers.{SpanNumbers}
 use Rattle.tt_codec.specs.SpanNumbers.{fits_one_word, fits_two_words, light_span, middle_span, heavy_span, span_bytes, word}
@@ -81,7 +82,7 @@ format_3_length it = wider 9 17 _ (lit≤ tt) (lit≤ tt) (both 4 12 5 5 (span_b
 format_4_length : (it : HeaderEntry) → IsBetween 5 33 (format_4 false it)
 format_4_length it =
     wider 17 33 _ (lit≤ tt) (lit≤ tt)
-    (both 13 29 4 4 _ (word it.bytes)
+    (both 13 29 4 4 _ (word it.child_bytes)
     (both 9 25 4 4 _ (word it.len)
     (both 4 12 5 13 (span_bytes false 0 it.opening) _ (span_length 0 it.opening)
     (both 1 1 4 12 ((5 + delimiter_number it.kind * 8) ∷ []) (span_bytes false 0 it.closing) (lit≤ tt, lit≤ tt) (span_length 0 it.closing)))

@@ -52,7 +52,7 @@ header_fits tables it held few knows range tokens small =
       opening = place_fits tables it.delimiter.open_span few knows.parts.0 range.0;
       closing = place_fits tables it.delimiter.close few knows.parts.1.0 range.1;
       len = tokens;
-      bytes = small;
+      child_bytes = small;
     }
 
 -- The first token's numbers can be written: of a leaf.
@@ -173,7 +173,7 @@ module _ (tables : Tables) (parts : List SpanPart) (symbols : List (List ℕ)) w
       ap₂ (λ symbol place. of_leaf (ident symbol it.is_raw place))
       (index_in-more (bytes_eq it.sym) tables.symbols symbols knows.symbols.0) (place-more it.span knows.parts.0)
   entry_of-more (token.Subtree it) held knows =
-      ap₂ (λ opening closing. of_header (record { opening = opening; closing = closing; kind = it.delimiter.kind; len = it.len; bytes = held }))
+      ap₂ (λ opening closing. of_header (record { opening = opening; closing = closing; kind = it.delimiter.kind; len = it.len; child_bytes = held }))
       (place-more it.delimiter.open_span knows.parts.0) (place-more it.delimiter.close knows.parts.1.0)
 
   -- Known trees have the same bytes.

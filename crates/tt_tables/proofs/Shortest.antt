@@ -7,7 +7,8 @@ use Rattle.tt_codec.specs.declared.entry.Entry.TheVariants.{Leaf as of_leaf, Hea
 use Rattle.tt_codec.specs.Entry.{entry_bytes}
 use Rattle.tt_base.specs.Forest.{Forest, end, leaf, node, Root, size, header}
 use Rattle.tt_codec.specs.declared.entry.HeaderEntry.{HeaderEntry}
-use Rattle.tt_codec.specs.Header.{delimiter_number, distance, has_format_1, has_format_2, has_format_3, format_1, format_2, format_3, format_4, header_bytes, top_entry}
+use Rattle.tt_codec.specs.Kinds.{delimiter_number}
+use Rattle.tt_codec.specs.Header.{distance, has_format_1, has_format_2, has_format_3, format_1, format_2, format_3, format_4, header_bytes, top_entry}
 use Rattle.tt_tables.specs.Shortest.{CanHold, IsShortest, IsShortestToken, HasShortestHeaders}
 use Rattle.tt_codec.specs.declared.span.SpanNumbers.{SpanNumbers}
 use Rattle.tt_codec.specs.SpanNumbers.{part_rest, length_rest, start_rest, fits_one_word, fits_two_words, light_span, middle_span, heavy_span, span_bytes, word}
@@ -57,7 +58,7 @@ module _ (it : HeaderEntry) where
   count_4 =
       omega (
         arith,
-        length-append ((span_bytes false 0 it.opening ++ (5 + delimiter_number it.kind * 8) ∷ span_bytes false 0 it.closing) ++ word it.len) (word it.bytes),
+        length-append ((span_bytes false 0 it.opening ++ (5 + delimiter_number it.kind * 8) ∷ span_bytes false 0 it.closing) ++ word it.len) (word it.child_bytes),
         length-append (span_bytes false 0 it.opening ++ (5 + delimiter_number it.kind * 8) ∷ span_bytes false 0 it.closing) (word it.len),
         length-append (span_bytes false 0 it.opening) ((5 + delimiter_number it.kind * 8) ∷ span_bytes false 0 it.closing),
       )

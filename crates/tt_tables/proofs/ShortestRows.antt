@@ -12,7 +12,7 @@ use Rattle.tt_tables.proofs.Shortest.{shortest}
 
 -- parentheses that hold nothing
 abbrev empty : (opening closing : SpanNumbers) → HeaderEntry
-empty opening closing = record { opening = opening; closing = closing; kind = Parenthesis; len = 0; bytes = 0 }
+empty opening closing = record { opening = opening; closing = closing; kind = Parenthesis; len = 0; child_bytes = 0 }
 
 -- at 0..1 and 1..2
 abbrev near : HeaderEntry

@@ -48,7 +48,7 @@ top_fits root range limits =
       opening = top_place_fits _ root.delimiter.open_span (omega (arith, limits.parts, length-root_parts root)) range.0.0;
       closing = top_place_fits _ root.delimiter.close (omega (arith, limits.parts, length-root_parts root)) range.0.1;
       len = omega (arith, limits.tokens);
-      bytes = omega (arith, limits.bytes);
+      child_bytes = omega (arith, limits.bytes);
     }
 
 -- The tables of a tree can name all below its top.

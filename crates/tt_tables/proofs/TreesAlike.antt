@@ -86,7 +86,7 @@ module _ (tables : Tables) where
       → bytes tables (node delimiter children rest) ≡ bytes tables (node other inner others)
       → (delimiter ≡ other) × (bytes tables children ≡ bytes tables inner) × (bytes tables rest ≡ bytes tables others)
   node_first delimiter other children inner rest others named named_others few few_other e =
-      let (below, behind) = seam (bytes tables children) (bytes tables rest) (bytes tables inner) (bytes tables others) (ap (λ it. it.bytes) entries) firsts.1 in
+      let (below, behind) = seam (bytes tables children) (bytes tables rest) (bytes tables inner) (bytes tables others) (ap (λ it. it.child_bytes) entries) firsts.1 in
       (ap (λ s. s.delimiter) (subtree_is tables subtree subtree_other held held_other named.2.0 entries), below, behind)
     where
       held : ℕ

@@ -46,4 +46,4 @@ pub record HeaderMeans (tables : Tables) (entry : HeaderEntry) (it : Subtree) (h
   pub closing : StandsAt tables entry.closing it.delimiter.close
   pub kind : entry.kind ≡ it.delimiter.kind
   pub len : entry.len ≡ it.len
-  pub bytes : entry.bytes ≡ held
+  pub bytes : entry.child_bytes ≡ held

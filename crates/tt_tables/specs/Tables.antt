@@ -62,7 +62,7 @@ header_entry tables it child_bytes =
       closing = numbers_of_span tables it.delimiter.close;
       kind = it.delimiter.kind;
       len = it.len;
-      bytes = child_bytes;
+      child_bytes = child_bytes;
     }
 
 -- a token in numbers

@@ -105,7 +105,7 @@ impl<'a> Names<'a> {
             closing,
             kind: subtree.delimiter.kind,
             len: subtree.len,
-            bytes: child_bytes,
+            child_bytes,
         })
     }
 

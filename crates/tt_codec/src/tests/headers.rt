@@ -26,15 +26,15 @@ fn numbers(spot: Spot) -> SpanNumbers
 }
 
 // A header that opens and closes there, and holds so many tokens in so many bytes.
-fn header(kind: DelimiterKind, opening: Spot, closing: Spot, held: (u32, u32)) -> HeaderEntry
+fn header(kind: DelimiterKind, opening: Spot, closing: Spot, children: (u32, u32)) -> HeaderEntry
     ensures { HeaderFits result }
 {
     HeaderEntry {
         opening: numbers(opening),
         closing: numbers(closing),
         kind,
-        len: held.0,
-        bytes: held.1,
+        len: children.0,
+        child_bytes: children.1,
     }
 }
 
@@ -44,10 +44,10 @@ fn are_parentheses(
     alloc: Global,
     opening: Spot,
     closing: Spot,
-    held: (u32, u32),
+    children: (u32, u32),
     bytes: &[u8],
 ) -> Result<(), Fail> {
-    let header = header(DelimiterKind::Parenthesis, opening, closing, held);
+    let header = header(DelimiterKind::Parenthesis, opening, closing, children);
     is_written(rt, alloc, Entry::Header(header), bytes)
 }
 
@@ -164,8 +164,8 @@ fn tokens_in_the_first_format_and_past_it(rt: HostRuntime) -> Result<(), Fail> {
             b"\x40\x00\x00\x00\x05\x40\x80\x00\x00\x00\x01\x00\x00\x00\x00\x00\x00",
         ),
     ];
-    for (held, bytes) in cases {
-        are_parentheses(&rt, alloc, (0, 0, 1), (0, 1, 1), held, bytes)?;
+    for (children, bytes) in cases {
+        are_parentheses(&rt, alloc, (0, 0, 1), (0, 1, 1), children, bytes)?;
     }
     Ok(())
 }
@@ -182,8 +182,8 @@ fn tokens_in_the_second_format_and_past_it(rt: HostRuntime) -> Result<(), Fail> 
         ((0, 255), b"\x80\x00\x00\x00\xe1\x00\xff"),
         ((0, 256), b"\x80\x00\x00\x00\x02\x07\x00\x00\x10"),
     ];
-    for (held, bytes) in cases {
-        are_parentheses(&rt, alloc, (0, 0, 2), (0, 7, 2), held, bytes)?;
+    for (children, bytes) in cases {
+        are_parentheses(&rt, alloc, (0, 0, 2), (0, 7, 2), children, bytes)?;
     }
     Ok(())
 }
@@ -203,8 +203,8 @@ fn tokens_in_the_third_format_and_past_it(rt: HostRuntime) -> Result<(), Fail> {
             b"\x80\x00\x00\x00\x05\x80\x00\x04\x00\x00\x00\x00\x00\x00\x10\x00\x00",
         ),
     ];
-    for (held, bytes) in cases {
-        are_parentheses(&rt, alloc, (0, 0, 2), (0, 8, 2), held, bytes)?;
+    for (children, bytes) in cases {
+        are_parentheses(&rt, alloc, (0, 0, 2), (0, 8, 2), children, bytes)?;
     }
     Ok(())
 }
@@ -235,8 +235,8 @@ fn kinds(rt: HostRuntime) -> Result<(), Fail> {
             b"\xc0\x3f\x00\x00\xf8\x00\x00",
         ),
     ];
-    for (kind, opening, closing, held, bytes) in cases {
-        let header = header(kind, opening, closing, held);
+    for (kind, opening, closing, children, bytes) in cases {
+        let header = header(kind, opening, closing, children);
         is_written(&rt, alloc, Entry::Header(header), bytes)?;
     }
     Ok(())
@@ -260,8 +260,8 @@ fn largest_numbers(rt: HostRuntime) -> Result<(), Fail> {
             b"\x40\x00\x00\x00\x1d\x00\xc0\xff\xff\x01\x00\xfe\xff\x00\x00\x00\x00\xff\xff\xff\xff\xff\xff\xff\xff",
         ),
     ];
-    for (opening, closing, held, bytes) in cases {
-        let header = header(DelimiterKind::Invisible, opening, closing, held);
+    for (opening, closing, children, bytes) in cases {
+        let header = header(DelimiterKind::Invisible, opening, closing, children);
         is_written(&rt, alloc, Entry::Header(header), bytes)?;
     }
     Ok(())

@@ -25,12 +25,46 @@ fn at(length: u32) -> SpanNumbers
 #[test]
 fn puncts(rt: HostRuntime) -> Result<(), Fail> {
     let alloc = rt.alloc();
-    let semicolon = Entry::Leaf(LeafEntry::Punct(';', Spacing::Alone, at(1)));
-    is_written(&rt, alloc, semicolon, b"\x41\x00\x00\x00\x76")?;
-    let plus = Entry::Leaf(LeafEntry::Punct('+', Spacing::JointHidden, at(1)));
-    is_written(&rt, alloc, plus, b"\x43\x00\x00\x00\x56")?;
-    let arrow = Entry::Leaf(LeafEntry::Punct('→', Spacing::Joint, at(1)));
-    is_written(&rt, alloc, arrow, b"\x40\x00\x00\x00\x0e\x92\x21\x00\x00")?;
+    let cases: [(char, Spacing, &[u8]); 6] = [
+        (';', Spacing::Alone, b"\x41\x00\x00\x00\x76"),
+        ('=', Spacing::Joint, b"\x41\x00\x00\x00\x7b"),
+        ('+', Spacing::JointHidden, b"\x43\x00\x00\x00\x56"),
+        ('→', Spacing::Alone, b"\x40\x00\x00\x00\x06\x92\x21\x00\x00"),
+        ('→', Spacing::Joint, b"\x40\x00\x00\x00\x0e\x92\x21\x00\x00"),
+        (
+            '→',
+            Spacing::JointHidden,
+            b"\x40\x00\x00\x00\x16\x92\x21\x00\x00",
+        ),
+    ];
+    for (char, spacing, bytes) in cases {
+        let punct = LeafEntry::Punct(char, spacing, at(1));
+        is_written(&rt, alloc, Entry::Leaf(punct), bytes)?;
+    }
+    Ok(())
+}
+
+// A suffix of 16 bytes is too long for the short form.
+#[test]
+fn kinds_in_the_long_form(rt: HostRuntime) -> Result<(), Fail> {
+    let alloc = rt.alloc();
+    let cases: [(LitKind, &[u8]); 11] = [
+        (LitKind::Byte, b"\x00\x05\x00\x00\x07\x10\x00"),
+        (LitKind::Char, b"\x00\x05\x00\x00\x0f\x10\x00"),
+        (LitKind::Integer, b"\x00\x05\x00\x00\x17\x10\x00"),
+        (LitKind::Float, b"\x00\x05\x00\x00\x1f\x10\x00"),
+        (LitKind::Str, b"\x00\x05\x00\x00\x27\x10\x00"),
+        (LitKind::StrRaw(1), b"\x00\x05\x00\x00\x2f\x01\x10\x00"),
+        (LitKind::ByteStr, b"\x00\x05\x00\x00\x37\x10\x00"),
+        (LitKind::ByteStrRaw(0), b"\x00\x05\x00\x00\x3f\x00\x10\x00"),
+        (LitKind::CStr, b"\x00\x05\x00\x00\x47\x10\x00"),
+        (LitKind::CStrRaw(255), b"\x00\x05\x00\x00\x4f\xff\x10\x00"),
+        (LitKind::Err(()), b"\x00\x05\x00\x00\x57\x10\x00"),
+    ];
+    for (kind, bytes) in cases {
+        let literal = LeafEntry::Literal(0, kind, 16, at(20));
+        is_written(&rt, alloc, Entry::Leaf(literal), bytes)?;
+    }
     Ok(())
 }
 
@@ -100,4 +134,18 @@ fn suffixes_at_the_limit(rt: HostRuntime) -> Result<(), Fail> {
         b"\x40\x05\x00\x00\x2f\x01\x10\x00",
     )?;
     Ok(())
+}
+
+// Bytes of a kind or a spacing that there is not, of no character, and with no reference.
+#[test]
+fn no_leaves(rt: HostRuntime) {
+    let cases: [&[u8]; 4] = [
+        b"\x00\x05\x00\x00\x5f\x10\x00",
+        b"\x40\x00\x00\x00\x1e\x92\x21\x00\x00",
+        b"\x40\x00\x00\x00\x06\x00\xd8\x00\x00",
+        b"\x82\x01\x00\x00",
+    ];
+    for bytes in cases {
+        assert_eq!(rt; Entry::read(bytes), None);
+    }
 }

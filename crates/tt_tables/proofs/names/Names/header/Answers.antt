@@ -15,8 +15,8 @@ returns c =
         closing = closing.is i;
         kind = c.args.subtree.delimiter.kind;
         len = c.args.subtree.len;
-        bytes = c.args.child_bytes;
+        child_bytes = c.args.child_bytes;
       };
-      fits = record { opening = opening.fits; closing = closing.fits; len = len; bytes = c.ranges.child_bytes.fits };
+      fits = record { opening = opening.fits; closing = closing.fits; len = len; child_bytes = c.ranges.child_bytes.fits };
       range = (opening.range, closing.range);
     }
