@@ -80,7 +80,7 @@ fn sum_up_to<L: Look>(start: Reader, end: usize, most: usize, levels: u32) -> Op
     let mut reader = start;
     let mut sum = 0u64;
     for _ in 0..most {
-        if reader.place() >= end {
+        if reader.offset() >= end {
             break;
         }
         let Some((token, below)) = reader.advance_skip() else {
@@ -88,7 +88,7 @@ fn sum_up_to<L: Look>(start: Reader, end: usize, most: usize, levels: u32) -> Op
         };
         sum = sum.wrapping_add(L::start(&token));
         if let TokenTree::Subtree(_) = &token {
-            let inside = sum_up_to::<L>(below, reader.place(), most, levels - 1)?;
+            let inside = sum_up_to::<L>(below, reader.offset(), most, levels - 1)?;
             sum = sum.wrapping_add(inside);
         }
     }

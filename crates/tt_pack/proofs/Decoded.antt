@@ -23,7 +23,7 @@ use Rattle.tt_codec.specs.declared.entry.LeafEntry.{LeafEntry}
 use Rattle.tt_codec.specs.declared.entry.LeafEntry.TheVariants.{Punct as punct, Ident as ident, Literal as literal}
 use Rattle.tt_codec.specs.declared.span.SpanNumbers.{SpanNumbers}
 use Rattle.tt_tables.specs.Found.{FindsSpan, FindsLeaf, FindsSubtree, GivesLeaf, GivesSubtree}
-use Rattle.tt_tables.specs.Names.{first_entries}
+use Rattle.tt_tables.specs.Searches.{first_entries}
 use Rattle.tt_pack.proofs.Moves.{HasFewEntries, leaf_in_range_ahead, node_in_range_ahead}
 
 -- what stands at an index is found there

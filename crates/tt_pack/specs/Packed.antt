@@ -7,7 +7,7 @@ use Rattle.tt_base.specs.declared.span.SpanPart.{SpanPart}
 use Rattle.tt_base.specs.declared.token_tree.TokenTree.{TokenTree}
 use Rattle.tt_base.specs.Forest.{Root, IsWhole}
 use Rattle.tt_tables.specs.Stored.{Stored}
-use Rattle.tt_tables.specs.Tables.{Tables, part_table, symbol_table}
+use Rattle.tt_tables.specs.Tables.{tables_for, part_table, symbol_table}
 use Rattle.tt_base.specs.Unflat.{unflat}
 use Rattle.tt_pack.specs.Writing.{byte_count}
 
@@ -18,10 +18,6 @@ stored_of bytes parts symbols len = record { bytes = bytes; parts = parts; symbo
 -- the tree of a header and the tokens below it
 abbrev pub root_of : Subtree → List TokenTree → Root
 root_of top below = record { delimiter = top.delimiter; children = unflat below }
-
--- the tables of the tokens below the top
-abbrev pub tables_for : List TokenTree → Tables
-tables_for below = record { parts = part_table below; symbols = symbol_table below }
 
 -- their parts leave room for the top's two, and their indices can be written
 abbrev pub HasFewParts : List TokenTree → Type 0

@@ -6,9 +6,10 @@ ghost use Rattle.tt_base.specs.Forest.{size, flat, flat_root, IsWhole};
 ghost use Rattle.tt_tables.specs.Meaning.{HasMeaning};
 ghost use Rattle.tt_tables.specs.PackFault.{IsPackFault};
 ghost use Rattle.tt_tables.specs.Shortest.{HasShortestHeaders};
-ghost use Rattle.tt_tables.specs.Stored.{packed, tables_below, IsInRange, IsWithinLimits};
+ghost use Rattle.tt_tables.specs.Stored.{packed, IsInRange, IsWithinLimits};
 ghost use Rattle.tt_base.proofs.SameTree.{same_root_iff};
 ghost use Rattle.tt_tables.proofs.StoredAlike.{HasMeaning-prop};
+ghost use Rattle.tt_tables.specs.Tables.{tables_for};
 ghost use Rattle.tt_tables.specs.Uses.{symbol_uses};
 ghost use Rattle.tt_pack.specs.FedTree.{fed_tree};
 ghost use Rattle.std.proofs.Common.{rules, ap};
@@ -100,7 +101,7 @@ impl Packed {
         ensures limits { IsWithinLimits self.now }
         ensures least { 33 + 5 * size self.now.children ≤ length result.now }
         ensures most { length result.now ≤ 33 * suc (size self.now.children) }
-        ensures shortest { HasShortestHeaders (tables_below self.now.children) self.now.children (drop 33 result.now) }
+        ensures shortest { HasShortestHeaders (tables_for (flat self.now.children)) self.now.children (drop 33 result.now) }
     {
         self.bytes.as_slice()
     }

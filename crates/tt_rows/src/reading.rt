@@ -59,18 +59,18 @@ fn one_token_after_another(rt: HostRuntime) -> Result<(), Fail> {
     let tokens = braces(alloc)?;
     let tree = stored(alloc, tokens.as_slice())?;
     let mut reader = Reader::start(&tree);
-    assert_eq!(rt; reader.place(), 0);
+    assert_eq!(rt; reader.offset(), 0);
     assert_eq!(rt; reader.steps(), 0);
     let places: [usize; 3] = [33, 38, 43];
     let mut steps = 0u64;
     for (token, place) in tokens.iter().zip(places.iter()) {
         steps = steps.saturating_add(1);
         assert_eq!(rt; reader.advance().ok_or("no token")?, *token);
-        assert_eq!(rt; reader.place(), *place);
+        assert_eq!(rt; reader.offset(), *place);
         assert_eq!(rt; reader.steps(), steps);
     }
     assert!(rt; reader.advance().is_none());
-    assert_eq!(rt; reader.place(), 43);
+    assert_eq!(rt; reader.offset(), 43);
     assert_eq!(rt; reader.steps(), 3);
     Ok(())
 }
@@ -83,13 +83,13 @@ fn all_that_a_header_holds(rt: HostRuntime) -> Result<(), Fail> {
     let (found, mut below) = reader.advance_skip().ok_or("no token")?;
     let brace = header(DelimiterKind::Brace, (0, 0, 1), (0, 5, 6), 2)?;
     assert_eq!(rt; found, brace);
-    assert_eq!(rt; reader.place(), 43);
+    assert_eq!(rt; reader.offset(), 43);
     assert_eq!(rt; reader.steps(), 1);
     assert!(rt; reader.advance().is_none());
     assert!(rt; reader.advance_skip().is_none());
-    assert_eq!(rt; reader.place(), 43);
+    assert_eq!(rt; reader.offset(), 43);
     assert_eq!(rt; reader.steps(), 1);
-    assert_eq!(rt; below.place(), 33);
+    assert_eq!(rt; below.offset(), 33);
     assert_eq!(rt; below.steps(), 1);
     let name = ident(alloc, "a", (0, 2, 3))?;
     assert_eq!(rt; below.advance().ok_or("no token")?, name);
@@ -129,6 +129,6 @@ fn siblings_are_skipped(rt: HostRuntime) -> Result<(), Fail> {
     }
     assert!(rt; reader.advance_skip().is_none());
     assert_eq!(rt; reader.steps(), 201);
-    assert_eq!(rt; reader.place(), tree.bytes().len());
+    assert_eq!(rt; reader.offset(), tree.bytes().len());
     Ok(())
 }

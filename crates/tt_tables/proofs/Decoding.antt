@@ -16,7 +16,7 @@ use Rattle.tt_tables.specs.Tables.{Tables, Knows, numbers_of_span, index_of_symb
 use Rattle.tt_tables.specs.Uses.{same_part}
 use Rattle.tt_tables.proofs.TokenTables.{part_sound, text_sound}
 
--- What stands at the place that was found passes the test.
+-- What stands at the numbers that was found passes the test.
 pub found_there : {X : Type 0} (test : X → Bool) (xs : List X) (other : X) → index_in test xs < length xs → test (get_or xs (index_in test xs) other) ≡ true
 found_there test [] other found = absurd (none found)
   where
@@ -30,9 +30,9 @@ found_there test (x ∷ xs) other found = by_test (test x) refl found (found_the
     by_test true e found later = e
     by_test false e found later = later (omega arith)
 
--- The place of a span whose part is in the table is that of the span.
-pub place_of_span_stands : (tables : Tables) (span : Span) → IsIn same_part tables.parts (part_of span) → SpanInRange span → StandsAt tables (numbers_of_span tables span) span
-place_of_span_stands tables span found range =
+-- The numbers of a span whose part is in the table is that of the span.
+pub span_numbers_stand : (tables : Tables) (span : Span) → IsIn same_part tables.parts (part_of span) → SpanInRange span → StandsAt tables (numbers_of_span tables span) span
+span_numbers_stand tables span found range =
     record {
       listed = found;
       there = λ other. sym (part_sound _ _ (found_there (same_part (part_of span)) tables.parts other found));
@@ -41,9 +41,9 @@ place_of_span_stands tables span found range =
       small = range.1;
     }
 
--- The place of a symbol in the table is that of its text.
-pub place_of_symbol_spells : (tables : Tables) (text : List ℕ) → IsIn bytes_eq tables.symbols text → SpellsAt tables (index_of_symbol tables text) text
-place_of_symbol_spells tables text found =
+-- The numbers of a symbol in the table is that of its text.
+pub symbol_index_spells : (tables : Tables) (text : List ℕ) → IsIn bytes_eq tables.symbols text → SpellsAt tables (index_of_symbol tables text) text
+symbol_index_spells tables text found =
     record {
       listed = found;
       there = λ other. sym (text_sound _ _ (found_there (bytes_eq text) tables.symbols other found));
@@ -54,30 +54,30 @@ pub leaf_entry_means : (tables : Tables) (it : Leaf) → Knows tables (token.Lea
 leaf_entry_means tables (leaf.Literal it) knows range = (
   it,
   refl,
-  place_of_symbol_spells tables it.symbol knows.symbols.0,
+  symbol_index_spells tables it.symbol knows.symbols.0,
   refl,
   refl,
-  place_of_span_stands tables it.span knows.parts.0 range,
+  span_numbers_stand tables it.span knows.parts.0 range,
 )
-leaf_entry_means tables (leaf.Punct it) knows range = (it, refl, refl, refl, place_of_span_stands tables it.span knows.parts.0 range.0)
+leaf_entry_means tables (leaf.Punct it) knows range = (it, refl, refl, refl, span_numbers_stand tables it.span knows.parts.0 range.0)
 leaf_entry_means tables (leaf.Ident it) knows range =
-    (it, refl, place_of_symbol_spells tables it.sym knows.symbols.0, refl, place_of_span_stands tables it.span knows.parts.0 range)
+    (it, refl, symbol_index_spells tables it.sym knows.symbols.0, refl, span_numbers_stand tables it.span knows.parts.0 range)
 
 -- The numbers of a known header mean that header.
 pub header_entry_means : (tables : Tables) (it : Subtree) (held : ℕ) → Knows tables (token.Subtree it) → TokenInRange (token.Subtree it) → HeaderMeans tables (header_entry tables it held) it held
 header_entry_means tables it held knows range =
     record {
-      opening = place_of_span_stands tables it.delimiter.open_span knows.parts.0 range.0;
-      closing = place_of_span_stands tables it.delimiter.close knows.parts.1.0 range.1;
+      opening = span_numbers_stand tables it.delimiter.open_span knows.parts.0 range.0;
+      closing = span_numbers_stand tables it.delimiter.close knows.parts.1.0 range.1;
       kind = refl;
       len = refl;
       bytes = refl;
     }
 
--- A place with the index of a span's part is that of the span.
-pub place_with_stands : (tables : Tables) (part : ℕ) (span : Span) → part < length tables.parts → ((other : SpanPart) → get_or tables.parts part other ≡ part_of span)
+-- A numbers with the index of a span's part is that of the span.
+pub numbers_stand : (tables : Tables) (part : ℕ) (span : Span) → part < length tables.parts → ((other : SpanPart) → get_or tables.parts part other ≡ part_of span)
     → SpanInRange span → StandsAt tables (span_numbers part span) span
-place_with_stands tables part span listed there range =
+numbers_stand tables part span listed there range =
     record {
       listed = listed;
       there = there;

@@ -5,12 +5,12 @@ pub mod Found
 pub mod Meaning
 pub mod Moves
 pub mod Named
-pub mod Names
-pub mod NamesOf
 pub mod NextToken
 pub mod PackFault
+pub mod Searches
 pub mod Shortest
 pub mod Stored
 pub mod TableOrder
 pub mod Tables
+pub mod TablesOf
 pub mod Uses

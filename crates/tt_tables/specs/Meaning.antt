@@ -1,4 +1,4 @@
--- Which tree is meant by what is stored, and which trees lie ahead of a place in the bytes.
+-- Which tree is meant by what is stored, and which trees lie ahead of a offset in the bytes.
 use Rattle.std.specs.Prelude.{◌≡◌, ℕ, zero, suc, ◌==◌, ◌≤◌, ◌^◌, if◌then◌else◌, List, [], drop, length}
 use Rattle.std.specs.List.{AllByRecursion}
 use Rattle.tt_base.specs.declared.token_tree.TokenTree.TheVariants as token
@@ -32,21 +32,21 @@ IsAtStart tables all (node delimiter children (leaf it rest)) = ⊥
 IsAtStart tables all (node delimiter children (node other inner rest)) = ⊥
 
 -- so many of all bytes are passed, and those of the trees are left, fewer than 2^32; at the start they are one tree, or none
-abbrev pub IsAhead : Tables → (all : List ℕ) → (place : ℕ) → Forest → Type 0
+abbrev pub IsAhead : Tables → (all : List ℕ) → (offset : ℕ) → Forest → Type 0
 IsAhead tables all zero trees = IsAtStart tables all trees
-IsAhead tables all (suc place) trees =
-    (suc place ≤ length all) × (drop (suc place) all ≡ bytes tables trees) × CanName tables trees × (length (bytes tables trees) ≤ 4294967295)
+IsAhead tables all (suc offset) trees =
+    (suc offset ≤ length all) × (drop (suc offset) all ≡ bytes tables trees) × CanName tables trees × (length (bytes tables trees) ≤ 4294967295)
 
 -- some trees lie ahead
-abbrev pub HasAhead : Tables → (all : List ℕ) → (place : ℕ) → Type 0
-HasAhead tables all place = (trees : Forest) × IsAhead tables all place trees
+abbrev pub HasAhead : Tables → (all : List ℕ) → (offset : ℕ) → Type 0
+HasAhead tables all offset = (trees : Forest) × IsAhead tables all offset trees
 
 -- the bytes of the first token itself: the top header is the one at the start
-abbrev pub own_bytes : Tables → (place : ℕ) → Forest → ℕ
-own_bytes tables place end = 0
-own_bytes tables place (leaf it rest) = length (token_bytes tables (token.Leaf it) 0)
-own_bytes tables place (node delimiter children rest) =
-    if place == 0 then 33 else length (token_bytes tables (header delimiter (size children)) (length (bytes tables children)))
+abbrev pub own_bytes : Tables → (offset : ℕ) → Forest → ℕ
+own_bytes tables offset end = 0
+own_bytes tables offset (leaf it rest) = length (token_bytes tables (token.Leaf it) 0)
+own_bytes tables offset (node delimiter children rest) =
+    if offset == 0 then 33 else length (token_bytes tables (header delimiter (size children)) (length (bytes tables children)))
 
 -- the bytes of all that the first tree holds
 abbrev pub held_bytes : Tables → Forest → ℕ

@@ -34,6 +34,14 @@ pub record Tables : Type 0 where
   pub parts : List SpanPart
   pub symbols : List (List ℕ)
 
+-- the tables with these entries
+abbrev pub tables_from : List SpanPart → List (List ℕ) → Tables
+tables_from parts symbols = record { parts = parts; symbols = symbols }
+
+-- the two tables of tokens
+abbrev pub tables_for : List TokenTree → Tables
+tables_for tokens = tables_from (part_table tokens) (symbol_table tokens)
+
 -- the numbers of a span: the index of the first entry with its part, its start, and its length
 abbrev pub numbers_of_span : Tables → Span → SpanNumbers
 numbers_of_span tables span =

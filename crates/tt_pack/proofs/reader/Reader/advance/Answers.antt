@@ -2,7 +2,7 @@ use Rattle.std.proofs.Common.{◌≡◌, ◌+◌, ◌<◌, ◌≤◌, ◌^◌, �
 use Rattle.tt_tables.specs.Meaning.{IsAhead}
 use Rattle.tt_tables.specs.Moves.{first_token, after_token}
 use Rattle.tt_tables.proofs.StoredAlike.{ahead_is}
-use Rattle.tt_pack.specs.ReaderOf.{tables_of, bytes_of, place_of, ahead_of}
+use Rattle.tt_pack.specs.ReaderOf.{tables_of, bytes_of, offset_of, ahead_of}
 use Rattle.tt_pack.proofs.Moves.{ends, moved, room}
 use Rattle.tt_pack.proofs.reader.Reader.advance.Goals as goal
 
@@ -10,28 +10,28 @@ pub returns-in_err-found-clause-end : goal.returns-in_err-found-clause-end
 returns-in_err-found-clause-end c =
     let self = c.args.self.now in
     let none : first_token (ahead_of self) ≡ c.from_residual.result = search rules in
-    subst (λ r. (r ≡ None) ↔ (length (bytes_of self) ≤ place_of self)) none (ends _ _ _ _ self.ahead.1)
+    subst (λ r. (r ≡ None) ↔ (length (bytes_of self) ≤ offset_of self)) none (ends _ _ _ _ self.ahead.1)
 
 pub overflow_add-self : goal.overflow_add-self
 overflow_add-self c =
     let self = c.args.self.now in
     let small : length (bytes_of self) < 2 ^ 64 = search rules in
-    let within = room (tables_of self) (bytes_of self) (place_of self) self.ahead.0 self.ahead.1 in
+    let within = room (tables_of self) (bytes_of self) (offset_of self) self.ahead.0 self.ahead.1 in
     omega (arith, small, within, c.in_ok-found.ensures.own)
 
 pub invariant_of-self : goal.invariant_of-self
 invariant_of-self c =
     let self = c.args.self.now in
-    record { ahead = (after_token (ahead_of self), moved (tables_of self) (bytes_of self) (place_of self) _ _ c.in_ok-found.ensures.own self.ahead.1) }
+    record { ahead = (after_token (ahead_of self), moved (tables_of self) (bytes_of self) (offset_of self) _ _ c.in_ok-found.ensures.own self.ahead.1) }
 
 pub returns-clause-end : goal.returns-clause-end
 returns-clause-end c =
     let self = c.args.self.now in
-    subst (λ r. (r ≡ None) ↔ (length (bytes_of self) ≤ place_of self)) c.in_ok-found.ensures.token (ends _ _ _ _ self.ahead.1)
+    subst (λ r. (r ≡ None) ↔ (length (bytes_of self) ≤ offset_of self)) c.in_ok-found.ensures.token (ends _ _ _ _ self.ahead.1)
 
 pub returns-clause-ahead : goal.returns-clause-ahead
 returns-clause-ahead c =
     let self = c.args.self.now in
-    let is : IsAhead (tables_of self) (bytes_of self) (place_of self + c.in_ok-found.found.own) (after_token (ahead_of self)) =
-    moved (tables_of self) (bytes_of self) (place_of self) _ _ c.in_ok-found.ensures.own self.ahead.1 in
+    let is : IsAhead (tables_of self) (bytes_of self) (offset_of self + c.in_ok-found.found.own) (after_token (ahead_of self)) =
+    moved (tables_of self) (bytes_of self) (offset_of self) _ _ c.in_ok-found.ensures.own self.ahead.1 in
     search (rules, ahead_is, is)

@@ -1,4 +1,4 @@
--- Tokens under tables, in the words of the code: the numbers of a token, where the tables have what it uses.
+-- What a search in given tables finds: the index of a part or of a symbol, where the tables have it.
 use Rattle.std.specs.Prelude.{◌≡◌, ℕ, ◌<◌, Bool, List, length, take, ◌^◌, Option, MatchOption, bytes_eq}
 use Rattle.tt_base.specs.declared.span.Span.{Span}
 use Rattle.tt_base.specs.declared.span.SpanPart.{SpanPart}
@@ -6,7 +6,7 @@ use Rattle.tt_base.specs.Fits.{SpanInRange}
 use Rattle.tt_base.specs.Span.{part_of}
 use Rattle.tt_codec.specs.SpanNumbers.{SpanFits}
 use Rattle.tt_tables.specs.TableOrder.{index_in, IsIn}
-use Rattle.tt_tables.specs.Tables.{Tables, numbers_of_span, index_of_symbol}
+use Rattle.tt_tables.specs.Tables.{Tables, tables_from, numbers_of_span, index_of_symbol}
 use Rattle.tt_tables.specs.Uses.{same_part}
 use Rattle.tt_codec.specs.declared.span.SpanNumbers.{SpanNumbers}
 
@@ -34,4 +34,4 @@ IndexesSymbol tables text found =
 
 -- as many entries as an index can name
 abbrev pub first_entries : List SpanPart → List (List ℕ) → Tables
-first_entries parts symbols = record { parts = take (2 ^ 28) parts; symbols = take (2 ^ 29) symbols }
+first_entries parts symbols = tables_from (take (2 ^ 28) parts) (take (2 ^ 29) symbols)

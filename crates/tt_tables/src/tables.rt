@@ -1,7 +1,7 @@
 //! From tokens to numbers: what a token uses is searched in two given tables.
 ghost use Rattle.std.specs.Prelude.{◌≡◌, ◌≤◌, ◌^◌, length, position, take};
 ghost use Rattle.tt_tables.specs.Named.{NamesLeaf, NamesHeader, NamesToken};
-ghost use Rattle.tt_tables.specs.Names.{IsIndex, NumbersSpan, IndexesSymbol, first_entries};
+ghost use Rattle.tt_tables.specs.Searches.{IsIndex, NumbersSpan, IndexesSymbol, first_entries};
 
 use tt_base::{Leaf, Span, SpanPart, Subtree, Symbol, TokenTree};
 use tt_codec::{Entry, HeaderEntry, LeafEntry, SpanNumbers};
@@ -13,7 +13,7 @@ const MOST_SYMBOLS: usize = 536870912;
 
 /// The tables whose entries indices name.
 #[derive(Clone, Copy)]
-pub struct Names<'a> {
+pub struct Tables<'a> {
     pub parts: &'a [SpanPart],
     pub symbols: &'a [Symbol],
     pub ghost few_parts: { length parts.now ≤ 2 ^ 28 },
@@ -47,14 +47,14 @@ fn index_of<T: Eq>(values: &[T], value: &T) -> Option<u32>
     Some(index as u32)
 }
 
-impl<'a> Names<'a> {
-    ghost use Rattle.tt_tables.specs.NamesOf.{names_of};
+impl<'a> Tables<'a> {
+    ghost use Rattle.tt_tables.specs.TablesOf.{tables_of};
 
     /// The tables, of which only so many entries count as an index can name.
-    pub fn new(parts: &'a [SpanPart], symbols: &'a [Symbol]) -> Names<'a>
-        ensures { names_of result ≡ first_entries parts.now symbols.now }
+    pub fn new(parts: &'a [SpanPart], symbols: &'a [Symbol]) -> Tables<'a>
+        ensures { tables_of result ≡ first_entries parts.now symbols.now }
     {
-        Names {
+        Tables {
             parts: first_of(parts, MOST_PARTS),
             symbols: first_of(symbols, MOST_SYMBOLS),
         }
@@ -62,41 +62,41 @@ impl<'a> Names<'a> {
 
     /// A span in numbers, or `None` where the tables do not have its part.
     pub(crate) fn span_numbers(self, span: &Span) -> Option<SpanNumbers>
-        ensures { NumbersSpan (names_of self.entry) span.now result }
+        ensures { NumbersSpan (tables_of self.entry) span.now result }
     {
         let part = index_of(self.parts, &SpanPart::from_span(span))?;
         Some(SpanNumbers::of_span(part, span))
     }
 
     /// The index of a symbol, or `None` where the tables do not have it.
-    pub(crate) fn symbol(self, symbol: &Symbol) -> Option<u32>
-        ensures { IndexesSymbol (names_of self.entry) symbol.now result }
+    pub(crate) fn symbol_index(self, symbol: &Symbol) -> Option<u32>
+        ensures { IndexesSymbol (tables_of self.entry) symbol.now result }
     {
         index_of(self.symbols, symbol)
     }
 
     /// A leaf in numbers, or `None` where the tables do not have what it uses.
-    pub(crate) fn leaf(self, leaf: &Leaf) -> Option<LeafEntry>
-        ensures { NamesLeaf (names_of self.entry) leaf.now result }
+    pub(crate) fn leaf_entry(self, leaf: &Leaf) -> Option<LeafEntry>
+        ensures { NamesLeaf (tables_of self.entry) leaf.now result }
     {
         let numbers = self.span_numbers(leaf.span())?;
         match leaf {
             Leaf::Literal(literal) => {
-                let symbol = self.symbol(literal.symbol())?;
+                let symbol = self.symbol_index(literal.symbol())?;
                 let (kind, suffix_len) = (literal.kind(), literal.suffix_len());
                 Some(LeafEntry::Literal(symbol, kind, suffix_len, numbers))
             }
             Leaf::Punct(punct) => Some(LeafEntry::Punct(punct.char, punct.spacing, numbers)),
             Leaf::Ident(ident) => {
-                let symbol = self.symbol(&ident.sym)?;
+                let symbol = self.symbol_index(&ident.sym)?;
                 Some(LeafEntry::Ident(symbol, ident.is_raw, numbers))
             }
         }
     }
 
     /// A header in numbers, where what it holds takes so many bytes, or `None` where the tables do not have its parts.
-    pub(crate) fn header(self, subtree: Subtree, child_bytes: u32) -> Option<HeaderEntry>
-        ensures { NamesHeader (names_of self.entry) subtree child_bytes result }
+    pub(crate) fn header_entry(self, subtree: Subtree, child_bytes: u32) -> Option<HeaderEntry>
+        ensures { NamesHeader (tables_of self.entry) subtree child_bytes result }
     {
         let opening = self.span_numbers(&subtree.delimiter.open_span)?;
         let closing = self.span_numbers(&subtree.delimiter.close)?;
@@ -110,12 +110,12 @@ impl<'a> Names<'a> {
     }
 
     /// A token in numbers, or `None` where the tables do not have what it uses. A leaf holds nothing.
-    pub fn token(self, token: &TokenTree, child_bytes: u32) -> Option<Entry>
-        ensures { NamesToken (names_of self.entry) token.now child_bytes result }
+    pub fn entry(self, token: &TokenTree, child_bytes: u32) -> Option<Entry>
+        ensures { NamesToken (tables_of self.entry) token.now child_bytes result }
     {
         match token {
-            TokenTree::Leaf(leaf) => self.leaf(leaf).map(Entry::Leaf),
-            TokenTree::Subtree(subtree) => self.header(*subtree, child_bytes).map(Entry::Header),
+            TokenTree::Leaf(leaf) => self.leaf_entry(leaf).map(Entry::Leaf),
+            TokenTree::Subtree(subtree) => self.header_entry(*subtree, child_bytes).map(Entry::Header),
         }
     }
 }

@@ -3,7 +3,7 @@
 ghost use Rattle.std.specs.Prelude.{◌≡◌, IfSome, slice_get};
 ghost use Rattle.tt_tables.specs.Found.{FindsSpan, FindsLeaf, FindsSubtree, GivesSpan, GivesLeaf, GivesSubtree};
 
-use crate::names::Names;
+use crate::tables::Tables;
 use tt_base::{
     Delimiter, Ident, Leaf, Literal, Punct, Span, SpanPart, Subtree, Symbol, TextRange, TextSize,
 };
@@ -19,19 +19,19 @@ fn copy_of(symbol: &Symbol) -> Symbol
     }
 }
 
-impl<'a> Names<'a> {
-    ghost use Rattle.tt_tables.specs.NamesOf.{names_of};
+impl<'a> Tables<'a> {
+    ghost use Rattle.tt_tables.specs.TablesOf.{tables_of};
 
     // The part at an index, if the table is as long.
     fn part_at(self, index: u32) -> Option<SpanPart>
-        ensures { result ≡ slice_get (names_of self.entry).parts index }
+        ensures { result ≡ slice_get (tables_of self.entry).parts index }
     {
         self.parts.get(index as usize).copied()
     }
 
     // The symbol at an index, if the table is as long.
     fn symbol_at(self, index: u32) -> Option<Symbol>
-        ensures { result ≡ slice_get (names_of self.entry).symbols index }
+        ensures { result ≡ slice_get (tables_of self.entry).symbols index }
     {
         self.symbols.get(index as usize).map(copy_of)
     }
@@ -39,8 +39,8 @@ impl<'a> Names<'a> {
     /// The span of these numbers, or `None` where the tables do not have its part, or where it would end
     /// at 2^32 or later.
     pub(crate) fn span(self, numbers: SpanNumbers) -> Option<Span>
-        ensures gives { GivesSpan (names_of self.entry) numbers result }
-        ensures only { IfSome result (FindsSpan (names_of self.entry) numbers) }
+        ensures gives { GivesSpan (tables_of self.entry) numbers result }
+        ensures only { IfSome result (FindsSpan (tables_of self.entry) numbers) }
     {
         let part = self.part_at(numbers.part)?;
         let range = TextRange::at(TextSize::new(numbers.start), TextSize::new(numbers.length))?;
@@ -49,9 +49,9 @@ impl<'a> Names<'a> {
 
     /// The leaf that the numbers name, or `None` where the tables do not have what they name, or where
     /// it would be no leaf.
-    pub fn leaf_of(self, entry: LeafEntry) -> Option<Leaf>
-        ensures gives { GivesLeaf (names_of self.entry) entry result }
-        ensures only { IfSome result (FindsLeaf (names_of self.entry) entry) }
+    pub fn leaf(self, entry: LeafEntry) -> Option<Leaf>
+        ensures gives { GivesLeaf (tables_of self.entry) entry result }
+        ensures only { IfSome result (FindsLeaf (tables_of self.entry) entry) }
     {
         match entry {
             LeafEntry::Punct(char, spacing, numbers) => {
@@ -77,9 +77,9 @@ impl<'a> Names<'a> {
     }
 
     /// The header that the numbers name, or `None` where the tables do not have its parts.
-    pub fn subtree_of(self, entry: HeaderEntry) -> Option<Subtree>
-        ensures gives { GivesSubtree (names_of self.entry) entry result }
-        ensures only { IfSome result (FindsSubtree (names_of self.entry) entry) }
+    pub fn subtree(self, entry: HeaderEntry) -> Option<Subtree>
+        ensures gives { GivesSubtree (tables_of self.entry) entry result }
+        ensures only { IfSome result (FindsSubtree (tables_of self.entry) entry) }
     {
         let open_span = self.span(entry.opening)?;
         let close = self.span(entry.closing)?;

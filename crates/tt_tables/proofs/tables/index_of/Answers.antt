@@ -1,7 +1,7 @@
 use Rattle.std.proofs.Common.{◌≡◌, Some, None, sym, subst, ◌∙◌, rules}
-use Rattle.tt_tables.specs.Names.{IsIndex}
+use Rattle.tt_tables.specs.Searches.{IsIndex}
 use Rattle.tt_tables.proofs.Positions.{position_is_index}
-use Rattle.tt_tables.proofs.names.index_of.Goals as goal
+use Rattle.tt_tables.proofs.tables.index_of.Goals as goal
 
 pub returns-in_err-index : goal.returns-in_err-index
 returns-in_err-index g c =
