@@ -132,7 +132,7 @@ pub refused_list : (tokens : List TokenTree) (top : Subtree) (below : List Token
 refused_list tokens top below fault it h = rw it.list (refused h)
   where
     tree_with : (P : Root → Type 0) → IsWhole below → (IsWhole below → P (root_of top below)) → IsTreeWith P (token.Subtree top ∷ below)
-    tree_with P whole has = (root_of top below, list_is top below whole it.counted, has whole)
+    tree_with P whole has = (root_of top below, list_is top below whole it.counted, omega (arith, sized top below whole it.counted, it.few), has whole)
 
     is : (cause : TtFault) → fault ≡ cause → IsPackFault (token.Subtree top ∷ below) cause → IsPackFault (token.Subtree top ∷ below) fault
     is cause e holds = subst (IsPackFault (token.Subtree top ∷ below)) (sym e) holds

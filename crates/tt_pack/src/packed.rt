@@ -3,6 +3,7 @@ ghost use Rattle.std.specs.Prelude.{◌≡◌, ◌≤◌, ◌+◌, ◌*◌, suc,
 ghost use Rattle.tt_base.specs.declared.fault.TtFault.TheVariants.{Memory};
 ghost use Rattle.tt_tables.specs.Cost.{IsCheapest};
 ghost use Rattle.tt_base.specs.Forest.{size, flat, flat_root, IsWhole};
+ghost use Rattle.tt_tables.specs.Limits.{most_tokens};
 ghost use Rattle.tt_tables.specs.Meaning.{HasMeaning};
 ghost use Rattle.tt_tables.specs.PackFault.{IsPackFault};
 ghost use Rattle.tt_tables.specs.Shortest.{HasShortestHeaders};
@@ -51,7 +52,7 @@ impl Packed {
     /// many symbols or too many bytes, in this order (docs/FORMATS.md, "Limits"), or where memory is refused; it is then handed back.
     pub fn pack(alloc: Global, tokens: Vec<TokenTree>) -> Result<Packed, Refused<Vec<TokenTree>>>
         ensures ok { IfOk result (λ stored. tokens.items ≡ flat_root stored) }
-        ensures counts { IfOk result (λ stored. size stored.children ≤ 4294967295) }
+        ensures counts { IfOk result (λ stored. size stored.children ≤ most_tokens) }
         ensures fault { IfErr result (λ refused. IsPackFault tokens.items refused.fault) }
         ensures list { IfErr result (λ refused. refused.value ≡ tokens) }
     {
@@ -66,7 +67,7 @@ impl Packed {
 
     // What is stored for a list, if it is one subtree.
     fn of_list(alloc: Global, tokens: &[TokenTree]) -> Result<Packed, TtFault>
-        ensures ok { IfOk result (λ stored. (tokens.now ≡ flat_root stored) × (size stored.children ≤ 4294967295)) }
+        ensures ok { IfOk result (λ stored. (tokens.now ≡ flat_root stored) × (size stored.children ≤ most_tokens)) }
         ensures err { IfErr result (IsPackFault tokens.now) }
     {
         let Some((TokenTree::Subtree(top), below)) = tokens.split_first() else {

@@ -1,9 +1,9 @@
 //! Reading what is stored, one token a call.
-ghost use Rattle.std.specs.Prelude.{◌≡◌, ◌+◌, ◌≤◌, ◌↔◌, length, drop, MatchOption, IfSome, Some, None, []};
+ghost use Rattle.std.specs.Prelude.{◌≡◌, ◌≤◌, ◌⊎◌, ◌↔◌, length, drop, MatchOption, IfSome, Some, None, []};
 ghost use Rattle.tt_base.specs.Forest.{end, only};
-ghost use Rattle.tt_tables.specs.Meaning.{HasAhead, own_bytes, held_bytes};
+ghost use Rattle.tt_tables.specs.Meaning.{HasAhead, top_bytes};
 ghost use Rattle.tt_tables.specs.Stored.{packed as what_is_stored};
-ghost use Rattle.tt_tables.specs.Moves.{first_token, after_token, after_tree, step_after};
+ghost use Rattle.tt_tables.specs.Moves.{first_token, after_token, after_tree};
 ghost use Rattle.tt_tables.proofs.StoredAlike.{HasAhead-prop};
 ghost use Rattle.tt_tables.specs.Tables.{tables_from};
 
@@ -33,13 +33,13 @@ pub struct Reader<'a> {
 struct Found {
     token: TokenTree,
     // how many bytes the token itself takes
-    own: usize,
+    len: usize,
     // how many bytes all that it holds takes
-    held: usize,
+    child_bytes: usize,
 }
 
 impl<'a> Reader<'a> {
-    ghost use Rattle.tt_pack.specs.ReaderOf.{ahead_of, bytes_of, tables_of, offset_of, steps_of, ReadsSame, Decodes};
+    ghost use Rattle.tt_pack.specs.ReaderOf.{ahead_of, bytes_of, tables_of, offset_of, steps_of, StepsTo, Decodes};
 
     /// Before the whole tree.
     pub fn start(packed: &'a Packed) -> Reader<'a>
@@ -75,9 +75,11 @@ impl<'a> Reader<'a> {
         }
     }
 
-    /// How many bytes are passed.
+    /// How many bytes are passed: none, or the top header at least.
     pub fn offset(&self) -> usize
-        ensures { result ≡ offset_of self.now }
+        ensures value { result ≡ offset_of self.now }
+        ensures inside { result ≤ length (bytes_of self.now) }
+        ensures top { (result ≡ 0) ⊎ (top_bytes ≤ result) }
     {
         self.offset
     }
@@ -106,22 +108,22 @@ impl<'a> Reader<'a> {
         let rest = self.rest();
         let (entry, behind) = Entry::read(rest)?;
         let tables = Tables::new(self.parts, self.symbols);
-        let own = rest.len() - behind.len();
+        let len = rest.len() - behind.len();
         match entry {
             Entry::Leaf(entry) => {
                 let leaf = tables.leaf(entry)?;
                 Some(Found {
                     token: TokenTree::Leaf(leaf),
-                    own,
-                    held: 0,
+                    len,
+                    child_bytes: 0,
                 })
             }
             Entry::Header(entry) => {
                 let subtree = tables.subtree(entry)?;
                 Some(Found {
                     token: TokenTree::Subtree(subtree),
-                    own,
-                    held: entry.child_bytes as usize,
+                    len,
+                    child_bytes: entry.child_bytes as usize,
                 })
             }
         }
@@ -131,13 +133,10 @@ impl<'a> Reader<'a> {
     pub fn advance(&mut self) -> Option<TokenTree>
         ensures token { result ≡ first_token (ahead_of self.old) }
         ensures end { (result ≡ None) ↔ (length (bytes_of self.old) ≤ offset_of self.old) }
-        ensures ahead { ahead_of self.new ≡ after_token (ahead_of self.old) }
-        ensures same { ReadsSame self.new self.old }
-        ensures offset { offset_of self.new ≡ offset_of self.old + own_bytes (tables_of self.old) (offset_of self.old) (ahead_of self.old) }
-        ensures steps { steps_of self.new ≡ step_after (steps_of self.old) (ahead_of self.old) }
+        ensures moved { StepsTo self.old (after_token (ahead_of self.old)) self.new }
     {
         let found = self.decode()?;
-        self.offset += found.own;
+        self.offset += found.len;
         self.steps = self.steps.saturating_add(1);
         Some(found.token)
     }
@@ -147,14 +146,8 @@ impl<'a> Reader<'a> {
     pub fn advance_skip(&mut self) -> Option<(TokenTree, Reader<'a>)>
         ensures token { MatchOption result (first_token (ahead_of self.old) ≡ None) (λ found. first_token (ahead_of self.old) ≡ Some found.0) }
         ensures end { (result ≡ None) ↔ (length (bytes_of self.old) ≤ offset_of self.old) }
-        ensures below { IfSome result (λ found. ahead_of found.1 ≡ after_token (ahead_of self.old)) }
-        ensures below_same { IfSome result (λ found. ReadsSame found.1 self.old) }
-        ensures below_place { IfSome result (λ found. offset_of found.1 ≡ offset_of self.old + own_bytes (tables_of self.old) (offset_of self.old) (ahead_of self.old)) }
-        ensures below_steps { IfSome result (λ found. steps_of found.1 ≡ steps_of self.new) }
-        ensures ahead { ahead_of self.new ≡ after_tree (ahead_of self.old) }
-        ensures same { ReadsSame self.new self.old }
-        ensures offset { offset_of self.new ≡ offset_of self.old + own_bytes (tables_of self.old) (offset_of self.old) (ahead_of self.old) + held_bytes (tables_of self.old) (ahead_of self.old) }
-        ensures steps { steps_of self.new ≡ step_after (steps_of self.old) (ahead_of self.old) }
+        ensures below { IfSome result (λ found. StepsTo self.old (after_token (ahead_of self.old)) found.1) }
+        ensures moved { StepsTo self.old (after_tree (ahead_of self.old)) self.new }
     {
         let found = self.decode()?;
         self.steps = self.steps.saturating_add(1);
@@ -162,10 +155,10 @@ impl<'a> Reader<'a> {
             bytes: self.bytes,
             parts: self.parts,
             symbols: self.symbols,
-            offset: self.offset + found.own,
+            offset: self.offset + found.len,
             steps: self.steps,
         };
-        self.offset = below.offset + found.held;
+        self.offset = below.offset + found.child_bytes;
         Some((found.token, below))
     }
 }

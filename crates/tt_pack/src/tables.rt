@@ -1,6 +1,7 @@
 //! The two tables of a list of tokens, and tokens in numbers under them.
 ghost use Rattle.std.specs.Prelude.{◌≡◌, ◌+◌, ◌<◌, ◌≤◌, ◌^◌, Some, length, slice_get, IfOk, IfErr};
 ghost use Rattle.tt_base.specs.Forest.{IsWhole};
+ghost use Rattle.tt_tables.specs.Limits.{most_parts, most_symbols};
 ghost use Rattle.tt_tables.specs.Tables.{Knows, part_table, symbol_table};
 ghost use Rattle.tt_pack.specs.Packed.{HasFewParts, HasFewSymbols, IsTableFault};
 
@@ -25,8 +26,8 @@ pub(crate) struct ListTables {
     pub(crate) parts: Table<SpanPart>,
     pub(crate) symbols: Table<Symbol>,
     pub(crate) uses: Vec<TokenUses>,
-    pub ghost few_parts: { length parts.values.items + 2 ≤ 2 ^ 28 },
-    pub ghost few_symbols: { length symbols.values.items ≤ 2 ^ 29 },
+    pub ghost few_parts: { length parts.values.items + 2 ≤ most_parts },
+    pub ghost few_symbols: { length symbols.values.items ≤ most_symbols },
 }
 
 // The index in the table that is noted at an index.

@@ -4,6 +4,7 @@ ghost use Rattle.std.specs.List.{AllByRecursion};
 ghost use Rattle.tt_base.specs.declared.fault.TtFault.TheVariants.{Memory, TooManyBytes};
 ghost use Rattle.tt_base.specs.Forest.{IsWhole};
 ghost use Rattle.tt_codec.specs.Header.{HeaderFits, format_4};
+ghost use Rattle.tt_tables.specs.Limits.{most_bytes};
 ghost use Rattle.tt_tables.specs.Tables.{Knows};
 ghost use Rattle.tt_pack.specs.TablesOf.{tables_of, UsesTables};
 ghost use Rattle.tt_pack.specs.Writing.{byte_count, first_child_bytes, IsWritten};
@@ -68,7 +69,7 @@ impl<'a> Writer<'a> {
         requires written { HasWritten self.old (drop (index + 1) tokens.now) }
         ensures tables { OnOk result (self.new.tables.now ≡ self.old.tables.now) }
         ensures ok { OnOk result (HasWritten self.new (drop index tokens.now)) }
-        ensures err { IfErr result (λ fault. (fault ≡ Memory) ⊎ ((fault ≡ TooManyBytes) × (4294967295 < byte_count (tables_of self.old.tables.now) (drop index tokens.now)))) }
+        ensures err { IfErr result (λ fault. (fault ≡ Memory) ⊎ ((fault ≡ TooManyBytes) × (most_bytes < byte_count (tables_of self.old.tables.now) (drop index tokens.now)))) }
     {
         let child_bytes = self.child_bytes(tokens, index);
         let uses = self.tables.uses[index];
@@ -109,7 +110,7 @@ impl<'a> Writer<'a> {
         requires known { AllByRecursion (Knows (tables_of tables.now)) tokens.now }
         requires uses { UsesTables tables.now tokens.now }
         ensures ok { IfOk result (HasWrittenUnder tables.now tokens.now) }
-        ensures err { IfErr result (λ fault. (fault ≡ Memory) ⊎ ((fault ≡ TooManyBytes) × (4294967295 < byte_count (tables_of tables.now) tokens.now))) }
+        ensures err { IfErr result (λ fault. (fault ≡ Memory) ⊎ ((fault ≡ TooManyBytes) × (most_bytes < byte_count (tables_of tables.now) tokens.now))) }
     {
         let mut writer = Writer::new(alloc, tables, tokens.len())?;
         let mut index = tokens.len();

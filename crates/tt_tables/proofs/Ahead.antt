@@ -2,7 +2,6 @@
 use Rattle.std.proofs.Common.{◌≡◌, ℕ, zero, suc, ◌+◌, ◌<◌, ◌≤◌, Bool, true, cond, bytes_eq, List, [], ◌∷◌, ◌++◌, length, drop, get_or, None, length-append, length-drop, append-nil, append_assoc, refl, ap, subst, sym, ◌∙◌, arith}
 use Rattle.std.specs.List.{AllByRecursion}
 use Rattle.std.proofs.Math.Seq.{drop-append_seam, drop-length}
-use Rattle.std.proofs.lemmas.Bool.{ne_eqb}
 use Rattle.std.proofs.lemmas.List.{drop-drop, drop_all}
 use Rattle.tt_base.specs.declared.delimiter.Delimiter.{Delimiter}
 use Rattle.tt_base.specs.declared.delimiter.Subtree.{Subtree}
@@ -10,7 +9,7 @@ use Rattle.tt_base.specs.declared.leaf.Leaf.{Leaf}
 use Rattle.tt_base.specs.declared.span.SpanPart.{SpanPart}
 use Rattle.tt_base.specs.declared.token_tree.TokenTree.{TokenTree}
 use Rattle.tt_base.specs.declared.token_tree.TokenTree.TheVariants as token
-use Rattle.tt_tables.specs.Decoding.{HeaderMeans}
+use Rattle.tt_tables.specs.Found.{FindsSubtree}
 use Rattle.tt_codec.specs.declared.entry.Entry.TheVariants.{Leaf as of_leaf, Header as of_header}
 use Rattle.tt_codec.specs.Entry.{entry_at}
 use Rattle.tt_base.specs.Forest.{Forest, end, leaf, node, Root, size, header, flat, join}
@@ -18,7 +17,7 @@ use Rattle.tt_base.specs.ForestLaws.{join-end}
 use Rattle.tt_codec.specs.declared.entry.HeaderEntry.{HeaderEntry}
 use Rattle.tt_codec.specs.Header.{format_4}
 use Rattle.tt_codec.specs.declared.entry.LeafEntry.{LeafEntry}
-use Rattle.tt_tables.specs.Meaning.{IsStored, CanName, IsAhead, own_bytes}
+use Rattle.tt_tables.specs.Meaning.{IsStored, CanName, IsAhead}
 use Rattle.tt_tables.specs.NextToken.{LeafAhead, NodeAhead, TokenAhead}
 use Rattle.tt_codec.specs.SpanNumbers.{span_at}
 use Rattle.tt_base.specs.Span.{part_of}
@@ -26,10 +25,10 @@ use Rattle.tt_tables.specs.Stored.{bytes, bytes_below, root_bytes, packed}
 use Rattle.tt_tables.specs.TableOrder.{IsIn}
 use Rattle.tt_tables.specs.Tables.{Tables, Knows, leaf_entry, header_entry, entry_of, token_bytes, tables_for}
 use Rattle.tt_tables.specs.Uses.{same_part}
-use Rattle.tt_tables.proofs.Decoding.{leaf_entry_means, header_entry_means, numbers_stand, last_but_one, last_of}
+use Rattle.tt_tables.proofs.Finding.{leaf_entry_finds, header_entry_finds, numbers_find, last_but_one, last_of}
 use Rattle.tt_codec.proofs.EntryReading.{entry_again}
 use Rattle.tt_codec.proofs.HeaderReading.{token_read}
-use Rattle.tt_tables.proofs.Lengths.{heavy_length}
+use Rattle.tt_tables.proofs.Lengths.{heavy_length, entry_length}
 use Rattle.tt_tables.proofs.Lookups.{index_in-more}
 use Rattle.tt_tables.proofs.Naming.{first_leaf_fits, first_header_fits, can_name_behind, can_name_children, can_name_rest, can_name_join, bytes-end, bytes-leaf, bytes-node, bytes-join, with_more, bytes-more}
 use Rattle.tt_tables.proofs.StoredAlike.{top_of, length-root_parts, can_name_below, top_again}
@@ -45,11 +44,11 @@ drop_first all offset first rest next inside e moved =
     there : next ≡ offset + length first
     there = omega (arith, moved, inside, ap length e, length-drop offset all, length-append first rest)
 
--- Trees whose bytes stand at a offset behind the start lie ahead of it.
-pub ahead_at : (tables : Tables) (all : List ℕ) (next : ℕ) (trees : Forest) → 0 < next → next ≤ length all → drop next all ≡ bytes tables trees → CanName tables trees
+-- Trees whose bytes are left behind the top header lie ahead.
+pub ahead_at : (tables : Tables) (all : List ℕ) (next : ℕ) (trees : Forest) → 33 ≤ next → next ≤ length all → drop next all ≡ bytes tables trees → CanName tables trees
     → length (bytes tables trees) ≤ 4294967295 → IsAhead tables all next trees
-ahead_at tables all zero trees behind inside e named few = absurd (omega arith)
-ahead_at tables all (suc next) trees behind inside e named few = (inside, e, named, few)
+ahead_at tables all zero trees top inside e named few = absurd (omega arith)
+ahead_at tables all (suc next) trees top inside e named few = record { top = top; inside = inside; left = e; named = named; few = few }
 
 -- ---- the start
 
@@ -122,19 +121,18 @@ module _ (tables : Tables) (all : List ℕ) (root : Root)
   top_length =
       omega (arith, ap length stored_bytes, ap length below_bytes, length-append (format_4 true (top_of root)) (bytes_below root.children), heavy_length (top_of root))
 
-  -- The numbers of the top header mean it: its two parts stand last in the table.
-  pub top_means : HeaderMeans tables (top_of root) (record { delimiter = root.delimiter; len = size root.children }) (length (bytes tables root.children))
-  top_means =
+  -- The numbers of the top header find it: its two parts stand last in the table.
+  top_finds : FindsSubtree tables (top_of root) (record { delimiter = root.delimiter; len = size root.children })
+  top_finds =
       record {
         opening =
-            numbers_stand tables (length below.parts) root.delimiter.open_span (omega (arith, ap length stored_parts, length-root_parts root))
-            (λ other. ap (λ list. get_or list (length below.parts) other) stored_parts ∙ last_but_one below.parts _ _ other) stored.0.0.0;
+            numbers_find tables (length below.parts) root.delimiter.open_span (omega (arith, ap length stored_parts, length-root_parts root))
+            (λ other. ap (λ list. get_or list (length below.parts) other) stored_parts ∙ last_but_one below.parts _ _ other);
         closing =
-            numbers_stand tables (suc (length below.parts)) root.delimiter.close (omega (arith, ap length stored_parts, length-root_parts root))
-            (λ other. ap (λ list. get_or list (suc (length below.parts)) other) stored_parts ∙ last_of below.parts _ _ other) stored.0.0.1;
+            numbers_find tables (suc (length below.parts)) root.delimiter.close (omega (arith, ap length stored_parts, length-root_parts root))
+            (λ other. ap (λ list. get_or list (suc (length below.parts)) other) stored_parts ∙ last_of below.parts _ _ other);
         kind = refl;
         len = refl;
-        bytes = sym (ap length below_bytes);
       }
 
   top_drop : drop 33 all ≡ bytes tables root.children
@@ -154,14 +152,14 @@ module _ (tables : Tables) (all : List ℕ) (root : Root)
         children = root.children;
         behind = end;
         is = refl;
-        means = top_means;
-        own = top_length;
-        room = omega arith;
+        finds = top_finds;
+        passed = omega (arith, top_length);
+        room = omega (arith, ap length below_bytes);
         inside = λ next moved.
             let there : 33 ≡ next = omega (arith, moved, top_length) in
             subst (λ n. IsAhead tables all n (join root.children end)) there (subst (λ trees. IsAhead tables all 33 trees) (sym (join-end root.children)) below_ahead);
         after = λ next moved.
-            let there : length all ≡ next = omega (arith, moved) in
+            let there : length all ≡ next = omega (arith, moved, top_length, ap length below_bytes) in
             subst (λ n. IsAhead tables all n end) there nothing_ahead;
       }
     where
@@ -174,15 +172,26 @@ module _ (tables : Tables) (all : List ℕ) (root : Root)
 
 module _ (tables : Tables) (all : List ℕ) (offset : ℕ) where
   end_ahead : IsAhead tables all (suc offset) end → length all ≤ suc offset
-  end_ahead ahead = omega (arith, ap length (ahead.1 ∙ bytes-end tables), length-drop (suc offset) all)
+  end_ahead ahead = omega (arith, ap length (ahead.left ∙ bytes-end tables), length-drop (suc offset) all)
 
   module _ (it : Leaf) (rest : Forest) (ahead : IsAhead tables all (suc offset) (leaf it rest)) where
     leaf_here : drop (suc offset) all ≡ token_bytes tables (token.Leaf it) 0 ++ bytes tables rest
-    leaf_here = ahead.1 ∙ bytes-leaf tables it rest
+    leaf_here = ahead.left ∙ bytes-leaf tables it rest
 
     leaf_read : entry_at (drop (suc offset) all) ≡ token_read (of_leaf (leaf_entry tables it)) (bytes tables rest)
     leaf_read =
-        ap entry_at leaf_here ∙ entry_again (entry_of tables (token.Leaf it) 0) (bytes tables rest) (first_leaf_fits tables it rest ahead.2)
+        ap entry_at leaf_here ∙ entry_again (entry_of tables (token.Leaf it) 0) (bytes tables rest) (first_leaf_fits tables it rest ahead.named)
+
+    leaf_passed : suc offset + length (bytes tables rest) < length all
+    leaf_passed =
+        omega (
+          arith,
+          ahead.inside,
+          ap length leaf_here,
+          length-drop (suc offset) all,
+          length-append (token_bytes tables (token.Leaf it) 0) (bytes tables rest),
+          (entry_length (entry_of tables (token.Leaf it) 0)).0,
+        )
 
     leaf_ahead : LeafAhead tables all (suc offset) (leaf it rest) (leaf_entry tables it) (bytes tables rest)
     leaf_ahead =
@@ -190,66 +199,66 @@ module _ (tables : Tables) (all : List ℕ) (offset : ℕ) where
           it = it;
           behind = rest;
           is = refl;
-          means = leaf_entry_means tables it ahead.2.2.0 ahead.2.3.0;
-          own = omega (arith, ahead.0, ap length leaf_here, length-drop (suc offset) all, length-append (token_bytes tables (token.Leaf it) 0) (bytes tables rest));
+          finds = leaf_entry_finds tables it ahead.named.2.0;
+          passed = leaf_passed;
           after = λ next moved.
-              ahead_at tables all next rest (omega (arith, moved, ahead.0, ap length leaf_here, length-drop (suc offset) all, length-append (token_bytes tables (token.Leaf it) 0) (bytes tables rest)))
+              ahead_at tables all next rest (omega (arith, moved, leaf_passed, ahead.top))
               (omega (arith, moved))
-              (drop_first all (suc offset) (token_bytes tables (token.Leaf it) 0) (bytes tables rest) next ahead.0 leaf_here moved)
-              (can_name_behind tables it rest ahead.2) (omega (arith, ahead.3, fewer_behind_leaf tables it rest));
+              (drop_first all (suc offset) (token_bytes tables (token.Leaf it) 0) (bytes tables rest) next ahead.inside leaf_here moved)
+              (can_name_behind tables it rest ahead.named) (omega (arith, ahead.few, fewer_behind_leaf tables it rest));
         }
 
   module _ (delimiter : Delimiter) (children rest : Forest) (ahead : IsAhead tables all (suc offset) (node delimiter children rest)) where
-    abbrev held : ℕ
-    held = length (bytes tables children)
+    abbrev child_bytes : ℕ
+    child_bytes = length (bytes tables children)
 
     abbrev first : List ℕ
-    first = token_bytes tables (header delimiter (size children)) held
+    first = token_bytes tables (header delimiter (size children)) child_bytes
 
     abbrev subtree : Subtree
     subtree = record { delimiter = delimiter; len = size children }
 
     node_here : drop (suc offset) all ≡ first ++ (bytes tables children ++ bytes tables rest)
-    node_here = ahead.1 ∙ bytes-node tables delimiter children rest
+    node_here = ahead.left ∙ bytes-node tables delimiter children rest
 
-    node_read : entry_at (drop (suc offset) all) ≡ token_read (of_header (header_entry tables subtree held)) (bytes tables children ++ bytes tables rest)
+    node_read : entry_at (drop (suc offset) all) ≡ token_read (of_header (header_entry tables subtree child_bytes)) (bytes tables children ++ bytes tables rest)
     node_read =
         ap entry_at node_here
-        ∙ entry_again (of_header (header_entry tables subtree held)) (bytes tables children ++ bytes tables rest)
-        (first_header_fits tables delimiter children rest ahead.2 (omega (arith, ahead.3, (fewer_in_node tables delimiter children rest).0)))
+        ∙ entry_again (of_header (header_entry tables subtree child_bytes)) (bytes tables children ++ bytes tables rest)
+        (first_header_fits tables delimiter children rest ahead.named (omega (arith, ahead.few, (fewer_in_node tables delimiter children rest).0)))
 
     node_length : suc offset + length first + length (bytes tables children ++ bytes tables rest) ≡ length all
-    node_length = omega (arith, ahead.0, ap length node_here, length-drop (suc offset) all, length-append first (bytes tables children ++ bytes tables rest))
+    node_length = omega (arith, ahead.inside, ap length node_here, length-drop (suc offset) all, length-append first (bytes tables children ++ bytes tables rest))
 
-    inner_length : length (bytes tables children ++ bytes tables rest) ≡ held + length (bytes tables rest)
+    node_passed : suc offset + length (bytes tables children ++ bytes tables rest) < length all
+    node_passed = omega (arith, node_length, (entry_length (entry_of tables (header delimiter (size children)) child_bytes)).0)
+
+    inner_length : length (bytes tables children ++ bytes tables rest) ≡ child_bytes + length (bytes tables rest)
     inner_length = length-append (bytes tables children) (bytes tables rest)
 
     inside_ahead : (next : ℕ) → next + length (bytes tables children ++ bytes tables rest) ≡ length all → IsAhead tables all next (join children rest)
     inside_ahead next moved =
-        ahead_at tables all next (join children rest) (omega (arith, moved, node_length)) (omega (arith, moved))
-        (drop_first all (suc offset) first (bytes tables children ++ bytes tables rest) next ahead.0 node_here moved ∙ sym (bytes-join tables children rest))
-        (can_name_join tables children rest (can_name_children tables delimiter children rest ahead.2) (can_name_rest tables delimiter children rest ahead.2))
-        (omega (arith, ahead.3, ap length (bytes-join tables children rest), ap length (bytes-node tables delimiter children rest), length-append first (bytes tables children ++ bytes tables rest)))
+        ahead_at tables all next (join children rest) (omega (arith, moved, node_passed, ahead.top)) (omega (arith, moved))
+        (drop_first all (suc offset) first (bytes tables children ++ bytes tables rest) next ahead.inside node_here moved ∙ sym (bytes-join tables children rest))
+        (can_name_join tables children rest (can_name_children tables delimiter children rest ahead.named) (can_name_rest tables delimiter children rest ahead.named))
+        (omega (arith, ahead.few, ap length (bytes-join tables children rest), ap length (bytes-node tables delimiter children rest), length-append first (bytes tables children ++ bytes tables rest)))
 
-    behind_ahead : (next : ℕ) → next + length (bytes tables children ++ bytes tables rest) ≡ length all + held → IsAhead tables all next rest
+    behind_ahead : (next : ℕ) → next + length (bytes tables children ++ bytes tables rest) ≡ length all + child_bytes → IsAhead tables all next rest
     behind_ahead next moved =
-        ahead_at tables all next rest (omega (arith, moved, node_length)) (omega (arith, moved, inner_length))
-        (drop_first all (suc offset) (first ++ bytes tables children) (bytes tables rest) next ahead.0
+        ahead_at tables all next rest (omega (arith, moved, node_passed, inner_length, ahead.top)) (omega (arith, moved, inner_length))
+        (drop_first all (suc offset) (first ++ bytes tables children) (bytes tables rest) next ahead.inside
         (node_here ∙ sym (append_assoc first (bytes tables children) (bytes tables rest))) (omega (arith, moved, inner_length)))
-        (can_name_rest tables delimiter children rest ahead.2) (omega (arith, ahead.3, (fewer_in_node tables delimiter children rest).1))
+        (can_name_rest tables delimiter children rest ahead.named) (omega (arith, ahead.few, (fewer_in_node tables delimiter children rest).1))
 
-    own_is : own_bytes tables (suc offset) (node delimiter children rest) ≡ length first
-    own_is = ap (λ t. cond t 33 (length first)) (ne_eqb (suc offset) 0 (λ e. omega arith))
-
-    node_ahead : NodeAhead tables all (suc offset) (node delimiter children rest) (header_entry tables subtree held) (bytes tables children ++ bytes tables rest)
+    node_ahead : NodeAhead tables all (suc offset) (node delimiter children rest) (header_entry tables subtree child_bytes) (bytes tables children ++ bytes tables rest)
     node_ahead =
         record {
           delimiter = delimiter;
           children = children;
           behind = rest;
           is = refl;
-          means = header_entry_means tables subtree held ahead.2.2.0 ahead.2.3.0;
-          own = omega (arith, own_is, node_length);
+          finds = header_entry_finds tables subtree child_bytes ahead.named.2.0;
+          passed = node_passed;
           room = omega (arith, inner_length);
           inside = inside_ahead;
           after = behind_ahead;

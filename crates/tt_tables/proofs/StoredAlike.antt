@@ -195,7 +195,7 @@ start_alike tables all (node delimiter children end) (node other inner end) x y 
 -- What lies ahead of a offset is one list of trees.
 pub ahead_alike : (tables : Tables) (all : List ℕ) (offset : ℕ) (f g : Forest) → IsAhead tables all offset f → IsAhead tables all offset g → f ≡ g
 ahead_alike tables all zero f g x y = start_alike tables all f g x y
-ahead_alike tables all (suc offset) f g x y = trees_alike tables f g x.2 y.2 (omega (arith, x.3)) (sym x.1 ∙ y.1)
+ahead_alike tables all (suc offset) f g x y = trees_alike tables f g x.named y.named (omega (arith, x.few)) (sym x.left ∙ y.left)
 
 can_name-prop : (tables : Tables) (trees : Forest) → IsProp (CanName tables trees)
 can_name-prop tables trees = hlevel (props, token_in_range-prop)
@@ -212,12 +212,13 @@ at_start-prop tables all (node delimiter children (node other inner rest)) = λ 
 is_ahead-prop : (tables : Tables) (all : List ℕ) (offset : ℕ) (trees : Forest) → IsProp (IsAhead tables all offset trees)
 is_ahead-prop tables all zero trees = at_start-prop tables all trees
 is_ahead-prop tables all (suc offset) trees =
-    λ x y i. (
-      le_prop x.0 y.0 i,
-      list_set (drop (suc offset) all) (bytes tables trees) x.1 y.1 i,
-      can_name-prop tables trees x.2 y.2 i,
-      le_prop x.3 y.3 i,
-    )
+    λ x y i. record {
+      top = le_prop x.top y.top i;
+      inside = le_prop x.inside y.inside i;
+      left = list_set (drop (suc offset) all) (bytes tables trees) x.left y.left i;
+      named = can_name-prop tables trees x.named y.named i;
+      few = le_prop x.few y.few i;
+    }
 
 -- One list of trees at most lies ahead, so it can stand in a ghost field.
 pub HasAhead-prop : (tables : Tables) (all : List ℕ) (offset : ℕ) → IsProp (HasAhead tables all offset)

@@ -7,6 +7,7 @@ use Rattle.tt_base.specs.Fits.{TokenInRange}
 use Rattle.tt_base.specs.Forest.{Forest, end, leaf, node, Root, size, header, flat, flat_root}
 use Rattle.tt_codec.specs.Header.{format_4, top_entry}
 use Rattle.tt_base.specs.Span.{part_of}
+use Rattle.tt_tables.specs.Limits.{most_tokens, most_parts, most_symbols, most_bytes}
 use Rattle.tt_tables.specs.Tables.{Tables, tables_for, token_bytes}
 
 -- the bytes of each token in reading order; a header counts the bytes of all that it holds
@@ -52,9 +53,9 @@ packed root =
 abbrev pub IsInRange : Root → Type 0
 IsInRange root = AllByRecursion TokenInRange (flat_root root)
 
--- the most tokens and bytes below the top, parts with the top's two, and symbols
+-- no count of the tree is too large: its tokens and bytes below the top, its parts and its symbols
 pub record IsWithinLimits (root : Root) : Type 0 where
-  pub tokens : size root.children ≤ 4294967295
-  pub parts : length (root_parts root) ≤ 268435456
-  pub symbols : length (tables_for (flat root.children)).symbols ≤ 536870912
-  pub bytes : length (bytes_below root.children) ≤ 4294967295
+  pub tokens : size root.children ≤ most_tokens
+  pub parts : length (root_parts root) ≤ most_parts
+  pub symbols : length (tables_for (flat root.children)).symbols ≤ most_symbols
+  pub bytes : length (bytes_below root.children) ≤ most_bytes

@@ -13,8 +13,8 @@ returns-in_err-entry c =
     rw c.from_residual.ensures
     (none_read (tables_of self) (bytes_of self) (offset_of self) self.ahead.0 self.ahead.1 (ap entry_at (sym c.rest-rest.ensures) ∙ read)).0
 
-pub overflow_sub-own : goal.overflow_sub-own
-overflow_sub-own c =
+pub overflow_sub-len : goal.overflow_sub-len
+overflow_sub-len c =
     let self = c.args.self.now in
     omega (
       arith,
@@ -40,7 +40,7 @@ returns-in_ok-leaf-in-Leaf c =
     c.in-Leaf.is c.new-tables.ensures c.leaf.ensures.gives in
     let some : c.leaf.result ≡ Some c.in_ok-leaf-in-Leaf.leaf = search rules in
     let same : read.it ≡ c.in_ok-leaf-in-Leaf.leaf = cc (sym read.is ∙ some) in
-    record { token = read.first ∙ ap (λ leaf. Some (token.Leaf leaf)) same; own = read.own; held = read.held }
+    record { token = read.first ∙ ap (λ leaf. Some (token.Leaf leaf)) same; passed = omega (arith, read.passed); inside = read.inside; after = read.after }
 
 pub returns-in_err-subtree-in-Header : goal.returns-in_err-subtree-in-Header
 returns-in_err-subtree-in-Header c =
@@ -59,4 +59,4 @@ returns-in_ok-subtree-in-Header c =
     c.in_ok-entry.ensures.value c.in-Header.is c.new-tables.ensures c.subtree.ensures.gives in
     let some : c.subtree.result ≡ Some c.in_ok-subtree-in-Header.subtree = search rules in
     let same : read.it ≡ c.in_ok-subtree-in-Header.subtree = cc (sym read.is ∙ some) in
-    record { token = read.first ∙ ap (λ subtree. Some (token.Subtree subtree)) same; own = read.own; held = read.held }
+    record { token = read.first ∙ ap (λ subtree. Some (token.Subtree subtree)) same; passed = omega (arith, read.passed); inside = read.inside; after = read.after }
