@@ -124,7 +124,11 @@ impl ListTables {
     {
         match token {
             TokenTree::Leaf(leaf) => Entry::Leaf(self.leaf_entry(leaf, uses)),
-            TokenTree::Subtree(subtree) => Entry::Header(self.header_entry(*subtree, uses, child_bytes)),
+            TokenTree::Subtree(subtree) => Entry::Header(self.header_entry(
+                *subtree,
+                uses,
+                child_bytes,
+            )),
         }
     }
 }

@@ -15,6 +15,7 @@ pub mod Shortest
 mod ShortestRows
 pub mod StoredAlike
 mod StoredRows
+pub mod StoredTables
 pub mod TableOrder
 mod TableRows
 pub mod TableUnique

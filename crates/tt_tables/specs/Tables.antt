@@ -21,13 +21,21 @@ use Rattle.tt_codec.specs.declared.span.SpanNumbers.{SpanNumbers}
 use Rattle.tt_tables.specs.TableOrder.{index_in, table, IsIn}
 use Rattle.tt_tables.specs.Uses.{same_part, token_parts, token_symbols, part_uses, symbol_uses}
 
--- the parts that tokens use: more than 15 go by their number of uses
-abbrev pub part_table : List TokenTree → List SpanPart
-part_table tokens = table same_part 15 (part_uses tokens)
+-- up to so many parts go by first use: an index of theirs has four bits
+abbrev pub short_parts : ℕ
+short_parts = 15
 
--- the symbols that tokens use: more than 63 go by their number of uses
+-- up to so many symbols go by first use: a reference to one takes one byte
+abbrev pub short_symbols : ℕ
+short_symbols = 63
+
+-- the parts that tokens use
+abbrev pub part_table : List TokenTree → List SpanPart
+part_table tokens = table same_part short_parts (part_uses tokens)
+
+-- the symbols that tokens use
 abbrev pub symbol_table : List TokenTree → List (List ℕ)
-symbol_table tokens = table bytes_eq 63 (symbol_uses tokens)
+symbol_table tokens = table bytes_eq short_symbols (symbol_uses tokens)
 
 -- the parts and the symbols that tokens name by their indices
 pub record Tables : Type 0 where

@@ -115,7 +115,9 @@ impl<'a> Tables<'a> {
     {
         match token {
             TokenTree::Leaf(leaf) => self.leaf_entry(leaf).map(Entry::Leaf),
-            TokenTree::Subtree(subtree) => self.header_entry(*subtree, child_bytes).map(Entry::Header),
+            TokenTree::Subtree(subtree) => self
+                .header_entry(*subtree, child_bytes)
+                .map(Entry::Header),
         }
     }
 }

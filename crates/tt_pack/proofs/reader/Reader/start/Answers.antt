@@ -11,12 +11,12 @@ invariant_of-result c =
     record {
       ahead = (
         only c.args.packed.now,
-        start_is_ahead c.args.packed.now _ _ _ c.bytes.ensures.range c.bytes.ensures.limits c.bytes.ensures.value c.parts.ensures c.symbols.ensures.value,
+        start_is_ahead c.args.packed.now _ _ _ c.bytes.ensures.range c.bytes.ensures.limits c.bytes.ensures.value c.parts.ensures.value c.symbols.ensures.value,
       );
     }
 
 pub returns-clause-ahead : goal.returns-clause-ahead
 returns-clause-ahead c =
     let is : IsAhead (tables_from c.parts.result.now c.symbols.result.now) c.bytes.result.now 0 (only c.args.packed.now) =
-    start_is_ahead c.args.packed.now _ _ _ c.bytes.ensures.range c.bytes.ensures.limits c.bytes.ensures.value c.parts.ensures c.symbols.ensures.value in
+    start_is_ahead c.args.packed.now _ _ _ c.bytes.ensures.range c.bytes.ensures.limits c.bytes.ensures.value c.parts.ensures.value c.symbols.ensures.value in
     search (rules, ahead_is, is)
