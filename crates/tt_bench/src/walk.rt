@@ -71,7 +71,7 @@ fn siblings<L: Look>(tree: &Packed) -> Result<u64, BenchError> {
     sum.ok_or(BenchError::TooDeep)
 }
 
-// The sum of the siblings from the reader up to a place, and of all that they hold. There are at most so many
+// The sum of the siblings from the reader up to an offset, and of all that they hold. There are at most so many
 // siblings; `None` tells that they hold more levels than that.
 fn sum_up_to<L: Look>(start: Reader, end: usize, most: usize, levels: u32) -> Option<u64> {
     if levels == 0 {

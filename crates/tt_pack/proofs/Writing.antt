@@ -110,7 +110,7 @@ pub piece_at : (tokens : List TokenTree) (index : ℕ) (it : TokenTree) → inde
 piece_at tokens index it h e = drop_more tokens index it h ∙ ap (λ first. first ∷ drop (index + 1) tokens) (sym e)
 
 -- A header stands at an index, and the sums of what is behind it are at hand.
-pub record HeldAt (tables : Tables) (tokens : List TokenTree) (index : ℕ) (it : Subtree) (counts : List ℕ) : Type 0 where
+pub record HeaderAt (tables : Tables) (tokens : List TokenTree) (index : ℕ) (it : Subtree) (counts : List ℕ) : Type 0 where
   pub here : drop index tokens ≡ token.Subtree it ∷ drop (index + 1) tokens
   pub whole : IsWhole (token.Subtree it ∷ drop (index + 1) tokens)
   pub room : it.len < length counts
@@ -118,10 +118,10 @@ pub record HeldAt (tables : Tables) (tokens : List TokenTree) (index : ℕ) (it 
   pub earlier : get_or counts (length counts - 1 - it.len) 0 ≡ byte_count tables (drop it.len (drop (index + 1) tokens))
   pub within : byte_count tables (drop it.len (drop (index + 1) tokens)) ≤ byte_count tables (drop (index + 1) tokens)
 
-pub held_at : (tables : Tables) (tokens : List TokenTree) (index : ℕ) (found : TokenTree) (it : Subtree) (counts : List ℕ)
+pub header_at : (tables : Tables) (tokens : List TokenTree) (index : ℕ) (found : TokenTree) (it : Subtree) (counts : List ℕ)
     → index < length tokens → IsWhole (drop index tokens) → found ≡ get_or tokens index found → found ≡ token.Subtree it
-    → counts ≡ byte_sums tables (drop (index + 1) tokens) → HeldAt tables tokens index it counts
-held_at tables tokens index found it counts h w read is sums =
+    → counts ≡ byte_sums tables (drop (index + 1) tokens) → HeaderAt tables tokens index it counts
+header_at tables tokens index found it counts h w read is sums =
     record {
       here = here;
       whole = whole;
@@ -147,14 +147,14 @@ held_at tables tokens index found it counts h w read is sums =
     long = ap length sums ∙ byte_sums-length tables others
 
 -- What is read there: the sum of what is behind the header, and of what is behind all that it holds.
-pub held_sums : (tables : Tables) (tokens : List TokenTree) (index : ℕ) (it : Subtree) (counts : List ℕ) (n m a b : ℕ) → HeldAt tables tokens index it counts
+pub header_sums : (tables : Tables) (tokens : List TokenTree) (index : ℕ) (it : Subtree) (counts : List ℕ) (n m a b : ℕ) → HeaderAt tables tokens index it counts
     → n ≡ length counts → m ≡ it.len → a ≡ get_or counts (n - 1) a → b ≡ get_or counts (n - 1 - m) b
     → (a ≡ byte_count tables (drop (index + 1) tokens)) × (b ≡ byte_count tables (drop it.len (drop (index + 1) tokens)))
-held_sums tables tokens index it counts n m a b held long len read_a read_b = (
-  get_or_read counts (n - 1) a (omega (arith, held.room, long)) read_a 0 ∙ ap (λ i. get_or counts (i - 1) 0) long ∙ held.last,
-  get_or_read counts (n - 1 - m) b (omega (arith, held.room, long, len)) read_b 0
+header_sums tables tokens index it counts n m a b at long len read_a read_b = (
+  get_or_read counts (n - 1) a (omega (arith, at.room, long)) read_a 0 ∙ ap (λ i. get_or counts (i - 1) 0) long ∙ at.last,
+  get_or_read counts (n - 1 - m) b (omega (arith, at.room, long, len)) read_b 0
       ∙ ap₂ (λ i k. get_or counts (i - 1 - k) 0) long len
-      ∙ held.earlier,
+      ∙ at.earlier,
 )
 
 -- The reason for which a token is not written.

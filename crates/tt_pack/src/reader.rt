@@ -15,7 +15,7 @@ use tt_tables::Tables;
 // Where the bytes of the top header stand.
 const TOP_HEADER: usize = 0;
 
-/// A offset in the bytes of a stored tree, from which its tokens are read one by one. A read decodes one token,
+/// An offset in the bytes of a stored tree, from which its tokens are read one by one. A read decodes one token,
 /// takes no memory and searches nothing. A contract sees the trees ahead: at the start the whole tree, and
 /// behind its header the trees below it.
 #[derive(Clone, Copy)]

@@ -16,11 +16,11 @@ fn names(rt: &impl Abort, alloc: Global, index: u32, tag: u32, bytes: &[u8]) -> 
 }
 
 // A span with no extra bits has these bytes.
-fn spans(rt: &impl Abort, alloc: Global, place: (u32, u32, u32), bytes: &[u8]) -> Result<(), Fail>
-    requires part { place.0 < 2 ^ 28 }
-    requires end { place.1 + place.2 < 2 ^ 32 }
+fn spans(rt: &impl Abort, alloc: Global, numbers: (u32, u32, u32), bytes: &[u8]) -> Result<(), Fail>
+    requires part { numbers.0 < 2 ^ 28 }
+    requires end { numbers.1 + numbers.2 < 2 ^ 32 }
 {
-    let found = laws::span_bytes(alloc, place.0, place.1, place.2, 0, false)?;
+    let found = laws::span_bytes(alloc, numbers.0, numbers.1, numbers.2, 0, false)?;
     assert_eq!(rt; found.as_slice(), bytes);
     Ok(())
 }

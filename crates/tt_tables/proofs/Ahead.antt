@@ -1,5 +1,5 @@
--- What the token that is read at a offset says of the trees ahead of it.
-use Rattle.std.proofs.Common.{◌≡◌, ℕ, zero, suc, ◌+◌, ◌<◌, ◌≤◌, Bool, true, cond, bytes_eq, List, [], ◌∷◌, ◌++◌, length, drop, get_or, None, length-append, length-drop, append-nil, append_assoc, refl, ap, subst, sym, ◌∙◌, arith}
+-- What the token that is read at an offset says of the trees ahead of it.
+use Rattle.std.proofs.Common.{◌≡◌, ℕ, zero, suc, ◌+◌, ◌<◌, ◌≤◌, Bool, true, bytes_eq, List, [], ◌∷◌, ◌++◌, length, drop, get_or, None, length-append, length-drop, append-nil, append_assoc, refl, ap, subst, sym, ◌∙◌, arith}
 use Rattle.std.specs.List.{AllByRecursion}
 use Rattle.std.proofs.Math.Seq.{drop-append_seam, drop-length}
 use Rattle.std.proofs.lemmas.List.{drop-drop, drop_all}
@@ -36,7 +36,7 @@ use Rattle.tt_tables.proofs.TreesAlike.{reads_alike, fewer_in_node, fewer_behind
 
 -- ---- moving on in the bytes
 
--- Behind the first bytes at a offset stand the others.
+-- Behind the first bytes at an offset stand the others.
 drop_first : (all : List ℕ) (offset : ℕ) (first rest : List ℕ) (next : ℕ) → offset ≤ length all → drop offset all ≡ first ++ rest → next + length rest ≡ length all → drop next all ≡ rest
 drop_first all offset first rest next inside e moved =
     ap (λ n. drop n all) there ∙ sym (drop-drop (length first) offset all) ∙ ap (drop (length first)) e ∙ drop-append_seam first rest
@@ -270,7 +270,7 @@ nothing_read : entry_at [] ≡ None
 unfolding entry_at span_at
 nothing_read = refl
 
--- What is read at a offset tells what lies ahead: nothing, or the first token and where the trees behind it lie.
+-- What is read at an offset tells what lies ahead: nothing, or the first token and where the trees behind it lie.
 pub ahead_read : (tables : Tables) (all : List ℕ) (offset : ℕ) (trees : Forest) → IsAhead tables all offset trees → TokenAhead tables all offset trees (entry_at (drop offset all))
 ahead_read tables all zero end ahead =
     subst (TokenAhead tables all 0 end) (sym (ap entry_at ahead ∙ nothing_read)) (refl, omega (arith, ap length ahead))
@@ -299,12 +299,12 @@ pub end_is_passed : (tables : Tables) (all : List ℕ) (offset : ℕ) → IsAhea
 end_is_passed tables all zero ahead = omega (arith, ap length ahead)
 end_is_passed tables all (suc offset) ahead = end_ahead tables all offset ahead
 
--- What was read at a offset as a leaf lies ahead of it.
+-- What was read at an offset as a leaf lies ahead of it.
 pub leaf_is_ahead : (tables : Tables) (all : List ℕ) (offset : ℕ) (trees : Forest) (entry : LeafEntry) (rest : List ℕ) → IsAhead tables all offset trees
     → entry_at (drop offset all) ≡ token_read (of_leaf entry) rest → LeafAhead tables all offset trees entry rest
 leaf_is_ahead tables all offset trees entry rest ahead e = subst (TokenAhead tables all offset trees) e (ahead_read tables all offset trees ahead)
 
--- What was read at a offset as a header lies ahead of it, with its children.
+-- What was read at an offset as a header lies ahead of it, with its children.
 pub node_is_ahead : (tables : Tables) (all : List ℕ) (offset : ℕ) (trees : Forest) (entry : HeaderEntry) (rest : List ℕ) → IsAhead tables all offset trees
     → entry_at (drop offset all) ≡ token_read (of_header entry) rest → NodeAhead tables all offset trees entry rest
 node_is_ahead tables all offset trees entry rest ahead e = subst (TokenAhead tables all offset trees) e (ahead_read tables all offset trees ahead)

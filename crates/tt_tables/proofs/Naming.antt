@@ -45,9 +45,9 @@ leaf_fits tables (one.Ident it) few few_symbols knows range =
     (omega (arith, knows.symbols.0), numbers_fit tables it.span few knows.parts.0 range)
 
 -- A header's numbers can be written, where it holds few tokens and bytes.
-pub header_fits : (tables : Tables) (it : Subtree) (held : ℕ) → length tables.parts ≤ 2 ^ 28 → Knows tables (token.Subtree it)
-    → TokenInRange (token.Subtree it) → it.len < 2 ^ 32 → held < 2 ^ 32 → HeaderFits (header_entry tables it held)
-header_fits tables it held few knows range tokens small =
+pub header_fits : (tables : Tables) (it : Subtree) (child_bytes : ℕ) → length tables.parts ≤ 2 ^ 28 → Knows tables (token.Subtree it)
+    → TokenInRange (token.Subtree it) → it.len < 2 ^ 32 → child_bytes < 2 ^ 32 → HeaderFits (header_entry tables it child_bytes)
+header_fits tables it child_bytes few knows range tokens small =
     record {
       opening = numbers_fit tables it.delimiter.open_span few knows.parts.0 range.0;
       closing = numbers_fit tables it.delimiter.close few knows.parts.1.0 range.1;
@@ -164,16 +164,16 @@ module _ (tables : Tables) (parts : List SpanPart) (symbols : List (List ℕ)) w
       }
 
   -- A known token has the same numbers.
-  pub entry_of-more : (it : TokenTree) (held : ℕ) → Knows tables it → entry_of larger it held ≡ entry_of tables it held
-  entry_of-more (token.Leaf (one.Literal it)) held knows =
+  pub entry_of-more : (it : TokenTree) (child_bytes : ℕ) → Knows tables it → entry_of larger it child_bytes ≡ entry_of tables it child_bytes
+  entry_of-more (token.Leaf (one.Literal it)) child_bytes knows =
       ap₂ (λ symbol numbers. of_leaf (literal symbol it.kind it.suffix_len numbers))
       (index_in-more (bytes_eq it.symbol) tables.symbols symbols knows.symbols.0) (numbers-more it.span knows.parts.0)
-  entry_of-more (token.Leaf (one.Punct it)) held knows = ap (λ numbers. of_leaf (punct it.char it.spacing numbers)) (numbers-more it.span knows.parts.0)
-  entry_of-more (token.Leaf (one.Ident it)) held knows =
+  entry_of-more (token.Leaf (one.Punct it)) child_bytes knows = ap (λ numbers. of_leaf (punct it.char it.spacing numbers)) (numbers-more it.span knows.parts.0)
+  entry_of-more (token.Leaf (one.Ident it)) child_bytes knows =
       ap₂ (λ symbol numbers. of_leaf (ident symbol it.is_raw numbers))
       (index_in-more (bytes_eq it.sym) tables.symbols symbols knows.symbols.0) (numbers-more it.span knows.parts.0)
-  entry_of-more (token.Subtree it) held knows =
-      ap₂ (λ opening closing. of_header (record { opening = opening; closing = closing; kind = it.delimiter.kind; len = it.len; child_bytes = held }))
+  entry_of-more (token.Subtree it) child_bytes knows =
+      ap₂ (λ opening closing. of_header (record { opening = opening; closing = closing; kind = it.delimiter.kind; len = it.len; child_bytes = child_bytes }))
       (numbers-more it.delimiter.open_span knows.parts.0) (numbers-more it.delimiter.close knows.parts.1.0)
 
   -- Known trees have the same bytes.

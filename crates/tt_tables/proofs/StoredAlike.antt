@@ -1,4 +1,4 @@
--- What is stored tells the tree, and what lies ahead of a offset tells the trees ahead.
+-- What is stored tells the tree, and what lies ahead of an offset tells the trees ahead.
 use Rattle.std.proofs.Common.{◌≡◌, ℕ, zero, suc, ◌+◌, ◌^◌, ◌<◌, true, List, [], ◌∷◌, length, drop, length-append, refl, ap, subst, sym, ◌∙◌, arith}
 use Rattle.std.proofs.Props.{props}
 use Rattle.std.specs.Coded.{Coded, Coded-set, code_by, coded×, coded_list, coded_ℕ, le_prop, ×_prop}
@@ -192,7 +192,7 @@ start_alike tables all (node delimiter children end) (node other inner end) x y 
     (sym (ap (λ s. s.symbols) x.2) ∙ ap (λ s. s.symbols) y.2) in
     λ i. node (same i).delimiter (same i).children end
 
--- What lies ahead of a offset is one list of trees.
+-- What lies ahead of an offset is one list of trees.
 pub ahead_alike : (tables : Tables) (all : List ℕ) (offset : ℕ) (f g : Forest) → IsAhead tables all offset f → IsAhead tables all offset g → f ≡ g
 ahead_alike tables all zero f g x y = start_alike tables all f g x y
 ahead_alike tables all (suc offset) f g x y = trees_alike tables f g x.named y.named (omega (arith, x.few)) (sym x.left ∙ y.left)

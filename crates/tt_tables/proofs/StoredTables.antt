@@ -1,5 +1,5 @@
 -- The tables that are stored for a tree are the ones that their order says.
-use Rattle.std.proofs.Common.{◌≡◌, ℕ, ◌+◌, ◌-◌, bytes_eq, List, [], ◌∷◌, ◌++◌, length, length-append, take, ap, sym, subst, ◌∙◌, arith}
+use Rattle.std.proofs.Common.{◌≡◌, ◌-◌, bytes_eq, List, [], ◌∷◌, ◌++◌, length, length-append, take, ap, sym, subst, ◌∙◌, arith}
 use Rattle.std.proofs.Math.Seq.{take-append_seam}
 use Rattle.tt_base.specs.Forest.{Root, flat}
 use Rattle.tt_tables.specs.Stored.{packed}

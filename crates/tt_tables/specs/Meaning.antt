@@ -1,8 +1,8 @@
--- Which tree is meant by what is stored, and which trees lie ahead of a offset in the bytes.
+-- Which tree is meant by what is stored, and which trees lie ahead of an offset in the bytes.
 use Rattle.std.specs.Prelude.{◌≡◌, ℕ, zero, suc, ◌≤◌, List, [], drop, length}
 use Rattle.std.specs.List.{AllByRecursion}
 use Rattle.tt_base.specs.Fits.{TokenInRange}
-use Rattle.tt_base.specs.Forest.{Forest, end, leaf, node, Root, size, flat}
+use Rattle.tt_base.specs.Forest.{Forest, end, node, Root, size, flat}
 use Rattle.tt_tables.specs.Limits.{most_parts, most_symbols, most_bytes}
 use Rattle.tt_tables.specs.Stored.{Stored, bytes, packed, IsInRange, IsWithinLimits}
 use Rattle.tt_tables.specs.Tables.{Tables, Knows}

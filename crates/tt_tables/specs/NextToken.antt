@@ -1,4 +1,4 @@
--- What the token that is read at a offset says of the trees ahead of it.
+-- What the token that is read at an offset says of the trees ahead of it.
 use Rattle.std.specs.Prelude.{◌≡◌, ℕ, ◌+◌, ◌<◌, ◌≤◌, List, length, Some, None}
 use Rattle.tt_base.specs.declared.delimiter.Delimiter.{Delimiter}
 use Rattle.tt_base.specs.declared.leaf.Leaf.{Leaf}

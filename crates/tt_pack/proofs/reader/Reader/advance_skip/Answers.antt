@@ -1,7 +1,7 @@
-use Rattle.std.proofs.Common.{◌≡◌, ◌+◌, ◌<◌, ◌^◌, None, length, refl, ap, sym, ◌∙◌, arith, rules}
+use Rattle.std.proofs.Common.{◌≡◌, ◌<◌, ◌^◌, None, length, refl, ap, sym, ◌∙◌, arith, rules}
 use Rattle.tt_base.specs.Forest.{end}
 use Rattle.tt_tables.specs.Moves.{first_token, after_token, after_tree}
-use Rattle.tt_pack.specs.ReaderOf.{tables_of, bytes_of, offset_of, steps_of, ahead_of}
+use Rattle.tt_pack.specs.ReaderOf.{bytes_of, steps_of, ahead_of}
 use Rattle.tt_pack.proofs.Moves.{ends, inside, steps_to, stays, one_step}
 use Rattle.tt_pack.proofs.reader.Reader.advance_skip.Goals as goal
 
