@@ -72,7 +72,7 @@ fn siblings<L: Look>(tree: &Packed) -> Result<u64, BenchError> {
     sum.ok_or(BenchError::TooDeep)
 }
 
-// The sum of the siblings from the reader up to a place, and of all that they hold. There are at most so many
+// The sum of the siblings from the reader up to an offset, and of all that they hold. There are at most so many
 // siblings; `None` tells that they hold more levels than that.
 fn sum_up_to<L: Look>(start: Reader, end: usize, most: usize, levels: u32) -> Option<u64> {
     if levels == 0 {
@@ -81,7 +81,7 @@ fn sum_up_to<L: Look>(start: Reader, end: usize, most: usize, levels: u32) -> Op
     let mut reader = start;
     let mut sum = 0u64;
     for _ in 0..most {
-        if reader.place() >= end {
+        if reader.offset() >= end {
             break;
         }
         let Some((token, below)) = reader.advance_skip() else {
@@ -89,7 +89,7 @@ fn sum_up_to<L: Look>(start: Reader, end: usize, most: usize, levels: u32) -> Op
         };
         sum = sum.wrapping_add(L::start(&token));
         if let TokenTree::Subtree(_) = &token {
-            let inside = sum_up_to::<L>(below, reader.place(), most, levels - 1)?;
+            let inside = sum_up_to::<L>(below, reader.offset(), most, levels - 1)?;
             sum = sum.wrapping_add(inside);
         }
     }

@@ -1,104 +1,100 @@
 -- Where a reader stands after a move, and what it stands before.
-use Rattle.std.proofs.Common.{◌≡◌, ℕ, zero, suc, ◌+◌, ◌≤◌, ◌^◌, ◌↔◌, List, length, drop, Some, None, refl, ap, ap₂, sym, subst, ◌∙◌, arith}
+use Rattle.std.proofs.Common.{◌≡◌, ◌⊎◌, inl, inr, ℕ, zero, suc, ◌+◌, ◌-◌, ◌<◌, ◌≤◌, ◌^◌, ◌↔◌, min, List, length, drop, Some, None, refl, ap, sym, subst, ◌∙◌, arith}
+use Rattle.std.proofs.lemmas.List.{drop_all}
 use Rattle.tt_base.specs.declared.delimiter.Delimiter.{Delimiter}
 use Rattle.tt_base.specs.declared.leaf.Leaf.{Leaf}
 use Rattle.tt_base.specs.declared.span.SpanPart.{SpanPart}
-use Rattle.tt_codec.specs.declared.entry.Entry.{Entry}
-use Rattle.tt_codec.specs.declared.entry.Entry.TheVariants.{Leaf as of_leaf, Header as of_header}
-use Rattle.tt_codec.specs.Entry.{entry_at}
+use Rattle.tt_base.specs.declared.token_tree.TokenTree.{TokenTree}
 use Rattle.tt_base.specs.Fits.{LeafInRange, TokenInRange}
 use Rattle.tt_base.specs.Forest.{Forest, Root, end, leaf, node, only, size, header}
-use Rattle.tt_tables.specs.Meaning.{IsAhead, own_bytes, held_bytes}
-use Rattle.tt_tables.specs.Moves.{first_token, after_token, after_tree}
-use Rattle.tt_tables.specs.NextToken.{TokenAhead}
-use Rattle.tt_codec.specs.Read.{Read}
-use Rattle.tt_tables.specs.Stored.{packed, IsInRange, IsWithinLimits}
-use Rattle.tt_tables.specs.Tables.{Tables}
-use Rattle.tt_tables.proofs.Ahead.{ahead_read, none_ahead, end_is_passed}
-use Rattle.tt_pack.specs.Reader.{tables_from}
+use Rattle.tt_tables.specs.Limits.{most_parts, most_symbols}
+use Rattle.tt_tables.specs.Meaning.{IsAhead}
+use Rattle.tt_tables.specs.Moves.{first_token, step_after}
+use Rattle.tt_tables.specs.Stored.{bytes, packed, IsInRange, IsWithinLimits}
+use Rattle.tt_tables.specs.Tables.{Tables, tables_from}
+use Rattle.tt_tables.proofs.Ahead.{none_ahead, end_is_passed}
+use Rattle.tt_tables.proofs.Naming.{bytes-end}
+use Rattle.tt_tables.proofs.StoredAlike.{ahead_is}
+use Rattle.tt_pack.specs.declared.reader.Reader.{Reader}
+use Rattle.tt_pack.specs.ReaderOf.{ahead_of, tables_of, bytes_of, offset_of, steps_of, ReadsSame, StepsTo}
 
 -- A reader stands in the bytes, or at their end.
-pub inside : (tables : Tables) (all : List ℕ) (place : ℕ) (trees : Forest) → IsAhead tables all place trees → place ≤ length all
+pub inside : (tables : Tables) (all : List ℕ) (offset : ℕ) (trees : Forest) → IsAhead tables all offset trees → offset ≤ length all
 inside tables all zero trees ahead = omega arith
-inside tables all (suc place) trees ahead = ahead.0
+inside tables all (suc offset) trees ahead = ahead.inside
+
+-- No reader stands in the top header.
+pub outside_top : (tables : Tables) (all : List ℕ) (offset : ℕ) (trees : Forest) → IsAhead tables all offset trees → (offset ≡ 0) ⊎ (33 ≤ offset)
+outside_top tables all zero trees ahead = inl refl
+outside_top tables all (suc offset) trees ahead = inr ahead.top
 
 none_first : (trees : Forest) → first_token trees ≡ None → trees ≡ end
 none_first end e = refl
 none_first (leaf it rest) e = cc e
 none_first (node delimiter children rest) e = cc e
 
-module _ (tables : Tables) (all : List ℕ) (place : ℕ) (trees : Forest) where
+module _ (tables : Tables) (all : List ℕ) (offset : ℕ) (trees : Forest) where
   -- There is no first token exactly where all bytes are passed.
-  pub ends : IsAhead tables all place trees → (first_token trees ≡ None) ↔ (length all ≤ place)
+  pub ends : IsAhead tables all offset trees → (first_token trees ≡ None) ↔ (length all ≤ offset)
   ends ahead = (
-    λ none. end_is_passed tables all place (subst (IsAhead tables all place) (none_first trees none) ahead),
-    λ passed. ap first_token (none_ahead tables all place trees ahead passed),
+    λ none. end_is_passed tables all offset (subst (IsAhead tables all offset) (none_first trees none) ahead),
+    λ passed. ap first_token (none_ahead tables all offset trees ahead passed),
   )
 
-  -- Behind the first token.
-  moves : IsAhead tables all place trees → IsAhead tables all (place + own_bytes tables place trees) (after_token trees)
-  moves ahead = by_read (entry_at (drop place all)) (ahead_read tables all place trees ahead)
-    where
-      by_read : (r : Read Entry) → TokenAhead tables all place trees r → IsAhead tables all (place + own_bytes tables place trees) (after_token trees)
-      by_read None (e, passed) =
-          let stays : place + 0 ≡ place = omega arith in
-          subst (λ f. IsAhead tables all (place + own_bytes tables place f) (after_token f)) (sym e)
-          (subst (λ n. IsAhead tables all n end) (sym stays) (subst (IsAhead tables all place) e ahead))
-      by_read (Some (of_leaf entry, rest)) h = h.after (place + own_bytes tables place trees) h.own
-      by_read (Some (of_header entry, rest)) h = h.inside (place + own_bytes tables place trees) h.own
+-- Behind the start, the bytes of the trees ahead are left.
+left_ahead : (tables : Tables) (all : List ℕ) (offset : ℕ) (trees : Forest) → 0 < offset → IsAhead tables all offset trees → drop offset all ≡ bytes tables trees
+left_ahead tables all zero trees passed ahead = absurd (omega arith)
+left_ahead tables all (suc offset) trees passed ahead = ahead.left
 
-  -- Behind the first tree.
-  skips : IsAhead tables all place trees → IsAhead tables all (place + own_bytes tables place trees + held_bytes tables trees) (after_tree trees)
-  skips ahead = by_read (entry_at (drop place all)) (ahead_read tables all place trees ahead)
-    where
-      by_read : (r : Read Entry) → TokenAhead tables all place trees r
-          → IsAhead tables all (place + own_bytes tables place trees + held_bytes tables trees) (after_tree trees)
-      by_read None (e, passed) =
-          let stays : place + 0 + 0 ≡ place = omega arith in
-          subst (λ f. IsAhead tables all (place + own_bytes tables place f + held_bytes tables f) (after_tree f)) (sym e)
-          (subst (λ n. IsAhead tables all n end) (sym stays) (subst (IsAhead tables all place) e ahead))
-      by_read (Some (of_leaf entry, rest)) h =
-          let none : held_bytes tables trees ≡ 0 = ap (held_bytes tables) h.is in
-          let same : after_token trees ≡ after_tree trees = ap after_token h.is ∙ sym (ap after_tree h.is) in
-          subst (IsAhead tables all (place + own_bytes tables place trees + held_bytes tables trees)) same (h.after _ (omega (arith, h.own, none)))
-      by_read (Some (of_header entry, rest)) h = h.after _ (omega (arith, h.own))
+-- A step is taken to where the trees lie ahead.
+pub steps_to : (old new : Reader) (trees : Forest) → 0 < offset_of new → IsAhead (tables_of new) (bytes_of new) (offset_of new) trees
+    → ReadsSame new old → steps_of new ≡ step_after (steps_of old) (ahead_of old) → StepsTo old trees new
+steps_to old new trees passed is same steps =
+    record {
+      ahead = ahead_is (tables_of new) (bytes_of new) (offset_of new) new.ahead trees is;
+      same = same;
+      inside = inside (tables_of new) (bytes_of new) (offset_of new) trees is;
+      left = left_ahead (tables_of new) (bytes_of new) (offset_of new) trees passed is;
+      steps = steps;
+    }
 
-  -- So many bytes on, where these are the token's own.
-  pub moved : (own : ℕ) → own ≡ own_bytes tables place trees → IsAhead tables all place trees → IsAhead tables all (place + own) (after_token trees)
-  moved own e ahead = subst (λ n. IsAhead tables all (place + n) (after_token trees)) (sym e) (moves ahead)
+-- Where nothing lies ahead, a reader stays.
+pub stays : (reader : Reader) (trees : Forest) → ahead_of reader ≡ end → trees ≡ end → StepsTo reader trees reader
+stays reader trees nothing none =
+    record {
+      ahead = nothing ∙ sym none;
+      same = (refl, refl);
+      inside = inside (tables_of reader) (bytes_of reader) (offset_of reader) (ahead_of reader) reader.ahead.1;
+      left = drop_all (offset_of reader) (bytes_of reader) passed ∙ sym (bytes-end (tables_of reader)) ∙ ap (bytes (tables_of reader)) (sym none);
+      steps = ap (step_after (steps_of reader)) (sym nothing);
+    }
+  where
+    passed : length (bytes_of reader) ≤ offset_of reader
+    passed =
+        end_is_passed (tables_of reader) (bytes_of reader) (offset_of reader)
+        (subst (IsAhead (tables_of reader) (bytes_of reader) (offset_of reader)) nothing reader.ahead.1)
 
-  -- So many more on, where these are all that the token holds.
-  pub skipped : (own held : ℕ) → own ≡ own_bytes tables place trees → held ≡ held_bytes tables trees → IsAhead tables all place trees
-      → IsAhead tables all (place + own + held) (after_tree trees)
-  skipped own held e f ahead = subst (λ n. IsAhead tables all n (after_tree trees)) (ap₂ (λ m n. place + m + n) (sym e) (sym f)) (skips ahead)
-
-  -- Both places are in the bytes.
-  pub room : IsAhead tables all place trees → place + own_bytes tables place trees + held_bytes tables trees ≤ length all
-  room ahead = by_read (entry_at (drop place all)) (ahead_read tables all place trees ahead)
-    where
-      by_read : (r : Read Entry) → TokenAhead tables all place trees r → place + own_bytes tables place trees + held_bytes tables trees ≤ length all
-      by_read None (e, passed) =
-          subst (λ f. place + own_bytes tables place f + held_bytes tables f ≤ length all) (sym e) (omega (arith, inside tables all place trees ahead))
-      by_read (Some (of_leaf entry, rest)) h =
-          let none : held_bytes tables trees ≡ 0 = ap (held_bytes tables) h.is in
-          omega (arith, h.own, none)
-      by_read (Some (of_header entry, rest)) h = omega (arith, h.own, h.room)
+-- A token that is there is counted.
+pub one_step : (steps : ℕ) (trees : Forest) (it : TokenTree) → first_token trees ≡ Some it → step_after steps trees ≡ min (steps + 1) (2 ^ 64 - 1)
+one_step steps end it e = cc e
+one_step steps (leaf first rest) it e = refl
+one_step steps (node delimiter children rest) it e = refl
 
 -- a table whose indices can be written
 pub record HasFewEntries (tables : Tables) : Type 0 where
-  pub parts : length tables.parts ≤ 2 ^ 28
-  pub symbols : length tables.symbols ≤ 2 ^ 29
+  pub parts : length tables.parts ≤ most_parts
+  pub symbols : length tables.symbols ≤ most_symbols
 
 -- Of a leaf ahead, the numbers are in range, and the tables have few entries.
-pub leaf_in_range_ahead : (tables : Tables) (all : List ℕ) (place : ℕ) (it : Leaf) (rest : Forest) → IsAhead tables all place (leaf it rest)
+pub leaf_in_range_ahead : (tables : Tables) (all : List ℕ) (offset : ℕ) (it : Leaf) (rest : Forest) → IsAhead tables all offset (leaf it rest)
     → LeafInRange it × HasFewEntries tables
 leaf_in_range_ahead tables all zero it rest ahead = absurd ahead
-leaf_in_range_ahead tables all (suc place) it rest ahead =
-    (ahead.2.3.0, record { parts = ahead.2.0; symbols = ahead.2.1 })
+leaf_in_range_ahead tables all (suc offset) it rest ahead =
+    (ahead.named.3.0, record { parts = ahead.named.0; symbols = ahead.named.1 })
 
 -- The same of a header.
-pub node_in_range_ahead : (tables : Tables) (all : List ℕ) (place : ℕ) (delimiter : Delimiter) (children rest : Forest)
-    → IsAhead tables all place (node delimiter children rest) → TokenInRange (header delimiter (size children)) × HasFewEntries tables
+pub node_in_range_ahead : (tables : Tables) (all : List ℕ) (offset : ℕ) (delimiter : Delimiter) (children rest : Forest)
+    → IsAhead tables all offset (node delimiter children rest) → TokenInRange (header delimiter (size children)) × HasFewEntries tables
 unfolding packed
 node_in_range_ahead tables all zero delimiter children end ahead = (
   ahead.0.0,
@@ -109,8 +105,8 @@ node_in_range_ahead tables all zero delimiter children end ahead = (
 )
 node_in_range_ahead tables all zero delimiter children (leaf it rest) ahead = absurd ahead
 node_in_range_ahead tables all zero delimiter children (node other inner rest) ahead = absurd ahead
-node_in_range_ahead tables all (suc place) delimiter children rest ahead =
-    (ahead.2.3.0, record { parts = ahead.2.0; symbols = ahead.2.1 })
+node_in_range_ahead tables all (suc offset) delimiter children rest ahead =
+    (ahead.named.3.0, record { parts = ahead.named.0; symbols = ahead.named.1 })
 
 -- A stored tree lies ahead at the start.
 pub start_is_ahead : (root : Root) (all : List ℕ) (parts : List SpanPart) (symbols : List (List ℕ)) → IsInRange root → IsWithinLimits root

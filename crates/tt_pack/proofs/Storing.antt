@@ -15,20 +15,20 @@ use Rattle.tt_codec.specs.Header.{format_4, top_entry}
 use Rattle.tt_tables.specs.Meaning.{IsStored}
 use Rattle.tt_tables.specs.PackFault.{IsTreeWith, HasManyParts, HasManySymbols, HasManyBytes, IsPackFault}
 use Rattle.tt_base.specs.Span.{part_of}
-use Rattle.tt_tables.specs.Stored.{bytes, tables_below, bytes_below, root_parts, packed}
-use Rattle.tt_tables.specs.Tables.{Tables, Knows, part_table, symbol_table}
+use Rattle.tt_tables.specs.Stored.{bytes, bytes_below, root_parts, packed}
+use Rattle.tt_tables.specs.Tables.{Tables, Knows, tables_for, tables_from, part_table, symbol_table}
 use Rattle.tt_base.specs.Unflat.{unflat}
 use Rattle.tt_base.proofs.CutLists.{one_subtree_iff}
 use Rattle.tt_tables.proofs.Known.{all_known}
 use Rattle.tt_tables.proofs.StoredAlike.{length-root_parts}
 use Rattle.tt_tables.proofs.TokenTables.{part_table_is, symbol_table_is}
-use Rattle.tt_pack.specs.Packed.{stored_of, root_of, tables_for, HasFewParts, HasFewSymbols, IsStoreFault}
+use Rattle.tt_pack.specs.Packed.{stored_of, root_of, HasFewParts, HasFewSymbols, IsStoreFault}
 use Rattle.tt_pack.specs.Writing.{byte_count, IsWritten}
 use Rattle.tt_pack.proofs.Writing.{IsWriteFault}
 
 -- The two tables of tokens, put together, are their tables.
 pub tables_made : (parts : List SpanPart) (symbols : List (List ℕ)) (below : List TokenTree) → parts ≡ part_table below → symbols ≡ symbol_table below
-    → record { parts = parts; symbols = symbols } ≡ tables_for below
+    → tables_from parts symbols ≡ tables_for below
 tables_made parts symbols below e f = λ i. record { parts = e i; symbols = f i }
 
 -- The tables of tokens know them.
@@ -53,7 +53,7 @@ module _ (top : Subtree) (below : List TokenTree) (w : IsWhole below) (counted :
   pub sized : size (unflat below) ≡ top.len
   sized = sym (length-flat (unflat below)) ∙ ap length whole ∙ sym counted
 
-  same_tables : tables_below (unflat below) ≡ tables_for below
+  same_tables : tables_for (flat (unflat below)) ≡ tables_for below
   same_tables = ap tables_for whole
 
   -- All that was written is what is stored.
@@ -79,13 +79,13 @@ module _ (top : Subtree) (below : List TokenTree) (w : IsWhole below) (counted :
       below_are : written ≡ bytes_below (unflat below)
       below_are = done.bytes ∙ ap (λ t. bytes t (unflat below)) (same ∙ sym same_tables)
 
-      entry_is : entry ≡ top_entry (length (tables_below (unflat below)).parts) top.delimiter (size (unflat below)) (length (bytes_below (unflat below)))
+      entry_is : entry ≡ top_entry (length (tables_for (flat (unflat below))).parts) top.delimiter (size (unflat below)) (length (bytes_below (unflat below)))
       entry_is = e₁ ∙ λ i. top_entry (length (sym same_tables i).parts) top.delimiter (sym sized i) (length (below_are i))
 
-      bytes_are : all ≡ format_4 true (top_entry (length (tables_below (unflat below)).parts) top.delimiter (size (unflat below)) (length (bytes_below (unflat below)))) ++ bytes_below (unflat below)
+      bytes_are : all ≡ format_4 true (top_entry (length (tables_for (flat (unflat below))).parts) top.delimiter (size (unflat below)) (length (bytes_below (unflat below)))) ++ bytes_below (unflat below)
       bytes_are = e₂ ∙ ap₂ (λ e l. format_4 true e ++ l) entry_is below_are
 
-      parts_are : parts ≡ (tables_below (unflat below)).parts ++ part_of top.delimiter.open_span ∷ part_of top.delimiter.close ∷ []
+      parts_are : parts ≡ (tables_for (flat (unflat below))).parts ++ part_of top.delimiter.open_span ∷ part_of top.delimiter.close ∷ []
       parts_are = e₃ ∙ ap (λ t. t.parts ++ part_of top.delimiter.open_span ∷ part_of top.delimiter.close ∷ []) (sym same_tables)
 
   -- The flat list of the tree.
@@ -100,7 +100,7 @@ module _ (top : Subtree) (below : List TokenTree) (w : IsWhole below) (counted :
   few_parts_is : HasFewParts below → length (root_parts (root_of top below)) ≤ 268435456
   few_parts_is h = omega (arith, h, length-root_parts (root_of top below), ap (λ t. length t.parts) same_tables)
 
-  few_symbols_is : HasFewSymbols below → length (tables_below (unflat below)).symbols ≤ 536870912
+  few_symbols_is : HasFewSymbols below → length (tables_for (flat (unflat below))).symbols ≤ 536870912
   few_symbols_is h = omega (arith, h, ap (λ t. length t.symbols) same_tables)
 
   many_symbols : HasFewParts below → 536870912 < length (symbol_table below) → HasManySymbols (root_of top below)
@@ -132,7 +132,7 @@ pub refused_list : (tokens : List TokenTree) (top : Subtree) (below : List Token
 refused_list tokens top below fault it h = rw it.list (refused h)
   where
     tree_with : (P : Root → Type 0) → IsWhole below → (IsWhole below → P (root_of top below)) → IsTreeWith P (token.Subtree top ∷ below)
-    tree_with P whole has = (root_of top below, list_is top below whole it.counted, has whole)
+    tree_with P whole has = (root_of top below, list_is top below whole it.counted, omega (arith, sized top below whole it.counted, it.few), has whole)
 
     is : (cause : TtFault) → fault ≡ cause → IsPackFault (token.Subtree top ∷ below) cause → IsPackFault (token.Subtree top ∷ below) fault
     is cause e holds = subst (IsPackFault (token.Subtree top ∷ below)) (sym e) holds

@@ -9,7 +9,7 @@ use Rattle.tt_tables.specs.TableOrder.{index_in, uses_of, IsEarlier, IsMoreUsed,
 use Rattle.tt_tables.proofs.Cheapest.{distinct_order}
 use Rattle.tt_tables.proofs.TableOrder.{length-falling}
 use Rattle.tt_pack.specs.Counted.{counted}
-use Rattle.tt_pack.specs.Indexed.{StandsAt, HasPlaceAt}
+use Rattle.tt_pack.specs.Indexed.{StandsAt, HasNewIndexAt}
 use Rattle.tt_pack.specs.Rows.{FindsAt}
 
 -- `same` tells whether two values are equal
@@ -61,10 +61,10 @@ module _ {X : Type 0} (same : X → X → Bool) where
                 none l = omega (arith, l)
             by_length false e = more (h.1 (leb-false _ _ e))
 
-    -- Where a value stood by first use, its place in the table is noted.
-    pub place_noted : (short : ℕ) (uses values table : List X) (places : List ℕ) (i : ℕ) (x : X) → IsTable same short uses table → length values ≤ 2 ^ 32
-        → ((index : ℕ) → index < length values → FindsAt values table places index) → StandsAt values i x → HasPlaceAt same table places i x
-    place_noted short uses values table places i x is few found stands =
+    -- Where a value stood by first use, its new_index in the table is noted.
+    pub new_index_noted : (short : ℕ) (uses values table : List X) (new_indices : List ℕ) (i : ℕ) (x : X) → IsTable same short uses table → length values ≤ 2 ^ 32
+        → ((index : ℕ) → index < length values → FindsAt values table new_indices index) → StandsAt values i x → HasNewIndexAt same table new_indices i x
+    new_index_noted short uses values table new_indices i x is few found stands =
         let at : slice_get values i ≡ Some x = stands few in
-        let finds : FindsAt values table places i = found i (slice_get_within values i x at) in
+        let finds : FindsAt values table new_indices i = found i (slice_get_within values i x at) in
         finds.1 ∙ ap Some (sym (index_in-distinct laws table finds.0 x (distinct_table short uses table is) (finds.2 ∙ at)))

@@ -36,19 +36,19 @@ pub sum_behind : (tables : Tables) (tokens : List TokenTree) (n : ℕ) → n ≤
     → get_or (byte_sums tables tokens) (length tokens - n) 0 ≡ byte_count tables (drop n tokens)
 unfolding bytes
 sum_behind tables [] zero h =
-    let place : 0 - 0 ≡ 0 = omega arith in
-    ap (λ i. get_or (0 ∷ []) i 0) place
+    let index : 0 - 0 ≡ 0 = omega arith in
+    ap (λ i. get_or (0 ∷ []) i 0) index
 sum_behind tables [] (suc n) h = absurd (none h)
   where
     none : suc n ≤ 0 → ⊥
     none h = omega arith
 sum_behind tables (it ∷ others) zero h =
-    let place : suc (length others) - 0 ≡ suc (length others) = omega arith in
-    ap (λ i. get_or (byte_sums tables others ++ byte_count tables (it ∷ others) ∷ []) i 0) place
+    let index : suc (length others) - 0 ≡ suc (length others) = omega arith in
+    ap (λ i. get_or (byte_sums tables others ++ byte_count tables (it ∷ others) ∷ []) i 0) index
     ∙ get_or_push (byte_sums tables others) (byte_count tables (it ∷ others)) 0 (suc (length others)) (byte_sums-length tables others)
 sum_behind tables (it ∷ others) (suc n) h =
-    let place : suc (length others) - suc n ≡ length others - n = omega arith in
-    ap (λ i. get_or (byte_sums tables others ++ byte_count tables (it ∷ others) ∷ []) i 0) place
+    let index : suc (length others) - suc n ≡ length others - n = omega arith in
+    ap (λ i. get_or (byte_sums tables others ++ byte_count tables (it ∷ others) ∷ []) i 0) index
     ∙ get_or_append_left (byte_sums tables others) (byte_count tables (it ∷ others) ∷ []) 0 (length others - n)
     (omega (arith, byte_sums-length tables others))
     ∙ sum_behind tables others n (omega arith)
@@ -104,24 +104,24 @@ pub too_many : (tables : Tables) (it : TokenTree) (others : List TokenTree) (ent
 too_many tables it others entry child piece before sums after w written e₁ e₂ e₃ e₄ h =
     omega (arith, h, ap length (written_first tables it others entry child piece before sums after w written e₁ e₂ e₃ e₄))
 
--- What stands at a place, and then all behind it.
-pub piece_at : (tokens : List TokenTree) (place : ℕ) (it : TokenTree) → place < length tokens → it ≡ get_or tokens place it
-    → drop place tokens ≡ it ∷ drop (place + 1) tokens
-piece_at tokens place it h e = drop_more tokens place it h ∙ ap (λ first. first ∷ drop (place + 1) tokens) (sym e)
+-- What stands at an index, and then all behind it.
+pub piece_at : (tokens : List TokenTree) (index : ℕ) (it : TokenTree) → index < length tokens → it ≡ get_or tokens index it
+    → drop index tokens ≡ it ∷ drop (index + 1) tokens
+piece_at tokens index it h e = drop_more tokens index it h ∙ ap (λ first. first ∷ drop (index + 1) tokens) (sym e)
 
--- A header stands at a place, and the sums of what is behind it are at hand.
-pub record HeldAt (tables : Tables) (tokens : List TokenTree) (place : ℕ) (it : Subtree) (counts : List ℕ) : Type 0 where
-  pub here : drop place tokens ≡ token.Subtree it ∷ drop (place + 1) tokens
-  pub whole : IsWhole (token.Subtree it ∷ drop (place + 1) tokens)
+-- A header stands at an index, and the sums of what is behind it are at hand.
+pub record HeaderAt (tables : Tables) (tokens : List TokenTree) (index : ℕ) (it : Subtree) (counts : List ℕ) : Type 0 where
+  pub here : drop index tokens ≡ token.Subtree it ∷ drop (index + 1) tokens
+  pub whole : IsWhole (token.Subtree it ∷ drop (index + 1) tokens)
   pub room : it.len < length counts
-  pub last : get_or counts (length counts - 1) 0 ≡ byte_count tables (drop (place + 1) tokens)
-  pub earlier : get_or counts (length counts - 1 - it.len) 0 ≡ byte_count tables (drop it.len (drop (place + 1) tokens))
-  pub within : byte_count tables (drop it.len (drop (place + 1) tokens)) ≤ byte_count tables (drop (place + 1) tokens)
+  pub last : get_or counts (length counts - 1) 0 ≡ byte_count tables (drop (index + 1) tokens)
+  pub earlier : get_or counts (length counts - 1 - it.len) 0 ≡ byte_count tables (drop it.len (drop (index + 1) tokens))
+  pub within : byte_count tables (drop it.len (drop (index + 1) tokens)) ≤ byte_count tables (drop (index + 1) tokens)
 
-pub held_at : (tables : Tables) (tokens : List TokenTree) (place : ℕ) (found : TokenTree) (it : Subtree) (counts : List ℕ)
-    → place < length tokens → IsWhole (drop place tokens) → found ≡ get_or tokens place found → found ≡ token.Subtree it
-    → counts ≡ byte_sums tables (drop (place + 1) tokens) → HeldAt tables tokens place it counts
-held_at tables tokens place found it counts h w read is sums =
+pub header_at : (tables : Tables) (tokens : List TokenTree) (index : ℕ) (found : TokenTree) (it : Subtree) (counts : List ℕ)
+    → index < length tokens → IsWhole (drop index tokens) → found ≡ get_or tokens index found → found ≡ token.Subtree it
+    → counts ≡ byte_sums tables (drop (index + 1) tokens) → HeaderAt tables tokens index it counts
+header_at tables tokens index found it counts h w read is sums =
     record {
       here = here;
       whole = whole;
@@ -132,10 +132,10 @@ held_at tables tokens place found it counts h w read is sums =
     }
   where
     others : List TokenTree
-    others = drop (place + 1) tokens
+    others = drop (index + 1) tokens
 
-    here : drop place tokens ≡ token.Subtree it ∷ others
-    here = piece_at tokens place found h read ∙ ap (λ first. first ∷ others) is
+    here : drop index tokens ≡ token.Subtree it ∷ others
+    here = piece_at tokens index found h read ∙ ap (λ first. first ∷ others) is
 
     whole : IsWhole (token.Subtree it ∷ others)
     whole = subst IsWhole here w
@@ -147,14 +147,14 @@ held_at tables tokens place found it counts h w read is sums =
     long = ap length sums ∙ byte_sums-length tables others
 
 -- What is read there: the sum of what is behind the header, and of what is behind all that it holds.
-pub held_sums : (tables : Tables) (tokens : List TokenTree) (place : ℕ) (it : Subtree) (counts : List ℕ) (n m a b : ℕ) → HeldAt tables tokens place it counts
+pub header_sums : (tables : Tables) (tokens : List TokenTree) (index : ℕ) (it : Subtree) (counts : List ℕ) (n m a b : ℕ) → HeaderAt tables tokens index it counts
     → n ≡ length counts → m ≡ it.len → a ≡ get_or counts (n - 1) a → b ≡ get_or counts (n - 1 - m) b
-    → (a ≡ byte_count tables (drop (place + 1) tokens)) × (b ≡ byte_count tables (drop it.len (drop (place + 1) tokens)))
-held_sums tables tokens place it counts n m a b held long len read_a read_b = (
-  get_or_read counts (n - 1) a (omega (arith, held.room, long)) read_a 0 ∙ ap (λ i. get_or counts (i - 1) 0) long ∙ held.last,
-  get_or_read counts (n - 1 - m) b (omega (arith, held.room, long, len)) read_b 0
+    → (a ≡ byte_count tables (drop (index + 1) tokens)) × (b ≡ byte_count tables (drop it.len (drop (index + 1) tokens)))
+header_sums tables tokens index it counts n m a b at long len read_a read_b = (
+  get_or_read counts (n - 1) a (omega (arith, at.room, long)) read_a 0 ∙ ap (λ i. get_or counts (i - 1) 0) long ∙ at.last,
+  get_or_read counts (n - 1 - m) b (omega (arith, at.room, long, len)) read_b 0
       ∙ ap₂ (λ i k. get_or counts (i - 1 - k) 0) long len
-      ∙ held.earlier,
+      ∙ at.earlier,
 )
 
 -- The reason for which a token is not written.

@@ -13,9 +13,9 @@ use Rattle.tt_pack.specs.declared.uses.TokenUses.{TokenUses}
 abbrev pub StandsAt : {X : Type 0} → List X → ℕ → X → Type 0
 StandsAt values index x = length values ≤ 2 ^ 32 → slice_get values index ≡ Some x
 
--- at the index stands the place that the value has in the table
-abbrev pub HasPlaceAt : {X : Type 0} → (same : X → X → Bool) (table : List X) (places : List ℕ) → ℕ → X → Type 0
-HasPlaceAt same table places index x = slice_get places index ≡ Some (index_in (same x) table)
+-- at the index stands the index that the value has in the table
+abbrev pub HasNewIndexAt : {X : Type 0} → (same : X → X → Bool) (table : List X) (new_indices : List ℕ) → ℕ → X → Type 0
+HasNewIndexAt same table new_indices index x = slice_get new_indices index ≡ Some (index_in (same x) table)
 
 -- what the token uses stands at its indices: `IsPart` and `IsSymbol` say of parts and symbols where they stand
 module _ (IsPart : ℕ → SpanPart → Type 0) (IsSymbol : ℕ → List ℕ → Type 0) where

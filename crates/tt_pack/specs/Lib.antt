@@ -3,7 +3,6 @@ pub mod Counted
 pub mod FedTree
 pub mod Indexed
 pub mod Packed
-pub mod Reader
 pub mod ReaderOf
 pub mod Rows
 pub mod TablesOf

@@ -6,8 +6,9 @@ use Rattle.tt_base.specs.declared.fault.TtFault.TheVariants.{Memory, NotOneSubtr
 use Rattle.tt_base.specs.declared.span.SpanPart.{SpanPart}
 use Rattle.tt_base.specs.declared.token_tree.TokenTree.{TokenTree}
 use Rattle.tt_base.specs.Forest.{Root, IsWhole}
+use Rattle.tt_tables.specs.Limits.{most_parts, most_symbols, most_bytes}
 use Rattle.tt_tables.specs.Stored.{Stored}
-use Rattle.tt_tables.specs.Tables.{Tables, part_table, symbol_table}
+use Rattle.tt_tables.specs.Tables.{tables_for, part_table, symbol_table}
 use Rattle.tt_base.specs.Unflat.{unflat}
 use Rattle.tt_pack.specs.Writing.{byte_count}
 
@@ -19,17 +20,13 @@ stored_of bytes parts symbols len = record { bytes = bytes; parts = parts; symbo
 abbrev pub root_of : Subtree → List TokenTree → Root
 root_of top below = record { delimiter = top.delimiter; children = unflat below }
 
--- the tables of the tokens below the top
-abbrev pub tables_for : List TokenTree → Tables
-tables_for below = record { parts = part_table below; symbols = symbol_table below }
-
 -- their parts leave room for the top's two, and their indices can be written
 abbrev pub HasFewParts : List TokenTree → Type 0
-HasFewParts below = length (part_table below) + 2 ≤ 268435456
+HasFewParts below = length (part_table below) + 2 ≤ most_parts
 
 -- the indices of their symbols can be written
 abbrev pub HasFewSymbols : List TokenTree → Type 0
-HasFewSymbols below = length (symbol_table below) ≤ 536870912
+HasFewSymbols below = length (symbol_table below) ≤ most_symbols
 
 -- why the uses of the tokens cannot be counted
 abbrev pub IsCountFault : List TokenTree → TtFault → Type 0
@@ -39,11 +36,11 @@ IsCountFault below fault = (fault ≡ Memory) ⊎ ((fault ≡ NotOneSubtree) × 
 abbrev pub IsTableFault : List TokenTree → TtFault → Type 0
 IsTableFault below fault =
     IsCountFault below fault
-    ⊎ ((fault ≡ TooManySpanParts) × IsWhole below × (268435456 < length (part_table below) + 2))
-    ⊎ ((fault ≡ TooManySymbols) × IsWhole below × HasFewParts below × (536870912 < length (symbol_table below)))
+    ⊎ ((fault ≡ TooManySpanParts) × IsWhole below × (most_parts < length (part_table below) + 2))
+    ⊎ ((fault ≡ TooManySymbols) × IsWhole below × HasFewParts below × (most_symbols < length (symbol_table below)))
 
 -- why the tokens cannot be stored
 abbrev pub IsStoreFault : List TokenTree → TtFault → Type 0
 IsStoreFault below fault =
     IsTableFault below fault
-    ⊎ ((fault ≡ TooManyBytes) × IsWhole below × HasFewParts below × HasFewSymbols below × (4294967295 < byte_count (tables_for below) below))
+    ⊎ ((fault ≡ TooManyBytes) × IsWhole below × HasFewParts below × HasFewSymbols below × (most_bytes < byte_count (tables_for below) below))

@@ -1,12 +1,12 @@
--- What a reader stands before.
-use Rattle.std.specs.Prelude.{◌≡◌, ℕ, List, Option, Some, MatchOption}
+-- What a reader stands before, and a step of it.
+use Rattle.std.specs.Prelude.{◌≡◌, ℕ, ◌+◌, ◌<◌, ◌≤◌, List, Option, Some, MatchOption, length, drop}
 use Rattle.tt_base.specs.Forest.{Forest, end}
-use Rattle.tt_tables.specs.Meaning.{own_bytes, held_bytes}
-use Rattle.tt_tables.specs.Moves.{first_token}
-use Rattle.tt_tables.specs.Tables.{Tables}
+use Rattle.tt_tables.specs.Meaning.{IsAhead}
+use Rattle.tt_tables.specs.Moves.{first_token, after_token, after_tree, step_after}
+use Rattle.tt_tables.specs.Stored.{bytes}
 use Rattle.tt_pack.specs.declared.reader.Found.{Found}
 use Rattle.tt_pack.specs.declared.reader.Reader.{Reader}
-use Rattle.tt_pack.specs.Reader.{tables_from}
+use Rattle.tt_tables.specs.Tables.{Tables, tables_from}
 
 -- the trees ahead, to the end of the bytes
 abbrev pub ahead_of : Reader → Forest
@@ -21,8 +21,8 @@ abbrev pub bytes_of : Reader → List ℕ
 bytes_of reader = reader.bytes.now
 
 -- how many of them are passed
-abbrev pub place_of : Reader → ℕ
-place_of reader = reader.place
+abbrev pub offset_of : Reader → ℕ
+offset_of reader = reader.offset
 
 -- how many tokens were decoded
 abbrev pub steps_of : Reader → ℕ
@@ -32,11 +32,21 @@ steps_of reader = reader.steps
 abbrev pub ReadsSame : Reader → Reader → Type 0
 ReadsSame reader other = (bytes_of reader ≡ bytes_of other) × (tables_of reader ≡ tables_of other)
 
--- the first token ahead, with its own bytes and those of all that it holds
+-- a step of a reader: it still reads the same, these trees lie ahead, behind the offset stand their bytes and no others,
+-- and one more token is counted, if there was one
+pub record StepsTo (old : Reader) (trees : Forest) (new : Reader) : Type 0 where
+  pub ahead : ahead_of new ≡ trees
+  pub same : ReadsSame new old
+  pub inside : offset_of new ≤ length (bytes_of new)
+  pub left : drop (offset_of new) (bytes_of new) ≡ bytes (tables_of new) trees
+  pub steps : steps_of new ≡ step_after (steps_of old) (ahead_of old)
+
+-- the first token ahead, how many bytes on what is behind it lies ahead, and how many more on what is behind all that it holds
 pub record IsFirst (reader : Reader) (found : Found) : Type 0 where
   pub token : first_token (ahead_of reader) ≡ Some found.token
-  pub own : found.own ≡ own_bytes (tables_of reader) (place_of reader) (ahead_of reader)
-  pub held : found.held ≡ held_bytes (tables_of reader) (ahead_of reader)
+  pub passed : 0 < found.len
+  pub inside : IsAhead (tables_of reader) (bytes_of reader) (offset_of reader + found.len) (after_token (ahead_of reader))
+  pub after : IsAhead (tables_of reader) (bytes_of reader) (offset_of reader + found.len + found.child_bytes) (after_tree (ahead_of reader))
 
 -- that token, or none where nothing lies ahead
 abbrev pub Decodes : Reader → Option Found → Type 0

@@ -4,6 +4,7 @@ use Rattle.std.specs.List.{AllByRecursion}
 use Rattle.tt_base.specs.declared.token_tree.TokenTree.{TokenTree}
 use Rattle.tt_base.specs.declared.token_tree.TokenTree.TheVariants as token
 use Rattle.tt_base.specs.Fits.{TokenInRange}
+use Rattle.tt_tables.specs.Limits.{most_bytes}
 use Rattle.tt_tables.specs.Stored.{bytes}
 use Rattle.tt_tables.specs.Tables.{Tables}
 use Rattle.tt_base.specs.Unflat.{unflat}
@@ -32,4 +33,4 @@ pub record IsWritten (tables : Tables) (tokens : List TokenTree) (written counts
   pub bytes : written ≡ bytes tables (unflat tokens)
   pub sums : counts ≡ byte_sums tables tokens
   pub range : AllByRecursion TokenInRange tokens
-  pub few : length written ≤ 4294967295
+  pub few : length written ≤ most_bytes

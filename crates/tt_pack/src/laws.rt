@@ -7,12 +7,12 @@ ghost use Rattle.tt_codec.specs.SpanNumbers.{span_bytes, numbers_at};
 ghost use Rattle.tt_tables.specs.Shortest.{IsShortestToken};
 ghost use Rattle.tt_tables.specs.Tables.{Knows, entry_of, token_bytes};
 ghost use Rattle.tt_base.specs.declared.fault.TtFault.TheVariants.{Memory};
-ghost use Rattle.tt_tables.specs.Names.{first_entries};
+ghost use Rattle.tt_tables.specs.Searches.{first_entries};
 
 use std::alloc::Global;
 use tt_base::{SpanPart, Symbol, TokenTree, TtFault};
 use tt_codec::{BackBuf, Reference, SpanNumbers};
-use tt_tables::Names;
+use tt_tables::Tables;
 
 const MOST_REFERENCE_BYTES: usize = 4;
 
@@ -77,7 +77,7 @@ pub fn token_bytes(
         (λ bytes. IsShortestToken (entry_of (first_entries parts.now symbols.now) token.now child_bytes) bytes.items)) }
     ensures err { IfErr result (λ fault. fault ≡ Memory) }
 {
-    let Some(entry) = Names::new(parts, symbols).token(token, child_bytes) else {
+    let Some(entry) = Tables::new(parts, symbols).entry(token, child_bytes) else {
         return Ok(None);
     };
     let mut bytes = BackBuf::with_capacity(alloc, MOST_TOKEN_BYTES)?;

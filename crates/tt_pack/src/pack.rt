@@ -4,7 +4,7 @@ ghost use Rattle.tt_base.specs.Forest.{IsWhole};
 ghost use Rattle.tt_tables.specs.Meaning.{IsStored};
 ghost use Rattle.tt_pack.specs.Packed.{stored_of, root_of, IsStoreFault};
 
-use crate::tables::Tables;
+use crate::tables::ListTables;
 use crate::writer::Writer;
 use std::alloc::Global;
 use tt_base::{SpanPart, Subtree, Symbol, TokenTree, TtFault};
@@ -21,11 +21,11 @@ pub(crate) fn write_tree(
     ensures ok { IfOk result (λ found. IsStored (stored_of found.0.items found.1.items found.2.items (length below.now + 1)) (root_of top below.now)) }
     ensures err { IfErr result (IsStoreFault below.now) }
 {
-    let tables = Tables::of_tokens(alloc, below)?;
+    let tables = ListTables::of_tokens(alloc, below)?;
     let writer = Writer::write_all(alloc, &tables, below)?;
     let entry = HeaderEntry::of_top(tables.parts.values.len() as u32, top, writer.len() as u32);
     let bytes = writer.finish(entry)?;
-    let Tables { parts, symbols, .. } = tables;
+    let ListTables { parts, symbols, .. } = tables;
     let mut parts = parts.values;
     parts.reserve_exact(2)?;
     parts.push(SpanPart::from_span(&top.delimiter.open_span))?;

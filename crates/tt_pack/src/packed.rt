@@ -1,27 +1,30 @@
 //! A tree as it is stored, and the calls that make it and show it.
-ghost use Rattle.std.specs.Prelude.{◌≡◌, ◌≤◌, ◌+◌, ◌*◌, suc, length, drop, IfOk, IfErr, IsTrue, ◌↔◌, bytes_eq};
+ghost use Rattle.std.specs.Prelude.{◌≡◌, ◌≤◌, ◌+◌, ◌*◌, ◌-◌, suc, length, drop, take, IfOk, IfErr, IsTrue, ◌↔◌, bytes_eq};
 ghost use Rattle.tt_base.specs.declared.fault.TtFault.TheVariants.{Memory};
 ghost use Rattle.tt_tables.specs.Cost.{IsCheapest};
-ghost use Rattle.tt_base.specs.Forest.{size, flat, flat_root, IsWhole};
+ghost use Rattle.tt_base.specs.Forest.{size, flat, flat_root};
+ghost use Rattle.tt_tables.specs.Limits.{most_tokens};
 ghost use Rattle.tt_tables.specs.Meaning.{HasMeaning};
 ghost use Rattle.tt_tables.specs.PackFault.{IsPackFault};
 ghost use Rattle.tt_tables.specs.Shortest.{HasShortestHeaders};
-ghost use Rattle.tt_tables.specs.Stored.{packed, tables_below, IsInRange, IsWithinLimits};
+ghost use Rattle.tt_tables.specs.Stored.{packed, IsInRange, IsWithinLimits};
 ghost use Rattle.tt_base.proofs.SameTree.{same_root_iff};
 ghost use Rattle.tt_tables.proofs.StoredAlike.{HasMeaning-prop};
-ghost use Rattle.tt_tables.specs.Uses.{symbol_uses};
+ghost use Rattle.tt_tables.specs.TableOrder.{IsTable};
+ghost use Rattle.tt_tables.specs.Tables.{tables_for, short_parts, short_symbols};
+ghost use Rattle.tt_tables.specs.Uses.{same_part, part_uses, symbol_uses};
 ghost use Rattle.tt_pack.specs.FedTree.{fed_tree};
 ghost use Rattle.std.proofs.Common.{rules, ap};
 ghost use Rattle.std.specs.Cmp.Rules.{comparing};
 ghost use Rattle.tt_base.specs.Equality.{same_token-equivalence};
 ghost use Rattle.tt_base.specs.SameTree.{same_root};
-ghost use Rattle.tt_pack.specs.Packed.{stored_of, root_of, IsStoreFault};
+ghost use Rattle.tt_pack.specs.Packed.{stored_of};
 
 use crate::pack::write_tree;
 use std::alloc::Global;
 use std::hash::{Hash, Hasher};
 use std::marker::Model;
-use tt_base::{Refused, SpanPart, Subtree, Symbol, TokenTree, TtFault};
+use tt_base::{Refused, SpanPart, Symbol, TokenTree, TtFault};
 
 /// A token tree as bytes and two tables. A contract sees the tree; its bytes and tables are a function of it
 /// (docs/FORMATS.md), so equal trees are stored alike.
@@ -50,7 +53,7 @@ impl Packed {
     /// many symbols or too many bytes, in this order (docs/FORMATS.md, "Limits"), or where memory is refused; it is then handed back.
     pub fn pack(alloc: Global, tokens: Vec<TokenTree>) -> Result<Packed, Refused<Vec<TokenTree>>>
         ensures ok { IfOk result (λ stored. tokens.items ≡ flat_root stored) }
-        ensures counts { IfOk result (λ stored. size stored.children ≤ 4294967295) }
+        ensures counts { IfOk result (λ stored. size stored.children ≤ most_tokens) }
         ensures fault { IfErr result (λ refused. IsPackFault tokens.items refused.fault) }
         ensures list { IfErr result (λ refused. refused.value ≡ tokens) }
     {
@@ -65,7 +68,7 @@ impl Packed {
 
     // What is stored for a list, if it is one subtree.
     fn of_list(alloc: Global, tokens: &[TokenTree]) -> Result<Packed, TtFault>
-        ensures ok { IfOk result (λ stored. (tokens.now ≡ flat_root stored) × (size stored.children ≤ 4294967295)) }
+        ensures ok { IfOk result (λ stored. (tokens.now ≡ flat_root stored) × (size stored.children ≤ most_tokens)) }
         ensures err { IfErr result (IsPackFault tokens.now) }
     {
         let Some((TokenTree::Subtree(top), below)) = tokens.split_first() else {
@@ -74,16 +77,7 @@ impl Packed {
         if top.len as usize != below.len() {
             return Err(TtFault::NotOneSubtree);
         }
-        Packed::store(alloc, *top, below)
-    }
-
-    // What is stored for a header and the tokens below it, if these are a whole list.
-    fn store(alloc: Global, top: Subtree, below: &[TokenTree]) -> Result<Packed, TtFault>
-        requires counted { top.len ≡ length below.now }
-        ensures ok { IfOk result (λ stored. IsWhole below.now × (stored ≡ root_of top below.now)) }
-        ensures err { IfErr result (IsStoreFault below.now) }
-    {
-        let (bytes, parts, symbols) = write_tree(alloc, top, below)?;
+        let (bytes, parts, symbols) = write_tree(alloc, *top, below)?;
         Ok(Packed {
             bytes,
             parts,
@@ -100,21 +94,25 @@ impl Packed {
         ensures limits { IsWithinLimits self.now }
         ensures least { 33 + 5 * size self.now.children ≤ length result.now }
         ensures most { length result.now ≤ 33 * suc (size self.now.children) }
-        ensures shortest { HasShortestHeaders (tables_below self.now.children) self.now.children (drop 33 result.now) }
+        ensures shortest { HasShortestHeaders (tables_for (flat self.now.children)) self.now.children (drop 33 result.now) }
     {
         self.bytes.as_slice()
     }
 
-    /// The span parts used below the top, and then the two of the top's spans.
+    /// The span parts used below the top, and then the two of the top's spans. More than 15 stand by falling number of
+    /// uses, ties by first use.
     pub fn parts(&self) -> &[SpanPart]
-        ensures { result.now ≡ (packed self.now).parts }
+        ensures value { result.now ≡ (packed self.now).parts }
+        ensures table { IsTable same_part short_parts (part_uses (flat self.now.children)) (take (length result.now - 2) result.now) }
     {
         self.parts.as_slice()
     }
 
-    /// The symbols used. In no other order do the references to them take fewer bytes.
+    /// The symbols used. More than 63 stand by falling number of uses, ties by first use: in no other order do the
+    /// references to them take fewer bytes.
     pub fn symbols(&self) -> &[Symbol]
         ensures value { result.now ≡ (packed self.now).symbols }
+        ensures table { IsTable bytes_eq short_symbols (symbol_uses (flat self.now.children)) result.now }
         ensures least { IsCheapest bytes_eq (symbol_uses (flat self.now.children)) result.now }
     {
         self.symbols.as_slice()

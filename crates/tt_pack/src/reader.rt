@@ -1,21 +1,21 @@
 //! Reading what is stored, one token a call.
-ghost use Rattle.std.specs.Prelude.{◌≡◌, ◌+◌, ◌≤◌, ◌↔◌, length, drop, MatchOption, IfSome, Some, None, []};
+ghost use Rattle.std.specs.Prelude.{◌≡◌, ◌≤◌, ◌⊎◌, ◌↔◌, length, drop, MatchOption, IfSome, Some, None, []};
 ghost use Rattle.tt_base.specs.Forest.{end, only};
-ghost use Rattle.tt_tables.specs.Meaning.{HasAhead, own_bytes, held_bytes};
+ghost use Rattle.tt_tables.specs.Meaning.{HasAhead, top_bytes};
 ghost use Rattle.tt_tables.specs.Stored.{packed as what_is_stored};
-ghost use Rattle.tt_tables.specs.Moves.{first_token, after_token, after_tree, step_after};
+ghost use Rattle.tt_tables.specs.Moves.{first_token, after_token, after_tree};
 ghost use Rattle.tt_tables.proofs.StoredAlike.{HasAhead-prop};
-ghost use Rattle.tt_pack.specs.Reader.{tables_from};
+ghost use Rattle.tt_tables.specs.Tables.{tables_from};
 
 use crate::packed::Packed;
 use tt_base::{SpanPart, Symbol, TokenTree};
 use tt_codec::Entry;
-use tt_tables::Names;
+use tt_tables::Tables;
 
 // Where the bytes of the top header stand.
 const TOP_HEADER: usize = 0;
 
-/// A place in the bytes of a stored tree, from which its tokens are read one by one. A read decodes one token,
+/// An offset in the bytes of a stored tree, from which its tokens are read one by one. A read decodes one token,
 /// takes no memory and searches nothing. A contract sees the trees ahead: at the start the whole tree, and
 /// behind its header the trees below it.
 #[derive(Clone, Copy)]
@@ -23,9 +23,9 @@ pub struct Reader<'a> {
     bytes: &'a [u8],
     parts: &'a [SpanPart],
     symbols: &'a [Symbol],
-    place: usize,
+    offset: usize,
     steps: u64,
-    pub ghost ahead: { HasAhead (tables_from parts.now symbols.now) bytes.now place } by { HasAhead-prop (tables_from parts.now symbols.now) bytes.now place },
+    pub ghost ahead: { HasAhead (tables_from parts.now symbols.now) bytes.now offset } by { HasAhead-prop (tables_from parts.now symbols.now) bytes.now offset },
 }
 
 // A token that was decoded.
@@ -33,27 +33,27 @@ pub struct Reader<'a> {
 struct Found {
     token: TokenTree,
     // how many bytes the token itself takes
-    own: usize,
+    len: usize,
     // how many bytes all that it holds takes
-    held: usize,
+    child_bytes: usize,
 }
 
 impl<'a> Reader<'a> {
-    ghost use Rattle.tt_pack.specs.ReaderOf.{ahead_of, bytes_of, tables_of, place_of, steps_of, ReadsSame, Decodes};
+    ghost use Rattle.tt_pack.specs.ReaderOf.{ahead_of, bytes_of, tables_of, offset_of, steps_of, StepsTo, Decodes};
 
     /// Before the whole tree.
     pub fn start(packed: &'a Packed) -> Reader<'a>
         ensures ahead { ahead_of result ≡ only packed.now }
         ensures bytes { bytes_of result ≡ (what_is_stored packed.now).bytes }
         ensures tables { tables_of result ≡ tables_from (what_is_stored packed.now).parts (what_is_stored packed.now).symbols }
-        ensures place { place_of result ≡ 0 }
+        ensures offset { offset_of result ≡ 0 }
         ensures steps { steps_of result ≡ 0 }
     {
         Reader {
             bytes: packed.bytes(),
             parts: packed.parts(),
             symbols: packed.symbols(),
-            place: TOP_HEADER,
+            offset: TOP_HEADER,
             steps: 0,
         }
     }
@@ -63,23 +63,25 @@ impl<'a> Reader<'a> {
         ensures ahead { ahead_of result ≡ end }
         ensures bytes { bytes_of result ≡ [] }
         ensures tables { tables_of result ≡ tables_from [] [] }
-        ensures place { place_of result ≡ 0 }
+        ensures offset { offset_of result ≡ 0 }
         ensures steps { steps_of result ≡ 0 }
     {
         Reader {
             bytes: &[],
             parts: &[],
             symbols: &[],
-            place: 0,
+            offset: 0,
             steps: 0,
         }
     }
 
-    /// How many bytes are passed.
-    pub fn place(&self) -> usize
-        ensures { result ≡ place_of self.now }
+    /// How many bytes are passed: none, or the top header at least.
+    pub fn offset(&self) -> usize
+        ensures value { result ≡ offset_of self.now }
+        ensures inside { result ≤ length (bytes_of self.now) }
+        ensures top { (result ≡ 0) ⊎ (top_bytes ≤ result) }
     {
-        self.place
+        self.offset
     }
 
     /// How many tokens were decoded on the way here; the count stays at its largest.
@@ -91,12 +93,12 @@ impl<'a> Reader<'a> {
 
     // The bytes that are not passed.
     fn rest(&self) -> &'a [u8]
-        ensures { result.now ≡ drop (place_of self.now) (bytes_of self.now) }
+        ensures { result.now ≡ drop (offset_of self.now) (bytes_of self.now) }
     {
-        if self.place >= self.bytes.len() {
+        if self.offset >= self.bytes.len() {
             return &[];
         }
-        &self.bytes[self.place..]
+        &self.bytes[self.offset..]
     }
 
     // The next token, if there is one.
@@ -105,23 +107,23 @@ impl<'a> Reader<'a> {
     {
         let rest = self.rest();
         let (entry, behind) = Entry::read(rest)?;
-        let names = Names::new(self.parts, self.symbols);
-        let own = rest.len() - behind.len();
+        let tables = Tables::new(self.parts, self.symbols);
+        let len = rest.len() - behind.len();
         match entry {
             Entry::Leaf(entry) => {
-                let leaf = names.leaf_of(entry)?;
+                let leaf = tables.leaf(entry)?;
                 Some(Found {
                     token: TokenTree::Leaf(leaf),
-                    own,
-                    held: 0,
+                    len,
+                    child_bytes: 0,
                 })
             }
             Entry::Header(entry) => {
-                let subtree = names.subtree_of(entry)?;
+                let subtree = tables.subtree(entry)?;
                 Some(Found {
                     token: TokenTree::Subtree(subtree),
-                    own,
-                    held: entry.child_bytes as usize,
+                    len,
+                    child_bytes: entry.child_bytes as usize,
                 })
             }
         }
@@ -130,14 +132,11 @@ impl<'a> Reader<'a> {
     /// The next token, or `None` at the end of the bytes. Behind a header come the tokens that it holds.
     pub fn advance(&mut self) -> Option<TokenTree>
         ensures token { result ≡ first_token (ahead_of self.old) }
-        ensures end { (result ≡ None) ↔ (length (bytes_of self.old) ≤ place_of self.old) }
-        ensures ahead { ahead_of self.new ≡ after_token (ahead_of self.old) }
-        ensures same { ReadsSame self.new self.old }
-        ensures place { place_of self.new ≡ place_of self.old + own_bytes (tables_of self.old) (place_of self.old) (ahead_of self.old) }
-        ensures steps { steps_of self.new ≡ step_after (steps_of self.old) (ahead_of self.old) }
+        ensures end { (result ≡ None) ↔ (length (bytes_of self.old) ≤ offset_of self.old) }
+        ensures moved { StepsTo self.old (after_token (ahead_of self.old)) self.new }
     {
         let found = self.decode()?;
-        self.place += found.own;
+        self.offset += found.len;
         self.steps = self.steps.saturating_add(1);
         Some(found.token)
     }
@@ -146,15 +145,9 @@ impl<'a> Reader<'a> {
     /// all that a header holds, which the other one stands before.
     pub fn advance_skip(&mut self) -> Option<(TokenTree, Reader<'a>)>
         ensures token { MatchOption result (first_token (ahead_of self.old) ≡ None) (λ found. first_token (ahead_of self.old) ≡ Some found.0) }
-        ensures end { (result ≡ None) ↔ (length (bytes_of self.old) ≤ place_of self.old) }
-        ensures below { IfSome result (λ found. ahead_of found.1 ≡ after_token (ahead_of self.old)) }
-        ensures below_same { IfSome result (λ found. ReadsSame found.1 self.old) }
-        ensures below_place { IfSome result (λ found. place_of found.1 ≡ place_of self.old + own_bytes (tables_of self.old) (place_of self.old) (ahead_of self.old)) }
-        ensures below_steps { IfSome result (λ found. steps_of found.1 ≡ steps_of self.new) }
-        ensures ahead { ahead_of self.new ≡ after_tree (ahead_of self.old) }
-        ensures same { ReadsSame self.new self.old }
-        ensures place { place_of self.new ≡ place_of self.old + own_bytes (tables_of self.old) (place_of self.old) (ahead_of self.old) + held_bytes (tables_of self.old) (ahead_of self.old) }
-        ensures steps { steps_of self.new ≡ step_after (steps_of self.old) (ahead_of self.old) }
+        ensures end { (result ≡ None) ↔ (length (bytes_of self.old) ≤ offset_of self.old) }
+        ensures below { IfSome result (λ found. StepsTo self.old (after_token (ahead_of self.old)) found.1) }
+        ensures moved { StepsTo self.old (after_tree (ahead_of self.old)) self.new }
     {
         let found = self.decode()?;
         self.steps = self.steps.saturating_add(1);
@@ -162,10 +155,10 @@ impl<'a> Reader<'a> {
             bytes: self.bytes,
             parts: self.parts,
             symbols: self.symbols,
-            place: self.place + found.own,
+            offset: self.offset + found.len,
             steps: self.steps,
         };
-        self.place = below.place + found.held;
+        self.offset = below.offset + found.child_bytes;
         Some((found.token, below))
     }
 }

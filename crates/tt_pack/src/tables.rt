@@ -1,6 +1,7 @@
 //! The two tables of a list of tokens, and tokens in numbers under them.
 ghost use Rattle.std.specs.Prelude.{◌≡◌, ◌+◌, ◌<◌, ◌≤◌, ◌^◌, Some, length, slice_get, IfOk, IfErr};
 ghost use Rattle.tt_base.specs.Forest.{IsWhole};
+ghost use Rattle.tt_tables.specs.Limits.{most_parts, most_symbols};
 ghost use Rattle.tt_tables.specs.Tables.{Knows, part_table, symbol_table};
 ghost use Rattle.tt_pack.specs.Packed.{HasFewParts, HasFewSymbols, IsTableFault};
 
@@ -14,30 +15,30 @@ use tt_codec::{Entry, HeaderEntry, LeafEntry, SpanNumbers};
 const SHORT_PARTS: usize = 15;
 // Up to so many symbols: a reference to one takes one byte.
 const SHORT_SYMBOLS: usize = 63;
-// The most parts below the top. The top's two need an index too.
-const MOST_PARTS: usize = 268435454;
+// The most parts below the top: an index of a part has 28 bits, and the top's two parts need one each.
+const MOST_PARTS_BELOW: usize = 268435454;
 // The most symbols. An index of one has 29 bits.
 const MOST_SYMBOLS: usize = 536870912;
 
 /// The tables of a list of tokens, and what each token uses.
 #[derive(Drop)]
-pub(crate) struct Tables {
+pub(crate) struct ListTables {
     pub(crate) parts: Table<SpanPart>,
     pub(crate) symbols: Table<Symbol>,
     pub(crate) uses: Vec<TokenUses>,
-    pub ghost few_parts: { length parts.values.items + 2 ≤ 2 ^ 28 },
-    pub ghost few_symbols: { length symbols.values.items ≤ 2 ^ 29 },
+    pub ghost few_parts: { length parts.values.items + 2 ≤ most_parts },
+    pub ghost few_symbols: { length symbols.values.items ≤ most_symbols },
 }
 
-// The place that is noted at an index.
-fn place_at(places: &[u32], index: u32) -> u32
-    requires { index < length places.now }
-    ensures { slice_get places.now index ≡ Some result }
+// The index in the table that is noted at an index.
+fn new_index_at(new_indices: &[u32], index: u32) -> u32
+    requires { index < length new_indices.now }
+    ensures { slice_get new_indices.now index ≡ Some result }
 {
-    places[index as usize]
+    new_indices[index as usize]
 }
 
-impl Tables {
+impl ListTables {
     ghost use Rattle.tt_base.specs.declared.token_tree.TokenTree.TheVariants as token;
     ghost use Rattle.tt_tables.specs.Named.{IsNamedLeaf, IsNamedHeader, IsNamed};
     ghost use Rattle.tt_pack.specs.TablesOf.{tables_of, HasUses, UsesTables};
@@ -45,7 +46,7 @@ impl Tables {
     /// The tables of the tokens, where these are a whole list, their indices can be written and the parts leave room for
     /// the top's two.
     /// More than 15 parts or 63 symbols go by falling number of uses, ties by first use (docs/FORMATS.md).
-    pub(crate) fn of_tokens(alloc: Global, below: &[TokenTree]) -> Result<Tables, TtFault>
+    pub(crate) fn of_tokens(alloc: Global, below: &[TokenTree]) -> Result<ListTables, TtFault>
         ensures whole { IfOk result (λ tables. IsWhole below.now) }
         ensures parts { IfOk result (λ tables. (tables.parts.values.items ≡ part_table below.now) × HasFewParts below.now) }
         ensures symbols { IfOk result (λ tables. (tables.symbols.values.items ≡ symbol_table below.now) × HasFewSymbols below.now) }
@@ -57,7 +58,7 @@ impl Tables {
             symbols,
             tokens,
         } = Uses::of_tokens(alloc, below)?;
-        if parts.len() > MOST_PARTS {
+        if parts.len() > MOST_PARTS_BELOW {
             return Err(TtFault::TooManySpanParts);
         }
         if symbols.len() > MOST_SYMBOLS {
@@ -65,7 +66,7 @@ impl Tables {
         }
         let parts = Table::of_counts(alloc, &parts, SHORT_PARTS)?;
         let symbols = Table::of_counts(alloc, &symbols, SHORT_SYMBOLS)?;
-        Ok(Tables {
+        Ok(ListTables {
             parts,
             symbols,
             uses: tokens,
@@ -73,15 +74,15 @@ impl Tables {
     }
 
     // A leaf in numbers.
-    fn leaf(&self, leaf: &Leaf, uses: TokenUses) -> LeafEntry
+    fn leaf_entry(&self, leaf: &Leaf, uses: TokenUses) -> LeafEntry
         requires known { Knows (tables_of self.now) (token.Leaf leaf.now) }
         requires uses { HasUses self.now (token.Leaf leaf.now) uses }
         ensures { IsNamedLeaf (tables_of self.now) leaf.now result }
     {
-        let part = place_at(&self.parts.places, uses.part);
+        let part = new_index_at(&self.parts.new_indices, uses.part);
         match leaf {
             Leaf::Literal(literal) => {
-                let symbol = place_at(&self.symbols.places, uses.other);
+                let symbol = new_index_at(&self.symbols.new_indices, uses.other);
                 let numbers = SpanNumbers::of_span(part, literal.span());
                 LeafEntry::Literal(symbol, literal.kind(), literal.suffix_len(), numbers)
             }
@@ -90,7 +91,7 @@ impl Tables {
                 LeafEntry::Punct(punct.char, punct.spacing, numbers)
             }
             Leaf::Ident(ident) => {
-                let symbol = place_at(&self.symbols.places, uses.other);
+                let symbol = new_index_at(&self.symbols.new_indices, uses.other);
                 let numbers = SpanNumbers::of_span(part, &ident.span);
                 LeafEntry::Ident(symbol, ident.is_raw, numbers)
             }
@@ -98,14 +99,14 @@ impl Tables {
     }
 
     // A header in numbers, where what it holds takes so many bytes.
-    fn header(&self, subtree: Subtree, uses: TokenUses, child_bytes: u32) -> HeaderEntry
+    fn header_entry(&self, subtree: Subtree, uses: TokenUses, child_bytes: u32) -> HeaderEntry
         requires known { Knows (tables_of self.now) (token.Subtree subtree) }
         requires uses { HasUses self.now (token.Subtree subtree) uses }
         ensures { IsNamedHeader (tables_of self.now) subtree child_bytes result }
     {
         let delimiter = &subtree.delimiter;
-        let open = place_at(&self.parts.places, uses.part);
-        let close = place_at(&self.parts.places, uses.other);
+        let open = new_index_at(&self.parts.new_indices, uses.part);
+        let close = new_index_at(&self.parts.new_indices, uses.other);
         HeaderEntry {
             opening: SpanNumbers::of_span(open, &delimiter.open_span),
             closing: SpanNumbers::of_span(close, &delimiter.close),
@@ -122,8 +123,12 @@ impl Tables {
         ensures { IsNamed (tables_of self.now) token.now child_bytes result }
     {
         match token {
-            TokenTree::Leaf(leaf) => Entry::Leaf(self.leaf(leaf, uses)),
-            TokenTree::Subtree(subtree) => Entry::Header(self.header(*subtree, uses, child_bytes)),
+            TokenTree::Leaf(leaf) => Entry::Leaf(self.leaf_entry(leaf, uses)),
+            TokenTree::Subtree(subtree) => Entry::Header(self.header_entry(
+                *subtree,
+                uses,
+                child_bytes,
+            )),
         }
     }
 }

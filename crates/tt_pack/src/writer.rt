@@ -4,11 +4,12 @@ ghost use Rattle.std.specs.List.{AllByRecursion};
 ghost use Rattle.tt_base.specs.declared.fault.TtFault.TheVariants.{Memory, TooManyBytes};
 ghost use Rattle.tt_base.specs.Forest.{IsWhole};
 ghost use Rattle.tt_codec.specs.Header.{HeaderFits, format_4};
+ghost use Rattle.tt_tables.specs.Limits.{most_bytes};
 ghost use Rattle.tt_tables.specs.Tables.{Knows};
 ghost use Rattle.tt_pack.specs.TablesOf.{tables_of, UsesTables};
 ghost use Rattle.tt_pack.specs.Writing.{byte_count, first_child_bytes, IsWritten};
 
-use crate::tables::Tables;
+use crate::tables::ListTables;
 use std::alloc::Global;
 use tt_base::{TokenTree, TtFault};
 use tt_codec::{BackBuf, HeaderEntry};
@@ -21,7 +22,7 @@ const MOST_BYTES: usize = 4294967295;
 /// The bytes of the last tokens of a list.
 #[derive(Drop)]
 pub(crate) struct Writer<'a> {
-    tables: &'a Tables,
+    tables: &'a ListTables,
     bytes: BackBuf,
     /// How many bytes each end piece of these tokens takes, the shortest first.
     sums: Vec<u32>,
@@ -31,7 +32,7 @@ impl<'a> Writer<'a> {
     ghost use Rattle.tt_pack.specs.WriterOf.{HasWritten, HasWrittenUnder};
 
     /// A writer that has written nothing, and has some room for so many tokens.
-    fn new(alloc: Global, tables: &'a Tables, tokens: usize) -> Result<Writer<'a>, TtFault>
+    fn new(alloc: Global, tables: &'a ListTables, tokens: usize) -> Result<Writer<'a>, TtFault>
         ensures ok { IfOk result (λ writer. (writer.tables.now ≡ tables.now) × HasWritten writer []) }
         ensures err { IfErr result (λ fault. fault ≡ Memory) }
     {
@@ -46,13 +47,13 @@ impl<'a> Writer<'a> {
     }
 
     // How many bytes the token holds that comes next.
-    fn child_bytes(&self, tokens: &[TokenTree], place: usize) -> u32
-        requires place { place < length tokens.now }
-        requires whole { IsWhole (drop place tokens.now) }
-        requires written { HasWritten self.now (drop (place + 1) tokens.now) }
-        ensures { result ≡ first_child_bytes (tables_of self.now.tables.now) (drop place tokens.now) }
+    fn child_bytes(&self, tokens: &[TokenTree], index: usize) -> u32
+        requires index { index < length tokens.now }
+        requires whole { IsWhole (drop index tokens.now) }
+        requires written { HasWritten self.now (drop (index + 1) tokens.now) }
+        ensures { result ≡ first_child_bytes (tables_of self.now.tables.now) (drop index tokens.now) }
     {
-        let TokenTree::Subtree(subtree) = &tokens[place] else {
+        let TokenTree::Subtree(subtree) = &tokens[index] else {
             return 0;
         };
         let last = self.sums.len() - 1;
@@ -60,19 +61,19 @@ impl<'a> Writer<'a> {
     }
 
     /// Writes the token before those that are written.
-    fn put(&mut self, tokens: &[TokenTree], place: usize) -> Result<(), TtFault>
-        requires place { place < length tokens.now }
-        requires whole { IsWhole (drop place tokens.now) }
-        requires known { AllByRecursion (Knows (tables_of self.old.tables.now)) (drop place tokens.now) }
+    fn put(&mut self, tokens: &[TokenTree], index: usize) -> Result<(), TtFault>
+        requires index { index < length tokens.now }
+        requires whole { IsWhole (drop index tokens.now) }
+        requires known { AllByRecursion (Knows (tables_of self.old.tables.now)) (drop index tokens.now) }
         requires uses { UsesTables self.old.tables.now tokens.now }
-        requires written { HasWritten self.old (drop (place + 1) tokens.now) }
+        requires written { HasWritten self.old (drop (index + 1) tokens.now) }
         ensures tables { OnOk result (self.new.tables.now ≡ self.old.tables.now) }
-        ensures ok { OnOk result (HasWritten self.new (drop place tokens.now)) }
-        ensures err { IfErr result (λ fault. (fault ≡ Memory) ⊎ ((fault ≡ TooManyBytes) × (4294967295 < byte_count (tables_of self.old.tables.now) (drop place tokens.now)))) }
+        ensures ok { OnOk result (HasWritten self.new (drop index tokens.now)) }
+        ensures err { IfErr result (λ fault. (fault ≡ Memory) ⊎ ((fault ≡ TooManyBytes) × (most_bytes < byte_count (tables_of self.old.tables.now) (drop index tokens.now)))) }
     {
-        let child_bytes = self.child_bytes(tokens, place);
-        let uses = self.tables.uses[place];
-        let entry = self.tables.entry(&tokens[place], uses, child_bytes);
+        let child_bytes = self.child_bytes(tokens, index);
+        let uses = self.tables.uses[index];
+        let entry = self.tables.entry(&tokens[index], uses, child_bytes);
         entry.write(&mut self.bytes)?;
         if self.bytes.len() > MOST_BYTES {
             return Err(TtFault::TooManyBytes);
@@ -102,20 +103,20 @@ impl<'a> Writer<'a> {
     /// Writes all tokens, whose tables these are, from the last to the first.
     pub(crate) fn write_all(
         alloc: Global,
-        tables: &'a Tables,
+        tables: &'a ListTables,
         tokens: &[TokenTree],
     ) -> Result<Writer<'a>, TtFault>
         requires whole { IsWhole tokens.now }
         requires known { AllByRecursion (Knows (tables_of tables.now)) tokens.now }
         requires uses { UsesTables tables.now tokens.now }
         ensures ok { IfOk result (HasWrittenUnder tables.now tokens.now) }
-        ensures err { IfErr result (λ fault. (fault ≡ Memory) ⊎ ((fault ≡ TooManyBytes) × (4294967295 < byte_count (tables_of tables.now) tokens.now))) }
+        ensures err { IfErr result (λ fault. (fault ≡ Memory) ⊎ ((fault ≡ TooManyBytes) × (most_bytes < byte_count (tables_of tables.now) tokens.now))) }
     {
         let mut writer = Writer::new(alloc, tables, tokens.len())?;
-        let mut place = tokens.len();
-        while place > 0 {
-            place -= 1;
-            writer.put(tokens, place)?;
+        let mut index = tokens.len();
+        while index > 0 {
+            index -= 1;
+            writer.put(tokens, index)?;
         }
         Ok(writer)
     }

@@ -7,14 +7,14 @@ use std::test::Fail;
 use tt_base::{DelimiterKind, TokenTree};
 use tt_pack::{Packed, Reader};
 
-// A header at a place of a list. It holds so many of the tokens behind it.
-fn parentheses(place: u32, len: u32) -> Result<TokenTree, Fail>
-    requires place { place < 100000 }
+// A header at an index of a list. It holds so many of the tokens behind it.
+fn parentheses(index: u32, len: u32) -> Result<TokenTree, Fail>
+    requires index { index < 100000 }
     requires len { len < 100000 }
 {
-    let start = place * 2;
+    let start = index * 2;
     let end = start + len * 2 + 1;
-    let part = place % 3;
+    let part = index % 3;
     header(
         DelimiterKind::Parenthesis,
         (part, start, start + 1),
@@ -23,13 +23,13 @@ fn parentheses(place: u32, len: u32) -> Result<TokenTree, Fail>
     )
 }
 
-// A leaf at a place of a list.
-fn leaf(alloc: Global, place: u32) -> Result<TokenTree, Fail>
-    requires { place < 100000 }
+// A leaf at an index of a list.
+fn leaf(alloc: Global, index: u32) -> Result<TokenTree, Fail>
+    requires { index < 100000 }
 {
-    let start = place * 2;
-    let spot = (place % 3, start, start + 1);
-    match place % 7 {
+    let start = index * 2;
+    let spot = (index % 3, start, start + 1);
+    match index % 7 {
         0 => ident(alloc, "a", spot),
         1 => ident(alloc, "b", spot),
         2 => ident(alloc, "r#type", spot),
@@ -43,11 +43,11 @@ fn nested(alloc: Global, count: u32) -> Result<Vec<TokenTree>, Fail>
     requires { count ≤ 100000 }
 {
     let mut tokens = Vec::new(alloc);
-    for place in 0..count {
-        let token = match place % 5 {
-            0 => parentheses(place, count - 1 - place)?,
-            1 => parentheses(place, 1)?,
-            _ => leaf(alloc, place)?,
+    for index in 0..count {
+        let token = match index % 5 {
+            0 => parentheses(index, count - 1 - index)?,
+            1 => parentheses(index, 1)?,
+            _ => leaf(alloc, index)?,
         };
         tokens.push(token)?;
     }
@@ -60,18 +60,18 @@ fn one_token_after_another(rt: HostRuntime) -> Result<(), Fail> {
     let tokens = braces(alloc)?;
     let tree = stored(alloc, tokens.as_slice())?;
     let mut reader = Reader::start(&tree);
-    assert_eq!(rt; reader.place(), 0);
+    assert_eq!(rt; reader.offset(), 0);
     assert_eq!(rt; reader.steps(), 0);
-    let places: [usize; 3] = [33, 38, 43];
+    let offsets: [usize; 3] = [33, 38, 43];
     let mut steps = 0u64;
-    for (token, place) in tokens.iter().zip(places.iter()) {
+    for (token, offset) in tokens.iter().zip(offsets.iter()) {
         steps = steps.saturating_add(1);
         assert_eq!(rt; reader.advance().ok_or("no token")?, *token);
-        assert_eq!(rt; reader.place(), *place);
+        assert_eq!(rt; reader.offset(), *offset);
         assert_eq!(rt; reader.steps(), steps);
     }
     assert!(rt; reader.advance().is_none());
-    assert_eq!(rt; reader.place(), 43);
+    assert_eq!(rt; reader.offset(), 43);
     assert_eq!(rt; reader.steps(), 3);
     Ok(())
 }
@@ -84,13 +84,13 @@ fn all_that_a_header_holds(rt: HostRuntime) -> Result<(), Fail> {
     let (found, mut below) = reader.advance_skip().ok_or("no token")?;
     let brace = header(DelimiterKind::Brace, (0, 0, 1), (0, 5, 6), 2)?;
     assert_eq!(rt; found, brace);
-    assert_eq!(rt; reader.place(), 43);
+    assert_eq!(rt; reader.offset(), 43);
     assert_eq!(rt; reader.steps(), 1);
     assert!(rt; reader.advance().is_none());
     assert!(rt; reader.advance_skip().is_none());
-    assert_eq!(rt; reader.place(), 43);
+    assert_eq!(rt; reader.offset(), 43);
     assert_eq!(rt; reader.steps(), 1);
-    assert_eq!(rt; below.place(), 33);
+    assert_eq!(rt; below.offset(), 33);
     assert_eq!(rt; below.steps(), 1);
     let name = ident(alloc, "a", (0, 2, 3))?;
     assert_eq!(rt; below.advance().ok_or("no token")?, name);
@@ -113,8 +113,8 @@ fn siblings_are_skipped(rt: HostRuntime) -> Result<(), Fail> {
     for group in 0..200u32 {
         tokens.push(parentheses(group * 10, 9)?)?;
         tokens.push(parentheses(group * 10 + 1, 8)?)?;
-        for place in 2..10u32 {
-            tokens.push(leaf(alloc, group * 10 + place)?)?;
+        for index in 2..10u32 {
+            tokens.push(leaf(alloc, group * 10 + index)?)?;
         }
     }
     let tree = stored(alloc, tokens.as_slice())?;
@@ -130,6 +130,6 @@ fn siblings_are_skipped(rt: HostRuntime) -> Result<(), Fail> {
     }
     assert!(rt; reader.advance_skip().is_none());
     assert_eq!(rt; reader.steps(), 201);
-    assert_eq!(rt; reader.place(), tree.bytes().len());
+    assert_eq!(rt; reader.offset(), tree.bytes().len());
     Ok(())
 }

@@ -141,8 +141,8 @@ one_span a b p q e =
       ctx = record { 0 = one_number a.ctx.0 b.ctx.0 p.ctx q.ctx ctx i };
     }
 
-pub one_placed : IsOneToOne placed_words PlacedFits
-one_placed (a, x) (b, y) p q e =
+pub one_indexd : IsOneToOne placed_words PlacedFits
+one_indexd (a, x) (b, y) p q e =
     let u = words_same _ _ _ _ _ (spaceless_span a p.0) (spaceless_span b q.0) refl e in
     λ i. (one_span a b p.0 q.0 u.0 i, u.1 i)
 
@@ -150,7 +150,7 @@ pub one_literal : IsOneToOne literal_words (λ literal. LeafFits (leaf.Literal l
 one_literal a b p q e =
     let u = words_same _ _ _ _ _ (spaceless_literal_kind (kind_of a) p.1) (spaceless_literal_kind (kind_of b) q.1) refl e in
     let v = words_same _ _ _ _ _ (spaceless_byte (suffix_len_of a) p.2) (spaceless_byte (suffix_len_of b) q.2) refl u.1 in
-    let w = one_placed (span_of a, symbol_of a) (span_of b, symbol_of b) (p.0, p.3) (q.0, q.3) v.1 in
+    let w = one_indexd (span_of a, symbol_of a) (span_of b, symbol_of b) (p.0, p.3) (q.0, q.3) v.1 in
     same_literal a b (record {
       symbol = ap (λ (placed : Span × List ℕ). placed.1) w;
       span = ap (λ (placed : Span × List ℕ). placed.0) w;
@@ -161,7 +161,7 @@ one_literal a b p q e =
 pub one_ident : IsOneToOne ident_words (λ ident. LeafFits (leaf.Ident ident))
 one_ident a b p q e =
     let u = words_same _ _ _ _ _ (spaceless_rawness a.is_raw) (spaceless_rawness b.is_raw) refl e in
-    let w = one_placed (a.span, a.sym) (b.span, b.sym) p q u.1 in
+    let w = one_indexd (a.span, a.sym) (b.span, b.sym) p q u.1 in
     λ i. record { sym = (w i).1; span = (w i).0; is_raw = one_rawness a.is_raw b.is_raw tt tt u.0 i }
 
 pub one_punct : IsOneToOne punct_words (λ punct. LeafFits (leaf.Punct punct))

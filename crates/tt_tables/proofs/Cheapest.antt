@@ -14,15 +14,15 @@ use Rattle.tt_tables.specs.Tables.{symbol_table}
 use Rattle.tt_tables.specs.Uses.{symbol_uses}
 use Rattle.tt_tables.proofs.Members.{Member}
 use Rattle.tt_tables.proofs.TableOrder.{all_filter, order_map}
-use Rattle.tt_tables.proofs.TableUnique.{member_all, placed_member}
+use Rattle.tt_tables.proofs.TableUnique.{member_all, found_member}
 use Rattle.tt_tables.proofs.TokenTables.{text_sound, text_complete, symbol_table_is}
 
--- A later place weighs no less.
-weight_grows : (place : ℕ) → weight place ≤ weight (suc place)
-weight_grows place = by_tests (nat_lt place 64) refl (nat_lt place 8192) refl (nat_lt (suc place) 64) refl (nat_lt (suc place) 8192) refl
+-- A later index weighs no less.
+weight_grows : (index : ℕ) → weight index ≤ weight (suc index)
+weight_grows index = by_tests (nat_lt index 64) refl (nat_lt index 8192) refl (nat_lt (suc index) 64) refl (nat_lt (suc index) 8192) refl
   where
-    by_tests : (a : Bool) → nat_lt place 64 ≡ a → (b : Bool) → nat_lt place 8192 ≡ b
-        → (c : Bool) → nat_lt (suc place) 64 ≡ c → (d : Bool) → nat_lt (suc place) 8192 ≡ d
+    by_tests : (a : Bool) → nat_lt index 64 ≡ a → (b : Bool) → nat_lt index 8192 ≡ b
+        → (c : Bool) → nat_lt (suc index) 64 ≡ c → (d : Bool) → nat_lt (suc index) 8192 ≡ d
         → cond a 1 (cond b 2 4) ≤ cond c 1 (cond d 2 4)
     by_tests true e b f true g d h = omega arith
     by_tests true e b f false g true h = omega arith
@@ -33,14 +33,14 @@ weight_grows place = by_tests (nat_lt place 64) refl (nat_lt place 8192) refl (n
     by_tests false e false f false g true h = omega (arith, ltb-false _ _ f, ltb-true _ _ h)
     by_tests false e false f false g false h = omega arith
 
--- The first places weigh one.
-weight_first : (place : ℕ) → place < 64 → weight place ≡ 1
-weight_first place few = by_test (nat_lt place 64) refl
+-- The first indices weigh one.
+weight_first : (index : ℕ) → index < 64 → weight index ≡ 1
+weight_first index few = by_test (nat_lt index 64) refl
   where
     one : ℕ
     one = 1
 
-    by_test : (a : Bool) → nat_lt place 64 ≡ a → cond a one (cond (nat_lt place 8192) 2 4) ≡ one
+    by_test : (a : Bool) → nat_lt index 64 ≡ a → cond a one (cond (nat_lt index 8192) 2 4) ≡ one
     by_test true e = refl
     by_test false e = omega (arith, ltb-false _ _ e)
 
@@ -161,55 +161,55 @@ module _ {X : Type 0} (same : X → X → Bool) (sound : (x y : X) → same x y 
 
   -- ---- costs
 
-  module _ (uses : List X) (places : ℕ) where
-    -- at two places next to each other it costs no more to have x before y
+  module _ (uses : List X) (indices : ℕ) where
+    -- at two indices next to each other it costs no more to have x before y
     abbrev GoesFirst : X → X → Type 0
-    GoesFirst x y = (place : ℕ) → suc place < places
-        → weight place * uses_of same uses x + weight (suc place) * uses_of same uses y
-        ≤ weight place * uses_of same uses y + weight (suc place) * uses_of same uses x
+    GoesFirst x y = (index : ℕ) → suc index < indices
+        → weight index * uses_of same uses x + weight (suc index) * uses_of same uses y
+        ≤ weight index * uses_of same uses y + weight (suc index) * uses_of same uses x
 
     -- It costs no more to have x first, where it goes before all others.
-    to_front : (place : ℕ) (x : X) (ys : List X) → place + length ys ≤ places → IsDistinct same ys → Member x ys
+    to_front : (index : ℕ) (x : X) (ys : List X) → index + length ys ≤ indices → IsDistinct same ys → Member x ys
         → ((y : X) → Member y ys → same x y ≡ false → GoesFirst x y)
-        → weight place * uses_of same uses x + cost_from same (suc place) uses (without x ys) ≤ cost_from same place uses ys
+        → weight index * uses_of same uses x + cost_from same (suc index) uses (without x ys) ≤ cost_from same index uses ys
     unfolding IsDistinct
-    to_front place x [] few h m first = absurd m
-    to_front place x (y ∷ ys) few h m first =
-        by_test (same x y) refl m (λ k. to_front (suc place) x ys (omega (arith, few)) h.1 k (λ z n. first z (inr n)))
+    to_front index x [] few h m first = absurd m
+    to_front index x (y ∷ ys) few h m first =
+        by_test (same x y) refl m (λ k. to_front (suc index) x ys (omega (arith, few)) h.1 k (λ z n. first z (inr n)))
       where
         by_test : (t : Bool) → same x y ≡ t → (x ≡ y) ⊎ Member x ys
             → (Member x ys
-            → weight (suc place) * uses_of same uses x + cost_from same (suc (suc place)) uses (without x ys) ≤ cost_from same (suc place) uses ys)
-            → weight place * uses_of same uses x + cost_from same (suc place) uses (without x (y ∷ ys))
-            ≤ weight place * uses_of same uses y + cost_from same (suc place) uses ys
+            → weight (suc index) * uses_of same uses x + cost_from same (suc (suc index)) uses (without x ys) ≤ cost_from same (suc index) uses ys)
+            → weight index * uses_of same uses x + cost_from same (suc index) uses (without x (y ∷ ys))
+            ≤ weight index * uses_of same uses y + cost_from same (suc index) uses ys
         by_test true e k later =
             omega (
               arith,
-              ap (λ z. weight place * uses_of same uses z) (sound x y e),
-              ap (cost_from same (suc place) uses) (without_first x y ys e h.0),
+              ap (λ z. weight index * uses_of same uses z) (sound x y e),
+              ap (cost_from same (suc index) uses) (without_first x y ys e h.0),
             )
         by_test false e (inl f) later = absurd (true≢false (sym (ap (same x) (sym f) ∙ complete x) ∙ e))
         by_test false e (inr k) later =
             omega (
               arith,
-              first y (inl refl) e place room,
+              first y (inl refl) e index room,
               later k,
-              ap (cost_from same (suc place) uses) (without_later x y ys e),
+              ap (cost_from same (suc index) uses) (without_later x y ys e),
             )
           where
-            room : suc place < places
+            room : suc index < indices
             room = omega (arith, few, length-without x ys h.1 k)
 
     -- A list in which each goes before all that follow costs no more than another of the same values.
-    cheapest_in_order : (place : ℕ) (xs ys : List X) → place + length xs ≤ places → IsInOrder same GoesFirst xs
-        → IsDistinct same xs → IsDistinct same ys → HoldSame xs ys → cost_from same place uses xs ≤ cost_from same place uses ys
+    cheapest_in_order : (index : ℕ) (xs ys : List X) → index + length xs ≤ indices → IsInOrder same GoesFirst xs
+        → IsDistinct same xs → IsDistinct same ys → HoldSame xs ys → cost_from same index uses xs ≤ cost_from same index uses ys
     unfolding IsDistinct
-    cheapest_in_order place [] ys few first h k s = omega arith
-    cheapest_in_order place (x ∷ xs) ys few first h k s =
+    cheapest_in_order index [] ys few first h k s = omega arith
+    cheapest_in_order index (x ∷ xs) ys few first h k s =
         omega (
           arith,
-          to_front place x ys (omega (arith, few, length-same (x ∷ xs) ys h k s)) k (s.there x (inl refl)) (λ y m n. goes y n (s.back y m)),
-          cheapest_in_order (suc place) xs (without x ys) (omega (arith, few)) first.1 h.1 (distinct_without x ys k) (rest_same x xs ys h s),
+          to_front index x ys (omega (arith, few, length-same (x ∷ xs) ys h k s)) k (s.there x (inl refl)) (λ y m n. goes y n (s.back y m)),
+          cheapest_in_order (suc index) xs (without x ys) (omega (arith, few)) first.1 h.1 (distinct_without x ys k) (rest_same x xs ys h s),
         )
       where
         goes : (y : X) → same x y ≡ false → (y ≡ x) ⊎ Member y xs → GoesFirst x y
@@ -230,48 +230,48 @@ module _ {X : Type 0} (same : X → X → Bool) (sound : (x y : X) → same x y 
   uses_further x uses y = sum_by-cons (λ z. cond (same y z) 1 0) x uses
 
   -- It costs nothing in an order without the value.
-  cost_stays : (place : ℕ) (x : X) (uses order : List X) → AllByRecursion (λ y. same x y ≡ false) order
-      → cost_from same place (x ∷ uses) order ≡ cost_from same place uses order
-  cost_stays place x uses [] h = refl
-  cost_stays place x uses (y ∷ order) h =
-      ap (λ n. weight place * n + cost_from same (suc place) (x ∷ uses) order) count
-      ∙ ap (λ n. weight place * uses_of same uses y + n) (cost_stays (suc place) x uses order h.1)
+  cost_stays : (index : ℕ) (x : X) (uses order : List X) → AllByRecursion (λ y. same x y ≡ false) order
+      → cost_from same index (x ∷ uses) order ≡ cost_from same index uses order
+  cost_stays index x uses [] h = refl
+  cost_stays index x uses (y ∷ order) h =
+      ap (λ n. weight index * n + cost_from same (suc index) (x ∷ uses) order) count
+      ∙ ap (λ n. weight index * uses_of same uses y + n) (cost_stays (suc index) x uses order h.1)
     where
       count : uses_of same (x ∷ uses) y ≡ uses_of same uses y
       count = uses_further x uses y ∙ ap (λ t. cond t 1 0 + uses_of same uses y) (same_no_back x y h.0) ∙ omega arith
 
-  -- It costs the weight of the value's place.
-  cost_grows : (place : ℕ) (x : X) (uses order : List X) → IsDistinct same order → IsIn same order x
-      → cost_from same place (x ∷ uses) order ≡ weight (place + index_in (same x) order) + cost_from same place uses order
+  -- It costs the weight of the value's index.
+  cost_grows : (index : ℕ) (x : X) (uses order : List X) → IsDistinct same order → IsIn same order x
+      → cost_from same index (x ∷ uses) order ≡ weight (index + index_in (same x) order) + cost_from same index uses order
   unfolding IsDistinct
-  cost_grows place x uses [] h m = absurd (omega (arith, m))
-  cost_grows place x uses (y ∷ order) h m = by_test (same x y) refl m (cost_grows (suc place) x uses order h.1)
+  cost_grows index x uses [] h m = absurd (omega (arith, m))
+  cost_grows index x uses (y ∷ order) h m = by_test (same x y) refl m (cost_grows (suc index) x uses order h.1)
     where
       here : ℕ
       here = index_in (same x) order
 
       by_test : (t : Bool) → same x y ≡ t → cond t 0 (suc here) < suc (length order)
-          → (here < length order → cost_from same (suc place) (x ∷ uses) order ≡ weight (suc place + here) + cost_from same (suc place) uses order)
-          → weight place * uses_of same (x ∷ uses) y + cost_from same (suc place) (x ∷ uses) order
-          ≡ weight (place + cond t 0 (suc here)) + (weight place * uses_of same uses y + cost_from same (suc place) uses order)
+          → (here < length order → cost_from same (suc index) (x ∷ uses) order ≡ weight (suc index + here) + cost_from same (suc index) uses order)
+          → weight index * uses_of same (x ∷ uses) y + cost_from same (suc index) (x ∷ uses) order
+          ≡ weight (index + cond t 0 (suc here)) + (weight index * uses_of same uses y + cost_from same (suc index) uses order)
       by_test true e k later =
           omega (
             arith,
-            ap (λ n. weight place * n) (uses_further x uses y ∙ ap (λ t. cond t 1 0 + uses_of same uses y) (ap (λ z. same z x) (sym (sound x y e)) ∙ complete x)),
-            cost_stays (suc place) x uses order (subst (λ z. AllByRecursion (λ v. same z v ≡ false) order) (sym (sound x y e)) h.0),
-            ap weight (add-zero place),
+            ap (λ n. weight index * n) (uses_further x uses y ∙ ap (λ t. cond t 1 0 + uses_of same uses y) (ap (λ z. same z x) (sym (sound x y e)) ∙ complete x)),
+            cost_stays (suc index) x uses order (subst (λ z. AllByRecursion (λ v. same z v ≡ false) order) (sym (sound x y e)) h.0),
+            ap weight (add-zero index),
           )
       by_test false e k later =
           omega (
             arith,
-            ap (λ n. weight place * n) (uses_further x uses y ∙ ap (λ t. cond t 1 0 + uses_of same uses y) (same_no_back x y e)),
+            ap (λ n. weight index * n) (uses_further x uses y ∙ ap (λ t. cond t 1 0 + uses_of same uses y) (same_no_back x y e)),
             later (omega (arith, k)),
-            ap weight (let moved : place + suc here ≡ suc place + here = omega arith in moved),
+            ap weight (let moved : index + suc here ≡ suc index + here = omega arith in moved),
           )
 
-  cost_none : (place : ℕ) (order : List X) → cost_from same place [] order ≡ 0
-  cost_none place [] = refl
-  cost_none place (y ∷ order) = omega (arith, cost_none (suc place) order)
+  cost_none : (index : ℕ) (order : List X) → cost_from same index [] order ≡ 0
+  cost_none index [] = refl
+  cost_none index (y ∷ order) = omega (arith, cost_none (suc index) order)
 
   -- An order costs what the references of all uses weigh.
   pub cost_of_uses : (uses order : List X) → AllByRecursion (IsIn same order) uses → IsDistinct same order
@@ -315,20 +315,20 @@ module _ {X : Type 0} (same : X → X → Bool) (sound : (x y : X) → same x y 
 
   -- Of two values, the one that stands before the other in the table goes first.
   before_goes_first : (count : ℕ) (uses : List X) (x y : X) → Before same 63 count uses x y → GoesFirst uses count x y
-  before_goes_first count uses x y h place room = by_length (nat_le count 63) refl
+  before_goes_first count uses x y h index room = by_length (nat_le count 63) refl
     where
       no_less : IsMoreUsed same uses x y → uses_of same uses y ≤ uses_of same uses x
       no_less (inl k) = omega (arith, k)
       no_less (inr k) = omega (arith, k.0)
 
       by_length : (few : Bool) → nat_le count 63 ≡ few
-          → weight place * uses_of same uses x + weight (suc place) * uses_of same uses y
-          ≤ weight place * uses_of same uses y + weight (suc place) * uses_of same uses x
+          → weight index * uses_of same uses x + weight (suc index) * uses_of same uses y
+          ≤ weight index * uses_of same uses y + weight (suc index) * uses_of same uses x
       by_length true e =
-          let here : weight place ≡ 1 = weight_first place (omega (arith, room, leb-true _ _ e)) in
-          let next : weight (suc place) ≡ 1 = weight_first (suc place) (omega (arith, room, leb-true _ _ e)) in
+          let here : weight index ≡ 1 = weight_first index (omega (arith, room, leb-true _ _ e)) in
+          let next : weight (suc index) ≡ 1 = weight_first (suc index) (omega (arith, room, leb-true _ _ e)) in
           rw (here, next) (omega arith)
-      by_length false e = exchange (weight place) (weight (suc place)) (uses_of same uses y) (uses_of same uses x) (weight_grows place) (no_less (h.1 (leb-false _ _ e)))
+      by_length false e = exchange (weight index) (weight (suc index)) (uses_of same uses y) (uses_of same uses x) (weight_grows index) (no_less (h.1 (leb-false _ _ e)))
 
   -- A table is an order of the values used.
   table_order : (uses table : List X) → IsTable same 63 uses table → IsOrderOf same uses table
@@ -346,8 +346,8 @@ module _ {X : Type 0} (same : X → X → Bool) (sound : (x y : X) → same x y 
     where
       carried : (one two : List X) → AllByRecursion (IsIn same uses) one → AllByRecursion (IsIn same two) uses → (z : X) → Member z one → Member z two
       carried one two h k z m =
-          placed_member same sound complete z two
-          (member_all (IsIn same two) uses k z (placed_member same sound complete z uses (member_all (IsIn same uses) one h z m)))
+          found_member same sound complete z two
+          (member_all (IsIn same two) uses k z (found_member same sound complete z uses (member_all (IsIn same uses) one h z m)))
 
   -- No order costs less than the table.
   pub table_cheapest : (uses table : List X) → IsTable same 63 uses table → IsCheapest same uses table
@@ -364,7 +364,7 @@ module _ {X : Type 0} (same : X → X → Bool) (sound : (x y : X) → same x y 
       least other k =
           cheapest_in_order uses (length table) 0 table other (omega arith) goes_first order.once k.once (orders_same uses table other order k)
 
--- A reference takes as many bytes as its place weighs.
+-- A reference takes as many bytes as its index weighs.
 pub reference_weight : (index tag : ℕ) → length (reference_bytes index tag) ≡ weight index
 unfolding reference_bytes
 reference_weight index tag = by_tests (nat_lt index 64) (nat_lt index 8192)

@@ -1,4 +1,4 @@
--- What places and orders cost at the limits, beside numbers that were worked out by hand.
+-- What indices and orders cost at the limits, beside numbers that were worked out by hand.
 use Rattle.std.proofs.Common.{◌≡◌, ℕ, List, [], ◌∷◌, ◌++◌, nat_eq, refl, lit<, not-le_of_lt}
 use Rattle.std.specs.List.{range_with_len}
 use Rattle.std.proofs.lemmas.Bool.{eqb-true, eq-eqb}
@@ -14,7 +14,7 @@ weights = (refl, refl, refl, refl, refl)
 abbrev used : (n last : ℕ) → List ℕ
 used n last = range_with_len 0 n ++ last ∷ []
 
--- The 65th place weighs two, and the 8,193rd four. A value used twice does best in front of them.
+-- The 65th index weighs two, and the 8,193rd four. A value used twice does best in front of them.
 costs : (cost nat_eq (used 63 62) (range_with_len 0 63) ≡ 64)
     × (cost nat_eq (used 64 63) (63 ∷ range_with_len 0 63) ≡ 65)
     × (cost nat_eq (used 65 64) (64 ∷ range_with_len 0 64) ≡ 67)

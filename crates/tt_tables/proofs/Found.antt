@@ -25,7 +25,7 @@ leaf_in_range (leaf.Literal it) range = range
 leaf_in_range (leaf.Punct it) range = range.0
 leaf_in_range (leaf.Ident it) range = range
 
--- A span that was made of what a place names is the span that it names.
+-- A span that was made of what numbers name is the span that they name.
 pub span_made : (tables : Tables) (numbers : SpanNumbers) (part : SpanPart) (range : TextRange) (span : Span)
     → slice_get tables.parts numbers.part ≡ Some part → start_of range ≡ numbers.start → end_of range ≡ numbers.start + numbers.length
     → FindsSpan tables numbers span → span_in part range ≡ span

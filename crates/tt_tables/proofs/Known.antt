@@ -3,9 +3,8 @@ use Rattle.std.proofs.Common.{bytes_eq, List, [], ◌∷◌, ◌++◌}
 use Rattle.std.specs.List.{AllByRecursion}
 use Rattle.tt_base.specs.declared.token_tree.TokenTree.{TokenTree}
 use Rattle.tt_base.specs.Forest.{Forest, flat}
-use Rattle.tt_tables.specs.Stored.{tables_below}
 use Rattle.tt_tables.specs.TableOrder.{IsIn}
-use Rattle.tt_tables.specs.Tables.{Tables, Knows}
+use Rattle.tt_tables.specs.Tables.{Tables, Knows, tables_for}
 use Rattle.tt_tables.specs.Uses.{same_part, token_parts, token_symbols, part_uses, symbol_uses}
 use Rattle.tt_tables.proofs.TokenTables.{part_table_is, symbol_table_is}
 
@@ -29,6 +28,6 @@ all_known tables (it ∷ tokens) parts symbols =
     (record { parts = part; symbols = symbol }, all_known tables tokens parts_behind symbols_behind)
 
 -- The tables of trees have all that their tokens use.
-pub tables_below_know : (trees : Forest) → AllByRecursion (Knows (tables_below trees)) (flat trees)
-tables_below_know trees =
-    all_known (tables_below trees) (flat trees) (part_table_is (flat trees)).has_all (symbol_table_is (flat trees)).has_all
+pub tables_for_know_trees : (trees : Forest) → AllByRecursion (Knows (tables_for (flat trees))) (flat trees)
+tables_for_know_trees trees =
+    all_known (tables_for (flat trees)) (flat trees) (part_table_is (flat trees)).has_all (symbol_table_is (flat trees)).has_all

@@ -7,7 +7,7 @@ use Rattle.tt_base.specs.declared.token_tree.TokenTree.TheVariants as token
 use Rattle.tt_codec.specs.declared.entry.Entry.{Entry}
 use Rattle.tt_codec.specs.declared.entry.Entry.TheVariants.{Leaf as of_leaf, Header as of_header}
 use Rattle.tt_codec.specs.Entry.{entry_bytes}
-use Rattle.tt_base.specs.Forest.{Forest, end, leaf, node, Root, size, header}
+use Rattle.tt_base.specs.Forest.{Forest, end, leaf, node, Root, size, header, flat}
 use Rattle.tt_codec.specs.declared.entry.HeaderEntry.{HeaderEntry}
 use Rattle.tt_codec.specs.Header.{format_1, format_2, format_3, format_4, has_format_1, has_format_2, has_format_3, header_bytes, top_entry}
 use Rattle.tt_codec.specs.declared.entry.LeafEntry.TheVariants.{Punct as punct, Ident as ident, Literal as literal}
@@ -16,8 +16,8 @@ use Rattle.tt_codec.specs.Leaf.{form_of, long_form, literal_form}
 use Rattle.tt_codec.specs.Reference.{reference_bytes}
 use Rattle.tt_codec.specs.declared.span.SpanNumbers.{SpanNumbers}
 use Rattle.tt_codec.specs.SpanNumbers.{fits_one_word, fits_two_words, light_span, middle_span, heavy_span, span_bytes, word}
-use Rattle.tt_tables.specs.Stored.{bytes, tables_below, bytes_below, packed}
-use Rattle.tt_tables.specs.Tables.{Tables, entry_of, token_bytes}
+use Rattle.tt_tables.specs.Stored.{bytes, bytes_below, packed}
+use Rattle.tt_tables.specs.Tables.{Tables, entry_of, token_bytes, tables_for}
 
 -- so many bytes
 abbrev pub IsBetween : (low high : ℕ) → List ℕ → Type 0
@@ -34,11 +34,11 @@ wider : (a b : ℕ) (xs : List ℕ) → 5 ≤ a → b ≤ 33 → IsBetween a b x
 wider a b xs h k p = (omega arith, omega arith)
 
 -- A span takes one to three words.
-pub span_length : (extra : ℕ) (place : SpanNumbers) → IsBetween 4 12 (span_bytes false extra place)
+pub span_length : (extra : ℕ) (numbers : SpanNumbers) → IsBetween 4 12 (span_bytes false extra numbers)
 unfolding span_bytes
-span_length extra place =
-    either 4 12 (fits_one_word place) (light_span extra place) _ (lit≤ tt, lit≤ tt)
-    (either 4 12 (fits_two_words place) (middle_span extra place) (heavy_span extra place) (lit≤ tt, lit≤ tt) (lit≤ tt, lit≤ tt))
+span_length extra numbers =
+    either 4 12 (fits_one_word numbers) (light_span extra numbers) _ (lit≤ tt, lit≤ tt)
+    (either 4 12 (fits_two_words numbers) (middle_span extra numbers) (heavy_span extra numbers) (lit≤ tt, lit≤ tt) (lit≤ tt, lit≤ tt))
 
 -- A reference takes one to four bytes.
 pub reference_length : (index tag : ℕ) → IsBetween 1 4 (reference_bytes index tag)
@@ -136,7 +136,7 @@ bytes_length tables (node delimiter children rest) =
 pub packed_length : (root : Root) → IsBetween (33 + 5 * size root.children) (33 * suc (size root.children)) (packed root).bytes
 unfolding packed
 packed_length root =
-    let top : HeaderEntry = top_entry (length (tables_below root.children).parts) root.delimiter (size root.children) (length (bytes_below root.children)) in
+    let top : HeaderEntry = top_entry (length (tables_for (flat root.children)).parts) root.delimiter (size root.children) (length (bytes_below root.children)) in
     let (low, high) =
-    both 33 33 _ _ (format_4 true top) (bytes_below root.children) (omega (arith, heavy_length top), omega (arith, heavy_length top)) (bytes_length (tables_below root.children) root.children) in
+    both 33 33 _ _ (format_4 true top) (bytes_below root.children) (omega (arith, heavy_length top), omega (arith, heavy_length top)) (bytes_length (tables_for (flat root.children)) root.children) in
     (omega arith, omega arith)

@@ -1,11 +1,12 @@
 pub mod Ahead
 pub mod Cheapest
 mod CostRows
-pub mod Decoding
+pub mod Finding
 pub mod Found
 pub mod HeaderFirst
 pub mod Known
 pub mod Lengths
+pub mod Limits
 pub mod Lookups
 pub mod Members
 pub mod Naming
@@ -14,6 +15,7 @@ pub mod Shortest
 mod ShortestRows
 pub mod StoredAlike
 mod StoredRows
+pub mod StoredTables
 pub mod TableOrder
 mod TableRows
 pub mod TableUnique

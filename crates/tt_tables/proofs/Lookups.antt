@@ -19,7 +19,7 @@ use Rattle.tt_tables.specs.Uses.{same_part}
 use Rattle.tt_base.proofs.Ranges.{same_range}
 use Rattle.tt_tables.proofs.TokenTables.{part_sound, text_sound}
 
--- A place found in a list is the same where more follows.
+-- A index found in a list is the same where more follows.
 pub index_in-more : {X : Type 0} (test : X → Bool) (xs ys : List X) → index_in test xs < length xs → index_in test (xs ++ ys) ≡ index_in test xs
 index_in-more test [] ys found = absurd (none found)
   where
@@ -33,14 +33,14 @@ index_in-more test (x ∷ xs) ys found = by_test (test x) found (index_in-more t
     by_test true found later = refl
     by_test false found later = ap suc (later (omega arith))
 
--- Two tests that find one place both pass the value there.
-pub same_place : {X : Type 0} (f g : X → Bool) (xs : List X) → index_in f xs < length xs → index_in f xs ≡ index_in g xs
+-- Two tests that find one index both pass the value there.
+pub same_index : {X : Type 0} (f g : X → Bool) (xs : List X) → index_in f xs < length xs → index_in f xs ≡ index_in g xs
     → (x : X) × (f x ≡ true) × (g x ≡ true)
-same_place f g [] found e = absurd (none found)
+same_index f g [] found e = absurd (none found)
   where
     none : 0 < 0 → ⊥
     none h = omega arith
-same_place f g (x ∷ xs) found e = by_tests (f x) refl (g x) refl (same_place f g xs) found e
+same_index f g (x ∷ xs) found e = by_tests (f x) refl (g x) refl (same_index f g xs) found e
   where
     by_tests : (a : Bool) → f x ≡ a → (b : Bool) → g x ≡ b
         → (index_in f xs < length xs → index_in f xs ≡ index_in g xs → (y : _) × (f y ≡ true) × (g y ≡ true))
@@ -51,16 +51,16 @@ same_place f g (x ∷ xs) found e = by_tests (f x) refl (g x) refl (same_place f
     by_tests false p true q later found e = cc
     by_tests false p false q later found e = later (omega arith) (omega arith)
 
--- Parts at one place are equal.
+-- Parts at one index are equal.
 pub part_is : (parts : List SpanPart) (a b : SpanPart) → IsIn same_part parts a → index_in (same_part a) parts ≡ index_in (same_part b) parts → a ≡ b
 part_is parts a b found e =
-    let (x, p, q) = same_place (same_part a) (same_part b) parts found e in
+    let (x, p, q) = same_index (same_part a) (same_part b) parts found e in
     part_sound a x p ∙ sym (part_sound b x q)
 
--- Symbols at one place are equal.
+-- Symbols at one index are equal.
 pub symbol_is : (symbols : List (List ℕ)) (a b : List ℕ) → IsIn bytes_eq symbols a → index_in (bytes_eq a) symbols ≡ index_in (bytes_eq b) symbols → a ≡ b
 symbol_is symbols a b found e =
-    let (x, p, q) = same_place (bytes_eq a) (bytes_eq b) symbols found e in
+    let (x, p, q) = same_index (bytes_eq a) (bytes_eq b) symbols found e in
     text_sound a x p ∙ sym (text_sound b x q)
 
 -- Spans of one part that start alike and are as long are equal.
@@ -71,7 +71,7 @@ span_from a b part start long = λ i. record { range = range i; anchor = (part i
     range : a.range ≡ b.range
     range = same_range a.range b.range start (omega (arith, start, long, a.range.ordered, b.range.ordered))
 
--- Spans at one place are equal.
+-- Spans at one index are equal.
 pub span_is : (tables : Tables) (a b : Span) → IsIn same_part tables.parts (part_of a) → numbers_of_span tables a ≡ numbers_of_span tables b → a ≡ b
 span_is tables a b found e =
     span_from a b (part_is tables.parts (part_of a) (part_of b) found (ap (λ p. p.part) e)) (ap (λ p. p.start) e) (ap (λ p. p.length) e)

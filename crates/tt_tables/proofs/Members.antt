@@ -10,13 +10,13 @@ Member x (y ∷ ys) = (x ≡ y) ⊎ Member x ys
 
 -- `same` tells whether two values are equal
 module _ {X : Type 0} (same : X → X → Bool) (sound : (x y : X) → same x y ≡ true → x ≡ y) (complete : (x : X) → same x x ≡ true) where
-  pub member_placed : (x : X) (xs : List X) → Member x xs → index_in (same x) xs < length xs
-  member_placed x [] h = absurd h
-  member_placed x (y ∷ ys) (inl e) = at_head
+  pub member_found : (x : X) (xs : List X) → Member x xs → index_in (same x) xs < length xs
+  member_found x [] h = absurd h
+  member_found x (y ∷ ys) (inl e) = at_head
     where
       at_head : index_in (same x) (y ∷ ys) < suc (length ys)
       at_head = rw (ap (same x) (sym e) ∙ complete x) (omega arith)
-  member_placed x (y ∷ ys) (inr h) = by_test (same x y) (member_placed x ys h)
+  member_found x (y ∷ ys) (inr h) = by_test (same x y) (member_found x ys h)
     where
       by_test : (t : Bool) → index_in (same x) ys < length ys → cond t 0 (suc (index_in (same x) ys)) < suc (length ys)
       by_test true h = omega arith
@@ -65,6 +65,6 @@ module _ {X : Type 0} (same : X → X → Bool) (sound : (x y : X) → same x y 
       by_test false = member-falling (uses_of same uses) x (different same uses) (member-different x uses h)
 
   -- All of one list are in another, where each of its values is one of the other.
-  pub all_placed : (xs values : List X) → ((x : X) → Member x xs → Member x values) → AllByRecursion (λ x. index_in (same x) values < length values) xs
-  all_placed [] values h = tt
-  all_placed (x ∷ xs) values h = (member_placed x values (h x (inl refl)), all_placed xs values (λ y m. h y (inr m)))
+  pub all_found : (xs values : List X) → ((x : X) → Member x xs → Member x values) → AllByRecursion (λ x. index_in (same x) values < length values) xs
+  all_found [] values h = tt
+  all_found (x ∷ xs) values h = (member_found x values (h x (inl refl)), all_found xs values (λ y m. h y (inr m)))

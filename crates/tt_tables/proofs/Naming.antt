@@ -32,25 +32,25 @@ use Rattle.tt_tables.proofs.Lookups.{index_in-more}
 
 -- ---- numbers that can be written
 
-place_fits : (tables : Tables) (span : Span) → length tables.parts ≤ 2 ^ 28 → IsIn same_part tables.parts (part_of span) → SpanInRange span → SpanFits (numbers_of_span tables span)
-place_fits tables span few found range = record { part = omega arith; start = range.0; length = omega (arith, range.1) }
+numbers_fit : (tables : Tables) (span : Span) → length tables.parts ≤ 2 ^ 28 → IsIn same_part tables.parts (part_of span) → SpanInRange span → SpanFits (numbers_of_span tables span)
+numbers_fit tables span few found range = record { part = omega arith; start = range.0; length = omega (arith, range.1) }
 
 -- A leaf's numbers can be written.
 pub leaf_fits : (tables : Tables) (it : Leaf) → length tables.parts ≤ 2 ^ 28 → length tables.symbols ≤ 2 ^ 29
     → Knows tables (token.Leaf it) → LeafInRange it → LeafEntryFits (leaf_entry tables it)
 leaf_fits tables (one.Literal it) few few_symbols knows range =
-    (omega (arith, knows.symbols.0), place_fits tables it.span few knows.parts.0 range)
-leaf_fits tables (one.Punct it) few few_symbols knows range = (range.1, place_fits tables it.span few knows.parts.0 range.0)
+    (omega (arith, knows.symbols.0), numbers_fit tables it.span few knows.parts.0 range)
+leaf_fits tables (one.Punct it) few few_symbols knows range = (range.1, numbers_fit tables it.span few knows.parts.0 range.0)
 leaf_fits tables (one.Ident it) few few_symbols knows range =
-    (omega (arith, knows.symbols.0), place_fits tables it.span few knows.parts.0 range)
+    (omega (arith, knows.symbols.0), numbers_fit tables it.span few knows.parts.0 range)
 
 -- A header's numbers can be written, where it holds few tokens and bytes.
-pub header_fits : (tables : Tables) (it : Subtree) (held : ℕ) → length tables.parts ≤ 2 ^ 28 → Knows tables (token.Subtree it)
-    → TokenInRange (token.Subtree it) → it.len < 2 ^ 32 → held < 2 ^ 32 → HeaderFits (header_entry tables it held)
-header_fits tables it held few knows range tokens small =
+pub header_fits : (tables : Tables) (it : Subtree) (child_bytes : ℕ) → length tables.parts ≤ 2 ^ 28 → Knows tables (token.Subtree it)
+    → TokenInRange (token.Subtree it) → it.len < 2 ^ 32 → child_bytes < 2 ^ 32 → HeaderFits (header_entry tables it child_bytes)
+header_fits tables it child_bytes few knows range tokens small =
     record {
-      opening = place_fits tables it.delimiter.open_span few knows.parts.0 range.0;
-      closing = place_fits tables it.delimiter.close few knows.parts.1.0 range.1;
+      opening = numbers_fit tables it.delimiter.open_span few knows.parts.0 range.0;
+      closing = numbers_fit tables it.delimiter.close few knows.parts.1.0 range.1;
       len = tokens;
       child_bytes = small;
     }
@@ -155,8 +155,8 @@ module _ (tables : Tables) (parts : List SpanPart) (symbols : List (List ℕ)) w
   abbrev larger : Tables
   larger = with_more tables parts symbols
 
-  place-more : (span : Span) → IsIn same_part tables.parts (part_of span) → numbers_of_span larger span ≡ numbers_of_span tables span
-  place-more span found =
+  numbers-more : (span : Span) → IsIn same_part tables.parts (part_of span) → numbers_of_span larger span ≡ numbers_of_span tables span
+  numbers-more span found =
       λ i. record {
         part = index_in-more (same_part (part_of span)) tables.parts parts found i;
         start = start_of span.range;
@@ -164,17 +164,17 @@ module _ (tables : Tables) (parts : List SpanPart) (symbols : List (List ℕ)) w
       }
 
   -- A known token has the same numbers.
-  pub entry_of-more : (it : TokenTree) (held : ℕ) → Knows tables it → entry_of larger it held ≡ entry_of tables it held
-  entry_of-more (token.Leaf (one.Literal it)) held knows =
-      ap₂ (λ symbol place. of_leaf (literal symbol it.kind it.suffix_len place))
-      (index_in-more (bytes_eq it.symbol) tables.symbols symbols knows.symbols.0) (place-more it.span knows.parts.0)
-  entry_of-more (token.Leaf (one.Punct it)) held knows = ap (λ place. of_leaf (punct it.char it.spacing place)) (place-more it.span knows.parts.0)
-  entry_of-more (token.Leaf (one.Ident it)) held knows =
-      ap₂ (λ symbol place. of_leaf (ident symbol it.is_raw place))
-      (index_in-more (bytes_eq it.sym) tables.symbols symbols knows.symbols.0) (place-more it.span knows.parts.0)
-  entry_of-more (token.Subtree it) held knows =
-      ap₂ (λ opening closing. of_header (record { opening = opening; closing = closing; kind = it.delimiter.kind; len = it.len; child_bytes = held }))
-      (place-more it.delimiter.open_span knows.parts.0) (place-more it.delimiter.close knows.parts.1.0)
+  pub entry_of-more : (it : TokenTree) (child_bytes : ℕ) → Knows tables it → entry_of larger it child_bytes ≡ entry_of tables it child_bytes
+  entry_of-more (token.Leaf (one.Literal it)) child_bytes knows =
+      ap₂ (λ symbol numbers. of_leaf (literal symbol it.kind it.suffix_len numbers))
+      (index_in-more (bytes_eq it.symbol) tables.symbols symbols knows.symbols.0) (numbers-more it.span knows.parts.0)
+  entry_of-more (token.Leaf (one.Punct it)) child_bytes knows = ap (λ numbers. of_leaf (punct it.char it.spacing numbers)) (numbers-more it.span knows.parts.0)
+  entry_of-more (token.Leaf (one.Ident it)) child_bytes knows =
+      ap₂ (λ symbol numbers. of_leaf (ident symbol it.is_raw numbers))
+      (index_in-more (bytes_eq it.sym) tables.symbols symbols knows.symbols.0) (numbers-more it.span knows.parts.0)
+  entry_of-more (token.Subtree it) child_bytes knows =
+      ap₂ (λ opening closing. of_header (record { opening = opening; closing = closing; kind = it.delimiter.kind; len = it.len; child_bytes = child_bytes }))
+      (numbers-more it.delimiter.open_span knows.parts.0) (numbers-more it.delimiter.close knows.parts.1.0)
 
   -- Known trees have the same bytes.
   pub bytes-more : (trees : Forest) → AllByRecursion (Knows tables) (flat trees) → bytes larger trees ≡ bytes tables trees

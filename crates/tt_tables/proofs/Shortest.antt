@@ -5,15 +5,15 @@ use Rattle.std.proofs.lemmas.Bool.{true≢false}
 use Rattle.tt_codec.specs.declared.entry.Entry.{Entry}
 use Rattle.tt_codec.specs.declared.entry.Entry.TheVariants.{Leaf as of_leaf, Header as of_header}
 use Rattle.tt_codec.specs.Entry.{entry_bytes}
-use Rattle.tt_base.specs.Forest.{Forest, end, leaf, node, Root, size, header}
+use Rattle.tt_base.specs.Forest.{Forest, end, leaf, node, Root, size, header, flat}
 use Rattle.tt_codec.specs.declared.entry.HeaderEntry.{HeaderEntry}
 use Rattle.tt_codec.specs.Kinds.{delimiter_number}
 use Rattle.tt_codec.specs.Header.{distance, has_format_1, has_format_2, has_format_3, format_1, format_2, format_3, format_4, header_bytes, top_entry}
 use Rattle.tt_tables.specs.Shortest.{CanHold, IsShortest, IsShortestToken, HasShortestHeaders}
 use Rattle.tt_codec.specs.declared.span.SpanNumbers.{SpanNumbers}
 use Rattle.tt_codec.specs.SpanNumbers.{part_rest, length_rest, start_rest, fits_one_word, fits_two_words, light_span, middle_span, heavy_span, span_bytes, word}
-use Rattle.tt_tables.specs.Stored.{bytes, tables_below, bytes_below, packed}
-use Rattle.tt_tables.specs.Tables.{Tables, entry_of, token_bytes}
+use Rattle.tt_tables.specs.Stored.{bytes, bytes_below, packed}
+use Rattle.tt_tables.specs.Tables.{Tables, entry_of, token_bytes, tables_for}
 use Rattle.tt_codec.proofs.HeaderReading.{format_1_facts}
 use Rattle.tt_tables.proofs.Lengths.{heavy_length}
 
@@ -22,11 +22,11 @@ abbrev span_count : (part length start : ℕ) → ℕ
 span_count part length start =
     cond (part == 0 && length == 0 && start == 0) 4 (cond (nat_le part 2047 && nat_le length 1023 && nat_le start 1023) 8 12)
 
-span_counted : (place : SpanNumbers) → length (span_bytes false 0 place) ≡ span_count (part_rest place) (length_rest place) (start_rest place)
+span_counted : (numbers : SpanNumbers) → length (span_bytes false 0 numbers) ≡ span_count (part_rest numbers) (length_rest numbers) (start_rest numbers)
 unfolding span_bytes
-span_counted place = by_form (fits_one_word place) (fits_two_words place)
+span_counted numbers = by_form (fits_one_word numbers) (fits_two_words numbers)
   where
-    by_form : (one two : Bool) → length (cond one (light_span 0 place) (cond two (middle_span 0 place) (heavy_span 0 place))) ≡ cond one 4 (cond two 8 12)
+    by_form : (one two : Bool) → length (cond one (light_span 0 numbers) (cond two (middle_span 0 numbers) (heavy_span 0 numbers))) ≡ cond one 4 (cond two 8 12)
     by_form true two = refl
     by_form false true = refl
     by_form false false = refl
@@ -111,13 +111,13 @@ shortest_headers tables (node delimiter children rest) = (
 )
 
 -- In a stored tree each header below the top has them.
-pub stored_shortest : (root : Root) → HasShortestHeaders (tables_below root.children) root.children (drop 33 (packed root).bytes)
+pub stored_shortest : (root : Root) → HasShortestHeaders (tables_for (flat root.children)) root.children (drop 33 (packed root).bytes)
 unfolding packed
 stored_shortest root =
-    subst (HasShortestHeaders (tables_below root.children) root.children) (sym behind) (shortest_headers (tables_below root.children) root.children)
+    subst (HasShortestHeaders (tables_for (flat root.children)) root.children) (sym behind) (shortest_headers (tables_for (flat root.children)) root.children)
   where
     top : HeaderEntry
-    top = top_entry (length (tables_below root.children).parts) root.delimiter (size root.children) (length (bytes_below root.children))
+    top = top_entry (length (tables_for (flat root.children)).parts) root.delimiter (size root.children) (length (bytes_below root.children))
 
     behind : drop 33 (format_4 true top ++ bytes_below root.children) ≡ bytes_below root.children
     behind = ap (λ n. drop n (format_4 true top ++ bytes_below root.children)) (sym (heavy_length top)) ∙ drop-append_seam (format_4 true top) (bytes_below root.children)

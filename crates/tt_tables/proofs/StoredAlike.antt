@@ -1,4 +1,4 @@
--- What is stored tells the tree, and what lies ahead of a place tells the trees ahead.
+-- What is stored tells the tree, and what lies ahead of an offset tells the trees ahead.
 use Rattle.std.proofs.Common.{◌≡◌, ℕ, zero, suc, ◌+◌, ◌^◌, ◌<◌, true, List, [], ◌∷◌, length, drop, length-append, refl, ap, subst, sym, ◌∙◌, arith}
 use Rattle.std.proofs.Props.{props}
 use Rattle.std.specs.Coded.{Coded, Coded-set, code_by, coded×, coded_list, coded_ℕ, le_prop, ×_prop}
@@ -12,17 +12,17 @@ use Rattle.tt_base.specs.declared.token_tree.TokenTree.{TokenTree}
 use Rattle.tt_base.specs.declared.token_tree.TokenTree.TheVariants as token
 use Rattle.tt_codec.specs.declared.entry.Entry.TheVariants.{Header as of_header}
 use Rattle.tt_base.specs.Fits.{SpanInRange, TokenInRange}
-use Rattle.tt_base.specs.Forest.{Forest, end, leaf, node, Root, size, flat_root}
+use Rattle.tt_base.specs.Forest.{Forest, end, leaf, node, Root, size, flat_root, flat}
 use Rattle.tt_codec.specs.Entry.{entry_at}
 use Rattle.tt_codec.specs.declared.entry.HeaderEntry.{HeaderEntry}
 use Rattle.tt_codec.specs.Header.{HeaderFits, format_4, top_entry}
 use Rattle.tt_tables.specs.Meaning.{IsStored, HasMeaning, CanName, IsAtStart, IsAhead, HasAhead}
 use Rattle.tt_base.specs.Span.{part_of}
 use Rattle.tt_codec.specs.SpanNumbers.{SpanFits, span_numbers}
-use Rattle.tt_tables.specs.Stored.{Stored, bytes, tables_below, bytes_below, root_bytes, root_parts, packed, IsInRange, IsWithinLimits}
-use Rattle.tt_tables.specs.Tables.{Tables}
+use Rattle.tt_tables.specs.Stored.{Stored, bytes, bytes_below, root_bytes, root_parts, packed, IsInRange, IsWithinLimits}
+use Rattle.tt_tables.specs.Tables.{Tables, tables_for}
 use Rattle.tt_codec.proofs.HeaderReading.{token_read, format_4_again}
-use Rattle.tt_tables.proofs.Known.{tables_below_know}
+use Rattle.tt_tables.proofs.Known.{tables_for_know_trees}
 use Rattle.tt_tables.proofs.Lengths.{heavy_length}
 use Rattle.tt_tables.proofs.Lookups.{span_from}
 use Rattle.tt_tables.proofs.TreesAlike.{reads_alike, seam, trees_alike}
@@ -31,32 +31,32 @@ use Rattle.tt_tables.proofs.TreesAlike.{reads_alike, seam, trees_alike}
 
 -- the top header of a tree in numbers
 abbrev pub top_of : Root → HeaderEntry
-top_of root = top_entry (length (tables_below root.children).parts) root.delimiter (size root.children) (length (bytes_below root.children))
+top_of root = top_entry (length (tables_for (flat root.children)).parts) root.delimiter (size root.children) (length (bytes_below root.children))
 
 -- A tree's parts are those below the top and two more.
-pub length-root_parts : (root : Root) → length (root_parts root) ≡ length (tables_below root.children).parts + 2
+pub length-root_parts : (root : Root) → length (root_parts root) ≡ length (tables_for (flat root.children)).parts + 2
 length-root_parts root =
-    length-append (tables_below root.children).parts (part_of root.delimiter.open_span ∷ part_of root.delimiter.close ∷ [])
+    length-append (tables_for (flat root.children)).parts (part_of root.delimiter.open_span ∷ part_of root.delimiter.close ∷ [])
 
-top_place_fits : (part : ℕ) (span : Span) → part < 2 ^ 28 → SpanInRange span → SpanFits (span_numbers part span)
-top_place_fits part span few range = record { part = few; start = range.0; length = omega (arith, range.1) }
+top_numbers_fit : (part : ℕ) (span : Span) → part < 2 ^ 28 → SpanInRange span → SpanFits (span_numbers part span)
+top_numbers_fit part span few range = record { part = few; start = range.0; length = omega (arith, range.1) }
 
 -- The top header's numbers can be written.
 pub top_fits : (root : Root) → IsInRange root → IsWithinLimits root → HeaderFits (top_of root)
 top_fits root range limits =
     record {
-      opening = top_place_fits _ root.delimiter.open_span (omega (arith, limits.parts, length-root_parts root)) range.0.0;
-      closing = top_place_fits _ root.delimiter.close (omega (arith, limits.parts, length-root_parts root)) range.0.1;
+      opening = top_numbers_fit _ root.delimiter.open_span (omega (arith, limits.parts, length-root_parts root)) range.0.0;
+      closing = top_numbers_fit _ root.delimiter.close (omega (arith, limits.parts, length-root_parts root)) range.0.1;
       len = omega (arith, limits.tokens);
       child_bytes = omega (arith, limits.bytes);
     }
 
 -- The tables of a tree can name all below its top.
-pub can_name_below : (root : Root) → IsInRange root → IsWithinLimits root → CanName (tables_below root.children) root.children
+pub can_name_below : (root : Root) → IsInRange root → IsWithinLimits root → CanName (tables_for (flat root.children)) root.children
 can_name_below root range limits = (
   omega (arith, limits.parts, length-root_parts root),
   omega (arith, limits.symbols),
-  tables_below_know root.children,
+  tables_for_know_trees root.children,
   range.1,
 )
 
@@ -74,7 +74,7 @@ two_parts a b c d e = (cc e, cc e)
 
 -- Trees with the same bytes and tables are equal.
 pub roots_alike : (a b : Root) → IsInRange a → IsWithinLimits a → IsInRange b → IsWithinLimits b
-    → root_bytes a ≡ root_bytes b → root_parts a ≡ root_parts b → (tables_below a.children).symbols ≡ (tables_below b.children).symbols → a ≡ b
+    → root_bytes a ≡ root_bytes b → root_parts a ≡ root_parts b → (tables_for (flat a.children)).symbols ≡ (tables_for (flat b.children)).symbols → a ≡ b
 roots_alike a b range_a limits_a range_b limits_b same_bytes same_parts same_symbols =
     λ i. record { delimiter = record { open_span = opens i; close = closes i; kind = (tops i).kind }; children = children i }
   where
@@ -86,10 +86,10 @@ roots_alike a b range_a limits_a range_b limits_b same_bytes same_parts same_sym
     tops : top_of a ≡ top_of b
     tops = cc firsts.0
 
-    parts : ((tables_below a.children).parts ≡ (tables_below b.children).parts)
+    parts : ((tables_for (flat a.children)).parts ≡ (tables_for (flat b.children)).parts)
         × (part_of a.delimiter.open_span ∷ part_of a.delimiter.close ∷ [] ≡ part_of b.delimiter.open_span ∷ part_of b.delimiter.close ∷ [])
     parts =
-        seam (tables_below a.children).parts _ (tables_below b.children).parts _
+        seam (tables_for (flat a.children)).parts _ (tables_for (flat b.children)).parts _
         (omega (arith, ap length same_parts, length-root_parts a, length-root_parts b)) same_parts
 
     ends : (part_of a.delimiter.open_span ≡ part_of b.delimiter.open_span) × (part_of a.delimiter.close ≡ part_of b.delimiter.close)
@@ -101,12 +101,12 @@ roots_alike a b range_a limits_a range_b limits_b same_bytes same_parts same_sym
     closes : a.delimiter.close ≡ b.delimiter.close
     closes = top_span_is _ _ a.delimiter.close b.delimiter.close ends.1 (ap (λ it. it.closing) tops)
 
-    tables : tables_below a.children ≡ tables_below b.children
+    tables : tables_for (flat a.children) ≡ tables_for (flat b.children)
     tables = λ i. record { parts = parts.0 i; symbols = same_symbols i }
 
     children : a.children ≡ b.children
     children =
-        trees_alike (tables_below a.children) a.children b.children (can_name_below a range_a limits_a)
+        trees_alike (tables_for (flat a.children)) a.children b.children (can_name_below a range_a limits_a)
         (subst (λ t. CanName t b.children) (sym tables) (can_name_below b range_b limits_b))
         (omega (arith, limits_a.bytes))
         (firsts.1 ∙ ap (λ t. bytes t b.children) (sym tables))
@@ -192,10 +192,10 @@ start_alike tables all (node delimiter children end) (node other inner end) x y 
     (sym (ap (λ s. s.symbols) x.2) ∙ ap (λ s. s.symbols) y.2) in
     λ i. node (same i).delimiter (same i).children end
 
--- What lies ahead of a place is one list of trees.
-pub ahead_alike : (tables : Tables) (all : List ℕ) (place : ℕ) (f g : Forest) → IsAhead tables all place f → IsAhead tables all place g → f ≡ g
+-- What lies ahead of an offset is one list of trees.
+pub ahead_alike : (tables : Tables) (all : List ℕ) (offset : ℕ) (f g : Forest) → IsAhead tables all offset f → IsAhead tables all offset g → f ≡ g
 ahead_alike tables all zero f g x y = start_alike tables all f g x y
-ahead_alike tables all (suc place) f g x y = trees_alike tables f g x.2 y.2 (omega (arith, x.3)) (sym x.1 ∙ y.1)
+ahead_alike tables all (suc offset) f g x y = trees_alike tables f g x.named y.named (omega (arith, x.few)) (sym x.left ∙ y.left)
 
 can_name-prop : (tables : Tables) (trees : Forest) → IsProp (CanName tables trees)
 can_name-prop tables trees = hlevel (props, token_in_range-prop)
@@ -209,20 +209,21 @@ at_start-prop tables all (node delimiter children end) =
 at_start-prop tables all (node delimiter children (leaf it rest)) = λ x y. absurd x
 at_start-prop tables all (node delimiter children (node other inner rest)) = λ x y. absurd x
 
-is_ahead-prop : (tables : Tables) (all : List ℕ) (place : ℕ) (trees : Forest) → IsProp (IsAhead tables all place trees)
+is_ahead-prop : (tables : Tables) (all : List ℕ) (offset : ℕ) (trees : Forest) → IsProp (IsAhead tables all offset trees)
 is_ahead-prop tables all zero trees = at_start-prop tables all trees
-is_ahead-prop tables all (suc place) trees =
-    λ x y i. (
-      le_prop x.0 y.0 i,
-      list_set (drop (suc place) all) (bytes tables trees) x.1 y.1 i,
-      can_name-prop tables trees x.2 y.2 i,
-      le_prop x.3 y.3 i,
-    )
+is_ahead-prop tables all (suc offset) trees =
+    λ x y i. record {
+      top = le_prop x.top y.top i;
+      inside = le_prop x.inside y.inside i;
+      left = list_set (drop (suc offset) all) (bytes tables trees) x.left y.left i;
+      named = can_name-prop tables trees x.named y.named i;
+      few = le_prop x.few y.few i;
+    }
 
 -- One list of trees at most lies ahead, so it can stand in a ghost field.
-pub HasAhead-prop : (tables : Tables) (all : List ℕ) (place : ℕ) → IsProp (HasAhead tables all place)
-HasAhead-prop tables all place a b = Σ_prop_path (λ trees. is_ahead-prop tables all place trees) (ahead_alike tables all place a.0 b.0 a.1 b.1)
+pub HasAhead-prop : (tables : Tables) (all : List ℕ) (offset : ℕ) → IsProp (HasAhead tables all offset)
+HasAhead-prop tables all offset a b = Σ_prop_path (λ trees. is_ahead-prop tables all offset trees) (ahead_alike tables all offset a.0 b.0 a.1 b.1)
 
 -- The trees ahead are those that lie there.
-pub ahead_is : (tables : Tables) (all : List ℕ) (place : ℕ) (ahead : HasAhead tables all place) (trees : Forest) → IsAhead tables all place trees → ahead.0 ≡ trees
-ahead_is tables all place ahead trees is = ahead_alike tables all place ahead.0 trees ahead.1 is
+pub ahead_is : (tables : Tables) (all : List ℕ) (offset : ℕ) (ahead : HasAhead tables all offset) (trees : Forest) → IsAhead tables all offset trees → ahead.0 ≡ trees
+ahead_is tables all offset ahead trees is = ahead_alike tables all offset ahead.0 trees ahead.1 is

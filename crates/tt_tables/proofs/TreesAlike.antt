@@ -50,15 +50,15 @@ pub fewer_in_node : (tables : Tables) (delimiter : Delimiter) (children rest : F
     → (length (bytes tables children) ≤ length (bytes tables (node delimiter children rest))) × (length (bytes tables rest) ≤ length (bytes tables (node delimiter children rest)))
 fewer_in_node tables delimiter children rest = (omega (arith, lengths), omega (arith, lengths))
   where
-    held : ℕ
-    held = length (bytes tables children)
+    child_bytes : ℕ
+    child_bytes = length (bytes tables children)
 
-    lengths : length (bytes tables (node delimiter children rest)) ≡ length (token_bytes tables (header delimiter (size children)) held) + (held + length (bytes tables rest))
+    lengths : length (bytes tables (node delimiter children rest)) ≡ length (token_bytes tables (header delimiter (size children)) child_bytes) + (child_bytes + length (bytes tables rest))
     lengths =
         omega (
           arith,
           ap length (bytes-node tables delimiter children rest),
-          length-append (token_bytes tables (header delimiter (size children)) held) (bytes tables children ++ bytes tables rest),
+          length-append (token_bytes tables (header delimiter (size children)) child_bytes) (bytes tables children ++ bytes tables rest),
           length-append (bytes tables children) (bytes tables rest),
         )
 
@@ -87,10 +87,10 @@ module _ (tables : Tables) where
       → (delimiter ≡ other) × (bytes tables children ≡ bytes tables inner) × (bytes tables rest ≡ bytes tables others)
   node_first delimiter other children inner rest others named named_others few few_other e =
       let (below, behind) = seam (bytes tables children) (bytes tables rest) (bytes tables inner) (bytes tables others) (ap (λ it. it.child_bytes) entries) firsts.1 in
-      (ap (λ s. s.delimiter) (subtree_is tables subtree subtree_other held held_other named.2.0 entries), below, behind)
+      (ap (λ s. s.delimiter) (subtree_is tables subtree subtree_other child_bytes held_other named.2.0 entries), below, behind)
     where
-      held : ℕ
-      held = length (bytes tables children)
+      child_bytes : ℕ
+      child_bytes = length (bytes tables children)
 
       held_other : ℕ
       held_other = length (bytes tables inner)
@@ -107,7 +107,7 @@ module _ (tables : Tables) where
           (first_header_fits tables delimiter children rest named few) (first_header_fits tables other inner others named_others few_other)
           (sym (bytes-node tables delimiter children rest) ∙ e ∙ bytes-node tables other inner others)
 
-      entries : header_entry tables subtree held ≡ header_entry tables subtree_other held_other
+      entries : header_entry tables subtree child_bytes ≡ header_entry tables subtree_other held_other
       entries = cc firsts.0
 
   no_leaf_is_node : (it : Leaf) (delimiter : Delimiter) (rest children others : Forest) → CanName tables (leaf it rest) → CanName tables (node delimiter children others)

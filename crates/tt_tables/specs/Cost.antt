@@ -3,18 +3,18 @@ use Rattle.std.specs.Prelude.{ℕ, suc, ◌+◌, ◌*◌, ◌≤◌, Bool, nat_l
 use Rattle.std.specs.List.{AllByRecursion, IsDistinct}
 use Rattle.tt_tables.specs.TableOrder.{IsIn, uses_of}
 
--- what a place, counted from 0, weighs: so many bytes name it
-abbrev pub weight : (place : ℕ) → ℕ
-weight place = if nat_lt place 64 then 1 else if nat_lt place 8192 then 2 else 4
+-- what an index weighs: so many bytes name it
+abbrev pub weight : (index : ℕ) → ℕ
+weight index = if nat_lt index 64 then 1 else if nat_lt index 8192 then 2 else 4
 
 -- `same` tells whether two values are equal
 module _ {X : Type 0} (same : X → X → Bool) where
-  -- what an order costs whose first value has that place
-  abbrev pub cost_from : (place : ℕ) → (uses order : List X) → ℕ
-  cost_from place uses [] = 0
-  cost_from place uses (x ∷ order) = weight place * uses_of same uses x + cost_from (suc place) uses order
+  -- what an order costs whose first value has that index
+  abbrev pub cost_from : (index : ℕ) → (uses order : List X) → ℕ
+  cost_from index uses [] = 0
+  cost_from index uses (x ∷ order) = weight index * uses_of same uses x + cost_from (suc index) uses order
 
-  -- what an order costs: the sum, over its places, of the place's weight times the uses of the value there
+  -- what an order costs: the sum, over its indices, of the index's weight times the uses of the value there
   abbrev pub cost : (uses order : List X) → ℕ
   cost uses order = cost_from 0 uses order
 

@@ -28,12 +28,7 @@ FindsLeaf tables (ident symbol raw numbers) (leaf.Ident it) =
     FindsSpan tables numbers it.span × (slice_get tables.symbols symbol ≡ Some it.sym) × (raw ≡ it.is_raw)
 FindsLeaf tables (literal symbol kind suffix_len numbers) (leaf.Literal it) =
     FindsSpan tables numbers (span_of it) × (slice_get tables.symbols symbol ≡ Some (symbol_of it)) × (kind ≡ kind_of it) × (suffix_len ≡ suffix_len_of it)
-FindsLeaf tables (punct char spacing numbers) (leaf.Ident it) = ⊥
-FindsLeaf tables (punct char spacing numbers) (leaf.Literal it) = ⊥
-FindsLeaf tables (ident symbol raw numbers) (leaf.Punct it) = ⊥
-FindsLeaf tables (ident symbol raw numbers) (leaf.Literal it) = ⊥
-FindsLeaf tables (literal symbol kind suffix_len numbers) (leaf.Punct it) = ⊥
-FindsLeaf tables (literal symbol kind suffix_len numbers) (leaf.Ident it) = ⊥
+FindsLeaf tables entry it = ⊥
 
 -- the numbers name the header
 pub record FindsSubtree (tables : Tables) (entry : HeaderEntry) (it : Subtree) : Type 0 where

@@ -1,16 +1,16 @@
 -- The two tables, tokens in numbers under them, and what is stored for a tree.
 pub mod Cost
-pub mod Decoding
 pub mod Found
+pub mod Limits
 pub mod Meaning
 pub mod Moves
 pub mod Named
-pub mod Names
-pub mod NamesOf
 pub mod NextToken
 pub mod PackFault
+pub mod Searches
 pub mod Shortest
 pub mod Stored
 pub mod TableOrder
 pub mod Tables
+pub mod TablesOf
 pub mod Uses

@@ -3,26 +3,28 @@ use Rattle.std.specs.Prelude.{◌≡◌, ◌<◌, ◌≤◌, List, length}
 use Rattle.tt_base.specs.declared.fault.TtFault.{TtFault}
 use Rattle.tt_base.specs.declared.fault.TtFault.TheVariants.{Memory, NotOneSubtree, NoSuchPlace, NotALeaf, SuffixTooLong, BadScan, TooManyTokens, TooManySpanParts, TooManySymbols, TooManyBytes, PointsSpent}
 use Rattle.tt_base.specs.declared.token_tree.TokenTree.{TokenTree}
-use Rattle.tt_base.specs.Forest.{Root, flat_root, IsOneSubtree}
-use Rattle.tt_tables.specs.Stored.{root_parts, tables_below, bytes_below}
+use Rattle.tt_base.specs.Forest.{Root, size, flat, flat_root, IsOneSubtree}
+use Rattle.tt_tables.specs.Limits.{most_tokens, most_parts, most_symbols, most_bytes}
+use Rattle.tt_tables.specs.Stored.{root_parts, bytes_below}
+use Rattle.tt_tables.specs.Tables.{tables_for}
 
--- the list is that of a tree of which this holds
+-- the list is one subtree, of which this holds
 abbrev pub IsTreeWith : (Root → Type 0) → List TokenTree → Type 0
-IsTreeWith P tokens = (root : Root) × (tokens ≡ flat_root root) × P root
+IsTreeWith P tokens = (root : Root) × (tokens ≡ flat_root root) × (size root.children ≤ most_tokens) × P root
 
 -- too many span parts, the top's two included
 abbrev pub HasManyParts : Root → Type 0
-HasManyParts root = 268435456 < length (root_parts root)
+HasManyParts root = most_parts < length (root_parts root)
 
 -- few parts, and too many symbols
 abbrev pub HasManySymbols : Root → Type 0
-HasManySymbols root = (length (root_parts root) ≤ 268435456) × (536870912 < length (tables_below root.children).symbols)
+HasManySymbols root = (length (root_parts root) ≤ most_parts) × (most_symbols < length (tables_for (flat root.children)).symbols)
 
 -- few parts and symbols, and too many bytes below the top
 abbrev pub HasManyBytes : Root → Type 0
 HasManyBytes root =
-    (length (root_parts root) ≤ 268435456) × (length (tables_below root.children).symbols ≤ 536870912)
-    × (4294967295 < length (bytes_below root.children))
+    (length (root_parts root) ≤ most_parts) × (length (tables_for (flat root.children)).symbols ≤ most_symbols)
+    × (most_bytes < length (bytes_below root.children))
 
 -- the list is refused for that reason; memory may be refused for any list
 abbrev pub IsPackFault : List TokenTree → TtFault → Type 0

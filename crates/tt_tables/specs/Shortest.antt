@@ -31,7 +31,7 @@ HasShortestHeaders tables end bytes = bytes ≡ []
 HasShortestHeaders tables (leaf it rest) bytes =
     (behind : List ℕ) × (bytes ≡ token_bytes tables (token.Leaf it) 0 ++ behind) × HasShortestHeaders tables rest behind
 HasShortestHeaders tables (node delimiter children rest) bytes =
-    (own : List ℕ) × (held : List ℕ) × (behind : List ℕ) × (bytes ≡ own ++ held ++ behind)
-    × IsShortestToken (entry_of tables (header delimiter (size children)) (length held)) own
-    × HasShortestHeaders tables children held
+    (own : List ℕ) × (inner : List ℕ) × (behind : List ℕ) × (bytes ≡ own ++ inner ++ behind)
+    × IsShortestToken (entry_of tables (header delimiter (size children)) (length inner)) own
+    × HasShortestHeaders tables children inner
     × HasShortestHeaders tables rest behind

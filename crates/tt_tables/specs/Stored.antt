@@ -7,7 +7,8 @@ use Rattle.tt_base.specs.Fits.{TokenInRange}
 use Rattle.tt_base.specs.Forest.{Forest, end, leaf, node, Root, size, header, flat, flat_root}
 use Rattle.tt_codec.specs.Header.{format_4, top_entry}
 use Rattle.tt_base.specs.Span.{part_of}
-use Rattle.tt_tables.specs.Tables.{Tables, part_table, symbol_table, token_bytes}
+use Rattle.tt_tables.specs.Limits.{most_tokens, most_parts, most_symbols, most_bytes}
+use Rattle.tt_tables.specs.Tables.{Tables, tables_for, token_bytes}
 
 -- the bytes of each token in reading order; a header counts the bytes of all that it holds
 unfoldable pub bytes : Tables → Forest → List ℕ
@@ -23,24 +24,20 @@ pub record Stored : Type 0 where
   pub symbols : List (List ℕ)
   pub len : ℕ
 
--- the tables of what is below the top
-abbrev pub tables_below : Forest → Tables
-tables_below trees = record { parts = part_table (flat trees); symbols = symbol_table (flat trees) }
-
 -- the bytes of all below the top
 abbrev pub bytes_below : Forest → List ℕ
-bytes_below trees = bytes (tables_below trees) trees
+bytes_below trees = bytes (tables_for (flat trees)) trees
 
 -- the top header in full, whatever its spans, and then the bytes below it
 abbrev pub root_bytes : Root → List ℕ
 root_bytes root =
-    format_4 true (top_entry (length (tables_below root.children).parts) root.delimiter (size root.children) (length (bytes_below root.children)))
+    format_4 true (top_entry (length (tables_for (flat root.children)).parts) root.delimiter (size root.children) (length (bytes_below root.children)))
     ++ bytes_below root.children
 
 -- the parts used below the top, and always two more: those of the top's two spans
 abbrev pub root_parts : Root → List SpanPart
 root_parts root =
-    (tables_below root.children).parts ++ part_of root.delimiter.open_span ∷ part_of root.delimiter.close ∷ []
+    (tables_for (flat root.children)).parts ++ part_of root.delimiter.open_span ∷ part_of root.delimiter.close ∷ []
 
 -- what is stored for a tree
 unfoldable pub packed : Root → Stored
@@ -48,7 +45,7 @@ packed root =
     record {
       bytes = root_bytes root;
       parts = root_parts root;
-      symbols = (tables_below root.children).symbols;
+      symbols = (tables_for (flat root.children)).symbols;
       len = suc (size root.children);
     }
 
@@ -56,9 +53,9 @@ packed root =
 abbrev pub IsInRange : Root → Type 0
 IsInRange root = AllByRecursion TokenInRange (flat_root root)
 
--- the most tokens and bytes below the top, parts with the top's two, and symbols
+-- no count of the tree is too large: its tokens and bytes below the top, its parts and its symbols
 pub record IsWithinLimits (root : Root) : Type 0 where
-  pub tokens : size root.children ≤ 4294967295
-  pub parts : length (root_parts root) ≤ 268435456
-  pub symbols : length (tables_below root.children).symbols ≤ 536870912
-  pub bytes : length (bytes_below root.children) ≤ 4294967295
+  pub tokens : size root.children ≤ most_tokens
+  pub parts : length (root_parts root) ≤ most_parts
+  pub symbols : length (tables_for (flat root.children)).symbols ≤ most_symbols
+  pub bytes : length (bytes_below root.children) ≤ most_bytes

@@ -21,18 +21,34 @@ use Rattle.tt_codec.specs.declared.span.SpanNumbers.{SpanNumbers}
 use Rattle.tt_tables.specs.TableOrder.{index_in, table, IsIn}
 use Rattle.tt_tables.specs.Uses.{same_part, token_parts, token_symbols, part_uses, symbol_uses}
 
--- the parts that tokens use: more than 15 go by their number of uses
-abbrev pub part_table : List TokenTree → List SpanPart
-part_table tokens = table same_part 15 (part_uses tokens)
+-- up to so many parts go by first use: an index of theirs has four bits
+abbrev pub short_parts : ℕ
+short_parts = 15
 
--- the symbols that tokens use: more than 63 go by their number of uses
+-- up to so many symbols go by first use: a reference to one takes one byte
+abbrev pub short_symbols : ℕ
+short_symbols = 63
+
+-- the parts that tokens use
+abbrev pub part_table : List TokenTree → List SpanPart
+part_table tokens = table same_part short_parts (part_uses tokens)
+
+-- the symbols that tokens use
 abbrev pub symbol_table : List TokenTree → List (List ℕ)
-symbol_table tokens = table bytes_eq 63 (symbol_uses tokens)
+symbol_table tokens = table bytes_eq short_symbols (symbol_uses tokens)
 
 -- the parts and the symbols that tokens name by their indices
 pub record Tables : Type 0 where
   pub parts : List SpanPart
   pub symbols : List (List ℕ)
+
+-- the tables with these entries
+abbrev pub tables_from : List SpanPart → List (List ℕ) → Tables
+tables_from parts symbols = record { parts = parts; symbols = symbols }
+
+-- the two tables of tokens
+abbrev pub tables_for : List TokenTree → Tables
+tables_for tokens = tables_from (part_table tokens) (symbol_table tokens)
 
 -- the numbers of a span: the index of the first entry with its part, its start, and its length
 abbrev pub numbers_of_span : Tables → Span → SpanNumbers

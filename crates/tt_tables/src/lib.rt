@@ -3,7 +3,7 @@
 //! `specs/` says what the tables of a list are, and what is stored for a tree; `proofs/` that it tells the tree.
 #![tactic(auto)]
 
-mod names;
-mod names_read;
+mod tables;
+mod tables_read;
 
-pub use names::Names;
+pub use tables::Tables;

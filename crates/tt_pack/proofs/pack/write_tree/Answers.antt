@@ -2,8 +2,7 @@ use Rattle.std.proofs.Common.{◌≡◌, ◌<◌, ◌^◌, ◌++◌, ◌∷◌, 
 use Rattle.std.specs.List.{AllByRecursion}
 use Rattle.tt_codec.specs.Header.{format_4, top_entry}
 use Rattle.tt_base.specs.Span.{part_of}
-use Rattle.tt_tables.specs.Tables.{Knows, part_table}
-use Rattle.tt_pack.specs.Packed.{tables_for}
+use Rattle.tt_tables.specs.Tables.{Knows, part_table, tables_for}
 use Rattle.tt_pack.specs.TablesOf.{tables_of}
 use Rattle.tt_pack.specs.Writing.{byte_count}
 use Rattle.tt_pack.specs.WriterOf.{HasWrittenUnder}

@@ -1,6 +1,8 @@
 use Rattle.std.proofs.Common.{◌≡◌, length, drop, ap, sym, subst, arith, rules}
+use Rattle.tt_base.specs.Forest.{flat}
+use Rattle.tt_tables.specs.Tables.{tables_for}
 use Rattle.tt_tables.specs.Shortest.{HasShortestHeaders}
-use Rattle.tt_tables.specs.Stored.{packed, tables_below, IsInRange, IsWithinLimits}
+use Rattle.tt_tables.specs.Stored.{packed, IsInRange, IsWithinLimits}
 use Rattle.tt_tables.proofs.Lengths.{packed_length}
 use Rattle.tt_tables.proofs.Shortest.{stored_shortest}
 use Rattle.tt_pack.proofs.packed.Packed.bytes.Goals as goal
@@ -25,4 +27,4 @@ pub returns-clause-shortest : goal.returns-clause-shortest
 returns-clause-shortest c =
     let root = c.args.self.now in
     let value : c.as_slice.result.now ≡ (packed root).bytes = search rules in
-    subst (λ bytes. HasShortestHeaders (tables_below root.children) root.children (drop 33 bytes)) (sym value) (stored_shortest root)
+    subst (λ bytes. HasShortestHeaders (tables_for (flat root.children)) root.children (drop 33 bytes)) (sym value) (stored_shortest root)

@@ -2,7 +2,7 @@ use Rattle.std.proofs.Common.{[], refl, rules}
 use Rattle.tt_base.specs.Forest.{end}
 use Rattle.tt_tables.specs.Meaning.{IsAhead}
 use Rattle.tt_tables.proofs.StoredAlike.{ahead_is}
-use Rattle.tt_pack.specs.Reader.{tables_from}
+use Rattle.tt_tables.specs.Tables.{tables_from}
 use Rattle.tt_pack.proofs.reader.Reader.empty.Goals as goal
 
 pub invariant_of-result : goal.invariant_of-result

@@ -11,19 +11,19 @@ use Rattle.tt_pack.proofs.writer.Writer.put.Goals as goal
 pub index-uses-requires : goal.index-uses-requires
 index-uses-requires c =
     let long = length-paired (HasUses c.args.self.now.tables.now) c.args.tokens.now c.args.self.now.tables.now.uses.items c.requires.uses in
-    omega (arith, long, c.requires.place)
+    omega (arith, long, c.requires.index)
 
 pub entry-entry-requires-clause-uses : goal.entry-entry-requires-clause-uses
 entry-entry-requires-clause-uses c =
-    paired_at (HasUses c.args.self.now.tables.now) c.args.tokens.now c.args.self.now.tables.now.uses.items c.args.place c.index-tokens-place.result c.index-uses.result.now
-    c.requires.uses c.requires.place c.index-tokens-place.is c.index-uses.ensures
+    paired_at (HasUses c.args.self.now.tables.now) c.args.tokens.now c.args.self.now.tables.now.uses.items c.args.index c.index-tokens-index.result c.index-uses.result.now
+    c.requires.uses c.requires.index c.index-tokens-index.is c.index-uses.ensures
 
 pub returns-then-len-gt-MOST_BYTES-clause-err : goal.returns-then-len-gt-MOST_BYTES-clause-err
 returns-then-len-gt-MOST_BYTES-clause-err c =
     let tables : Tables = tables_of c.args.self.now.tables.now in
-    let it : TokenTree = c.index-tokens-place.result in
-    let others : List TokenTree = drop (c.args.place + 1) c.args.tokens.now in
-    let here : drop c.args.place c.args.tokens.now ≡ it ∷ others = piece_at c.args.tokens.now c.args.place it c.requires.place c.index-tokens-place.is in
+    let it : TokenTree = c.index-tokens-index.result in
+    let others : List TokenTree = drop (c.args.index + 1) c.args.tokens.now in
+    let here : drop c.args.index c.args.tokens.now ≡ it ∷ others = piece_at c.args.tokens.now c.args.index it c.requires.index c.index-tokens-index.is in
     let child : c.child_bytes-child_bytes.result ≡ child_bytes tables it others = c.child_bytes-child_bytes.ensures ∙ ap (first_child_bytes tables) here in
     let over : 4294967295 < length c.write.new.into = omega (arith, c.if-len-gt-MOST_BYTES.true, c.len.ensures) in
     inr (
@@ -35,9 +35,9 @@ returns-then-len-gt-MOST_BYTES-clause-err c =
 pub returns-clause-ok : goal.returns-clause-ok
 returns-clause-ok c =
     let tables : Tables = tables_of c.args.self.now.tables.now in
-    let it : TokenTree = c.index-tokens-place.result in
-    let others : List TokenTree = drop (c.args.place + 1) c.args.tokens.now in
-    let here : drop c.args.place c.args.tokens.now ≡ it ∷ others = piece_at c.args.tokens.now c.args.place it c.requires.place c.index-tokens-place.is in
+    let it : TokenTree = c.index-tokens-index.result in
+    let others : List TokenTree = drop (c.args.index + 1) c.args.tokens.now in
+    let here : drop c.args.index c.args.tokens.now ≡ it ∷ others = piece_at c.args.tokens.now c.args.index it c.requires.index c.index-tokens-index.is in
     let child : c.child_bytes-child_bytes.result ≡ child_bytes tables it others = c.child_bytes-child_bytes.ensures ∙ ap (first_child_bytes tables) here in
     let few : length c.write.new.into ≤ 4294967295 = omega (arith, c.if-len-gt-MOST_BYTES.false, c.len.ensures) in
     let counted : c.push.new.self.items ≡ c.args.self.now.sums.items ++ length c.write.new.into ∷ [] =

@@ -1,11 +1,11 @@
--- All behind the place is written.
+-- All behind the index is written.
 use Rattle.std.proofs.Common.{◌≡◌, ◌≤◌, length, drop}
 use Rattle.tt_pack.specs.WriterOf.{HasWritten}
 use Rattle.tt_pack.proofs.writer.Writer.write_all.Given as goal
 
-abbrev pub invariant-loop-place : goal.invariant-loop-place
-invariant-loop-place l =
-    (l.place ≤ length l.tokens) × (l.writer.tables.now ≡ l.tables) × HasWritten l.writer (drop l.place l.tokens)
+abbrev pub invariant-loop-index : goal.invariant-loop-index
+invariant-loop-index l =
+    (l.index ≤ length l.tokens) × (l.writer.tables.now ≡ l.tables) × HasWritten l.writer (drop l.index l.tokens)
 
-abbrev pub decreases-loop-place : goal.decreases-loop-place
-decreases-loop-place l = l.place
+abbrev pub decreases-loop-index : goal.decreases-loop-index
+decreases-loop-index l = l.index

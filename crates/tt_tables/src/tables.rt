@@ -1,0 +1,123 @@
+//! From tokens to numbers: what a token uses is searched in two given tables.
+ghost use Rattle.std.specs.Prelude.{◌≡◌, ◌≤◌, ◌^◌, length, position, take};
+ghost use Rattle.tt_tables.specs.Named.{NamesLeaf, NamesHeader, NamesToken};
+ghost use Rattle.tt_tables.specs.Searches.{IsIndex, NumbersSpan, IndexesSymbol, first_entries};
+
+use tt_base::{Leaf, Span, SpanPart, Subtree, Symbol, TokenTree};
+use tt_codec::{Entry, HeaderEntry, LeafEntry, SpanNumbers};
+
+// An index of a part has 28 bits.
+const MOST_PARTS: usize = 268435456;
+// An index of a symbol has 29 bits.
+const MOST_SYMBOLS: usize = 536870912;
+
+/// The tables whose entries indices name.
+#[derive(Clone, Copy)]
+pub struct Tables<'a> {
+    pub parts: &'a [SpanPart],
+    pub symbols: &'a [Symbol],
+    pub ghost few_parts: { length parts.now ≤ 2 ^ 28 },
+    pub ghost few_symbols: { length symbols.now ≤ 2 ^ 29 },
+}
+
+// At most so many of the first values.
+fn first_of<T>(values: &[T], most: usize) -> &[T]
+    ensures { result.now ≡ take most values.now }
+{
+    if values.len() > most {
+        &values[..most]
+    } else {
+        values
+    }
+}
+
+// The first that is equal to the value.
+fn first_equal<T: Eq>(values: &[T], value: &T) -> Option<usize>
+    ensures { result ≡ position (T.eq value.now) values.now }
+{
+    values.iter().position(|other| value == other)
+}
+
+// The index of the first that is equal to the value.
+fn index_of<T: Eq>(values: &[T], value: &T) -> Option<u32>
+    requires { length values.now ≤ 2 ^ 29 }
+    ensures { IsIndex (T.eq value.now) values.now result }
+{
+    let index = first_equal(values, value)?;
+    Some(index as u32)
+}
+
+impl<'a> Tables<'a> {
+    ghost use Rattle.tt_tables.specs.TablesOf.{tables_of};
+
+    /// The tables, of which only so many entries count as an index can name.
+    pub fn new(parts: &'a [SpanPart], symbols: &'a [Symbol]) -> Tables<'a>
+        ensures { tables_of result ≡ first_entries parts.now symbols.now }
+    {
+        Tables {
+            parts: first_of(parts, MOST_PARTS),
+            symbols: first_of(symbols, MOST_SYMBOLS),
+        }
+    }
+
+    /// A span in numbers, or `None` where the tables do not have its part.
+    pub(crate) fn span_numbers(self, span: &Span) -> Option<SpanNumbers>
+        ensures { NumbersSpan (tables_of self.entry) span.now result }
+    {
+        let part = index_of(self.parts, &SpanPart::from_span(span))?;
+        Some(SpanNumbers::of_span(part, span))
+    }
+
+    /// The index of a symbol, or `None` where the tables do not have it.
+    pub(crate) fn symbol_index(self, symbol: &Symbol) -> Option<u32>
+        ensures { IndexesSymbol (tables_of self.entry) symbol.now result }
+    {
+        index_of(self.symbols, symbol)
+    }
+
+    /// A leaf in numbers, or `None` where the tables do not have what it uses.
+    pub(crate) fn leaf_entry(self, leaf: &Leaf) -> Option<LeafEntry>
+        ensures { NamesLeaf (tables_of self.entry) leaf.now result }
+    {
+        let numbers = self.span_numbers(leaf.span())?;
+        match leaf {
+            Leaf::Literal(literal) => {
+                let symbol = self.symbol_index(literal.symbol())?;
+                let (kind, suffix_len) = (literal.kind(), literal.suffix_len());
+                Some(LeafEntry::Literal(symbol, kind, suffix_len, numbers))
+            }
+            Leaf::Punct(punct) => Some(LeafEntry::Punct(punct.char, punct.spacing, numbers)),
+            Leaf::Ident(ident) => {
+                let symbol = self.symbol_index(&ident.sym)?;
+                Some(LeafEntry::Ident(symbol, ident.is_raw, numbers))
+            }
+        }
+    }
+
+    /// A header in numbers, where what it holds takes so many bytes, or `None` where the tables do not have its parts.
+    pub(crate) fn header_entry(self, subtree: Subtree, child_bytes: u32) -> Option<HeaderEntry>
+        ensures { NamesHeader (tables_of self.entry) subtree child_bytes result }
+    {
+        let opening = self.span_numbers(&subtree.delimiter.open_span)?;
+        let closing = self.span_numbers(&subtree.delimiter.close)?;
+        Some(HeaderEntry {
+            opening,
+            closing,
+            kind: subtree.delimiter.kind,
+            len: subtree.len,
+            child_bytes,
+        })
+    }
+
+    /// A token in numbers, or `None` where the tables do not have what it uses. A leaf holds nothing.
+    pub fn entry(self, token: &TokenTree, child_bytes: u32) -> Option<Entry>
+        ensures { NamesToken (tables_of self.entry) token.now child_bytes result }
+    {
+        match token {
+            TokenTree::Leaf(leaf) => self.leaf_entry(leaf).map(Entry::Leaf),
+            TokenTree::Subtree(subtree) => self
+                .header_entry(*subtree, child_bytes)
+                .map(Entry::Header),
+        }
+    }
+}

@@ -1,0 +1,95 @@
+//! The way back: from numbers to the tokens that they name.
+
+ghost use Rattle.std.specs.Prelude.{◌≡◌, IfSome, slice_get};
+ghost use Rattle.tt_tables.specs.Found.{FindsSpan, FindsLeaf, FindsSubtree, GivesSpan, GivesLeaf, GivesSubtree};
+
+use crate::tables::Tables;
+use tt_base::{
+    Delimiter, Ident, Leaf, Literal, Punct, Span, SpanPart, Subtree, Symbol, TextRange, TextSize,
+};
+use tt_codec::{HeaderEntry, LeafEntry, SpanNumbers};
+
+// The other arm is proved not to be reached, so this takes no memory.
+fn copy_of(symbol: &Symbol) -> Symbol
+    ensures { result ≡ symbol.now }
+{
+    match symbol.clone() {
+        Ok(copy) => copy,
+        Err(_) => unreachable!(),
+    }
+}
+
+impl<'a> Tables<'a> {
+    ghost use Rattle.tt_tables.specs.TablesOf.{tables_of};
+
+    // The part at an index, if the table is as long.
+    fn part_at(self, index: u32) -> Option<SpanPart>
+        ensures { result ≡ slice_get (tables_of self.entry).parts index }
+    {
+        self.parts.get(index as usize).copied()
+    }
+
+    // The symbol at an index, if the table is as long.
+    fn symbol_at(self, index: u32) -> Option<Symbol>
+        ensures { result ≡ slice_get (tables_of self.entry).symbols index }
+    {
+        self.symbols.get(index as usize).map(copy_of)
+    }
+
+    /// The span of these numbers, or `None` where the tables do not have its part, or where it would end
+    /// at 2^32 or later.
+    pub(crate) fn span(self, numbers: SpanNumbers) -> Option<Span>
+        ensures gives { GivesSpan (tables_of self.entry) numbers result }
+        ensures only { IfSome result (FindsSpan (tables_of self.entry) numbers) }
+    {
+        let part = self.part_at(numbers.part)?;
+        let range = TextRange::at(TextSize::new(numbers.start), TextSize::new(numbers.length))?;
+        Some(part.recombine(range))
+    }
+
+    /// The leaf that the numbers name, or `None` where the tables do not have what they name, or where
+    /// it would be no leaf.
+    pub fn leaf(self, entry: LeafEntry) -> Option<Leaf>
+        ensures gives { GivesLeaf (tables_of self.entry) entry result }
+        ensures only { IfSome result (FindsLeaf (tables_of self.entry) entry) }
+    {
+        match entry {
+            LeafEntry::Punct(char, spacing, numbers) => {
+                let span = self.span(numbers)?;
+                Some(Leaf::Punct(Punct {
+                    char,
+                    spacing,
+                    span,
+                }))
+            }
+            LeafEntry::Ident(symbol, is_raw, numbers) => {
+                let span = self.span(numbers)?;
+                let sym = self.symbol_at(symbol)?;
+                Some(Leaf::Ident(Ident { sym, span, is_raw }))
+            }
+            LeafEntry::Literal(symbol, kind, suffix_len, numbers) => {
+                let span = self.span(numbers)?;
+                let symbol = self.symbol_at(symbol)?;
+                let literal = Literal::from_parts(symbol, span, kind, suffix_len)?;
+                Some(Leaf::Literal(literal))
+            }
+        }
+    }
+
+    /// The header that the numbers name, or `None` where the tables do not have its parts.
+    pub fn subtree(self, entry: HeaderEntry) -> Option<Subtree>
+        ensures gives { GivesSubtree (tables_of self.entry) entry result }
+        ensures only { IfSome result (FindsSubtree (tables_of self.entry) entry) }
+    {
+        let open_span = self.span(entry.opening)?;
+        let close = self.span(entry.closing)?;
+        Some(Subtree {
+            delimiter: Delimiter {
+                open_span,
+                close,
+                kind: entry.kind,
+            },
+            len: entry.len,
+        })
+    }
+}
