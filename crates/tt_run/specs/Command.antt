@@ -28,3 +28,10 @@ pub record StandsFor (line : List ℕ) (command : Command) : Type 0 where
 -- the line is no command
 abbrev pub IsNoCommand : List ℕ → Type 0
 IsNoCommand line = (command : Command) → StandsFor line command → ⊥
+
+-- the command prints a tree
+abbrev pub PrintsTree : Command → Type 0
+PrintsTree (command.Item token) = ⊥
+PrintsTree (command.List slot) = ⊥
+PrintsTree (command.Show slot) = Unit {0}
+PrintsTree (command.Equal left right) = ⊥

@@ -1,4 +1,4 @@
-ghost use Rattle.std.specs.Prelude.{◌≡◌, IfOk, IfErr, MatchOption};
+ghost use Rattle.std.specs.Prelude.{◌≡◌, ◌↔◌, IfOk, IfErr, IsTrue, MatchOption};
 ghost use Rattle.tt_base.specs.declared.fault.TtFault.TheVariants.{Memory};
 ghost use Rattle.tt_run.specs.Reading.{Reads};
 
@@ -31,7 +31,7 @@ pub enum Command {
 }
 
 impl Command {
-    ghost use Rattle.tt_run.specs.Command.{CommandFits, IsNoCommand, StandsFor, spell};
+    ghost use Rattle.tt_run.specs.Command.{CommandFits, IsNoCommand, PrintsTree, StandsFor, spell};
 
     /// The command that the line stands for, if there is one. The line is given without its line feed.
     pub fn parse(alloc: Global, line: &[u8]) -> Result<Option<Command>, TtFault>
@@ -40,6 +40,13 @@ impl Command {
         ensures err { IfErr result (λ fault. fault ≡ Memory) }
     {
         Command::read(alloc, line)
+    }
+
+    /// Whether it prints a tree. That takes stack for each level, so a tree that is too deep ends the program.
+    pub(crate) fn prints_tree(&self) -> bool
+        ensures { IsTrue result ↔ PrintsTree self.now }
+    {
+        matches!(self, Command::Show(_))
     }
 
     // The first word tells how the rest is read.
