@@ -3,10 +3,10 @@ use Rattle.std.proofs.Common.{◌≡◌, ◌≢◌, ℕ, List, [], ◌∷◌, �
 use Rattle.std.proofs.lemmas.List.Elements.{All-nil}
 use Rattle.std.specs.Io.KnownBytes.{Consumes, Keeps, IsAtEnd, append_known}
 use Rattle.std.proofs.KnownBytes.{Appends-nil, Appends-trans, Appends-kept, Keeps-trans, Consumes-nil, Consumes-trans, Consumes-whole}
-use Rattle.tt_run.specs.declared.session.RunFault.{RunFault}
-use Rattle.tt_run.specs.declared.session.RunFault.TheVariants.{Read, Write, Memory}
-use Rattle.tt_run.specs.declared.session.End.{End}
-use Rattle.tt_run.specs.declared.session.End.TheVariants.{Clean, BadLine}
+use Rattle.tt_run.specs.declared.outcome.RunFault.{RunFault}
+use Rattle.tt_run.specs.declared.outcome.RunFault.TheVariants.{Read, Write, Memory}
+use Rattle.tt_run.specs.declared.outcome.End.{End}
+use Rattle.tt_run.specs.declared.outcome.End.TheVariants.{Clean, BadLine}
 use Rattle.tt_run.specs.Progress.{Progress, fresh}
 use Rattle.tt_run.specs.Lines.{lines_of, ended_lines, IsOneLine}
 use Rattle.tt_run.specs.Run.{AreAnswers, PrecedesBadLine, bad_line, StopsWithin, Tells}

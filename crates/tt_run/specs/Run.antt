@@ -4,10 +4,10 @@ use Rattle.std.specs.List.{All, AllZip, concat}
 use Rattle.std.specs.Fmt.{decimal}
 use Rattle.std.specs.Io.KnownBytes.{Appends, Consumes, IsAtEnd}
 use Rattle.tt_run.specs.declared.command.Command.{Command}
-use Rattle.tt_run.specs.declared.session.End.{End}
-use Rattle.tt_run.specs.declared.session.End.TheVariants.{Clean, BadLine}
-use Rattle.tt_run.specs.declared.session.RunFault.{RunFault}
-use Rattle.tt_run.specs.declared.session.RunFault.TheVariants.{Read, Write, Memory}
+use Rattle.tt_run.specs.declared.outcome.End.{End}
+use Rattle.tt_run.specs.declared.outcome.End.TheVariants.{Clean, BadLine}
+use Rattle.tt_run.specs.declared.outcome.RunFault.{RunFault}
+use Rattle.tt_run.specs.declared.outcome.RunFault.TheVariants.{Read, Write, Memory}
 use Rattle.tt_run.specs.State.{State, start}
 use Rattle.tt_run.specs.Command.{StandsFor, IsNoCommand}
 use Rattle.tt_run.specs.Answer.{line}

@@ -2,10 +2,10 @@
 use Rattle.std.specs.Prelude.{◌≡◌, ℕ, ◌+◌, ◌-◌, ◌^◌, min, Bool, true, false, List, [], ◌∷◌, ◌++◌, length, None, Some, Ok, Err, Option, Result}
 use Rattle.std.specs.List.{All}
 use Rattle.std.specs.Io.KnownBytes.{Appends, Keeps}
-use Rattle.tt_run.specs.declared.session.End.{End}
-use Rattle.tt_run.specs.declared.session.End.TheVariants.{Clean, BadLine}
-use Rattle.tt_run.specs.declared.session.RunFault.{RunFault}
-use Rattle.tt_run.specs.declared.session.RunFault.TheVariants.{Read, Write, Memory}
+use Rattle.tt_run.specs.declared.outcome.End.{End}
+use Rattle.tt_run.specs.declared.outcome.End.TheVariants.{Clean, BadLine}
+use Rattle.tt_run.specs.declared.outcome.RunFault.{RunFault}
+use Rattle.tt_run.specs.declared.outcome.RunFault.TheVariants.{Read, Write, Memory}
 use Rattle.tt_run.specs.State.{State}
 use Rattle.tt_run.specs.Progress.{Progress}
 use Rattle.tt_run.specs.Lines.{lines_of, ended_lines, IsOneLine}

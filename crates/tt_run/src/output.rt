@@ -4,7 +4,7 @@ ghost use Rattle.tt_run.specs.Noted.{noted_inner, noted_failed};
 ghost use Rattle.tt_run.specs.Output.{text_told};
 
 use crate::noted::Noted;
-use crate::session::RunFault;
+use crate::outcome::RunFault;
 use std::alloc::Global;
 use std::io::Write;
 use std::marker::Model;

@@ -1,67 +1,26 @@
-ghost use Rattle.std.specs.Prelude.{◌≡◌, ◌^◌, ◌<◌, ◌++◌, ◌∷◌, ◌↔◌, [], true, false, IsTrue, OnOk, OnErr, IfErr};
+ghost use Rattle.std.specs.Prelude.{◌≡◌, ◌^◌, ◌<◌, ◌++◌, ◌∷◌, ◌↔◌, [], true, false, IsTrue, OnOk, OnErr, IfOk, IfErr, MatchOption};
 ghost use Rattle.std.specs.Io.KnownBytes.{Keeps};
 ghost use Rattle.tt_run.specs.Noted.{noted_inner, noted_failed};
 ghost use Rattle.tt_run.specs.Output.{text_told};
 ghost use Rattle.tt_run.specs.Progress.{Progress, fresh, progress_code};
-ghost use Rattle.tt_run.specs.Command.{PrintsTree};
+ghost use Rattle.tt_run.specs.Command.{IsNoCommand, PrintsTree, StandsFor};
 ghost use Rattle.tt_run.specs.Lines.{IsOneLine};
 ghost use Rattle.tt_run.specs.Machine.{Step};
 ghost use Rattle.tt_run.specs.Run.{Tells, Fails};
 ghost use Rattle.tt_run.specs.Session.{Answers, Feeds, Finishes};
-ghost use Rattle.tt_run.specs.declared.session.RunFault.TheVariants.{Memory};
 
 use crate::answer::Answer;
 use crate::command::Command;
 use crate::machine::Machine;
 use crate::noted::Noted;
+use crate::outcome::{End, RunFault};
 use crate::output::{BLOCK, Output};
 use memchr::memchr;
-use std::alloc::{AllocError, Global};
+use std::alloc::Global;
 use std::io::{Read, Write};
 use std::marker::Model;
 use std::mem;
-use thiserror::Error;
 use tt_base::TtFault;
-
-/// How the input ended.
-#[derive(Debug, Clone, Copy, PartialEq, Eq)]
-pub enum End {
-    /// After the last line.
-    Clean,
-    /// At the first line that is no command, whose number this is.
-    BadLine(u64),
-}
-
-/// Why the run stopped before the end of the input.
-#[derive(Debug, Clone, Copy, PartialEq, Eq, Error)]
-pub enum RunFault {
-    /// A read gave an error.
-    #[error("read failed")]
-    Read,
-    /// A write or a flush gave an error, or a write took no byte.
-    #[error("write failed")]
-    Write,
-    /// There is no memory for a line or for its command.
-    #[error("out of memory")]
-    Memory,
-}
-
-impl From<TtFault> for RunFault {
-    ghost from_gives = { λ _ fault. fault ≡ Memory };
-
-    // Reading a line answers no other fault.
-    fn from(_fault: TtFault) -> RunFault {
-        RunFault::Memory
-    }
-}
-
-impl From<AllocError> for RunFault {
-    ghost from_gives = { λ _ fault. fault ≡ Memory };
-
-    fn from(_error: AllocError) -> RunFault {
-        RunFault::Memory
-    }
-}
 
 // The machine, the line that began in an earlier block, how many lines were answered, and the answers.
 #[derive(Drop)]
@@ -173,7 +132,7 @@ impl Session {
         ensures begun { self.new.begun ≡ self.old.begun }
     {
         let number = self.count.saturating_add(1);
-        let Some(command) = Command::parse(self.alloc, line)? else {
+        let Some(command) = command_of(self.alloc, line)? else {
             let text = format!(in self.alloc; "bad line {number}\n")?;
             self.output.put(text.as_bytes(), writer)?;
             return Ok(Some(number));
@@ -289,6 +248,20 @@ impl Session {
             if let Some(number) = self.feed(&block[..n], writer)? {
                 return Ok(End::BadLine(number));
             }
+        }
+    }
+}
+
+// The command that the line stands for, if there is one. Nothing but memory may be missing for that.
+fn command_of(alloc: Global, line: &[u8]) -> Result<Option<Command>, RunFault>
+    ensures reads { IfOk result (λ found. MatchOption found (IsNoCommand line.now) (StandsFor line.now)) }
+    ensures kind { IfErr result (λ fault. fault ≡ RunFault.Memory) }
+{
+    match Command::parse(alloc, line) {
+        Ok(found) => Ok(found),
+        Err(fault) => {
+            prove!(fault == TtFault::Memory);
+            Err(RunFault::Memory)
         }
     }
 }

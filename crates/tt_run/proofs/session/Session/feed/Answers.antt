@@ -2,7 +2,7 @@ use Rattle.std.proofs.Common.{[], Ok, Err, None, Some, refl}
 use Rattle.std.proofs.KnownBytes.{Keeps-refl}
 use Rattle.std.proofs.lemmas.List.{take_rest}
 use Rattle.std.proofs.lemmas.Result.{err_from_is_err_and}
-use Rattle.tt_run.specs.declared.session.RunFault.TheVariants.{Memory}
+use Rattle.tt_run.specs.declared.outcome.RunFault.TheVariants.{Memory}
 use Rattle.tt_run.proofs.Feeding.{Follows-none, Follows-fits, Follows-longer, Feeds-after, Feeds-stop, Breaks-none}
 use Rattle.tt_run.proofs.Searching.{IsOneLine-none, IsOneLine-before, parted_on}
 use Rattle.tt_run.proofs.session.Session.feed.Goals as goal
