@@ -87,15 +87,14 @@ Follows-Halts a b bs cs number w x y p q = record {
   counted = rw length-append (numbers_on a.count b.count (length p.lines) (length q.lines) number (2 ^ 64 - 1) p.counted q.counted);
 }
 
-Follows-Breaks : (a b : Progress) (bs cs : List ℕ) (w x y : Option (List ℕ)) → Follows a bs b w x → Breaks b cs x y → Breaks a (bs ++ cs) w y
-Follows-Breaks a b bs cs w x y p q = record {
+pub Follows-Breaks : (a b : Progress) (bs cs rest : List ℕ) (w x y : Option (List ℕ)) → Follows a bs b w x → Breaks b cs rest x y → Breaks a (bs ++ cs) rest w y
+Follows-Breaks a b bs cs rest w x y p q = record {
   lines = p.lines ++ q.lines;
-  hand = q.hand;
   text = p.text ++ q.text;
   state = q.state;
   told = Appends-trans w x y p.text q.text p.told q.told;
   answered = Answered-trans a.machine b.machine q.state p.lines q.lines p.text q.text p.answered q.answered;
-  cut = cuts_on a.begun bs p.lines b.begun cs q.lines q.hand p.cut q.cut;
+  cut = cuts_on a.begun bs p.lines b.begun cs q.lines rest p.cut q.cut;
   whole = All-append IsOneLine p.lines q.lines p.whole q.whole;
 }
 
@@ -117,7 +116,7 @@ pub Feeds-after : (a b c : Progress) (bs cs : List ℕ) (result : Result (Option
     → Follows a bs b w x → Feeds b cs result c x y failed → Feeds a (bs ++ cs) result c w y failed
 Feeds-after a b c bs cs (Ok None) w x y failed p q = (Follows-trans a b c bs cs w x y p q.0, q.1)
 Feeds-after a b c bs cs (Ok (Some number)) w x y failed p q = (Follows-Halts a b bs cs number w x y p q.0, q.1)
-Feeds-after a b c bs cs (Err Memory) w x y failed p q = (Follows-Breaks a b bs cs w x y p q.0, q.1)
+Feeds-after a b c bs cs (Err Memory) w x y failed p q = ((q.0.0, Follows-Breaks a b bs cs q.0.0 w x y p q.0.1), q.1)
 Feeds-after a b c bs cs (Err Write) w x y failed p q = q
 Feeds-after a b c bs cs (Err Read) w x y failed p q = absurd q
 
@@ -151,17 +150,19 @@ Feeds-before a b bs rest (Ok (Some number)) w x failed stops p =
       p.1,
     )
 Feeds-before a b bs rest (Err Memory) w x failed stops p =
-    let breaks = p.0 in (
-      record {
-        lines = breaks.lines;
-        hand = breaks.hand ++ rest;
-        text = breaks.text;
-        state = breaks.state;
-        told = breaks.told;
-        answered = breaks.answered;
-        cut = cuts_before a.begun bs breaks.hand rest breaks.lines breaks.cut;
-        whole = breaks.whole;
-      },
+    let (begins, breaks) = p.0 in (
+      (
+        begins ++ rest,
+        record {
+          lines = breaks.lines;
+          text = breaks.text;
+          state = breaks.state;
+          told = breaks.told;
+          answered = breaks.answered;
+          cut = cuts_before a.begun bs begins rest breaks.lines breaks.cut;
+          whole = breaks.whole;
+        },
+      ),
       p.1,
     )
 Feeds-before a b bs rest (Err Write) w x failed stops p = p
@@ -174,11 +175,10 @@ Feeds-stop a b c all fed part more result w x y failed cut p stops q =
     subst (λ l. Feeds a l result c w y failed) (sym cut)
     (Feeds-before a c (fed ++ part) more result w y failed stops (Feeds-after a b c fed part result w x y failed p q))
 
--- the bytes are in hand, and no line was answered
-pub Breaks-none : (a : Progress) (bytes : List ℕ) (w x : Option (List ℕ)) → Keeps w x → Breaks a bytes w x
+-- no line was answered
+pub Breaks-none : (a : Progress) (bytes : List ℕ) (w x : Option (List ℕ)) → Keeps w x → Breaks a bytes (a.begun ++ bytes) w x
 Breaks-none a bytes w x kept = record {
   lines = [];
-  hand = a.begun ++ bytes;
   text = [];
   state = a.machine;
   told = Appends-kept w w x [] (Appends-nil w) kept;
@@ -220,7 +220,7 @@ Feeds-line a b bytes (Ok (Some number)) w x failed begun one p empty = (
   },
   p.3,
 )
-Feeds-line a b bytes (Err Memory) w x failed begun one p empty = (Breaks-none a (bytes ++ 10 ∷ []) w x p.0, p.1)
+Feeds-line a b bytes (Err Memory) w x failed begun one p empty = ((_, Breaks-none a (bytes ++ 10 ∷ []) w x p.0), p.1)
 Feeds-line a b bytes (Err Write) w x failed begun one p empty = p
 Feeds-line a b bytes (Err Read) w x failed begun one p empty = absurd p
 

@@ -1,18 +1,20 @@
 -- From the bytes that a session was fed to what a run says.
-use Rattle.std.proofs.Common.{◌≡◌, ◌≢◌, ℕ, List, [], ◌∷◌, ◌++◌, Option, None, Some, Result, Ok, Err, Bool, false, take, sym, ap, ◌∙◌, subst, refl, append_assoc, append-nil, zero-add, IfSome, lit<, arith}
+use Rattle.std.proofs.Common.{◌≡◌, ◌≢◌, ◌≤◌, ℕ, length, List, [], ◌∷◌, ◌++◌, Option, None, Some, Result, Ok, Err, Bool, false, take, sym, ap, ◌∙◌, subst, refl, append_assoc, append-nil, zero-add, IfSome, lit<, lit≤, arith}
 use Rattle.std.proofs.lemmas.List.Elements.{All-nil}
 use Rattle.std.specs.Io.KnownBytes.{Consumes, Keeps, IsAtEnd, append_known}
-use Rattle.std.proofs.KnownBytes.{Appends-nil, Appends-trans, Appends-kept, Keeps-trans, Consumes-nil, Consumes-trans, Consumes-whole}
+use Rattle.std.proofs.KnownBytes.{Appends-nil, Appends-trans, Appends-kept, Keeps-trans, Consumes-nil, Consumes-kept, Consumes-trans, Consumes-whole}
 use Rattle.tt_run.specs.declared.outcome.RunFault.{RunFault}
 use Rattle.tt_run.specs.declared.outcome.RunFault.TheVariants.{Read, Write, Memory}
 use Rattle.tt_run.specs.declared.outcome.End.{End}
 use Rattle.tt_run.specs.declared.outcome.End.TheVariants.{Clean, BadLine}
+use Rattle.tt_run.specs.declared.output.TheConstants.{BLOCK}
 use Rattle.tt_run.specs.Progress.{Progress, fresh}
 use Rattle.tt_run.specs.Lines.{lines_of, ended_lines, IsOneLine}
 use Rattle.tt_run.specs.Run.{AreAnswers, PrecedesBadLine, bad_line, StopsWithin, Tells}
-use Rattle.tt_run.specs.Session.{Follows, Answers, Feeds, Finishes}
+use Rattle.tt_run.specs.Session.{Follows, Breaks, Answers, Feeds, Finishes}
 use Rattle.tt_run.proofs.Answering.{Answered-none, Answered-trans}
-use Rattle.tt_run.proofs.Feeding.{Follows-none, Follows-written, Feeds-after}
+use Rattle.tt_run.proofs.Feeding.{Follows-none, Follows-written, Follows-Breaks, Feeds-after}
+use Rattle.tt_run.proofs.InHand.{InHand, first_line, behind_within}
 use Rattle.tt_run.proofs.LineCuts.{lines_of-line, lines_of-last, lines_of-ended}
 
 -- with nothing pending, all that was told is written
@@ -77,14 +79,32 @@ Reads-more b c bytes r s t w x y failed p took q =
       follows = more.0;
     }
 
--- the line that has begun is in hand
-StopsWithin-begun : (b : Progress) (r s w x : Option (List ℕ)) → (p : Reads b r s w x) → StopsWithin r s p.follows.text b.begun
+-- the line that has begun is in hand, and nothing lies behind it
+StopsWithin-begun : (b : Progress) (r s w x : Option (List ℕ)) → (p : Reads b r s w x) → StopsWithin r s p.follows.text []
 StopsWithin-begun b r s w x p = record {
   before = p.follows.lines;
+  hand = b.begun;
   answers = (b.machine, p.follows.answered);
   whole = p.follows.whole;
-  read = subst (Consumes r s) p.follows.cut p.took;
+  one_line = p.follows.begun;
+  read = subst (Consumes r s) (p.follows.cut ∙ ap (λ l. ended_lines p.follows.lines ++ l) (sym (append-nil b.begun))) p.took;
 }
+
+-- a read failed
+pub Tells-unread : (b : Progress) (r s t w x : Option (List ℕ)) → Reads b r s w x → Keeps s t → Tells (Err Read) r t w x
+Tells-unread b r s t w x p kept =
+    let stops = StopsWithin-begun b r s w x p in (
+      p.follows.text,
+      p.follows.told,
+      record {
+        before = stops.before;
+        hand = stops.hand;
+        answers = stops.answers;
+        whole = stops.whole;
+        one_line = stops.one_line;
+        read = Consumes-kept r s t (ended_lines stops.before ++ (stops.hand ++ [])) stops.read kept;
+      },
+    )
 
 -- a read that gave nothing
 Reads-end : (b : Progress) (buffer : List ℕ) (n : ℕ) (r s t w x : Option (List ℕ)) → Reads b r s w x → Consumes s t (take n buffer) → n ≡ 0 → Reads b r t w x
@@ -121,7 +141,7 @@ Tells-at_end b c (Ok (BadLine number)) r s w x y failed reads ended q =
       },
     )
 Tells-at_end b c (Err Memory) r s w x y failed reads ended q =
-    (reads.follows.text, Appends-kept w x y reads.follows.text reads.follows.told q.0, (b.begun, StopsWithin-begun b r s w x reads))
+    (reads.follows.text, Appends-kept w x y reads.follows.text reads.follows.told q.0, ([], StopsWithin-begun b r s w x reads, tt, lit≤ tt))
 Tells-at_end b c (Err Write) r s w x y failed reads ended q = tt
 Tells-at_end b c (Err Read) r s w x y failed reads ended q = absurd q
 
@@ -156,23 +176,33 @@ Tells-bad_line b c bytes number r s t w x y failed p took q =
       },
     )
 
--- a session could not take the bytes
+-- a session could not take the bytes that were read
 pub Tells-fault : (b c : Progress) (bytes : List ℕ) (fault : RunFault) (r s t w x y : Option (List ℕ)) (failed : Bool) → Reads b r s w x → Consumes s t bytes
-    → Feeds b bytes (Err fault) c x y failed → Tells (Err fault) r t w y
-Tells-fault b c bytes Memory r s t w x y failed p took q =
-    let fed = Feeds-after fresh b c p.taken bytes (Err Memory) w x y failed p.follows q in
-    let breaks = fed.0 in (
-      breaks.text,
-      breaks.told,
+    → length bytes ≤ BLOCK → Feeds b bytes (Err fault) c x y failed → Tells (Err fault) r t w y
+Tells-fault b c bytes Memory r s t w x y failed p took fits q =
+    let (rest, breaks) = q.0 in
+    let all = Follows-Breaks fresh b p.taken bytes rest w x y p.follows breaks in
+    let line = first_line rest in (
+      all.text,
+      all.told,
       (
-        breaks.hand,
+        line.behind,
         record {
-          before = breaks.lines;
-          answers = (breaks.state, breaks.answered);
-          whole = breaks.whole;
-          read = subst (Consumes r t) breaks.cut (Consumes-trans r s t p.taken bytes p.took took);
+          before = all.lines;
+          hand = line.hand;
+          answers = (all.state, all.answered);
+          whole = all.whole;
+          one_line = line.one_line;
+          read = subst (Consumes r t) (all.cut ∙ ap (λ l. ended_lines all.lines ++ l) line.is) (Consumes-trans r s t p.taken bytes p.took took);
         },
+        line.ends,
+        within line breaks,
       ),
     )
-Tells-fault b c bytes Write r s t w x y failed p took q = tt
-Tells-fault b c bytes Read r s t w x y failed p took q = absurd q
+  where
+    within : {rest : List ℕ} → (line : InHand rest) → Breaks b bytes rest x y → length line.behind ≤ BLOCK
+    within line breaks =
+        let cut = breaks.cut ∙ ap (λ l. ended_lines breaks.lines ++ l) line.is in
+        omega (arith, behind_within b.begun bytes breaks.lines line.hand line.behind p.follows.begun line.ends cut)
+Tells-fault b c bytes Write r s t w x y failed p took fits q = tt
+Tells-fault b c bytes Read r s t w x y failed p took fits q = absurd q

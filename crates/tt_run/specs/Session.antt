@@ -38,15 +38,14 @@ pub record Halts (old : Progress) (bytes : List ℕ) (number : ℕ) (before afte
   pub is_bad : IsNoCommand bad
   pub counted : number ≡ next_number (old.count + length lines)
 
--- the lines before the one in hand were answered
-pub record Breaks (old : Progress) (bytes : List ℕ) (before after : Option (List ℕ)) : Type 0 where
+-- the lines before the rest were answered
+pub record Breaks (old : Progress) (bytes rest : List ℕ) (before after : Option (List ℕ)) : Type 0 where
   pub lines : List (List ℕ)
-  pub hand : List ℕ
   pub text : List ℕ
   pub state : State
   pub told : Appends before after text
   pub answered : Answered old.machine lines text state
-  pub cut : old.begun ++ bytes ≡ ended_lines lines ++ hand
+  pub cut : old.begun ++ bytes ≡ ended_lines lines ++ rest
   pub whole : All IsOneLine lines
 
 -- what one line does: it is answered, or is no command and its number is told
@@ -64,7 +63,7 @@ Answers old line (Err Read) new before after failed = ⊥
 abbrev pub Feeds : Progress → List ℕ → Result (Option ℕ) RunFault → Progress → Option (List ℕ) → Option (List ℕ) → Bool → Type 0
 Feeds old bytes (Ok None) new before after failed = Follows old bytes new before after × (failed ≡ false)
 Feeds old bytes (Ok (Some number)) new before after failed = Halts old bytes number before after × (failed ≡ false)
-Feeds old bytes (Err Memory) new before after failed = Breaks old bytes before after × (failed ≡ false)
+Feeds old bytes (Err Memory) new before after failed = ((rest : List ℕ) × Breaks old bytes rest before after) × (failed ≡ false)
 Feeds old bytes (Err Write) new before after failed = failed ≡ true
 Feeds old bytes (Err Read) new before after failed = ⊥
 

@@ -1,6 +1,6 @@
-use Rattle.std.proofs.Common.{rules}
+use Rattle.std.proofs.Common.{arith, length-take, rules}
 use Rattle.std.proofs.lemmas.Result.{err_from_is_err_and}
-use Rattle.tt_run.proofs.Telling.{Reads-none, Reads-written, Reads-more, Tells-finish, Tells-bad_line, Tells-fault}
+use Rattle.tt_run.proofs.Telling.{Reads-none, Reads-written, Reads-more, Tells-finish, Tells-bad_line, Tells-fault, Tells-unread}
 use Rattle.tt_run.proofs.session.Session.answer_all.Goals as goal
 
 pub reading-init : goal.reading-init
@@ -12,11 +12,16 @@ returns-then-n-eq0-clause-tells g c =
     let read = c.in-Ok.ensures.bytes in
     Tells-finish _ c.finish.new.self _ _ _ _ _ _ _ _ _ _ reads read.0 c.if-n-eq0.true (read.1 c.if-n-eq0.true (search rules)) c.finish.ensures
 
+pub returns-in_default-clause-tells : goal.returns-in_default-clause-tells
+returns-in_default-clause-tells g c =
+    let reads = Reads-written _ _ _ _ _ _ _ c.reading.invariant.0 c.in_ok-write_out.ensures.written c.in_ok-write_out.ensures.empty in
+    Tells-unread _ _ _ _ _ _ reads c.in_default.ensures.bytes
+
 pub returns-in_err-number-clause-tells : goal.returns-in_err-number-clause-tells
 returns-in_err-number-clause-tells g c =
     let reads = Reads-written _ _ _ _ _ _ _ c.reading.invariant.0 c.in_ok-write_out.ensures.written c.in_ok-write_out.ensures.empty in
     let p = err_from_is_err_and c.from_residual-in_err-number.result c.from_residual-in_err-number.ensures.1 in
-    rw (p.1, p.2) (Tells-fault _ c.feed.new.self _ _ _ _ _ _ _ _ _ reads c.in-Ok.ensures.bytes.0 c.in_err-number.ensures)
+    rw (p.1, p.2) (Tells-fault _ c.feed.new.self _ _ _ _ _ _ _ _ _ reads c.in-Ok.ensures.bytes.0 (omega (arith, length-take c.in-Ok.n c.read.new.buf)) c.in_err-number.ensures)
 
 pub returns-in-Some-clause-tells : goal.returns-in-Some-clause-tells
 returns-in-Some-clause-tells g c =

@@ -16,4 +16,4 @@ returns g c =
 pub returns-in_err-keep : goal.returns-in_err-keep
 returns-in_err-keep g c =
     let p = err_from_is_err_and c.from_residual.result c.from_residual.ensures.1 in
-    rw (p.1, p.2, c.in_err-keep.ensures.kind, c.in_err-keep.ensures.err) (Breaks-none _ _ _ _ (Keeps-refl _), c.requires.sound)
+    rw (p.1, p.2, c.in_err-keep.ensures.kind, c.in_err-keep.ensures.err) ((_, Breaks-none _ _ _ _ (Keeps-refl _)), c.requires.sound)

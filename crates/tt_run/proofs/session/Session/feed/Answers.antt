@@ -37,7 +37,7 @@ returns-in_err-keep g c =
     let (fed, cut, follows) = c.lines.invariant.0 in
     let p = err_from_is_err_and c.from_residual-in_err-keep.result c.from_residual-in_err-keep.ensures.1 in
     rw (p.1, p.2, c.in_err-keep.ensures.kind, c.in_err-keep.ensures.err, cut)
-    (Feeds-after _ _ c.lines.self fed _ (Err Memory) _ _ _ _ follows (Breaks-none _ _ _ _ (Keeps-refl _), c.lines.invariant.1))
+    (Feeds-after _ _ c.lines.self fed _ (Err Memory) _ _ _ _ follows ((_, Breaks-none _ _ _ _ (Keeps-refl _)), c.lines.invariant.1))
 
 pub returns : goal.returns
 returns g c =
