@@ -1,4 +1,4 @@
-ghost use Rattle.std.specs.Prelude.{◌≡◌, ◌↔◌, IfOk, IfErr, IsTrue, MatchOption};
+ghost use Rattle.std.specs.Prelude.{◌≡◌, ◌↔◌, IfOk, IfErr, IfSome, IsTrue, MatchOption};
 ghost use Rattle.tt_base.specs.declared.fault.TtFault.TheVariants.{Memory};
 ghost use Rattle.tt_run.specs.Reading.{Reads};
 
@@ -10,6 +10,7 @@ mod verb;
 mod word;
 
 use crate::slot::Slot;
+use memchr::memchr;
 use numbers::two_slots;
 use std::alloc::Global;
 use tokens::token;
@@ -32,13 +33,18 @@ pub enum Command {
 
 impl Command {
     ghost use Rattle.tt_run.specs.Command.{CommandFits, IsNoCommand, PrintsTree, StandsFor, spell};
+    ghost use Rattle.tt_run.specs.Lines.{IsOneLine};
 
     /// The command that the line stands for, if there is one. The line is given without its line feed.
     pub fn parse(alloc: Global, line: &[u8]) -> Result<Option<Command>, TtFault>
         ensures reads { IfOk result (λ found. MatchOption found (IsNoCommand line.now) (StandsFor line.now)) }
+        ensures one_line { IfOk result (λ found. IfSome found (λ _. IsOneLine line.now)) }
         ensures unique { (one other : Command) → StandsFor line.now one → StandsFor line.now other → one ≡ other }
         ensures err { IfErr result (λ fault. fault ≡ Memory) }
     {
+        if memchr(b'\n', line).is_some() {
+            return Ok(None);
+        }
         Command::read(alloc, line)
     }
 
