@@ -8,6 +8,7 @@ ghost use Rattle.tt_run.specs.Lines.{IsOneLine};
 ghost use Rattle.tt_run.specs.Machine.{Step};
 ghost use Rattle.tt_run.specs.Run.{Tells, Fails};
 ghost use Rattle.tt_run.specs.Session.{Answers, Feeds, Finishes};
+ghost use Rattle.tt_run.specs.Stage.{stage_of};
 
 use crate::answer::Answer;
 use crate::command::Command;
@@ -125,10 +126,9 @@ impl Session {
         writer: &mut Noted<W>,
     ) -> Result<Option<u64>, RunFault>
         requires sound { noted_failed writer.old ≡ false }
-        ensures answers { Answers self.old line.now result self.new
-            (text_told W.contents writer.old self.old.pending)
-            (text_told W.contents writer.new self.new.pending)
-            (noted_failed writer.new) }
+        ensures answers { Answers
+            (stage_of W.contents self.old writer.old) line.now result
+            (stage_of W.contents self.new writer.new) }
         ensures begun { self.new.begun ≡ self.old.begun }
     {
         let number = self.count.saturating_add(1);
@@ -147,10 +147,9 @@ impl Session {
     // Answers the line that has begun.
     fn answer_begun<W: Write>(&mut self, writer: &mut Noted<W>) -> Result<Option<u64>, RunFault>
         requires sound { noted_failed writer.old ≡ false }
-        ensures answers { Answers self.old self.old.begun result self.new
-            (text_told W.contents writer.old self.old.pending)
-            (text_told W.contents writer.new self.new.pending)
-            (noted_failed writer.new) }
+        ensures answers { Answers
+            (stage_of W.contents self.old writer.old) self.old.begun result
+            (stage_of W.contents self.new writer.new) }
         ensures begun { self.new.begun ≡ [] }
     {
         let line = mem::replace(&mut self.begun, Vec::new(self.alloc));
@@ -166,10 +165,9 @@ impl Session {
         requires begun { IsOneLine self.old.begun }
         requires one_line { IsOneLine bytes.now }
         requires sound { noted_failed writer.old ≡ false }
-        ensures { Feeds self.old (bytes.now ++ 10 ∷ []) result self.new
-            (text_told W.contents writer.old self.old.pending)
-            (text_told W.contents writer.new self.new.pending)
-            (noted_failed writer.new) }
+        ensures { Feeds
+            (stage_of W.contents self.old writer.old) (bytes.now ++ 10 ∷ []) result
+            (stage_of W.contents self.new writer.new) }
     {
         if self.is_between_lines() {
             return self.answer(bytes, writer);
@@ -187,10 +185,9 @@ impl Session {
         requires begun { IsOneLine self.old.begun }
         requires counted { self.old.count < 2 ^ 64 }
         requires sound { noted_failed writer.old ≡ false }
-        ensures { Feeds self.old bytes.now result self.new
-            (text_told W.contents writer.old self.old.pending)
-            (text_told W.contents writer.new self.new.pending)
-            (noted_failed writer.new) }
+        ensures { Feeds
+            (stage_of W.contents self.old writer.old) bytes.now result
+            (stage_of W.contents self.new writer.new) }
     {
         let mut rest = bytes;
         'lines: while let Some(end) = memchr(b'\n', rest) {
@@ -207,10 +204,9 @@ impl Session {
     fn finish<W: Write>(&mut self, writer: &mut Noted<W>) -> Result<End, RunFault>
         requires begun { IsOneLine self.old.begun }
         requires sound { noted_failed writer.old ≡ false }
-        ensures { Finishes self.old result self.new
-            (text_told W.contents writer.old self.old.pending)
-            (text_told W.contents writer.new self.new.pending)
-            (noted_failed writer.new) }
+        ensures { Finishes
+            (stage_of W.contents self.old writer.old) result
+            (stage_of W.contents self.new writer.new) }
     {
         if self.is_between_lines() {
             return Ok(End::Clean);
