@@ -8,6 +8,7 @@ use std::test::Fail;
 mod bad_lines;
 mod fakes;
 mod good_lines;
+mod long_runs;
 
 // The first run of `docs/LANGUAGE.md`.
 const SCRIPT: &[u8] = b"item sub paren 0:0@0..1#0 0:0@3..4#0 2
