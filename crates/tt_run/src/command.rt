@@ -1,3 +1,4 @@
+//! What a line may ask, and how it is read.
 ghost use Rattle.std.specs.Prelude.{◌≡◌, ◌↔◌, IfOk, IfErr, IfSome, IsTrue, MatchOption};
 ghost use Rattle.tt_base.specs.declared.fault.TtFault.TheVariants.{Memory};
 ghost use Rattle.tt_run.specs.Reading.{Reads};

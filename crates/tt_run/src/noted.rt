@@ -1,3 +1,4 @@
+//! Readers and writers whose failures are noted.
 ghost use Rattle.std.specs.Prelude.{◌≡◌, ◌≢◌, ◌↔◌, ◌-◌, ◌^◌, ◌<◌, ◌||◌, ◌&&◌, ◌==◌, Bool, true, false, length, nat_lt, IfErr, IsErr, IsErrAnd, MatchResult, OnOk, OnErr};
 ghost use Rattle.std.specs.Io.{ReadsAtMost, WritesAtMost};
 ghost use Rattle.std.specs.IoError.{error_kind};

@@ -1,5 +1,4 @@
 //! How a run ends.
-
 ghost use Rattle.std.specs.Prelude.{◌≡◌};
 ghost use Rattle.tt_run.specs.declared.outcome.RunFault.TheVariants.{Memory};
 

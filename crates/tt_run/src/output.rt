@@ -1,3 +1,4 @@
+//! Bytes that are told, and wait to be written.
 ghost use Rattle.std.specs.Prelude.{◌≡◌, true, [], ℕ, List, OnOk, OnErr, IfErr};
 ghost use Rattle.std.specs.Io.KnownBytes.{Appends, Keeps};
 ghost use Rattle.tt_run.specs.Noted.{noted_inner, noted_failed};

@@ -1,3 +1,4 @@
+//! The loop that reads lines and answers them.
 ghost use Rattle.std.specs.Prelude.{◌≡◌, ◌^◌, ◌<◌, ◌++◌, ◌∷◌, ◌↔◌, [], true, false, IsTrue, OnOk, OnErr, IfOk, IfErr, MatchOption};
 ghost use Rattle.std.specs.Io.KnownBytes.{Keeps};
 ghost use Rattle.tt_run.specs.Noted.{noted_inner, noted_failed};

@@ -1,3 +1,4 @@
+//! Runs over whole scripts, and over readers and writers that fail.
 use crate::{End, Noted, RunFault, run};
 use fakes::{FakeReader, FakeWriter, WriteFailure};
 use std::alloc::{AllocError, Global};

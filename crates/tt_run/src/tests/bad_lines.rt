@@ -1,3 +1,4 @@
+//! Lines that are no command, and lines that nearly are none.
 use super::written;
 use crate::{Command, End};
 use std::test::Fail;

@@ -1,5 +1,4 @@
 //! Runs over more reads, lines and tokens than any limit short of the machine's own.
-
 use super::fakes::FakeReader;
 use super::written;
 use crate::{End, Noted, run};
