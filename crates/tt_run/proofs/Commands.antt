@@ -1,5 +1,5 @@
 -- What a line's first word tells of its command. A later command is one more case of each definition and of each proof by cases.
-use Rattle.std.proofs.Common.{◌≡◌, ℕ, ◌<◌, List, Option, Some, None, refl, sym, ap, subst, ◌∙◌}
+use Rattle.std.proofs.Common.{◌≡◌, ℕ, ◌<◌, List, Option, Some, None, Result, Ok, Err, IfOk, IfSome, MatchOption, refl, sym, ap, subst, ◌∙◌}
 use Rattle.std.specs.Prelude.{codes, if◌then◌else◌}
 use Rattle.std.specs.Fmt.{decimal}
 use Rattle.std.specs.Option.{option_map}
@@ -9,7 +9,9 @@ use Rattle.tt_run.specs.declared.command.Command.{Command}
 use Rattle.tt_run.specs.declared.command.Command.TheVariants as command
 use Rattle.tt_run.specs.declared.command.verb.Verb.{Verb}
 use Rattle.tt_run.specs.declared.command.verb.Verb.TheVariants as verb
-use Rattle.tt_run.specs.Command.{CommandFits, StandsFor, spell}
+use Rattle.tt_base.specs.declared.fault.TtFault.{TtFault}
+use Rattle.tt_run.specs.Command.{CommandFits, IsNoCommand, StandsFor, spell}
+use Rattle.tt_run.specs.Lines.{IsOneLine}
 use Rattle.tt_run.specs.Reading.{Reads, words}
 use Rattle.tt_run.specs.Token.{slots_words, SlotsFit, token_words}
 use Rattle.tt_run.specs.Verb.{verb_word}
@@ -64,17 +66,17 @@ IsThat-unique verb.Show = MadeOf-unique _ _ _ one_slot
 IsThat-unique verb.Equal = MadeOf-unique _ _ _ one_pair_of_slots
 
 -- the first word of a line and the text after it tell the command
-pub told : (line text : List ℕ) (v : Verb) (c : Command) → line ≡ words (verb_word v) text → StandsFor line c → IsThat v text c
-told line text v c e s =
-    let (w, other, spelled, is) = taken_apart c s.fits in
-    let u = words_same line _ _ _ _ (spaceless_verb w) (spaceless_verb v) (s.spelled ∙ spelled) e in
+pub told : (line text : List ℕ) (v : Verb) (c : Command) → line ≡ words (verb_word v) text → line ≡ spell c → CommandFits c → IsThat v text c
+told line text v c e d fits =
+    let (w, other, spelled, is) = taken_apart c fits in
+    let u = words_same line _ _ _ _ (spaceless_verb w) (spaceless_verb v) (d ∙ spelled) e in
     let verbs : w ≡ v = one_verb w v tt tt u.0 in
     subst (λ (x : Verb). IsThat x text c) verbs (subst (λ (x : List ℕ). IsThat w x c) u.1 is)
 
 pub StandsFor-unique : (line : List ℕ) (c d : Command) → StandsFor line c → StandsFor line d → c ≡ d
 StandsFor-unique line c d s t =
     let (v, text, spelled, is) = taken_apart c s.fits in
-    IsThat-unique v text c d is (told line text v d (s.spelled ∙ spelled) t)
+    IsThat-unique v text c d is (told line text v d (s.spelled ∙ spelled) t.spelled t.fits)
 
 -- a line with no verb is no command
 pub no_verb : (line : List ℕ) → ((v : Verb) (text : List ℕ) → Unit {0} → line ≡ words (verb_word v) text → ⊥) → (c : Command) → CommandFits c → line ≡ spell c → ⊥
@@ -88,6 +90,19 @@ pub command_read : {A : Type 0} (v : Verb) (make : A → Command) (spelling : A 
     → (line text : List ℕ) (r : Option A) → line ≡ words (verb_word v) text → Reads spelling Fits text r → Reads spell CommandFits line (option_map make r)
 command_read v make spelling Fits spells fits made line text None e unread =
     λ c p d.
-    let (a, is, spelled, q) = made text c (told line text v c e (record { spelled = d; fits = p })) in
+    let (a, is, spelled, q) = made text c (told line text v c e d p) in
     unread a q spelled
 command_read v make spelling Fits spells fits made line text (Some a) e (spelled, p) = (e ∙ ap (words (verb_word v)) spelled ∙ sym (spells a), fits a p)
+
+-- what a line reads as is what it stands for
+pub line_read : (line : List ℕ) (found : Result (Option Command) TtFault) → IsOneLine line → IfOk found (Reads spell CommandFits line)
+    → IfOk found (λ command. MatchOption command (IsNoCommand line) (StandsFor line))
+line_read line (Err fault) one p = tt
+line_read line (Ok None) one p = λ command stands. p command stands.fits stands.spelled
+line_read line (Ok (Some command)) one (spelled, fits) = record { one_line = one; spelled = spelled; fits = fits }
+
+-- a command was read from one line
+pub one_line_read : (line : List ℕ) (found : Result (Option Command) TtFault) → IsOneLine line → IfOk found (λ command. IfSome command (λ _. IsOneLine line))
+one_line_read line (Err fault) one = tt
+one_line_read line (Ok None) one = tt
+one_line_read line (Ok (Some command)) one = one

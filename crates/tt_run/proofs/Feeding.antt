@@ -4,9 +4,9 @@ use Rattle.std.proofs.lemmas.List.Concat.{flat_map-append}
 use Rattle.std.proofs.lemmas.List.Elements.{All-append, All-push, All-nil}
 use Rattle.std.specs.Io.KnownBytes.{Appends, Keeps}
 use Rattle.std.proofs.KnownBytes.{Appends-nil, Appends-trans, Appends-kept}
-use Rattle.tt_run.specs.declared.session.RunFault.{RunFault}
-use Rattle.tt_run.specs.declared.session.RunFault.TheVariants.{Read, Write, Memory}
-use Rattle.tt_run.specs.Progress.{Progress}
+use Rattle.tt_run.specs.declared.outcome.RunFault.{RunFault}
+use Rattle.tt_run.specs.declared.outcome.RunFault.TheVariants.{Read, Write, Memory}
+use Rattle.tt_run.specs.Stage.{Stage}
 use Rattle.tt_run.specs.Lines.{ended_lines, IsOneLine}
 use Rattle.tt_run.specs.Run.{bad_line}
 use Rattle.tt_run.specs.Session.{Follows, Halts, Breaks, Answers, Feeds}
@@ -30,11 +30,12 @@ numbers_on a b m n number big p q = omega arith
 cuts_before : (h c last d : List ℕ) (ls : List (List ℕ)) → h ++ c ≡ ended_lines ls ++ last → h ++ (c ++ d) ≡ ended_lines ls ++ (last ++ d)
 cuts_before h c last d ls p = sym (append_assoc h c d) ∙ ap (λ x. x ++ d) p ∙ append_assoc (ended_lines ls) last d
 
-pub Follows-none : (a : Progress) (w x : Option (List ℕ)) → Keeps w x → IsOneLine a.begun → a.count < 2 ^ 64 → Follows a [] a w x
-Follows-none a w x kept begun fits = record {
+pub Follows-none : (a : Stage) (told : Option (List ℕ)) (failed : Bool) → Keeps a.told told → IsOneLine a.begun → a.count < 2 ^ 64
+    → Follows a [] (record a { told = told; failed = failed })
+Follows-none a told failed kept begun fits = record {
   lines = [];
   text = [];
-  told = Appends-kept w w x [] (Appends-nil w) kept;
+  told = Appends-kept a.told a.told told [] (Appends-nil a.told) kept;
   answered = Answered-none a.machine;
   cut = append-nil a.begun;
   whole = All-nil IsOneLine;
@@ -42,16 +43,16 @@ Follows-none a w x kept begun fits = record {
   counted = omega arith;
 }
 
-pub Follows-fits : (a b : Progress) (bytes : List ℕ) (w x : Option (List ℕ)) → Follows a bytes b w x → b.count < 2 ^ 64
-Follows-fits a b bytes w x p = omega (arith, p.counted)
+pub Follows-fits : (a b : Stage) (bytes : List ℕ) → Follows a bytes b → b.count < 2 ^ 64
+Follows-fits a b bytes p = omega (arith, p.counted)
 
 -- bytes with no line feed make the line that has begun longer
-pub Follows-longer : (a : Progress) (bytes : List ℕ) (w : Option (List ℕ)) → IsOneLine a.begun → IsOneLine bytes → a.count < 2 ^ 64
-    → Follows a bytes (record a { begun = a.begun ++ bytes }) w w
-Follows-longer a bytes w begun one fits = record {
+pub Follows-longer : (a : Stage) (bytes : List ℕ) → IsOneLine a.begun → IsOneLine bytes → a.count < 2 ^ 64
+    → Follows a bytes (record a { begun = a.begun ++ bytes })
+Follows-longer a bytes begun one fits = record {
   lines = [];
   text = [];
-  told = Appends-nil w;
+  told = Appends-nil a.told;
   answered = Answered-none a.machine;
   cut = refl;
   whole = All-nil IsOneLine;
@@ -59,11 +60,11 @@ Follows-longer a bytes w begun one fits = record {
   counted = omega arith;
 }
 
-Follows-trans : (a b c : Progress) (bs cs : List ℕ) (w x y : Option (List ℕ)) → Follows a bs b w x → Follows b cs c x y → Follows a (bs ++ cs) c w y
-Follows-trans a b c bs cs w x y p q = record {
+Follows-trans : (a b c : Stage) (bs cs : List ℕ) → Follows a bs b → Follows b cs c → Follows a (bs ++ cs) c
+Follows-trans a b c bs cs p q = record {
   lines = p.lines ++ q.lines;
   text = p.text ++ q.text;
-  told = Appends-trans w x y p.text q.text p.told q.told;
+  told = Appends-trans a.told b.told c.told p.text q.text p.told q.told;
   answered = Answered-trans a.machine b.machine c.machine p.lines q.lines p.text q.text p.answered q.answered;
   cut = cuts_on a.begun bs p.lines b.begun cs q.lines c.begun p.cut q.cut;
   whole = All-append IsOneLine p.lines q.lines p.whole q.whole;
@@ -71,14 +72,15 @@ Follows-trans a b c bs cs w x y p q = record {
   counted = rw length-append (counts_on a.count b.count c.count (length p.lines) (length q.lines) (2 ^ 64 - 1) p.counted q.counted);
 }
 
-Follows-Halts : (a b : Progress) (bs cs : List ℕ) (number : ℕ) (w x y : Option (List ℕ)) → Follows a bs b w x → Halts b cs number x y → Halts a (bs ++ cs) number w y
-Follows-Halts a b bs cs number w x y p q = record {
+Follows-Halts : (a b c : Stage) (bs cs : List ℕ) (number : ℕ) → Follows a bs b → Halts b cs number c → Halts a (bs ++ cs) number c
+Follows-Halts a b c bs cs number p q = record {
   lines = p.lines ++ q.lines;
   bad = q.bad;
   rest = q.rest;
   text = p.text ++ q.text;
   state = q.state;
-  told = subst (Appends w y) (sym (append_assoc p.text q.text (bad_line number))) (Appends-trans w x y p.text (q.text ++ bad_line number) p.told q.told);
+  told = subst (Appends a.told c.told) (sym (append_assoc p.text q.text (bad_line number)))
+      (Appends-trans a.told b.told c.told p.text (q.text ++ bad_line number) p.told q.told);
   answered = Answered-trans a.machine b.machine q.state p.lines q.lines p.text q.text p.answered q.answered;
   cut = cuts_on a.begun bs p.lines b.begun cs q.lines (q.bad ++ 10 ∷ q.rest) p.cut q.cut;
   whole = All-append IsOneLine p.lines q.lines p.whole q.whole;
@@ -87,24 +89,24 @@ Follows-Halts a b bs cs number w x y p q = record {
   counted = rw length-append (numbers_on a.count b.count (length p.lines) (length q.lines) number (2 ^ 64 - 1) p.counted q.counted);
 }
 
-Follows-Breaks : (a b : Progress) (bs cs : List ℕ) (w x y : Option (List ℕ)) → Follows a bs b w x → Breaks b cs x y → Breaks a (bs ++ cs) w y
-Follows-Breaks a b bs cs w x y p q = record {
+pub Follows-Breaks : (a b c : Stage) (bs cs rest : List ℕ) → Follows a bs b → Breaks b cs rest c → Breaks a (bs ++ cs) rest c
+Follows-Breaks a b c bs cs rest p q = record {
   lines = p.lines ++ q.lines;
-  hand = q.hand;
   text = p.text ++ q.text;
   state = q.state;
-  told = Appends-trans w x y p.text q.text p.told q.told;
+  told = Appends-trans a.told b.told c.told p.text q.text p.told q.told;
   answered = Answered-trans a.machine b.machine q.state p.lines q.lines p.text q.text p.answered q.answered;
-  cut = cuts_on a.begun bs p.lines b.begun cs q.lines q.hand p.cut q.cut;
+  cut = cuts_on a.begun bs p.lines b.begun cs q.lines rest p.cut q.cut;
   whole = All-append IsOneLine p.lines q.lines p.whole q.whole;
 }
 
 -- what was pending is written
-pub Follows-written : (a b : Progress) (bytes : List ℕ) (w x y : Option (List ℕ)) → Follows a bytes b w x → Keeps x y → Follows a bytes (record b { pending = [] }) w y
-Follows-written a b bytes w x y p kept = record {
+pub Follows-written : (a b : Stage) (bytes : List ℕ) (told : Option (List ℕ)) (failed : Bool) → Follows a bytes b → Keeps b.told told
+    → Follows a bytes (record b { told = told; failed = failed })
+Follows-written a b bytes told failed p kept = record {
   lines = p.lines;
   text = p.text;
-  told = Appends-kept w x y p.text p.told kept;
+  told = Appends-kept a.told b.told told p.text p.told kept;
   answered = p.answered;
   cut = p.cut;
   whole = p.whole;
@@ -113,13 +115,12 @@ Follows-written a b bytes w x y p kept = record {
 }
 
 -- some bytes were fed, and then some more
-pub Feeds-after : (a b c : Progress) (bs cs : List ℕ) (result : Result (Option ℕ) RunFault) (w x y : Option (List ℕ)) (failed : Bool)
-    → Follows a bs b w x → Feeds b cs result c x y failed → Feeds a (bs ++ cs) result c w y failed
-Feeds-after a b c bs cs (Ok None) w x y failed p q = (Follows-trans a b c bs cs w x y p q.0, q.1)
-Feeds-after a b c bs cs (Ok (Some number)) w x y failed p q = (Follows-Halts a b bs cs number w x y p q.0, q.1)
-Feeds-after a b c bs cs (Err Memory) w x y failed p q = (Follows-Breaks a b bs cs w x y p q.0, q.1)
-Feeds-after a b c bs cs (Err Write) w x y failed p q = q
-Feeds-after a b c bs cs (Err Read) w x y failed p q = absurd q
+pub Feeds-after : (a b c : Stage) (bs cs : List ℕ) (result : Result (Option ℕ) RunFault) → Follows a bs b → Feeds b cs result c → Feeds a (bs ++ cs) result c
+Feeds-after a b c bs cs (Ok None) p q = (Follows-trans a b c bs cs p q.0, q.1)
+Feeds-after a b c bs cs (Ok (Some number)) p q = (Follows-Halts a b c bs cs number p q.0, q.1)
+Feeds-after a b c bs cs (Err Memory) p q = ((q.0.0, Follows-Breaks a b c bs cs q.0.0 p q.0.1), q.1)
+Feeds-after a b c bs cs (Err Write) p q = q
+Feeds-after a b c bs cs (Err Read) p q = absurd q
 
 -- the session takes no further bytes
 abbrev pub Stops : Result (Option ℕ) RunFault → Type 0
@@ -128,10 +129,9 @@ Stops (Ok (Some number)) = Unit {0}
 Stops (Err fault) = Unit {0}
 
 -- a session that stops leaves the bytes that come after
-pub Feeds-before : (a b : Progress) (bs rest : List ℕ) (result : Result (Option ℕ) RunFault) (w x : Option (List ℕ)) (failed : Bool)
-    → Stops result → Feeds a bs result b w x failed → Feeds a (bs ++ rest) result b w x failed
-Feeds-before a b bs rest (Ok None) w x failed stops p = absurd stops
-Feeds-before a b bs rest (Ok (Some number)) w x failed stops p =
+pub Feeds-before : (a b : Stage) (bs rest : List ℕ) (result : Result (Option ℕ) RunFault) → Stops result → Feeds a bs result b → Feeds a (bs ++ rest) result b
+Feeds-before a b bs rest (Ok None) stops p = absurd stops
+Feeds-before a b bs rest (Ok (Some number)) stops p =
     let halts = p.0 in (
       record {
         lines = halts.lines;
@@ -150,47 +150,47 @@ Feeds-before a b bs rest (Ok (Some number)) w x failed stops p =
       },
       p.1,
     )
-Feeds-before a b bs rest (Err Memory) w x failed stops p =
-    let breaks = p.0 in (
-      record {
-        lines = breaks.lines;
-        hand = breaks.hand ++ rest;
-        text = breaks.text;
-        state = breaks.state;
-        told = breaks.told;
-        answered = breaks.answered;
-        cut = cuts_before a.begun bs breaks.hand rest breaks.lines breaks.cut;
-        whole = breaks.whole;
-      },
+Feeds-before a b bs rest (Err Memory) stops p =
+    let (begins, breaks) = p.0 in (
+      (
+        begins ++ rest,
+        record {
+          lines = breaks.lines;
+          text = breaks.text;
+          state = breaks.state;
+          told = breaks.told;
+          answered = breaks.answered;
+          cut = cuts_before a.begun bs begins rest breaks.lines breaks.cut;
+          whole = breaks.whole;
+        },
+      ),
       p.1,
     )
-Feeds-before a b bs rest (Err Write) w x failed stops p = p
-Feeds-before a b bs rest (Err Read) w x failed stops p = absurd p
+Feeds-before a b bs rest (Err Write) stops p = p
+Feeds-before a b bs rest (Err Read) stops p = absurd p
 
 -- some bytes were fed, and at the next part of them the session stops
-pub Feeds-stop : (a b c : Progress) (all fed part more : List ℕ) (result : Result (Option ℕ) RunFault) (w x y : Option (List ℕ)) (failed : Bool)
-    → all ≡ (fed ++ part) ++ more → Follows a fed b w x → Stops result → Feeds b part result c x y failed → Feeds a all result c w y failed
-Feeds-stop a b c all fed part more result w x y failed cut p stops q =
-    subst (λ l. Feeds a l result c w y failed) (sym cut)
-    (Feeds-before a c (fed ++ part) more result w y failed stops (Feeds-after a b c fed part result w x y failed p q))
+pub Feeds-stop : (a b c : Stage) (all fed part more : List ℕ) (result : Result (Option ℕ) RunFault)
+    → all ≡ (fed ++ part) ++ more → Follows a fed b → Stops result → Feeds b part result c → Feeds a all result c
+Feeds-stop a b c all fed part more result cut p stops q =
+    subst (λ l. Feeds a l result c) (sym cut) (Feeds-before a c (fed ++ part) more result stops (Feeds-after a b c fed part result p q))
 
--- the bytes are in hand, and no line was answered
-pub Breaks-none : (a : Progress) (bytes : List ℕ) (w x : Option (List ℕ)) → Keeps w x → Breaks a bytes w x
-Breaks-none a bytes w x kept = record {
+-- no line was answered
+pub Breaks-none : (a b : Stage) (bytes : List ℕ) → Keeps a.told b.told → Breaks a bytes (a.begun ++ bytes) b
+Breaks-none a b bytes kept = record {
   lines = [];
-  hand = a.begun ++ bytes;
   text = [];
   state = a.machine;
-  told = Appends-kept w w x [] (Appends-nil w) kept;
+  told = Appends-kept a.told a.told b.told [] (Appends-nil a.told) kept;
   answered = Answered-none a.machine;
   cut = refl;
   whole = All-nil IsOneLine;
 }
 
 -- a line that began before the bytes ended in them, and was answered
-pub Feeds-line : (a b : Progress) (bytes : List ℕ) (result : Result (Option ℕ) RunFault) (w x : Option (List ℕ)) (failed : Bool)
-    → IsOneLine a.begun → IsOneLine bytes → Answers a (a.begun ++ bytes) result b w x failed → b.begun ≡ [] → Feeds a (bytes ++ 10 ∷ []) result b w x failed
-Feeds-line a b bytes (Ok None) w x failed begun one p empty = (
+pub Feeds-line : (a b : Stage) (bytes : List ℕ) (result : Result (Option ℕ) RunFault)
+    → IsOneLine a.begun → IsOneLine bytes → Answers a (a.begun ++ bytes) result b → b.begun ≡ [] → Feeds a (bytes ++ 10 ∷ []) result b
+Feeds-line a b bytes (Ok None) begun one p empty = (
   record {
     lines = (a.begun ++ bytes) ∷ [];
     text = p.0.0;
@@ -203,7 +203,7 @@ Feeds-line a b bytes (Ok None) w x failed begun one p empty = (
   },
   p.2,
 )
-Feeds-line a b bytes (Ok (Some number)) w x failed begun one p empty = (
+Feeds-line a b bytes (Ok (Some number)) begun one p empty = (
   record {
     lines = [];
     bad = a.begun ++ bytes;
@@ -220,13 +220,13 @@ Feeds-line a b bytes (Ok (Some number)) w x failed begun one p empty = (
   },
   p.3,
 )
-Feeds-line a b bytes (Err Memory) w x failed begun one p empty = (Breaks-none a (bytes ++ 10 ∷ []) w x p.0, p.1)
-Feeds-line a b bytes (Err Write) w x failed begun one p empty = p
-Feeds-line a b bytes (Err Read) w x failed begun one p empty = absurd p
+Feeds-line a b bytes (Err Memory) begun one p empty = ((_, Breaks-none a b (bytes ++ 10 ∷ []) p.0), p.1)
+Feeds-line a b bytes (Err Write) begun one p empty = p
+Feeds-line a b bytes (Err Read) begun one p empty = absurd p
 
 -- a line that lies whole in the bytes was answered
-pub Feeds-whole_line : (a b : Progress) (bytes : List ℕ) (result : Result (Option ℕ) RunFault) (w x : Option (List ℕ)) (failed : Bool)
-    → a.begun ≡ [] → IsOneLine a.begun → IsOneLine bytes → Answers a bytes result b w x failed → b.begun ≡ a.begun → Feeds a (bytes ++ 10 ∷ []) result b w x failed
-Feeds-whole_line a b bytes result w x failed empty begun one p kept =
+pub Feeds-whole_line : (a b : Stage) (bytes : List ℕ) (result : Result (Option ℕ) RunFault)
+    → a.begun ≡ [] → IsOneLine a.begun → IsOneLine bytes → Answers a bytes result b → b.begun ≡ a.begun → Feeds a (bytes ++ 10 ∷ []) result b
+Feeds-whole_line a b bytes result empty begun one p kept =
     let whole : a.begun ++ bytes ≡ bytes = ap (λ l. l ++ bytes) empty in
-    Feeds-line a b bytes result w x failed begun one (subst (λ l. Answers a l result b w x failed) (sym whole) p) (kept ∙ empty)
+    Feeds-line a b bytes result begun one (subst (λ l. Answers a l result b) (sym whole) p) (kept ∙ empty)

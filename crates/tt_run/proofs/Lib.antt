@@ -2,6 +2,7 @@ pub mod Answering
 pub mod Commands
 pub mod Cutting
 pub mod Feeding
+pub mod InHand
 pub mod LineCuts
 pub mod Literals
 pub mod Numbers

@@ -1,22 +1,14 @@
 -- Steps of the machine, over plain values.
-use Rattle.std.proofs.Common.{◌≡◌, ◌⊎◌, ◌↔◌, ℕ, Bool, true, false, List, Some, inl, inr, cond, ap, sym, ◌∙◌, refl}
-use Rattle.std.specs.Cmp.Lexicographic.{pointwise, pointwise_decides}
+use Rattle.std.proofs.Common.{◌≡◌, ◌⊎◌, ℕ, Bool, true, false, List, Some, inl, inr, cond, ap, sym, ◌∙◌, refl}
 use Rattle.tt_base.specs.declared.fault.TtFault.{TtFault}
 use Rattle.tt_base.specs.declared.fault.TtFault.TheVariants.{Memory, NotOneSubtree}
-use Rattle.tt_base.specs.Equality.{same_token}
-use Rattle.tt_base.specs.Forest.{Root, flat_root, IsOneSubtree}
-use Rattle.tt_base.specs.ForestCode.{flat_root-injective}
-use Rattle.tt_base.proofs.Equality.{same_token_iff}
+use Rattle.tt_base.specs.Forest.{Root, IsOneSubtree}
+use Rattle.tt_base.specs.SameTree.{same_root}
+use Rattle.tt_base.proofs.SameTree.{same_root_iff}
 use Rattle.tt_run.specs.declared.command.Command.TheVariants as command
 use Rattle.tt_run.specs.Answer.{yes_line, no_line, fault_line}
 use Rattle.tt_run.specs.Machine.{Step, Compares}
 use Rattle.tt_run.specs.State.{State, tree_in}
-
--- Roots are equal exactly if their flat lists are, token by token.
-pub same_root_iff : (a b : Root) → (pointwise same_token (flat_root a) (flat_root b) ≡ true) ↔ (a ≡ b)
-same_root_iff a b =
-    let lists = pointwise_decides same_token_iff (flat_root a) (flat_root b) in
-    (λ same. flat_root-injective a b (lists.0 same), λ e. lists.1 (ap flat_root e))
 
 -- A list that was refused stays.
 pub refused_list : (old new : State) (slot : ℕ) (answer : List ℕ) (fault : TtFault) → new ≡ old → answer ≡ fault_line fault
@@ -29,9 +21,9 @@ refused_list old new slot answer fault same told why =
 
 -- Trees that are there are compared.
 pub compared : (old : State) (left right : ℕ) (a b : Root) (same : Bool) (answer : List ℕ) → tree_in old left ≡ Some a → tree_in old right ≡ Some b
-    → same ≡ pointwise same_token (flat_root a) (flat_root b) → answer ≡ cond same yes_line no_line → Step old (command.Equal left right) answer old
+    → same ≡ same_root a b → answer ≡ cond same yes_line no_line → Step old (command.Equal left right) answer old
 compared old left right a b same answer at_left at_right is told = inl (rw (at_left, at_right) (by same is told), refl)
   where
-    by : (same : Bool) → same ≡ pointwise same_token (flat_root a) (flat_root b) → answer ≡ cond same yes_line no_line → Compares (Some a) (Some b) answer
+    by : (same : Bool) → same ≡ same_root a b → answer ≡ cond same yes_line no_line → Compares (Some a) (Some b) answer
     by true is told = inl ((same_root_iff a b).0 (sym is), told)
     by false is told = inr (λ e. cc (is, (same_root_iff a b).1 e), told)

@@ -3,6 +3,7 @@ use Rattle.std.specs.Prelude.{◌≡◌, ℕ, ◌<◌, List, codes, decimal}
 use Rattle.tt_base.specs.Fits.{TokenFits}
 use Rattle.tt_run.specs.declared.command.Command.{Command}
 use Rattle.tt_run.specs.declared.command.Command.TheVariants as command
+use Rattle.tt_run.specs.Lines.{IsOneLine}
 use Rattle.tt_run.specs.Reading.{words}
 use Rattle.tt_run.specs.Token.{slots_words, SlotsFit, token_words}
 
@@ -22,9 +23,17 @@ CommandFits (command.Equal left right) = SlotsFit (left, right)
 
 -- the line stands for the command
 pub record StandsFor (line : List ℕ) (command : Command) : Type 0 where
+  pub one_line : IsOneLine line
   pub spelled : line ≡ spell command
   pub fits : CommandFits command
 
 -- the line is no command
 abbrev pub IsNoCommand : List ℕ → Type 0
 IsNoCommand line = (command : Command) → StandsFor line command → ⊥
+
+-- the command prints a tree
+abbrev pub PrintsTree : Command → Type 0
+PrintsTree (command.Item token) = ⊥
+PrintsTree (command.List slot) = ⊥
+PrintsTree (command.Show slot) = Unit {0}
+PrintsTree (command.Equal left right) = ⊥

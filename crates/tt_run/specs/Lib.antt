@@ -10,6 +10,7 @@ pub mod Progress
 pub mod Reading
 pub mod Run
 pub mod Session
+pub mod Stage
 pub mod State
 pub mod Token
 pub mod Verb

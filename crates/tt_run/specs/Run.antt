@@ -1,18 +1,19 @@
 -- What a run of the program read and wrote.
-use Rattle.std.specs.Prelude.{◌≡◌, ℕ, ◌+◌, ◌-◌, ◌^◌, min, Bool, true, false, List, ◌∷◌, ◌++◌, length, codes, IfSome, Ok, Err, Option, Result}
+use Rattle.std.specs.Prelude.{◌≡◌, ◌≤◌, ℕ, ◌+◌, ◌-◌, ◌^◌, min, Bool, true, false, List, [], ◌∷◌, ◌++◌, length, codes, IfSome, Ok, Err, Option, Result}
 use Rattle.std.specs.List.{All, AllZip, concat}
 use Rattle.std.specs.Fmt.{decimal}
 use Rattle.std.specs.Io.KnownBytes.{Appends, Consumes, IsAtEnd}
 use Rattle.tt_run.specs.declared.command.Command.{Command}
-use Rattle.tt_run.specs.declared.session.End.{End}
-use Rattle.tt_run.specs.declared.session.End.TheVariants.{Clean, BadLine}
-use Rattle.tt_run.specs.declared.session.RunFault.{RunFault}
-use Rattle.tt_run.specs.declared.session.RunFault.TheVariants.{Read, Write, Memory}
+use Rattle.tt_run.specs.declared.outcome.End.{End}
+use Rattle.tt_run.specs.declared.outcome.End.TheVariants.{Clean, BadLine}
+use Rattle.tt_run.specs.declared.outcome.RunFault.{RunFault}
+use Rattle.tt_run.specs.declared.outcome.RunFault.TheVariants.{Read, Write, Memory}
+use Rattle.tt_run.specs.declared.output.TheConstants.{BLOCK}
 use Rattle.tt_run.specs.State.{State, start}
 use Rattle.tt_run.specs.Command.{StandsFor, IsNoCommand}
 use Rattle.tt_run.specs.Answer.{line}
 use Rattle.tt_run.specs.Machine.{Run}
-use Rattle.tt_run.specs.Lines.{lines_of, ended_lines, IsOneLine}
+use Rattle.tt_run.specs.Lines.{lines_of, ended_lines, EndsLine, IsOneLine}
 
 -- each line is a command, and text is the answers to them of a run of the machine from old to new
 pub record Answered (old : State) (lines : List (List ℕ)) (text : List ℕ) (new : State) : Type 0 where
@@ -50,12 +51,14 @@ pub record StopsAtBadLine (number : ℕ) (input : Option (List ℕ)) (text : Lis
   pub counted : number ≡ next_number (length before)
   pub first_bad : IfSome input (PrecedesBadLine before)
 
--- what was read is some whole lines and what is in hand, and the text is the answers to the whole lines
-pub record StopsWithin (input left : Option (List ℕ)) (text hand : List ℕ) : Type 0 where
+-- what was read is some whole lines, the line in hand and what lies behind it, and the text is the answers to the whole lines
+pub record StopsWithin (input left : Option (List ℕ)) (text behind : List ℕ) : Type 0 where
   pub before : List (List ℕ)
+  pub hand : List ℕ
   pub answers : AreAnswers before text
   pub whole : All IsOneLine before
-  pub read : Consumes input left (ended_lines before ++ hand)
+  pub one_line : IsOneLine hand
+  pub read : Consumes input left (ended_lines before ++ (hand ++ behind))
 
 -- What a run says of the bytes that were left to read, before and after it, and of those that were written.
 abbrev pub Tells : Result End RunFault → Option (List ℕ) → Option (List ℕ) → Option (List ℕ) → Option (List ℕ) → Type 0
@@ -64,9 +67,10 @@ Tells (Ok Clean) input left old new =
 Tells (Ok (BadLine number)) input left old new =
     (text : List ℕ) × Appends old new (text ++ bad_line number) × StopsAtBadLine number input text
 Tells (Err Read) input left old new =
-    (text : List ℕ) × Appends old new text × ((hand : List ℕ) × StopsWithin input left text hand × IsOneLine hand)
+    (text : List ℕ) × Appends old new text × StopsWithin input left text []
 Tells (Err Memory) input left old new =
-    (text : List ℕ) × Appends old new text × ((hand : List ℕ) × StopsWithin input left text hand)
+    (text : List ℕ) × Appends old new text
+    × ((behind : List ℕ) × StopsWithin input left text behind × EndsLine behind × (length behind ≤ BLOCK))
 Tells (Err Write) input left old new = Unit {0}
 
 -- which of the reader and the writer has failed

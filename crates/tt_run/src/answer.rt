@@ -1,3 +1,4 @@
+//! What the machine answers, in bytes.
 ghost use Rattle.std.specs.Prelude.{◌≡◌, ◌++◌, ◌∷◌, [], string_bytes, if◌then◌else◌};
 
 use std::marker::Model;

@@ -1,3 +1,4 @@
+//! How the trees of a flat list are printed.
 ghost use Rattle.std.specs.Prelude.{◌≡◌, ◌++◌, false};
 ghost use Rattle.std.specs.Fmt.{WritesOnOk};
 ghost use Rattle.tt_base.specs.Forest.{IsWhole};

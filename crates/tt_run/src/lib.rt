@@ -8,6 +8,7 @@ mod command;
 mod display;
 mod machine;
 mod noted;
+mod outcome;
 mod output;
 mod session;
 mod slot;
@@ -17,7 +18,8 @@ pub use answer::Answer;
 pub use command::Command;
 pub use machine::Machine;
 pub use noted::Noted;
-pub use session::{End, RunFault, run};
+pub use outcome::{End, RunFault};
+pub use session::run;
 pub use slot::Slot;
 
 #[cfg(test)]

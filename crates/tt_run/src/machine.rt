@@ -1,3 +1,4 @@
+//! The slots and the list, and what each command does to them.
 ghost use Rattle.std.specs.Prelude.{◌≡◌};
 
 use crate::answer::Answer;

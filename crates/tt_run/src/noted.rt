@@ -1,5 +1,7 @@
-ghost use Rattle.std.specs.Prelude.{◌≡◌, ◌<◌, ◌||◌, ◌&&◌, ◌==◌, Bool, true, false, length, nat_lt, MatchResult, OnOk, OnErr};
+//! Readers and writers whose failures are noted.
+ghost use Rattle.std.specs.Prelude.{◌≡◌, ◌≢◌, ◌↔◌, ◌-◌, ◌^◌, ◌<◌, ◌||◌, ◌&&◌, ◌==◌, Bool, true, false, length, nat_lt, IfErr, IsErr, IsErrAnd, MatchResult, OnOk, OnErr};
 ghost use Rattle.std.specs.Io.{ReadsAtMost, WritesAtMost};
+ghost use Rattle.std.specs.IoError.{error_kind};
 ghost use Rattle.std.specs.Io.KnownBytes.{Appends, Keeps, ReadConsumes, WriteAppends};
 ghost use Rattle.tt_run.specs.Noted.{noted_inner, noted_failed, reads_left};
 
@@ -20,6 +22,7 @@ impl<T> Noted<T> {
     pub fn new(inner: T) -> Noted<T>
         ensures inner { noted_inner result ≡ inner }
         ensures failed { noted_failed result ≡ false }
+        ensures left { reads_left result ≡ 2 ^ 64 - 1 }
     {
         Noted {
             inner,
@@ -33,6 +36,24 @@ impl<T> Noted<T> {
         ensures { result ≡ noted_failed self.now }
     {
         self.failed
+    }
+
+    // Spends one of the reads that are left. Where none is left, this is a failure, and the only one of its own.
+    fn spend(&mut self) -> Result<()>
+        ensures err { IsErr result ↔ (reads_left self.old ≡ 0) }
+        ensures kind { IfErr result (λ error. error_kind error ≡ ErrorKind.TimedOut) }
+        ensures left { reads_left self.new ≡ reads_left self.old - 1 }
+        ensures inner { noted_inner self.new ≡ noted_inner self.old }
+        ensures failed { MatchResult result
+            (λ _. noted_failed self.new ≡ noted_failed self.old)
+            (λ _. noted_failed self.new ≡ true) }
+    {
+        if self.left == 0 {
+            self.failed = true;
+            return Err(Error::new(ErrorKind::TimedOut, "too many reads"));
+        }
+        self.left -= 1;
+        Ok(())
     }
 
     /// The reader or the writer behind.
@@ -53,13 +74,12 @@ impl<R: Read> Read for Noted<R> {
         ensures failed { MatchResult result
             (λ _. noted_failed self.new ≡ noted_failed self.old)
             (λ _. noted_failed self.new ≡ true) }
+        ensures spends { reads_left self.new ≡ reads_left self.old - 1 }
         ensures ends { OnOk result (reads_left self.new < reads_left self.old) }
+        ensures none_left { reads_left self.old ≡ 0 →
+            IsErrAnd result (λ error. error_kind error ≡ ErrorKind.TimedOut) × (noted_inner self.new ≡ noted_inner self.old) }
     {
-        if self.left == 0 {
-            self.failed = true;
-            return Err(Error::new(ErrorKind::TimedOut, "too many reads"));
-        }
-        self.left -= 1;
+        self.spend()?;
         let result = self.inner.read(buf);
         if result.is_err() {
             self.failed = true;

@@ -1,10 +1,11 @@
+//! Bytes that are told, and wait to be written.
 ghost use Rattle.std.specs.Prelude.{◌≡◌, true, [], ℕ, List, OnOk, OnErr, IfErr};
 ghost use Rattle.std.specs.Io.KnownBytes.{Appends, Keeps};
 ghost use Rattle.tt_run.specs.Noted.{noted_inner, noted_failed};
 ghost use Rattle.tt_run.specs.Output.{text_told};
 
 use crate::noted::Noted;
-use crate::session::RunFault;
+use crate::outcome::RunFault;
 use std::alloc::Global;
 use std::io::Write;
 use std::marker::Model;

@@ -1,64 +1,28 @@
-ghost use Rattle.std.specs.Prelude.{◌≡◌, ◌^◌, ◌<◌, ◌++◌, ◌∷◌, ◌↔◌, [], true, false, IsTrue, OnOk, OnErr, IfErr};
+//! The loop that reads lines and answers them.
+ghost use Rattle.std.specs.Prelude.{◌≡◌, ◌^◌, ◌<◌, ◌++◌, ◌∷◌, ◌↔◌, [], true, false, IsTrue, OnOk, OnErr, IfOk, IfErr, MatchOption};
 ghost use Rattle.std.specs.Io.KnownBytes.{Keeps};
 ghost use Rattle.tt_run.specs.Noted.{noted_inner, noted_failed};
 ghost use Rattle.tt_run.specs.Output.{text_told};
 ghost use Rattle.tt_run.specs.Progress.{Progress, fresh, progress_code};
+ghost use Rattle.tt_run.specs.Command.{IsNoCommand, PrintsTree, StandsFor};
 ghost use Rattle.tt_run.specs.Lines.{IsOneLine};
+ghost use Rattle.tt_run.specs.Machine.{Step};
 ghost use Rattle.tt_run.specs.Run.{Tells, Fails};
 ghost use Rattle.tt_run.specs.Session.{Answers, Feeds, Finishes};
-ghost use Rattle.tt_run.specs.declared.session.RunFault.TheVariants.{Memory};
+ghost use Rattle.tt_run.specs.Stage.{stage_of};
 
+use crate::answer::Answer;
 use crate::command::Command;
 use crate::machine::Machine;
 use crate::noted::Noted;
+use crate::outcome::{End, RunFault};
 use crate::output::{BLOCK, Output};
 use memchr::memchr;
-use std::alloc::{AllocError, Global};
+use std::alloc::Global;
 use std::io::{Read, Write};
 use std::marker::Model;
 use std::mem;
-use thiserror::Error;
 use tt_base::TtFault;
-
-/// How the input ended.
-#[derive(Debug, Clone, Copy, PartialEq, Eq)]
-pub enum End {
-    /// After the last line.
-    Clean,
-    /// At the first line that is no command, whose number this is.
-    BadLine(u64),
-}
-
-/// Why the run stopped before the end of the input.
-#[derive(Debug, Clone, Copy, PartialEq, Eq, Error)]
-pub enum RunFault {
-    /// A read gave an error.
-    #[error("read failed")]
-    Read,
-    /// A write or a flush gave an error, or a write took no byte.
-    #[error("write failed")]
-    Write,
-    /// There is no memory for a line or for its command.
-    #[error("out of memory")]
-    Memory,
-}
-
-impl From<TtFault> for RunFault {
-    ghost from_gives = { λ _ fault. fault ≡ Memory };
-
-    // Reading a line answers no other fault.
-    fn from(_fault: TtFault) -> RunFault {
-        RunFault::Memory
-    }
-}
-
-impl From<AllocError> for RunFault {
-    ghost from_gives = { λ _ fault. fault ≡ Memory };
-
-    fn from(_error: AllocError) -> RunFault {
-        RunFault::Memory
-    }
-}
 
 // The machine, the line that began in an earlier block, how many lines were answered, and the answers.
 #[derive(Drop)]
@@ -118,11 +82,42 @@ impl Session {
         ensures written { OnOk result
             (Keeps (text_told W.contents writer.old self.old.pending) (W.contents (noted_inner writer.new))) }
         ensures empty { OnOk result (self.new ≡ record self.old { pending = [] }) }
+        ensures same { self.new ≡ record self.old { pending = self.new.pending } }
         ensures sound { OnOk result (noted_failed writer.new ≡ noted_failed writer.old) }
         ensures failed { OnErr result (noted_failed writer.new ≡ true) }
         ensures kind { IfErr result (λ fault. fault ≡ RunFault.Write) }
     {
         self.output.write_out(writer)
+    }
+
+    // Writes what is pending before a command that may end the program.
+    fn prepare<W: Write>(
+        &mut self,
+        command: &Command,
+        writer: &mut Noted<W>,
+    ) -> Result<(), RunFault>
+        ensures told { OnOk result (Keeps
+            (text_told W.contents writer.old self.old.pending)
+            (text_told W.contents writer.new self.new.pending)) }
+        ensures written { OnOk result (PrintsTree command.now → self.new.pending ≡ []) }
+        ensures same { self.new ≡ record self.old { pending = self.new.pending } }
+        ensures sound { OnOk result (noted_failed writer.new ≡ noted_failed writer.old) }
+        ensures failed { OnErr result (noted_failed writer.new ≡ true) }
+        ensures kind { IfErr result (λ fault. fault ≡ RunFault.Write) }
+    {
+        if command.prints_tree() {
+            self.write_out(writer)?;
+        }
+        Ok(())
+    }
+
+    // Carries out the command. One that prints a tree may end the program, so no answer is pending then.
+    fn step(&mut self, command: Command) -> Answer
+        requires written { PrintsTree command → self.old.pending ≡ [] }
+        ensures step { Step self.old.machine command result self.new.machine }
+        ensures same { self.new ≡ record self.old { machine = self.new.machine } }
+    {
+        self.machine.step(command)
     }
 
     // Answers the line. Where it is no command, says so and gives its number.
@@ -132,19 +127,19 @@ impl Session {
         writer: &mut Noted<W>,
     ) -> Result<Option<u64>, RunFault>
         requires sound { noted_failed writer.old ≡ false }
-        ensures answers { Answers self.old line.now result self.new
-            (text_told W.contents writer.old self.old.pending)
-            (text_told W.contents writer.new self.new.pending)
-            (noted_failed writer.new) }
+        ensures answers { Answers
+            (stage_of W.contents self.old writer.old) line.now result
+            (stage_of W.contents self.new writer.new) }
         ensures begun { self.new.begun ≡ self.old.begun }
     {
         let number = self.count.saturating_add(1);
-        let Some(command) = Command::parse(self.alloc, line)? else {
+        let Some(command) = command_of(self.alloc, line)? else {
             let text = format!(in self.alloc; "bad line {number}\n")?;
             self.output.put(text.as_bytes(), writer)?;
             return Ok(Some(number));
         };
-        let answer = self.machine.step(command);
+        self.prepare(&command, writer)?;
+        let answer = self.step(command);
         self.output.put(answer.as_bytes(), writer)?;
         self.count = number;
         Ok(None)
@@ -153,10 +148,9 @@ impl Session {
     // Answers the line that has begun.
     fn answer_begun<W: Write>(&mut self, writer: &mut Noted<W>) -> Result<Option<u64>, RunFault>
         requires sound { noted_failed writer.old ≡ false }
-        ensures answers { Answers self.old self.old.begun result self.new
-            (text_told W.contents writer.old self.old.pending)
-            (text_told W.contents writer.new self.new.pending)
-            (noted_failed writer.new) }
+        ensures answers { Answers
+            (stage_of W.contents self.old writer.old) self.old.begun result
+            (stage_of W.contents self.new writer.new) }
         ensures begun { self.new.begun ≡ [] }
     {
         let line = mem::replace(&mut self.begun, Vec::new(self.alloc));
@@ -172,10 +166,9 @@ impl Session {
         requires begun { IsOneLine self.old.begun }
         requires one_line { IsOneLine bytes.now }
         requires sound { noted_failed writer.old ≡ false }
-        ensures { Feeds self.old (bytes.now ++ 10 ∷ []) result self.new
-            (text_told W.contents writer.old self.old.pending)
-            (text_told W.contents writer.new self.new.pending)
-            (noted_failed writer.new) }
+        ensures { Feeds
+            (stage_of W.contents self.old writer.old) (bytes.now ++ 10 ∷ []) result
+            (stage_of W.contents self.new writer.new) }
     {
         if self.is_between_lines() {
             return self.answer(bytes, writer);
@@ -193,10 +186,9 @@ impl Session {
         requires begun { IsOneLine self.old.begun }
         requires counted { self.old.count < 2 ^ 64 }
         requires sound { noted_failed writer.old ≡ false }
-        ensures { Feeds self.old bytes.now result self.new
-            (text_told W.contents writer.old self.old.pending)
-            (text_told W.contents writer.new self.new.pending)
-            (noted_failed writer.new) }
+        ensures { Feeds
+            (stage_of W.contents self.old writer.old) bytes.now result
+            (stage_of W.contents self.new writer.new) }
     {
         let mut rest = bytes;
         'lines: while let Some(end) = memchr(b'\n', rest) {
@@ -213,10 +205,9 @@ impl Session {
     fn finish<W: Write>(&mut self, writer: &mut Noted<W>) -> Result<End, RunFault>
         requires begun { IsOneLine self.old.begun }
         requires sound { noted_failed writer.old ≡ false }
-        ensures { Finishes self.old result self.new
-            (text_told W.contents writer.old self.old.pending)
-            (text_told W.contents writer.new self.new.pending)
-            (noted_failed writer.new) }
+        ensures { Finishes
+            (stage_of W.contents self.old writer.old) result
+            (stage_of W.contents self.new writer.new) }
     {
         if self.is_between_lines() {
             return Ok(End::Clean);
@@ -254,6 +245,20 @@ impl Session {
             if let Some(number) = self.feed(&block[..n], writer)? {
                 return Ok(End::BadLine(number));
             }
+        }
+    }
+}
+
+// The command that the line stands for, if there is one. Nothing but memory may be missing for that.
+fn command_of(alloc: Global, line: &[u8]) -> Result<Option<Command>, RunFault>
+    ensures reads { IfOk result (λ found. MatchOption found (IsNoCommand line.now) (StandsFor line.now)) }
+    ensures kind { IfErr result (λ fault. fault ≡ RunFault.Memory) }
+{
+    match Command::parse(alloc, line) {
+        Ok(found) => Ok(found),
+        Err(fault) => {
+            prove!(fault == TtFault::Memory);
+            Err(RunFault::Memory)
         }
     }
 }

@@ -1,3 +1,4 @@
+//! Runs over whole scripts, and over readers and writers that fail.
 use crate::{End, Noted, RunFault, run};
 use fakes::{FakeReader, FakeWriter, WriteFailure};
 use std::alloc::{AllocError, Global};
@@ -8,6 +9,7 @@ use std::test::Fail;
 mod bad_lines;
 mod fakes;
 mod good_lines;
+mod long_runs;
 
 // The first run of `docs/LANGUAGE.md`.
 const SCRIPT: &[u8] = b"item sub paren 0:0@0..1#0 0:0@3..4#0 2
@@ -22,8 +24,8 @@ const ANSWERS: [&[u8]; 6] = [b"ok\n", b"ok\n", b"ok\n", b"ok\n", b"(a ;)\n", b"y
 // How often a `FakeWriter` is written to while SCRIPT is read byte by byte: it takes three bytes a write.
 const WRITES: u64 = 8;
 
-// How often it is flushed: before each read, one of which is at the end of the input, and at the end.
-const FLUSHES: u64 = SCRIPT.len() as u64 + 2;
+// How often it is flushed: before each read, one of which is at the end of the input, before `show`, and at the end.
+const FLUSHES: u64 = SCRIPT.len() as u64 + 3;
 
 // The answers to the first lines.
 fn answers_to(alloc: Global, lines: usize) -> Result<Vec<u8>, AllocError> {
@@ -211,6 +213,16 @@ fn no_call_is_left_to_fail(rt: HostRuntime) {
         assert_eq!(rt; ended, Ok(End::Clean));
         assert!(rt; !writer.failed());
     }
+}
+
+// One flush comes before the first read, which gives all three lines, and the second before `show`.
+#[test]
+fn answers_are_written_before_a_tree_is_printed(rt: HostRuntime) {
+    let mut reader = Noted::new(b"equal 0 0\nshow 0\nequal 0 0\n".as_slice());
+    let mut writer = Noted::new(FakeWriter::new(rt.alloc(), WriteFailure::Flush(2)));
+    let ended = run(rt.alloc(), &mut reader, &mut writer);
+    assert_eq!(rt; ended, Err(RunFault::Write));
+    assert_eq!(rt; writer.into_inner().taken(), b"empty\n".as_slice());
 }
 
 #[test]

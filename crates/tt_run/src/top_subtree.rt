@@ -1,11 +1,11 @@
+//! A token tree, held as its flat list.
 ghost use Rattle.std.specs.Prelude.{◌≡◌, ◌≤◌, ◌⊎◌, IfOk, IfErr, Some};
 ghost use Rattle.std.proofs.Common.{rules};
-ghost use Rattle.std.specs.Cmp.Lexicographic.{pointwise};
 ghost use Rattle.std.specs.Cmp.Rules.{comparing};
-ghost use Rattle.std.specs.Ordering.{on};
-ghost use Rattle.tt_base.specs.Equality.{same_token, same_token-equivalence};
+ghost use Rattle.tt_base.specs.Equality.{same_token-equivalence};
 ghost use Rattle.tt_base.specs.Forest.{IsOneSubtree, flat_root, only, size};
 ghost use Rattle.tt_base.specs.ForestCode.{IsOneSubtree-prop};
+ghost use Rattle.tt_base.specs.SameTree.{same_root};
 ghost use Rattle.tt_base.specs.TreeText.{display};
 ghost use Rattle.tt_base.specs.declared.fault.TtFault.TheVariants.{Memory, NotOneSubtree};
 
@@ -59,7 +59,7 @@ impl TopSubtree {
 }
 
 impl PartialEq for TopSubtree {
-    ghost eq = { on flat_root (pointwise same_token) };
+    ghost eq = { same_root };
 
     ghost laws = { Prim.search (comparing, same_token-equivalence, rules) };
 

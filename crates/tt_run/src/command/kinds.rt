@@ -1,3 +1,4 @@
+//! Kinds of delimiters and literals, spacings and rawness, each one word.
 ghost use Rattle.tt_base.specs.Fits.{KindFits};
 ghost use Rattle.tt_run.specs.Token.{kind_word, spacing_word, raw_word, literal_kind_word};
 ghost use Rattle.tt_run.specs.WordLaws.{spaceless_kind, spaceless_spacing, spaceless_rawness, spaceless_literal_kind};

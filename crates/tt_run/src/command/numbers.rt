@@ -1,3 +1,4 @@
+//! Numbers and slots, as words.
 ghost use Rattle.std.specs.Prelude.{◌^◌, ◌<◌, ◌≤◌, ◌⊎◌, decimal};
 ghost use Rattle.tt_run.specs.Reading.{Reads, ReadsBefore};
 ghost use Rattle.tt_run.specs.Token.{slots_words, SlotsFit};

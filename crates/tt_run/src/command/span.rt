@@ -1,3 +1,4 @@
+//! A span, as one word.
 ghost use Rattle.tt_base.specs.Fits.{SpanFits};
 ghost use Rattle.tt_base.specs.Span.{span_text};
 ghost use Rattle.tt_run.specs.WordLaws.{spaceless_span};

@@ -1,3 +1,4 @@
+//! Tokens, as the rest of a line.
 ghost use Rattle.std.specs.Prelude.{◌≡◌, IfOk, IfErr, encode_utf8};
 ghost use Rattle.std.specs.Char.{IsScalar};
 ghost use Rattle.tt_base.specs.Fits.{LeafFits, TokenFits};

@@ -1,3 +1,4 @@
+//! The first word of a line.
 use crate::command::word::Word;
 
 /// What a command does, and the first word of its line.

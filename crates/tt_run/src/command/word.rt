@@ -1,3 +1,4 @@
+//! What it is to be one word of a line, and how a word is cut off.
 ghost use Rattle.std.specs.Prelude.{◌≡◌, ◌++◌, ◌∷◌, ℕ, List, MatchOption};
 ghost use Rattle.tt_run.specs.Reading.{Lacks, Reads, ReadsBefore};
 

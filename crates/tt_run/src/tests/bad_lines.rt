@@ -1,5 +1,6 @@
+//! Lines that are no command, and lines that nearly are none.
 use super::written;
-use crate::End;
+use crate::{Command, End};
 use std::test::Fail;
 
 // Lines that are no command, each for one rule of `docs/LANGUAGE.md`.
@@ -95,6 +96,21 @@ fn each_stops_the_run(rt: HostRuntime) -> Result<(), Fail> {
         let (ended, out) = written(rt.alloc(), input.as_slice());
         assert_eq!(rt; ended, Ok(End::BadLine(3)), "{bad:?}");
         assert_eq!(rt; out.as_slice(), b"empty\nempty\nbad line 3\n".as_slice());
+    }
+    Ok(())
+}
+
+// A line feed ends a line, in a text too.
+#[test]
+fn a_line_feed_is_in_no_command(rt: HostRuntime) -> Result<(), Fail> {
+    let texts: [&[u8]; 4] = [
+        b"item ident plain 0:0@0..1#0 a\nb",
+        b"item punct alone 0:0@0..1#0 \n",
+        b"show 0\n",
+        b"\nshow 0",
+    ];
+    for text in texts {
+        assert_eq!(rt; Command::parse(rt.alloc(), text)?, None, "{text:?}");
     }
     Ok(())
 }

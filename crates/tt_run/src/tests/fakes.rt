@@ -1,3 +1,4 @@
+//! A reader and a writer that fail where they are told to.
 use std::alloc::Global;
 use std::io::{Error, ErrorKind, Read, Result, Write};
 

@@ -1,3 +1,4 @@
+//! Lines, each with the command that it stands for.
 use crate::{Command, Slot};
 use std::alloc::Global;
 use std::process::Abort;

@@ -1,14 +1,14 @@
 -- What was read was fed to the session, and nothing has failed.
 use Rattle.std.proofs.Common.{◌≡◌, false}
 use Rattle.tt_run.specs.Noted.{noted_inner, noted_failed, reads_left}
-use Rattle.tt_run.specs.Output.{text_told}
+use Rattle.tt_run.specs.Stage.{stage_of}
 use Rattle.tt_run.proofs.Telling.{Reads}
 use Rattle.tt_run.proofs.session.Session.answer_all.Given as goal
 
 abbrev pub invariant-reading : goal.invariant-reading
 invariant-reading g l =
-    Reads l.self (g.R.Read.remaining (noted_inner l.initial.reader)) (g.R.Read.remaining (noted_inner l.reader))
-    (g.W.Write.contents (noted_inner l.initial.writer)) (text_told g.W.Write.contents l.writer l.self.pending)
+    Reads (stage_of g.W.Write.contents l.self l.writer) (g.R.Read.remaining (noted_inner l.initial.reader))
+    (g.R.Read.remaining (noted_inner l.reader)) (g.W.Write.contents (noted_inner l.initial.writer))
     × (noted_failed l.reader ≡ false) × (noted_failed l.writer ≡ false)
 
 abbrev pub decreases-reading : goal.decreases-reading
