@@ -160,6 +160,10 @@ fn tables_of_parts(rt: HostRuntime) -> Result<(), Fail> {
         &[0, 1, 2, 3, 4, 5, 6, 7, 8, 9, 10, 11, 12, 13, 14, 15, 15],
         &[15, 0, 1, 2, 3, 4, 5, 6, 7, 8, 9, 10, 11, 12, 13, 14, 20, 21],
     )?;
+    let alone = header(DelimiterKind::Parenthesis, (7, 0, 1), (3, 1, 2), 0)?;
+    let tree = Packed::pack(alloc, vec![in alloc; top(1)?, alone]?)?;
+    let found = files(alloc, tree.parts())?;
+    assert_eq!(rt; found.as_slice(), [7, 3, 0, 0].as_slice());
     Ok(())
 }
 

@@ -1,6 +1,7 @@
 pub mod Ahead
 pub mod Cheapest
 mod CostRows
+mod MoveRows
 pub mod Finding
 pub mod Found
 pub mod HeaderFirst
