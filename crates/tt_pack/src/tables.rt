@@ -9,16 +9,14 @@ use crate::table::Table;
 use crate::uses::{TokenUses, Uses};
 use std::alloc::Global;
 use tt_base::{Leaf, SpanPart, Subtree, Symbol, TokenTree, TtFault};
-use tt_codec::{Entry, HeaderEntry, LeafEntry, SpanNumbers};
+use tt_codec::{Entry, HeaderEntry, LeafEntry, MOST_PARTS, MOST_SYMBOLS, SpanNumbers};
 
 // Up to so many parts stand by first use: an index of theirs has four bits.
 const SHORT_PARTS: usize = 15;
 // Up to so many symbols: a reference to one takes one byte.
 const SHORT_SYMBOLS: usize = 63;
-// The most parts below the top: an index of a part has 28 bits, and the top's two parts need one each.
-const MOST_PARTS_BELOW: usize = 268435454;
-// The most symbols. An index of one has 29 bits.
-const MOST_SYMBOLS: usize = 536870912;
+// The most parts below the top, whose own two need an index each.
+const MOST_PARTS_BELOW: usize = MOST_PARTS - 2;
 
 /// The tables of a list of tokens, and what each token uses.
 #[derive(Drop)]

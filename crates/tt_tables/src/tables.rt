@@ -4,12 +4,7 @@ ghost use Rattle.tt_tables.specs.Named.{NamesLeaf, NamesHeader, NamesToken};
 ghost use Rattle.tt_tables.specs.Searches.{IsIndex, NumbersSpan, IndexesSymbol, first_entries};
 
 use tt_base::{Leaf, Span, SpanPart, Subtree, Symbol, TokenTree};
-use tt_codec::{Entry, HeaderEntry, LeafEntry, SpanNumbers};
-
-// An index of a part has 28 bits.
-const MOST_PARTS: usize = 268435456;
-// An index of a symbol has 29 bits.
-const MOST_SYMBOLS: usize = 536870912;
+use tt_codec::{Entry, HeaderEntry, LeafEntry, MOST_PARTS, MOST_SYMBOLS, SpanNumbers};
 
 /// The tables whose entries indices name.
 #[derive(Clone, Copy)]
