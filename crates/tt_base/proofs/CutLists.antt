@@ -10,9 +10,9 @@ use Rattle.tt_base.specs.declared.leaf.Leaf.{Leaf}
 use Rattle.tt_base.specs.declared.token_tree.TokenTree.{TokenTree}
 use Rattle.tt_base.specs.declared.token_tree.TokenTree.TheVariants as token
 use Rattle.tt_base.specs.Forest.{Forest, end, leaf, node, size, header, flat, IsWhole, IsOneSubtree}
-use Rattle.tt_base.specs.ForestLaws.{length-flat}
-use Rattle.tt_base.specs.Levels.{AreLevels}
-use Rattle.tt_base.specs.OpenLevels.{GoesBack, Opens, TakesToken}
+use Rattle.tt_base.specs.Unflat.{length-flat}
+use Rattle.tt_base.specs.Levels.{GoesBack, Opens, TakesToken}
+use Rattle.tt_base.specs.Forest.{AreLevels}
 
 -- One level as long as the list is a whole list.
 pub one_level : (tokens : List TokenTree) → AreLevels tokens (length tokens ∷ []) ↔ IsWhole tokens

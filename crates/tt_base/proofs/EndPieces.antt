@@ -5,8 +5,7 @@ use Rattle.tt_base.specs.declared.delimiter.Subtree.{Subtree}
 use Rattle.tt_base.specs.declared.token_tree.TokenTree.{TokenTree}
 use Rattle.tt_base.specs.declared.token_tree.TokenTree.TheVariants as token
 use Rattle.tt_base.specs.Forest.{Forest, end, leaf, node, size, header, flat, join, IsWhole}
-use Rattle.tt_base.specs.ForestLaws.{flat-join, whole_iff, unflat-flat, length-flat}
-use Rattle.tt_base.specs.Unflat.{front, behind, unflat}
+use Rattle.tt_base.specs.Unflat.{flat-join, whole_iff, unflat-flat, length-flat, front, behind, unflat}
 
 -- The first trees and those behind them are all of them.
 pub join-front-behind : (n : ℕ) (f : Forest) → join (front n f) (behind n f) ≡ f

@@ -43,7 +43,7 @@ use Rattle.tt_base.specs.contracts.span.SpanPartialEq.TheImpl as span_impl
 use Rattle.tt_base.specs.contracts.text_range.TextRangePartialEq.TheImpl as range_impl
 use Rattle.tt_base.specs.Equality.{same_token, same_token-equivalence}
 use Rattle.tt_base.specs.Literal.{IsLiteral, symbol_of, span_of, kind_of, suffix_len_of}
-use Rattle.tt_base.specs.Range.{start_of, end_of}
+use Rattle.tt_base.specs.Span.{start_of, end_of}
 use Rattle.tt_base.proofs.Ranges.{same_range}
 
 range_from_eq : (a b : TextRange) → (range_impl.ghosts).eq a b ≡ true → a ≡ b

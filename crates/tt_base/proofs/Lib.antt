@@ -4,7 +4,9 @@ pub mod CutLists
 pub mod EndPieces
 pub mod Equality
 pub mod FirstOwner
+pub mod Gluing
 pub mod HashInputs
+pub mod Joins
 pub mod Literals
 pub mod Marks
 pub mod OneValue
@@ -15,4 +17,5 @@ mod Rows
 pub mod SameTree
 pub mod Samples
 pub mod ThreadToken
+pub mod Walks
 pub mod WholeLists

@@ -3,7 +3,7 @@ use Rattle.std.proofs.Common.{◌≡◌, ◌≤◌}
 use Rattle.std.specs.Coded.{le_prop}
 use mathlib.Core.HLevel.{is_prop→PathP}
 use Rattle.tt_base.specs.declared.text_range.TextRange.{TextRange}
-use Rattle.tt_base.specs.Range.{start_of, end_of}
+use Rattle.tt_base.specs.Span.{start_of, end_of}
 
 -- Ranges with the same ends are equal.
 pub same_range : (a b : TextRange) → start_of a ≡ start_of b → end_of a ≡ end_of b → a ≡ b

@@ -4,7 +4,7 @@ use Rattle.tt_base.specs.declared.delimiter.DelimiterKind.TheVariants.{Parenthes
 use Rattle.tt_base.specs.declared.literal.LitKind.TheVariants as lit
 use Rattle.tt_base.specs.declared.punct.Spacing.TheVariants.{Alone, JointHidden}
 use Rattle.tt_base.specs.declared.token_tree.TokenTree.TheVariants as token
-use Rattle.tt_base.specs.Delimiter.{delimiter}
+use Rattle.tt_base.specs.Token.{delimiter}
 use Rattle.tt_base.specs.Forest.{Forest, end, leaf, node, flat, header}
 use Rattle.tt_base.specs.LeafText.{leaf_text}
 use Rattle.tt_base.specs.TreeText.{display}

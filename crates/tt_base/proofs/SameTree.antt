@@ -1,9 +1,8 @@
 -- Equal trees, and trees that are found equal.
 use Rattle.std.proofs.Common.{◌≡◌, true, ◌↔◌, ap}
-use Rattle.tt_base.specs.Equality.{same_token, same_token-equivalence}
+use Rattle.tt_base.specs.Equality.{same_token, same_token-equivalence, same_root}
 use Rattle.tt_base.specs.Forest.{Root, flat_root}
-use Rattle.tt_base.specs.ForestCode.{flat_root-injective}
-use Rattle.tt_base.specs.SameTree.{same_root}
+use Rattle.tt_base.specs.Unflat.{flat_root-injective}
 use Rattle.tt_base.proofs.Equality.{same_token_iff}
 use Rattle.tt_base.proofs.Pointwise.{pointwise_sound, pointwise_complete}
 

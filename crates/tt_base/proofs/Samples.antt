@@ -7,7 +7,7 @@ use Rattle.tt_base.specs.declared.leaf.Leaf.TheVariants as leaf
 use Rattle.tt_base.specs.declared.literal.LitKind.{LitKind}
 use Rattle.tt_base.specs.declared.punct.Spacing.{Spacing}
 use Rattle.tt_base.specs.declared.span.Span.{Span}
-use Rattle.tt_base.specs.Delimiter.{delimiter}
+use Rattle.tt_base.specs.Token.{delimiter}
 use Rattle.tt_base.specs.Forest.{Forest, end, node}
 
 -- a span of the part 0:0#0, from a start, with a length

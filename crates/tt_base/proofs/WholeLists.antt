@@ -2,7 +2,7 @@
 use Rattle.std.proofs.Common.{◌≡◌, ℕ, zero, suc, List, [], ◌∷◌, drop, ap, sym, ◌∙◌}
 use Rattle.tt_base.specs.declared.token_tree.TokenTree.{TokenTree}
 use Rattle.tt_base.specs.Forest.{Forest, end, leaf, node, flat, join, IsWhole}
-use Rattle.tt_base.specs.ForestLaws.{flat-join}
+use Rattle.tt_base.specs.Unflat.{flat-join}
 
 tail_whole : (t : TokenTree) (tokens : List TokenTree) (f : Forest) → t ∷ tokens ≡ flat f → IsWhole tokens
 tail_whole t tokens end e = cc

@@ -44,6 +44,11 @@ flat_root root = header root.delimiter (size root.children) ∷ flat root.childr
 abbrev pub IsWhole : List TokenTree → Type 0
 IsWhole tokens = (trees : Forest) × (tokens ≡ flat trees)
 
+-- the tokens are flat lists of so many tokens each, one after the other
+abbrev pub AreLevels : List TokenTree → List ℕ → Type 0
+AreLevels tokens [] = tokens ≡ []
+AreLevels tokens (n ∷ ns) = (trees : Forest) × (rest : List TokenTree) × (tokens ≡ flat trees ++ rest) × (size trees ≡ n) × AreLevels rest ns
+
 -- the list is that of one node, whose header can count what it holds
 abbrev pub IsOneSubtree : List TokenTree → Type 0
 IsOneSubtree tokens = (root : Root) × (tokens ≡ flat_root root) × (size root.children ≤ 4294967295)

@@ -1,9 +1,25 @@
--- Lists that are cut into whole lists of given lengths.
-use Rattle.std.specs.Prelude.{◌≡◌, ℕ, List, [], ◌∷◌, ◌++◌}
-use Rattle.tt_base.specs.Forest.{Forest, size, flat}
+-- What the open levels of a flat list are, and what a token does to them.
+use Rattle.std.specs.Prelude.{ℕ, ◌-◌, List, [], ◌∷◌, ◌↔◌, reverse, Bool, true, false}
+use Rattle.tt_base.specs.Forest.{AreLevels}
 use Rattle.tt_base.specs.declared.token_tree.TokenTree.{TokenTree}
+use Rattle.tt_base.specs.declared.levels.Levels.{Levels}
 
--- the tokens are flat lists of so many tokens each, one after the other
-abbrev pub AreLevels : List TokenTree → List ℕ → Type 0
-AreLevels tokens [] = tokens ≡ []
-AreLevels tokens (n ∷ ns) = (trees : Forest) × (rest : List TokenTree) × (tokens ≡ flat trees ++ rest) × (size trees ≡ n) × AreLevels rest ns
+-- how many tokens are to come of each open subtree, innermost first
+abbrev pub open_levels : Levels → List ℕ
+open_levels levels = levels.left ∷ reverse levels.outer.items
+
+-- the same tokens make up both levels, or no token can follow
+abbrev pub GoesBack : List ℕ → List ℕ → Bool → Type 0
+GoesBack old new true = (tokens : List TokenTree) → AreLevels tokens old ↔ AreLevels tokens new
+GoesBack old new false = (token : TokenTree) (tokens : List TokenTree) → AreLevels (token ∷ tokens) old → ⊥
+
+-- behind a header, tokens make up the new levels exactly if they make up those below it and then the rest of the old ones
+abbrev pub Opens : List ℕ → ℕ → List ℕ → Type 0
+Opens [] below new = ⊥
+Opens (n ∷ ns) below new = (tokens : List TokenTree) → AreLevels tokens (below ∷ (n - 1 - below) ∷ ns) ↔ AreLevels tokens new
+
+-- whatever tokens follow: where the token fits, they make up the new levels exactly if with it they made up the old ones; where it does
+-- not fit, none do
+abbrev pub TakesToken : List ℕ → TokenTree → List ℕ → Bool → Type 0
+TakesToken old token new true = (tokens : List TokenTree) → AreLevels (token ∷ tokens) old ↔ AreLevels tokens new
+TakesToken old token new false = (tokens : List TokenTree) → AreLevels (token ∷ tokens) old → ⊥

@@ -1,9 +1,21 @@
--- Spans, their parts, and the text of a span.
+-- Ranges as numbers; spans, their parts, and the text of a span.
 use Rattle.std.specs.Prelude.{ℕ, List, ◌++◌, codes, decimal}
+use Rattle.tt_base.specs.declared.text_range.TextRange.{TextRange}
+use Rattle.tt_base.specs.declared.text_range.TextSize.{TextSize}
 use Rattle.tt_base.specs.declared.span.Span.{Span}
 use Rattle.tt_base.specs.declared.span.SpanPart.{SpanPart}
-use Rattle.tt_base.specs.declared.text_range.TextRange.{TextRange}
-use Rattle.tt_base.specs.Range.{start_of, end_of}
+
+-- the number of bytes
+abbrev pub size_of : TextSize → ℕ
+size_of size = size.raw
+
+-- where a range starts
+abbrev pub start_of : TextRange → ℕ
+start_of range = range.start.raw
+
+-- where it ends
+abbrev pub end_of : TextRange → ℕ
+end_of range = range.end.raw
 
 -- a span without its range
 abbrev pub part_of : Span → SpanPart

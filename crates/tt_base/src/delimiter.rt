@@ -21,7 +21,7 @@ pub struct DelimSpan {
 }
 
 impl DelimSpan {
-    ghost use Rattle.tt_base.specs.Delimiter.{delim_span};
+    ghost use Rattle.tt_base.specs.Token.{delim_span};
 
     /// Both spans are the given one.
     pub fn from_single(span: Span) -> Self
@@ -46,7 +46,7 @@ pub struct Delimiter {
 }
 
 impl Delimiter {
-    ghost use Rattle.tt_base.specs.Delimiter.{delimiter, delim_span};
+    ghost use Rattle.tt_base.specs.Token.{delimiter, delim_span};
 
     /// The invisible delimiter with that span at both ends.
     pub fn invisible_spanned(span: Span) -> Self

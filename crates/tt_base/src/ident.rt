@@ -17,7 +17,7 @@ pub enum IdentIsRaw {
 
 impl IdentIsRaw {
     ghost use Rattle.tt_base.specs.LeafText.{raw_prefix};
-    ghost use Rattle.tt_base.specs.Ident.{rawness_of, without_raw_prefix};
+    ghost use Rattle.tt_base.specs.Token.{rawness_of, without_raw_prefix};
 
     pub fn yes(self) -> bool
         ensures { IsTrue result ↔ (self ≡ IdentIsRaw.Yes) }
@@ -63,7 +63,7 @@ pub struct Ident {
 }
 
 impl Ident {
-    ghost use Rattle.tt_base.specs.Ident.{ident_from};
+    ghost use Rattle.tt_base.specs.Token.{ident_from};
 
     /// The ident that is written so: a leading `r#` makes it raw.
     pub fn new(alloc: Global, text: &str, span: Span) -> Result<Ident, TtFault>

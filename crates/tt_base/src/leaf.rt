@@ -17,7 +17,7 @@ pub enum Leaf {
 }
 
 impl Leaf {
-    ghost use Rattle.tt_base.specs.Leaf.{leaf_span};
+    ghost use Rattle.tt_base.specs.Token.{leaf_span};
 
     pub fn span(&self) -> &Span
         ensures { result.now ≡ leaf_span self.now }

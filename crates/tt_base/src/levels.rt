@@ -2,7 +2,7 @@
 ghost use Rattle.std.specs.Prelude.{◌≡◌, ◌<◌, ◌∷◌, ◌↔◌, [], IsTrue, IfOk, OnOk};
 ghost use Rattle.std.specs.Bool.{OnTrue};
 ghost use Rattle.std.specs.List.{All};
-ghost use Rattle.tt_base.specs.Levels.{AreLevels};
+ghost use Rattle.tt_base.specs.Forest.{AreLevels};
 
 use crate::token_tree::TokenTree;
 use std::alloc::{AllocError, Global};
@@ -19,7 +19,7 @@ pub struct Levels {
 }
 
 impl Levels {
-    ghost use Rattle.tt_base.specs.OpenLevels.{open_levels, GoesBack, Opens, TakesToken};
+    ghost use Rattle.tt_base.specs.Levels.{open_levels, GoesBack, Opens, TakesToken};
 
     /// One level of so many tokens.
     pub fn new(alloc: Global, len: usize) -> Levels

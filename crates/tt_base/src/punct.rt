@@ -36,7 +36,7 @@ impl fmt::Display for Punct {
 
 /// U+0000, alone, with a span of zeros: what fills the free places of an array of puncts.
 impl Default for Punct {
-    ghost use Rattle.tt_base.specs.Punct.{zero_punct};
+    ghost use Rattle.tt_base.specs.Token.{zero_punct};
 
     ghost is_default = { λ punct. punct ≡ zero_punct };
 

@@ -8,7 +8,7 @@ pub struct TextSize {
 }
 
 impl TextSize {
-    ghost use Rattle.tt_base.specs.Range.{size_of};
+    ghost use Rattle.tt_base.specs.Span.{size_of};
 
     pub fn new(raw: u32) -> Self
         ensures { size_of result ≡ raw }
@@ -42,7 +42,7 @@ impl TextSize {
 }
 
 impl From<u32> for TextSize {
-    ghost use Rattle.tt_base.specs.Range.{size_of};
+    ghost use Rattle.tt_base.specs.Span.{size_of};
 
     ghost from_gives = { λ raw size. size_of size ≡ raw };
 
@@ -52,7 +52,7 @@ impl From<u32> for TextSize {
 }
 
 impl From<TextSize> for u32 {
-    ghost use Rattle.tt_base.specs.Range.{size_of};
+    ghost use Rattle.tt_base.specs.Span.{size_of};
 
     ghost from_gives = { λ size raw. raw ≡ size_of size };
 
@@ -70,7 +70,7 @@ pub struct TextRange {
 }
 
 impl TextRange {
-    ghost use Rattle.tt_base.specs.Range.{size_of, start_of, end_of};
+    ghost use Rattle.tt_base.specs.Span.{size_of, start_of, end_of};
 
     pub fn new(start: TextSize, end: TextSize) -> Self
         requires { size_of start ≤ size_of end }

@@ -14,7 +14,7 @@ pub enum TokenTree {
 }
 
 impl TokenTree {
-    ghost use Rattle.tt_base.specs.Leaf.{first_span};
+    ghost use Rattle.tt_base.specs.Token.{first_span};
 
     /// A leaf's span, or a header's open span.
     pub fn first_span(&self) -> Span

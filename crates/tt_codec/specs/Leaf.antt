@@ -76,12 +76,17 @@ abbrev pub other_punct_at : (number : ℕ) → SpanNumbers → List ℕ → Read
 other_punct_at number numbers rest =
     char_at rest >>= λ char. spacing_from number >>= λ spacing. Some (punct char.0 spacing numbers, char.1)
 
+-- a literal of the short form, of which the first byte has been read
+abbrev pub short_literal_at : (control : ℕ) → SpanNumbers → List ℕ → Read LeafEntry
+short_literal_at control numbers rest =
+    short_kind_from (control % 16) >>= λ kind. literal_at kind (control / 16) numbers rest
+
 -- a leaf whose span has no extra bits: this byte has been read behind it
 abbrev pub plain_at : (control : ℕ) → SpanNumbers → List ℕ → Read LeafEntry
 plain_at control numbers rest =
     if control % 8 == 6 then other_punct_at (control / 8) numbers rest
     else if control % 8 == 7 then long_literal_at (control / 8) numbers rest
-    else (short_kind_from (control % 16) >>= λ kind. literal_at kind (control / 16) numbers rest)
+    else short_literal_at control numbers rest
 
 -- an ident, of which the span has been read
 abbrev pub ident_at : SpanNumbers → List ℕ → Read LeafEntry

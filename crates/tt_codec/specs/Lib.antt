@@ -6,4 +6,3 @@ pub mod Leaf
 pub mod Read
 pub mod Reference
 pub mod SpanNumbers
-pub mod Words

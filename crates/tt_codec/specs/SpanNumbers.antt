@@ -2,7 +2,7 @@
 use Rattle.std.specs.Borrow.{Bor}
 use Rattle.std.specs.Int.{w32, to_le_bytes}
 use Rattle.std.specs.Prelude.{ℕ, ◌+◌, ◌-◌, ◌*◌, ◌/◌, ◌%◌, ◌^◌, ◌<◌, Bool, ◌&&◌, ◌==◌, nat_le, if◌then◌else◌, List, ◌++◌, ◌≡◌, Option, Some, IsSomeAnd}
-use Rattle.tt_base.specs.Range.{start_of, end_of}
+use Rattle.tt_base.specs.Span.{start_of, end_of}
 use Rattle.tt_base.specs.declared.span.Span.{Span}
 use Rattle.tt_codec.specs.declared.span.SpanNumbers.{SpanNumbers}
 use Rattle.tt_codec.specs.Read.{Read, ◌>>=◌, word_at}

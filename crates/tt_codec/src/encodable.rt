@@ -2,7 +2,7 @@
 ghost use Rattle.std.specs.Char.{IsScalar};
 ghost use Rattle.std.specs.Int.{w16, w32, to_le_bytes, from_le_bytes};
 ghost use Rattle.std.specs.Prelude.{◌≡◌, ◌<◌, ◌^◌, ℕ, List, [], ◌∷◌, length, slice_index};
-ghost use Rattle.tt_codec.specs.Words.{byte_again, half_again, word_again, char_again};
+ghost use Rattle.tt_codec.specs.Read.{byte_again, half_again, word_again, char_again};
 
 /// A number that is stored in a fixed number of bytes, lowest byte first.
 pub trait Encodable: Copy {

@@ -10,6 +10,7 @@ use crate::span::{SpanNumbers, Spanned};
 use crate::words::{split_byte, split_half, split_word};
 
 // The offset so far behind a start, where four bytes can say it.
+#[inline(always)]
 #[tactic(auto, unfolding(crate::specs::Header::start_behind))]
 fn start_behind(start: u32, distance: u64) -> Option<u32>
     requires { distance < 2 ^ 63 }
@@ -19,6 +20,7 @@ fn start_behind(start: u32, distance: u64) -> Option<u32>
 }
 
 /// A header of the first format, of which the span and one byte have been read: that byte's high bits are given.
+#[inline(always)]
 pub(crate) fn read_format_1(opening: SpanNumbers, high: u8, from: &[u8]) -> Option<(Entry, &[u8])>
     ensures { IsRead (format_1_at high opening from.now) result }
 {
@@ -45,6 +47,7 @@ pub(crate) fn read_format_1(opening: SpanNumbers, high: u8, from: &[u8]) -> Opti
 }
 
 /// The same of the second format.
+#[inline(always)]
 pub(crate) fn read_format_2(opening: SpanNumbers, high: u8, from: &[u8]) -> Option<(Entry, &[u8])>
     ensures { IsRead (format_2_at high opening from.now) result }
 {
@@ -63,6 +66,7 @@ pub(crate) fn read_format_2(opening: SpanNumbers, high: u8, from: &[u8]) -> Opti
 }
 
 /// The same of the third format.
+#[inline(always)]
 pub(crate) fn read_format_3(opening: SpanNumbers, high: u8, from: &[u8]) -> Option<(Entry, &[u8])>
     ensures { IsRead (format_3_at high opening from.now) result }
 {
@@ -86,6 +90,7 @@ pub(crate) fn read_format_3(opening: SpanNumbers, high: u8, from: &[u8]) -> Opti
 }
 
 /// The same of the fourth format.
+#[inline(always)]
 pub(crate) fn read_format_4(opening: SpanNumbers, high: u8, from: &[u8]) -> Option<(Entry, &[u8])>
     ensures { IsRead (format_4_at high opening from.now) result }
 {

@@ -1,14 +1,12 @@
 //! Leaves, read (docs/FORMATS.md, "Bytes of a leaf").
 ghost use Rattle.tt_codec.specs.Read.{IsRead};
-ghost use Rattle.tt_codec.specs.Leaf.{kind_at, literal_at, long_literal_at, char_at, other_punct_at, plain_at, ident_at, ascii_at, marked_at};
+ghost use Rattle.tt_codec.specs.Leaf.{kind_at, literal_at, long_literal_at, char_at, other_punct_at, short_literal_at, ident_at, ascii_at};
 
 use crate::entry::LeafEntry;
-use crate::form::{
-    FORM_BITS, FORM_MASK, IDENT, LONG_LITERAL, OTHER_PUNCT, SHORT_KIND_BITS, SHORT_KIND_MASK,
-};
+use crate::form::{SHORT_KIND_BITS, SHORT_KIND_MASK};
 use crate::kinds::{plain_kind_from, raw_from, raw_kind_from, short_kind_from, spacing_from};
 use crate::reference::Reference;
-use crate::span::{SpanNumbers, Spanned};
+use crate::span::SpanNumbers;
 use crate::words::{split_byte, split_word};
 use tt_base::{IdentIsRaw, LitKind, Spacing};
 
@@ -35,6 +33,7 @@ fn read_char(from: &[u8]) -> Option<(char, &[u8])>
 
 impl LeafEntry {
     // A literal, of which all but the reference has been read.
+    #[inline(always)]
     fn read_literal(
         numbers: SpanNumbers,
         kind: LitKind,
@@ -48,8 +47,8 @@ impl LeafEntry {
         Some((leaf, rest))
     }
 
-    // A literal of the long form, of which the first byte has been read.
-    fn read_long_literal(
+    /// A literal of the long form, of which the first byte has been read.
+    pub(crate) fn read_long_literal(
         numbers: SpanNumbers,
         number: u8,
         from: &[u8],
@@ -61,8 +60,12 @@ impl LeafEntry {
         LeafEntry::read_literal(numbers, kind, suffix_len, rest)
     }
 
-    // A punct that is not ASCII, of which the first byte has been read.
-    fn read_other_punct(numbers: SpanNumbers, number: u8, from: &[u8]) -> Option<(LeafEntry, &[u8])>
+    /// A punct that is not ASCII, of which the first byte has been read.
+    pub(crate) fn read_other_punct(
+        numbers: SpanNumbers,
+        number: u8,
+        from: &[u8],
+    ) -> Option<(LeafEntry, &[u8])>
         ensures { IsRead (other_punct_at number numbers from.now) result }
     {
         let (char, rest) = read_char(from)?;
@@ -70,26 +73,22 @@ impl LeafEntry {
         Some((LeafEntry::Punct(char, spacing, numbers), rest))
     }
 
-    /// A leaf whose span has no extra bits, of which the byte behind the span has been read.
-    pub(crate) fn read_plain(
+    /// A literal of the short form, of which the first byte has been read.
+    #[inline(always)]
+    pub(crate) fn read_short_literal(
         numbers: SpanNumbers,
         control: u8,
         from: &[u8],
     ) -> Option<(LeafEntry, &[u8])>
-        ensures { IsRead (plain_at control numbers from.now) result }
+        ensures { IsRead (short_literal_at control numbers from.now) result }
     {
-        match control & FORM_MASK {
-            OTHER_PUNCT => LeafEntry::read_other_punct(numbers, control >> FORM_BITS, from),
-            LONG_LITERAL => LeafEntry::read_long_literal(numbers, control >> FORM_BITS, from),
-            _ => {
-                let kind = short_kind_from(control & SHORT_KIND_MASK)?;
-                LeafEntry::read_literal(numbers, kind, control >> SHORT_KIND_BITS, from)
-            }
-        }
+        let kind = short_kind_from(control & SHORT_KIND_MASK)?;
+        LeafEntry::read_literal(numbers, kind, control >> SHORT_KIND_BITS, from)
     }
 
-    // An ident, of which the span has been read.
-    fn read_ident(numbers: SpanNumbers, from: &[u8]) -> Option<(LeafEntry, &[u8])>
+    /// An ident, of which the span has been read.
+    #[inline(always)]
+    pub(crate) fn read_ident(numbers: SpanNumbers, from: &[u8]) -> Option<(LeafEntry, &[u8])>
         ensures { IsRead (ident_at numbers from.now) result }
     {
         let (symbol, rest) = Reference::read(from)?;
@@ -97,8 +96,9 @@ impl LeafEntry {
         Some((leaf, rest))
     }
 
-    // An ASCII punct, of which the span has been read. `hidden` is 1 where it is joint hidden.
-    fn read_ascii_punct(
+    /// An ASCII punct, of which the span has been read. `hidden` is 1 where it is joint hidden.
+    #[inline(always)]
+    pub(crate) fn read_ascii_punct(
         numbers: SpanNumbers,
         hidden: u32,
         from: &[u8],
@@ -115,15 +115,5 @@ impl LeafEntry {
         };
         let leaf = LeafEntry::Punct((byte >> 1) as char, spacing, numbers);
         Some((leaf, rest))
-    }
-
-    /// An ident or an ASCII punct, of which the span has been read.
-    pub(crate) fn read_marked(span: Spanned, from: &[u8]) -> Option<(LeafEntry, &[u8])>
-        ensures { IsRead (marked_at span.extra span.numbers from.now) result }
-    {
-        if span.extra == IDENT {
-            return LeafEntry::read_ident(span.numbers, from);
-        }
-        LeafEntry::read_ascii_punct(span.numbers, span.extra >> 1, from)
     }
 }

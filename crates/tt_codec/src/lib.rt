@@ -6,6 +6,7 @@
 mod back_buf;
 mod encodable;
 mod entry;
+mod entry_read;
 mod form;
 mod header_read;
 mod header_write;
@@ -19,6 +20,7 @@ mod words;
 pub use back_buf::BackBuf;
 pub use encodable::Encodable;
 pub use entry::{Entry, HeaderEntry, LeafEntry};
+pub use entry_read::{Visitor, visit_token};
 pub use reference::{MOST_SYMBOLS, Reference};
 pub use span::{MOST_PARTS, SpanNumbers};
 

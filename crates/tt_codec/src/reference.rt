@@ -58,6 +58,7 @@ impl Reference {
     }
 
     // The reference, of which two bytes have been read.
+    #[inline(always)]
     fn after_two_bytes(first: u8, second: u8, rest: &[u8]) -> Option<(Reference, &[u8])>
         ensures { IsRead (after_two_bytes first second rest.now) result }
     {
@@ -72,6 +73,7 @@ impl Reference {
     }
 
     // The reference, of which one byte has been read.
+    #[inline(always)]
     fn after_one_byte(first: u8, rest: &[u8]) -> Option<(Reference, &[u8])>
         ensures { IsRead (after_one_byte first rest.now) result }
     {
@@ -85,6 +87,7 @@ impl Reference {
     }
 
     // The reference that the bytes begin with, and the bytes behind it.
+    #[inline(always)]
     #[tactic(auto, unfolding(crate::specs::Reference::reference_at))]
     fn split(from: &[u8]) -> Option<(Reference, &[u8])>
         ensures { IsRead (reference_at from.now) result }
@@ -94,6 +97,7 @@ impl Reference {
     }
 
     /// The reference that the bytes begin with, and the bytes behind it.
+    #[inline(always)]
     pub(crate) fn read(from: &[u8]) -> Option<(Reference, &[u8])>
         ensures value { IsRead (reference_at from.now) result }
         ensures again { ReferencesAgain from.now result }

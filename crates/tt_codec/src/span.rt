@@ -196,6 +196,7 @@ impl SpanNumbers {
 
 impl Spanned {
     // The span of a first word and the three rests.
+    #[inline(always)]
     fn from_rests(first: u32, part_rest: u32, length_rest: u32, start_rest: u32) -> Spanned
         requires part { part_rest < 2 ^ 24 }
         requires length { length_rest < 2 ^ 24 }
@@ -214,6 +215,7 @@ impl Spanned {
     }
 
     // The span of a first word and what is left of all three.
+    #[inline(always)]
     fn from_one_rest(first: u32, rests: u64) -> Spanned
         requires { rests < 2 ^ 63 }
         ensures { result ≡ from_rests first rests }
@@ -225,6 +227,7 @@ impl Spanned {
     }
 
     // The span, of which two words have been read.
+    #[inline(always)]
     fn after_two_words(first: u32, second: u32, rest: &[u8]) -> Option<(Spanned, &[u8])>
         ensures { IsRead (after_two_words first second rest.now) result }
     {
@@ -241,6 +244,7 @@ impl Spanned {
     }
 
     // The span, of which one word has been read.
+    #[inline(always)]
     fn after_one_word(first: u32, rest: &[u8]) -> Option<(Spanned, &[u8])>
         ensures { IsRead (after_one_word first rest.now) result }
     {
@@ -252,6 +256,7 @@ impl Spanned {
     }
 
     // The span that the bytes begin with, and the bytes behind it.
+    #[inline(always)]
     #[tactic(auto, unfolding(crate::specs::SpanNumbers::span_at))]
     fn split(from: &[u8]) -> Option<(Spanned, &[u8])>
         ensures { IsRead (span_at from.now) result }
@@ -261,6 +266,7 @@ impl Spanned {
     }
 
     /// The span that the bytes begin with, and the bytes behind it.
+    #[inline(always)]
     pub(crate) fn read(from: &[u8]) -> Option<(Spanned, &[u8])>
         ensures value { IsRead (span_at from.now) result }
         ensures again { SpansAgain from.now result }

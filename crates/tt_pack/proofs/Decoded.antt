@@ -1,94 +1,123 @@
 -- What was decoded at an offset is the first token ahead of it.
-use Rattle.std.proofs.Common.{◌≡◌, ℕ, ◌+◌, ◌-◌, ◌<◌, ◌≤◌, ◌^◌, List, length, drop, Option, Some, ap, sym, ◌∙◌, subst, arith, length-drop}
-use Rattle.std.proofs.lemmas.List.{take_all}
-use Rattle.tt_base.specs.declared.delimiter.Subtree.{Subtree}
-use Rattle.tt_base.specs.declared.leaf.Leaf.{Leaf}
-use Rattle.tt_base.specs.declared.token_tree.TokenTree.TheVariants as token
-use Rattle.tt_base.specs.Forest.{Forest, size}
+use Rattle.std.specs.Borrow.{Bor}
+use Rattle.std.proofs.Common.{◌≡◌, ℕ, ◌+◌, ◌-◌, List, length, drop, Option, Some, None, MatchOption, refl, ap, sym, ◌∙◌, subst, arith}
+use Rattle.tt_base.specs.declared.token_tree.TokenTree.{TokenTree}
+use Rattle.tt_base.specs.Forest.{Forest, Root, end}
+use Rattle.tt_base.specs.Moves.{first_token, after_token, after_tree}
 use Rattle.tt_codec.specs.declared.entry.Entry.{Entry}
 use Rattle.tt_codec.specs.declared.entry.Entry.TheVariants as stored
 use Rattle.tt_codec.specs.declared.entry.HeaderEntry.{HeaderEntry}
 use Rattle.tt_codec.specs.declared.entry.LeafEntry.{LeafEntry}
 use Rattle.tt_codec.specs.Entry.{entry_at}
-use Rattle.tt_tables.specs.Found.{FindsLeaf, FindsSubtree, GivesLeaf, GivesSubtree}
+use Rattle.tt_codec.specs.Read.{Read, IsMade}
+use Rattle.tt_tables.specs.Found.{GivesLeaf, GivesSubtree}
 use Rattle.tt_tables.specs.Meaning.{IsAhead}
-use Rattle.tt_tables.specs.Moves.{first_token, after_token, after_tree}
 use Rattle.tt_tables.specs.NextToken.{LeafAhead, NodeAhead}
-use Rattle.tt_tables.specs.Searches.{first_entries}
 use Rattle.tt_tables.specs.Tables.{Tables}
-use Rattle.tt_tables.proofs.Ahead.{leaf_is_ahead, node_is_ahead}
-use Rattle.tt_pack.proofs.Moves.{HasFewEntries, leaf_in_range_ahead, node_in_range_ahead}
+use Rattle.tt_tables.proofs.Ahead.{leaf_is_ahead, node_is_ahead, none_read, none_ahead}
+use Rattle.tt_pack.specs.StoredIn.{bytes_for, tables_stored, bytes_in, tables_in}
+use Rattle.tt_pack.specs.ReaderOf.{ahead_of, tables_of, bytes_of, offset_of}
+use Rattle.tt_pack.specs.declared.reader.Reader.{Reader}
+use Rattle.tt_pack.specs.TokenAt.{MakesToken, IsFirst, DecodesAt}
+use Rattle.tt_pack.specs.declared.token_reader.TokenReader.{TokenReader}
+use Rattle.tt_pack.proofs.Moves.{leaf_in_range_ahead, node_in_range_ahead}
 
-few_is_all : (tables : Tables) → HasFewEntries tables → tables ≡ first_entries tables.parts tables.symbols
-few_is_all tables few =
-    λ i. record { parts = sym (take_all (2 ^ 28) tables.parts few.parts) i; symbols = sym (take_all (2 ^ 29) tables.symbols few.symbols) i }
+-- a token that was found is the first, where so many bytes are left
+abbrev IsFound : Tables → (all : List ℕ) → (offset : ℕ) → Forest → (left child_bytes : ℕ) → Option TokenTree → Type 0
+IsFound tables all offset trees left child_bytes result =
+    MatchOption result (trees ≡ end) (IsFirst tables all offset trees left child_bytes)
 
 module _ (tables : Tables) (all : List ℕ) (offset : ℕ) (trees : Forest) (ahead : IsAhead tables all offset trees) where
-  -- What was decoded leaves fewer bytes than there were.
-  pub fewer_left : (entry : Entry) (behind : List ℕ) → entry_at (drop offset all) ≡ Some (entry, behind) → length behind ≤ length (drop offset all)
-  fewer_left (stored.Leaf entry) behind e = omega (arith, (leaf_is_ahead tables all offset trees entry behind ahead e).passed, length-drop offset all)
-  fewer_left (stored.Header entry) behind e = omega (arith, (node_is_ahead tables all offset trees entry behind ahead e).passed, length-drop offset all)
+  leaf_first : (entry : LeafEntry) (rest : List ℕ) (result : Option TokenTree) → LeafAhead tables all offset trees entry rest
+      → GivesLeaf tables entry result → IsFound tables all offset trees (length rest) 0 result
+  leaf_first entry rest result l gives =
+      let range = (leaf_in_range_ahead tables all offset l.it l.behind (subst (IsAhead tables all offset) l.is ahead)).0 in
+      subst (IsFound tables all offset trees (length rest) 0) (sym (gives l.it l.finds range))
+      (record {
+        token = ap first_token l.is;
+        passed = l.passed;
+        inside = subst (IsAhead tables all (length all - length rest)) (sym (ap after_token l.is)) (l.after _ (omega (arith, l.passed)));
+        after = subst (IsAhead tables all (length all - length rest + 0)) (sym (ap after_tree l.is)) (l.after _ (omega (arith, l.passed)));
+      })
 
-  -- the answer that the tables give for what was read as a leaf, the first token, and where what is behind it lies ahead
-  pub record LeafRead (rest behind : List ℕ) (answer : Option Leaf) : Type 0 where
-    pub it : Leaf
-    pub is : answer ≡ Some it
-    pub first : first_token trees ≡ Some (token.Leaf it)
-    pub passed : length behind < length rest
-    pub inside : IsAhead tables all (offset + (length rest - length behind)) (after_token trees)
-    pub after : IsAhead tables all (offset + (length rest - length behind) + 0) (after_tree trees)
+  header_first : (entry : HeaderEntry) (rest : List ℕ) (result : Option TokenTree) → NodeAhead tables all offset trees entry rest
+      → GivesSubtree tables entry result → IsFound tables all offset trees (length rest) entry.child_bytes result
+  header_first entry rest result n gives =
+      let range = (node_in_range_ahead tables all offset n.delimiter n.children n.behind (subst (IsAhead tables all offset) n.is ahead)).0 in
+      subst (IsFound tables all offset trees (length rest) entry.child_bytes) (sym (gives _ n.finds range))
+      (record {
+        token = ap first_token n.is;
+        passed = n.passed;
+        inside = subst (IsAhead tables all (length all - length rest)) (sym (ap after_token n.is)) (n.inside _ (omega (arith, n.passed)));
+        after =
+            subst (IsAhead tables all (length all - length rest + entry.child_bytes)) (sym (ap after_tree n.is))
+            (n.after _ (omega (arith, n.passed)));
+      })
 
-  -- The tables have an answer for what was read as a leaf.
-  pub leaf_read : (rest behind : List ℕ) (read : Entry) (entry : LeafEntry) (given : Tables) (answer : Option Leaf) → rest ≡ drop offset all
-      → entry_at rest ≡ Some (read, behind) → read ≡ stored.Leaf entry → given ≡ first_entries tables.parts tables.symbols
-      → GivesLeaf given entry answer → LeafRead rest behind answer
-  leaf_read rest behind read entry given answer here e is same gives =
-      made (leaf_is_ahead tables all offset trees entry behind ahead (ap entry_at (sym here) ∙ e ∙ ap (λ r. Some (r, behind)) is))
-    where
-      made : LeafAhead tables all offset trees entry behind → LeafRead rest behind answer
-      made l =
-          let known = leaf_in_range_ahead tables all offset l.it l.behind (subst (IsAhead tables all offset) l.is ahead) in
-          record {
-            it = l.it;
-            is = gives l.it (subst (λ t. FindsLeaf t entry l.it) (few_is_all tables known.1 ∙ sym same) l.finds) known.0;
-            first = ap first_token l.is;
-            passed = omega (arith, l.passed, ap length here, length-drop offset all);
-            inside =
-                subst (IsAhead tables all (offset + (length rest - length behind))) (sym (ap after_token l.is))
-                (l.after _ (omega (arith, l.passed, ap length here, length-drop offset all)));
-            after =
-                subst (IsAhead tables all (offset + (length rest - length behind) + 0)) (sym (ap after_tree l.is))
-                (l.after _ (omega (arith, l.passed, ap length here, length-drop offset all)));
-          }
+-- What is made of the numbers at an offset is the first token ahead of it.
+pub decoded_at : (old : TokenReader) (offset : ℕ) (new : TokenReader) (rest : List ℕ) → old.token ≡ None → rest ≡ drop offset (bytes_for old.tree.now)
+    → IsMade MakesToken old (entry_at rest) new → DecodesAt old offset new
+decoded_at old offset new rest empty here made trees ahead =
+    found (entry_at (drop offset all)) refl (subst (λ bytes. IsMade MakesToken old (entry_at bytes) new) here made)
+  where
+    all : List ℕ
+    all = bytes_for old.tree.now
 
-  -- the same of a header
-  pub record HeaderRead (rest behind : List ℕ) (entry : HeaderEntry) (answer : Option Subtree) : Type 0 where
-    pub it : Subtree
-    pub is : answer ≡ Some it
-    pub first : first_token trees ≡ Some (token.Subtree it)
-    pub passed : length behind < length rest
-    pub inside : IsAhead tables all (offset + (length rest - length behind)) (after_token trees)
-    pub after : IsAhead tables all (offset + (length rest - length behind) + entry.child_bytes) (after_tree trees)
+    tables : Tables
+    tables = tables_stored old.tree.now
 
-  -- The tables have an answer for what was read as a header.
-  pub header_read : (rest behind : List ℕ) (read : Entry) (entry : HeaderEntry) (given : Tables) (answer : Option Subtree) → rest ≡ drop offset all
-      → entry_at rest ≡ Some (read, behind) → read ≡ stored.Header entry → given ≡ first_entries tables.parts tables.symbols
-      → GivesSubtree given entry answer → HeaderRead rest behind entry answer
-  header_read rest behind read entry given answer here e is same gives =
-      made (node_is_ahead tables all offset trees entry behind ahead (ap entry_at (sym here) ∙ e ∙ ap (λ r. Some (r, behind)) is))
-    where
-      made : NodeAhead tables all offset trees entry behind → HeaderRead rest behind entry answer
-      made n =
-          let known = node_in_range_ahead tables all offset n.delimiter n.children n.behind (subst (IsAhead tables all offset) n.is ahead) in
-          record {
-            it = record { delimiter = n.delimiter; len = size n.children };
-            is = gives _ (subst (λ t. FindsSubtree t entry (record { delimiter = n.delimiter; len = size n.children })) (few_is_all tables known.1 ∙ sym same) n.finds) known.0;
-            first = ap first_token n.is;
-            passed = omega (arith, n.passed, ap length here, length-drop offset all);
-            inside =
-                subst (IsAhead tables all (offset + (length rest - length behind))) (sym (ap after_token n.is))
-                (n.inside _ (omega (arith, n.passed, ap length here, length-drop offset all)));
-            after =
-                subst (IsAhead tables all (offset + (length rest - length behind) + entry.child_bytes)) (sym (ap after_tree n.is))
-                (n.after _ (omega (arith, n.passed, ap length here, length-drop offset all)));
-          }
+    found : (read : Read Entry) → entry_at (drop offset all) ≡ read → IsMade MakesToken old read new
+        → IsFound tables all offset trees new.left new.child_bytes new.token
+    found None e none =
+        subst (IsFound tables all offset trees new.left new.child_bytes) (sym (ap (λ reader. reader.token) none ∙ empty))
+        (none_read tables all offset trees ahead e).0
+    found (Some (stored.Leaf entry, behind)) e token =
+        subst (λ left. IsFound tables all offset trees left new.child_bytes new.token) (sym token.1)
+        (subst (λ child_bytes. IsFound tables all offset trees (length behind) child_bytes new.token) (sym token.2)
+        (leaf_first tables all offset trees ahead entry behind new.token (leaf_is_ahead tables all offset trees entry behind ahead e) (token.0 empty)))
+    found (Some (stored.Header entry, behind)) e token =
+        subst (λ left. IsFound tables all offset trees left new.child_bytes new.token) (sym token.1)
+        (subst (λ child_bytes. IsFound tables all offset trees (length behind) child_bytes new.token) (sym token.2)
+        (header_first tables all offset trees ahead entry behind new.token (node_is_ahead tables all offset trees entry behind ahead e) (token.0 empty)))
+
+-- the first token ahead of a reader, as it was decoded, or none where nothing lies ahead
+abbrev pub IsFirstOf : Reader → Option TokenTree → (left child_bytes : ℕ) → Type 0
+IsFirstOf reader result left child_bytes =
+    IsFound (tables_of reader) (bytes_of reader) (offset_of reader) (ahead_of reader) left child_bytes result
+
+-- What is decoded at a reader's offset in its tree is the first token ahead of it.
+pub decoded_ahead : (reader : Reader) (tree : Bor Root) (old new : TokenReader) → reader.tree ≡ Some tree → old.tree.now ≡ tree.now
+    → DecodesAt old (offset_of reader) new → IsFirstOf reader new.token new.left new.child_bytes
+decoded_ahead reader tree old new is same decodes =
+    subst (λ tables. Found tables (bytes_of reader)) (sym same_tables)
+    (subst (λ all. Found (tables_stored old.tree.now) all) (sym same_bytes) (decodes (ahead_of reader)))
+    reader.ahead.1
+  where
+    Found : Tables → List ℕ → Type 0
+    Found tables all =
+        IsAhead tables all (offset_of reader) (ahead_of reader)
+        → IsFound tables all (offset_of reader) (ahead_of reader) new.left new.child_bytes new.token
+
+    same_tables : tables_of reader ≡ tables_stored old.tree.now
+    same_tables = ap tables_in is ∙ ap tables_stored (sym same)
+
+    same_bytes : bytes_of reader ≡ bytes_for old.tree.now
+    same_bytes = ap bytes_in is ∙ ap bytes_for (sym same)
+
+-- A token that was found is the first.
+pub some_is_first : (reader : Reader) (result : Option TokenTree) (left child_bytes : ℕ) → IsFirstOf reader result left child_bytes
+    → (result ≡ None → ⊥)
+    → (it : TokenTree) × (result ≡ Some it) × IsFirst (tables_of reader) (bytes_of reader) (offset_of reader) (ahead_of reader) left child_bytes it
+some_is_first reader None left child_bytes found some = absurd (some refl)
+some_is_first reader (Some it) left child_bytes found some = (it, refl, found)
+
+-- Where none was found, nothing lies ahead.
+pub none_is_ahead : (reader : Reader) (result : Option TokenTree) (left child_bytes : ℕ) → IsFirstOf reader result left child_bytes
+    → result ≡ None → ahead_of reader ≡ end
+none_is_ahead reader None left child_bytes found none = found
+none_is_ahead reader (Some it) left child_bytes found none = cc none
+
+-- Nothing lies ahead where there is no tree.
+pub no_tree : (reader : Reader) → reader.tree ≡ None → ahead_of reader ≡ end
+no_tree reader none =
+    none_ahead (tables_of reader) (bytes_of reader) (offset_of reader) (ahead_of reader) reader.ahead.1 (omega (arith, ap (λ tree. length (bytes_in tree)) none))

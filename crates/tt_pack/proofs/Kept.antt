@@ -10,7 +10,7 @@ use Rattle.tt_base.specs.declared.token_tree.TokenTree.TheVariants as token
 use Rattle.tt_tables.specs.Uses.{same_part, token_parts, token_symbols}
 use Rattle.tt_pack.specs.declared.uses.TokenUses.{TokenUses}
 use Rattle.tt_pack.specs.Counted.{count_use}
-use Rattle.tt_pack.specs.Indexed.{StandsAt, AreUses}
+use Rattle.tt_pack.specs.TablesOf.{StandsAt, AreUses}
 use Rattle.tt_pack.proofs.Counting.{stays_counted, no_fewer_counted}
 use Rattle.tt_pack.proofs.Paired.{paired-snoc, paired_map}
 

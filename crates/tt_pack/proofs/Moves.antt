@@ -7,10 +7,9 @@ use Rattle.tt_base.specs.declared.span.SpanPart.{SpanPart}
 use Rattle.tt_base.specs.declared.token_tree.TokenTree.{TokenTree}
 use Rattle.tt_base.specs.Fits.{LeafInRange, TokenInRange}
 use Rattle.tt_base.specs.Forest.{Forest, Root, end, leaf, node, only, size, header}
-use Rattle.tt_tables.specs.Limits.{most_parts, most_symbols}
+use Rattle.tt_tables.specs.Stored.{most_parts, most_symbols, bytes, packed, IsInRange, IsWithinLimits}
 use Rattle.tt_tables.specs.Meaning.{IsAhead}
-use Rattle.tt_tables.specs.Moves.{first_token, step_after}
-use Rattle.tt_tables.specs.Stored.{bytes, packed, IsInRange, IsWithinLimits}
+use Rattle.tt_base.specs.Moves.{first_token, step_after}
 use Rattle.tt_tables.specs.Tables.{Tables, tables_from}
 use Rattle.tt_tables.proofs.Ahead.{none_ahead, end_is_passed}
 use Rattle.tt_tables.proofs.Naming.{bytes-end}

@@ -5,7 +5,7 @@ use Rattle.std.specs.Cmp.Lexicographic.{pointwise}
 use Rattle.tt_base.specs.declared.span.SpanPart.{SpanPart}
 use Rattle.tt_base.specs.Forest.{Root}
 use Rattle.tt_tables.specs.Meaning.{IsStored}
-use Rattle.tt_base.specs.SameTree.{same_root}
+use Rattle.tt_base.specs.Equality.{same_root}
 use Rattle.tt_tables.specs.Stored.{packed}
 use Rattle.tt_tables.specs.Uses.{same_part}
 use Rattle.tt_base.proofs.Pointwise.{pointwise_sound, pointwise_complete}

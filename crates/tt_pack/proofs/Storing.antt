@@ -9,7 +9,7 @@ use Rattle.tt_base.specs.declared.token_tree.TokenTree.{TokenTree}
 use Rattle.tt_base.specs.declared.token_tree.TokenTree.TheVariants as token
 use Rattle.tt_base.specs.Fits.{TokenInRange}
 use Rattle.tt_base.specs.Forest.{Forest, Root, size, header, flat, flat_root, IsWhole, IsOneSubtree}
-use Rattle.tt_base.specs.ForestLaws.{whole_iff, length-flat}
+use Rattle.tt_base.specs.Unflat.{whole_iff, length-flat, unflat}
 use Rattle.tt_codec.specs.declared.entry.HeaderEntry.{HeaderEntry}
 use Rattle.tt_codec.specs.Header.{format_4, top_entry}
 use Rattle.tt_tables.specs.Meaning.{IsStored}
@@ -17,7 +17,6 @@ use Rattle.tt_tables.specs.PackFault.{IsTreeWith, HasManyParts, HasManySymbols, 
 use Rattle.tt_base.specs.Span.{part_of}
 use Rattle.tt_tables.specs.Stored.{bytes, bytes_below, root_parts, packed}
 use Rattle.tt_tables.specs.Tables.{Tables, Knows, tables_for, tables_from, part_table, symbol_table}
-use Rattle.tt_base.specs.Unflat.{unflat}
 use Rattle.tt_base.proofs.CutLists.{one_subtree_iff}
 use Rattle.tt_tables.proofs.Known.{all_known}
 use Rattle.tt_tables.proofs.StoredAlike.{length-root_parts}

@@ -9,7 +9,7 @@ use Rattle.tt_tables.specs.TableOrder.{index_in, uses_of, IsEarlier, IsMoreUsed,
 use Rattle.tt_tables.proofs.Cheapest.{distinct_order}
 use Rattle.tt_tables.proofs.TableOrder.{length-falling}
 use Rattle.tt_pack.specs.Counted.{counted}
-use Rattle.tt_pack.specs.Indexed.{StandsAt, HasNewIndexAt}
+use Rattle.tt_pack.specs.TablesOf.{StandsAt, HasNewIndexAt}
 use Rattle.tt_pack.specs.Rows.{FindsAt}
 
 -- `same` tells whether two values are equal

@@ -1,16 +1,17 @@
 -- What the parts of a stored tree say together, and which tree a list means.
-use Rattle.std.specs.Prelude.{◌≡◌, ◌⊎◌, ◌+◌, ◌<◌, ◌≤◌, ℕ, List, length}
+use Rattle.std.specs.Prelude.{◌≡◌, ◌⊎◌, ◌+◌, ◌<◌, ◌≤◌, ℕ, List, length, [], ◌∷◌, ◌++◌}
 use Rattle.tt_base.specs.declared.delimiter.Subtree.{Subtree}
 use Rattle.tt_base.specs.declared.fault.TtFault.{TtFault}
 use Rattle.tt_base.specs.declared.fault.TtFault.TheVariants.{Memory, NotOneSubtree, TooManySpanParts, TooManySymbols, TooManyBytes}
 use Rattle.tt_base.specs.declared.span.SpanPart.{SpanPart}
 use Rattle.tt_base.specs.declared.token_tree.TokenTree.{TokenTree}
 use Rattle.tt_base.specs.Forest.{Root, IsWhole}
-use Rattle.tt_tables.specs.Limits.{most_parts, most_symbols, most_bytes}
-use Rattle.tt_tables.specs.Stored.{Stored}
+use Rattle.tt_tables.specs.Stored.{most_parts, most_symbols, most_bytes, Stored, packed}
 use Rattle.tt_tables.specs.Tables.{tables_for, part_table, symbol_table}
 use Rattle.tt_base.specs.Unflat.{unflat}
 use Rattle.tt_pack.specs.Writing.{byte_count}
+use Rattle.std.specs.Hash as fed
+use Rattle.tt_base.specs.contracts.span.SpanPartHash.TheImpl as part_impl
 
 -- what is stored, of its parts
 abbrev pub stored_of : (bytes : List ℕ) → List SpanPart → (symbols : List (List ℕ)) → (len : ℕ) → Stored
@@ -44,3 +45,15 @@ abbrev pub IsStoreFault : List TokenTree → TtFault → Type 0
 IsStoreFault below fault =
     IsTableFault below fault
     ⊎ ((fault ≡ TooManyBytes) × IsWhole below × HasFewParts below × HasFewSymbols below × (most_bytes < byte_count (tables_for below) below))
+
+-- what a part feeds
+abbrev pub fed_part : SpanPart → List (List ℕ)
+fed_part = (part_impl.ghosts).hash_input
+
+-- all bytes in one write, with their number before it
+abbrev pub fed_bytes : List ℕ → List (List ℕ)
+fed_bytes bytes = fed.usize (length bytes) ++ bytes ∷ []
+
+-- the bytes, and then the two tables
+abbrev pub fed_tree : Root → List (List ℕ)
+fed_tree root = fed_bytes (packed root).bytes ++ fed.slice fed_part (packed root).parts ++ fed.slice fed.str (packed root).symbols

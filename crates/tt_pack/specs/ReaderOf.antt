@@ -1,12 +1,11 @@
 -- What a reader stands before, and a step of it.
-use Rattle.std.specs.Prelude.{◌≡◌, ℕ, ◌+◌, ◌<◌, ◌≤◌, List, Option, Some, MatchOption, length, drop}
-use Rattle.tt_base.specs.Forest.{Forest, end}
-use Rattle.tt_tables.specs.Meaning.{IsAhead}
-use Rattle.tt_tables.specs.Moves.{first_token, after_token, after_tree, step_after}
+use Rattle.std.specs.Prelude.{◌≡◌, ℕ, ◌≤◌, List, length, drop}
+use Rattle.tt_base.specs.Forest.{Forest}
+use Rattle.tt_base.specs.Moves.{step_after}
 use Rattle.tt_tables.specs.Stored.{bytes}
-use Rattle.tt_pack.specs.declared.reader.Found.{Found}
+use Rattle.tt_pack.specs.StoredIn.{bytes_in, tables_in}
 use Rattle.tt_pack.specs.declared.reader.Reader.{Reader}
-use Rattle.tt_tables.specs.Tables.{Tables, tables_from}
+use Rattle.tt_tables.specs.Tables.{Tables}
 
 -- the trees ahead, to the end of the bytes
 abbrev pub ahead_of : Reader → Forest
@@ -14,11 +13,11 @@ ahead_of reader = reader.ahead.0
 
 -- its tables
 abbrev pub tables_of : Reader → Tables
-tables_of reader = tables_from reader.parts.now reader.symbols.now
+tables_of reader = tables_in reader.tree
 
 -- its bytes
 abbrev pub bytes_of : Reader → List ℕ
-bytes_of reader = reader.bytes.now
+bytes_of reader = bytes_in reader.tree
 
 -- how many of them are passed
 abbrev pub offset_of : Reader → ℕ
@@ -40,14 +39,3 @@ pub record StepsTo (old : Reader) (trees : Forest) (new : Reader) : Type 0 where
   pub inside : offset_of new ≤ length (bytes_of new)
   pub left : drop (offset_of new) (bytes_of new) ≡ bytes (tables_of new) trees
   pub steps : steps_of new ≡ step_after (steps_of old) (ahead_of old)
-
--- the first token ahead, how many bytes on what is behind it lies ahead, and how many more on what is behind all that it holds
-pub record IsFirst (reader : Reader) (found : Found) : Type 0 where
-  pub token : first_token (ahead_of reader) ≡ Some found.token
-  pub passed : 0 < found.len
-  pub inside : IsAhead (tables_of reader) (bytes_of reader) (offset_of reader + found.len) (after_token (ahead_of reader))
-  pub after : IsAhead (tables_of reader) (bytes_of reader) (offset_of reader + found.len + found.child_bytes) (after_tree (ahead_of reader))
-
--- that token, or none where nothing lies ahead
-abbrev pub Decodes : Reader → Option Found → Type 0
-Decodes reader result = MatchOption result (ahead_of reader ≡ end) (IsFirst reader)

@@ -4,8 +4,7 @@ use Rattle.std.specs.List.{AllByRecursion}
 use Rattle.tt_base.specs.declared.token_tree.TokenTree.{TokenTree}
 use Rattle.tt_base.specs.declared.token_tree.TokenTree.TheVariants as token
 use Rattle.tt_base.specs.Fits.{TokenInRange}
-use Rattle.tt_tables.specs.Limits.{most_bytes}
-use Rattle.tt_tables.specs.Stored.{bytes}
+use Rattle.tt_tables.specs.Stored.{most_bytes, bytes}
 use Rattle.tt_tables.specs.Tables.{Tables}
 use Rattle.tt_base.specs.Unflat.{unflat}
 

@@ -8,6 +8,7 @@ mod packed;
 mod reader;
 mod table;
 mod tables;
+mod token_reader;
 mod uses;
 mod writer;
 

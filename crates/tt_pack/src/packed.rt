@@ -3,28 +3,26 @@ ghost use Rattle.std.specs.Prelude.{◌≡◌, ◌≤◌, ◌+◌, ◌*◌, ◌-
 ghost use Rattle.tt_base.specs.declared.fault.TtFault.TheVariants.{Memory};
 ghost use Rattle.tt_tables.specs.Cost.{IsCheapest};
 ghost use Rattle.tt_base.specs.Forest.{size, flat, flat_root};
-ghost use Rattle.tt_tables.specs.Limits.{most_tokens};
+ghost use Rattle.tt_tables.specs.Stored.{most_tokens, packed, IsInRange, IsWithinLimits};
 ghost use Rattle.tt_tables.specs.Meaning.{HasMeaning};
 ghost use Rattle.tt_tables.specs.PackFault.{IsPackFault};
 ghost use Rattle.tt_tables.specs.Shortest.{HasShortestHeaders};
-ghost use Rattle.tt_tables.specs.Stored.{packed, IsInRange, IsWithinLimits};
 ghost use Rattle.tt_base.proofs.SameTree.{same_root_iff};
 ghost use Rattle.tt_tables.proofs.StoredAlike.{HasMeaning-prop};
 ghost use Rattle.tt_tables.specs.TableOrder.{IsTable};
 ghost use Rattle.tt_tables.specs.Tables.{tables_for, short_parts, short_symbols};
 ghost use Rattle.tt_tables.specs.Uses.{same_part, part_uses, symbol_uses};
-ghost use Rattle.tt_pack.specs.FedTree.{fed_tree};
+ghost use Rattle.tt_pack.specs.Packed.{fed_tree, stored_of};
 ghost use Rattle.std.proofs.Common.{rules, ap};
 ghost use Rattle.std.specs.Cmp.Rules.{comparing};
-ghost use Rattle.tt_base.specs.Equality.{same_token-equivalence};
-ghost use Rattle.tt_base.specs.SameTree.{same_root};
-ghost use Rattle.tt_pack.specs.Packed.{stored_of};
+ghost use Rattle.tt_base.specs.Equality.{same_token-equivalence, same_root};
 
 use crate::pack::write_tree;
 use std::alloc::Global;
 use std::hash::{Hash, Hasher};
 use std::marker::Model;
 use tt_base::{Refused, SpanPart, Symbol, TokenTree, TtFault};
+use tt_tables::Tables;
 
 /// A token tree as bytes and two tables. A contract sees the tree; its bytes and tables are a function of it
 /// (docs/FORMATS.md), so equal trees are stored alike.
@@ -39,7 +37,7 @@ pub struct Packed {
 
 impl Model for Packed {
     ghost use Rattle.tt_base.specs.Forest.{Root};
-    ghost use Rattle.tt_base.specs.ForestCode.{root_code};
+    ghost use Rattle.tt_base.specs.Unflat.{root_code};
 
     ghost Value = { Root };
 
@@ -49,6 +47,9 @@ impl Model for Packed {
 }
 
 impl Packed {
+    ghost use Rattle.tt_pack.specs.StoredIn.{tables_stored};
+    ghost use Rattle.tt_tables.specs.TablesOf.{tables_of};
+
     /// The tree of a flat list. A list is refused where it is not that of one subtree, has too many span parts, too
     /// many symbols or too many bytes, in this order (docs/FORMATS.md, "Limits"), or where memory is refused; it is then handed back.
     pub fn pack(alloc: Global, tokens: Vec<TokenTree>) -> Result<Packed, Refused<Vec<TokenTree>>>
@@ -116,6 +117,17 @@ impl Packed {
         ensures least { IsCheapest bytes_eq (symbol_uses (flat self.now.children)) result.now }
     {
         self.symbols.as_slice()
+    }
+
+    /// The tables of its tokens.
+    #[inline(always)]
+    pub(crate) fn tables(&self) -> Tables<'_>
+        ensures { tables_of result ≡ tables_stored self.now }
+    {
+        Tables {
+            parts: self.parts.as_slice(),
+            symbols: self.symbols.as_slice(),
+        }
     }
 
     /// The number of tokens, the top's header among them.

@@ -3,14 +3,14 @@ ghost use Rattle.std.specs.Prelude.{◌≡◌, ◌≤◌, ◌⊎◌, ◌↔◌, 
 ghost use Rattle.tt_base.specs.Forest.{end, only};
 ghost use Rattle.tt_tables.specs.Meaning.{HasAhead, top_bytes};
 ghost use Rattle.tt_tables.specs.Stored.{packed as what_is_stored};
-ghost use Rattle.tt_tables.specs.Moves.{first_token, after_token, after_tree};
+ghost use Rattle.tt_base.specs.Moves.{first_token, after_token, after_tree};
 ghost use Rattle.tt_tables.proofs.StoredAlike.{HasAhead-prop};
 ghost use Rattle.tt_tables.specs.Tables.{tables_from};
+ghost use Rattle.tt_pack.specs.StoredIn.{bytes_in, tables_in};
 
 use crate::packed::Packed;
-use tt_base::{SpanPart, Symbol, TokenTree};
-use tt_codec::Entry;
-use tt_tables::Tables;
+use crate::token_reader::TokenReader;
+use tt_base::TokenTree;
 
 // Where the bytes of the top header stand.
 const TOP_HEADER: usize = 0;
@@ -20,26 +20,14 @@ const TOP_HEADER: usize = 0;
 /// behind its header the trees below it.
 #[derive(Clone, Copy)]
 pub struct Reader<'a> {
-    bytes: &'a [u8],
-    parts: &'a [SpanPart],
-    symbols: &'a [Symbol],
+    tree: Option<&'a Packed>,
     offset: usize,
     steps: u64,
-    pub ghost ahead: { HasAhead (tables_from parts.now symbols.now) bytes.now offset } by { HasAhead-prop (tables_from parts.now symbols.now) bytes.now offset },
-}
-
-// A token that was decoded.
-#[derive(Drop)]
-struct Found {
-    token: TokenTree,
-    // how many bytes the token itself takes
-    len: usize,
-    // how many bytes all that it holds takes
-    child_bytes: usize,
+    pub ghost ahead: { HasAhead (tables_in tree) (bytes_in tree) offset } by { HasAhead-prop (tables_in tree) (bytes_in tree) offset },
 }
 
 impl<'a> Reader<'a> {
-    ghost use Rattle.tt_pack.specs.ReaderOf.{ahead_of, bytes_of, tables_of, offset_of, steps_of, StepsTo, Decodes};
+    ghost use Rattle.tt_pack.specs.ReaderOf.{ahead_of, bytes_of, tables_of, offset_of, steps_of, StepsTo};
 
     /// Before the whole tree.
     pub fn start(packed: &'a Packed) -> Reader<'a>
@@ -49,10 +37,10 @@ impl<'a> Reader<'a> {
         ensures offset { offset_of result ≡ 0 }
         ensures steps { steps_of result ≡ 0 }
     {
+        // Their contract says that no count of the tree is too large, which the reader rests on.
+        let _bytes = packed.bytes();
         Reader {
-            bytes: packed.bytes(),
-            parts: packed.parts(),
-            symbols: packed.symbols(),
+            tree: Some(packed),
             offset: TOP_HEADER,
             steps: 0,
         }
@@ -67,9 +55,7 @@ impl<'a> Reader<'a> {
         ensures steps { steps_of result ≡ 0 }
     {
         Reader {
-            bytes: &[],
-            parts: &[],
-            symbols: &[],
+            tree: None,
             offset: 0,
             steps: 0,
         }
@@ -91,54 +77,20 @@ impl<'a> Reader<'a> {
         self.steps
     }
 
-    // The bytes that are not passed.
-    fn rest(&self) -> &'a [u8]
-        ensures { result.now ≡ drop (offset_of self.now) (bytes_of self.now) }
-    {
-        if self.offset >= self.bytes.len() {
-            return &[];
-        }
-        &self.bytes[self.offset..]
-    }
-
-    // The next token, if there is one.
-    fn decode(&self) -> Option<Found>
-        ensures { Decodes self.now result }
-    {
-        let rest = self.rest();
-        let (entry, behind) = Entry::read(rest)?;
-        let tables = Tables::new(self.parts, self.symbols);
-        let len = rest.len() - behind.len();
-        match entry {
-            Entry::Leaf(entry) => {
-                let leaf = tables.leaf(entry)?;
-                Some(Found {
-                    token: TokenTree::Leaf(leaf),
-                    len,
-                    child_bytes: 0,
-                })
-            }
-            Entry::Header(entry) => {
-                let subtree = tables.subtree(entry)?;
-                Some(Found {
-                    token: TokenTree::Subtree(subtree),
-                    len,
-                    child_bytes: entry.child_bytes as usize,
-                })
-            }
-        }
-    }
-
     /// The next token, or `None` at the end of the bytes. Behind a header come the tokens that it holds.
     pub fn advance(&mut self) -> Option<TokenTree>
         ensures token { result ≡ first_token (ahead_of self.old) }
         ensures end { (result ≡ None) ↔ (length (bytes_of self.old) ≤ offset_of self.old) }
         ensures moved { StepsTo self.old (after_token (ahead_of self.old)) self.new }
     {
-        let found = self.decode()?;
-        self.offset += found.len;
-        self.steps = self.steps.saturating_add(1);
-        Some(found.token)
+        let tree = self.tree?;
+        let mut tokens = TokenReader::new(tree);
+        tokens.decode(self.offset);
+        if tokens.token.is_some() {
+            self.offset = tree.bytes().len() - tokens.left;
+            self.steps = self.steps.saturating_add(1);
+        }
+        tokens.token
     }
 
     /// The next token with a reader that stands behind it, or `None` at the end of the bytes. This reader passes
@@ -149,16 +101,17 @@ impl<'a> Reader<'a> {
         ensures below { IfSome result (λ found. StepsTo self.old (after_token (ahead_of self.old)) found.1) }
         ensures moved { StepsTo self.old (after_tree (ahead_of self.old)) self.new }
     {
-        let found = self.decode()?;
+        let tree = self.tree?;
+        let mut tokens = TokenReader::new(tree);
+        tokens.decode(self.offset);
+        let token = tokens.token?;
         self.steps = self.steps.saturating_add(1);
         let below = Reader {
-            bytes: self.bytes,
-            parts: self.parts,
-            symbols: self.symbols,
-            offset: self.offset + found.len,
+            tree: self.tree,
+            offset: tree.bytes().len() - tokens.left,
             steps: self.steps,
         };
-        self.offset = below.offset + found.child_bytes;
-        Some((found.token, below))
+        self.offset = below.offset + tokens.child_bytes;
+        Some((token, below))
     }
 }

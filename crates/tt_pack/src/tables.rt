@@ -1,7 +1,7 @@
 //! The two tables of a list of tokens, and tokens in numbers under them.
 ghost use Rattle.std.specs.Prelude.{◌≡◌, ◌+◌, ◌<◌, ◌≤◌, ◌^◌, Some, length, slice_get, IfOk, IfErr};
 ghost use Rattle.tt_base.specs.Forest.{IsWhole};
-ghost use Rattle.tt_tables.specs.Limits.{most_parts, most_symbols};
+ghost use Rattle.tt_tables.specs.Stored.{most_parts, most_symbols};
 ghost use Rattle.tt_tables.specs.Tables.{Knows, part_table, symbol_table};
 ghost use Rattle.tt_pack.specs.Packed.{HasFewParts, HasFewSymbols, IsTableFault};
 
@@ -38,7 +38,7 @@ fn new_index_at(new_indices: &[u32], index: u32) -> u32
 
 impl ListTables {
     ghost use Rattle.tt_base.specs.declared.token_tree.TokenTree.TheVariants as token;
-    ghost use Rattle.tt_tables.specs.Named.{IsNamedLeaf, IsNamedHeader, IsNamed};
+    ghost use Rattle.tt_tables.specs.Searches.{IsNamedLeaf, IsNamedHeader, IsNamed};
     ghost use Rattle.tt_pack.specs.TablesOf.{tables_of, HasUses, UsesTables};
 
     /// The tables of the tokens, where these are a whole list, their indices can be written and the parts leave room for

@@ -5,7 +5,7 @@ ghost use Rattle.indexmap.specs.IndexMap.{keys};
 ghost use Rattle.tt_base.specs.Forest.{IsWhole};
 ghost use Rattle.tt_tables.specs.Uses.{same_part, token_parts, token_symbols, part_uses, symbol_uses};
 ghost use Rattle.tt_pack.specs.Counted.{count_use, counted, HasRoomFor};
-ghost use Rattle.tt_pack.specs.Indexed.{StandsAt, AreUses};
+ghost use Rattle.tt_pack.specs.TablesOf.{StandsAt, AreUses};
 ghost use Rattle.tt_pack.specs.Packed.{IsCountFault};
 
 use crate::counts::{count_near, count_use};

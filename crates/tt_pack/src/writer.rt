@@ -4,7 +4,7 @@ ghost use Rattle.std.specs.List.{AllByRecursion};
 ghost use Rattle.tt_base.specs.declared.fault.TtFault.TheVariants.{Memory, TooManyBytes};
 ghost use Rattle.tt_base.specs.Forest.{IsWhole};
 ghost use Rattle.tt_codec.specs.Header.{HeaderFits, format_4};
-ghost use Rattle.tt_tables.specs.Limits.{most_bytes};
+ghost use Rattle.tt_tables.specs.Stored.{most_bytes};
 ghost use Rattle.tt_tables.specs.Tables.{Knows};
 ghost use Rattle.tt_pack.specs.TablesOf.{tables_of, UsesTables};
 ghost use Rattle.tt_pack.specs.Writing.{byte_count, first_child_bytes, IsWritten};

@@ -13,7 +13,7 @@ use Rattle.tt_tables.specs.Found.{FindsSubtree}
 use Rattle.tt_codec.specs.declared.entry.Entry.TheVariants.{Leaf as of_leaf, Header as of_header}
 use Rattle.tt_codec.specs.Entry.{entry_at}
 use Rattle.tt_base.specs.Forest.{Forest, end, leaf, node, Root, size, header, flat, join}
-use Rattle.tt_base.specs.ForestLaws.{join-end}
+use Rattle.tt_base.specs.Unflat.{join-end}
 use Rattle.tt_codec.specs.declared.entry.HeaderEntry.{HeaderEntry}
 use Rattle.tt_codec.specs.Header.{format_4}
 use Rattle.tt_codec.specs.declared.entry.LeafEntry.{LeafEntry}

@@ -9,10 +9,9 @@ use Rattle.tt_base.specs.declared.span.Span.{Span}
 use Rattle.tt_base.specs.declared.span.SpanPart.{SpanPart}
 use Rattle.tt_base.specs.declared.text_range.TextRange.{TextRange}
 use Rattle.tt_base.specs.Fits.{SpanInRange, LeafInRange}
-use Rattle.tt_base.specs.Leaf.{leaf_span}
+use Rattle.tt_base.specs.Token.{leaf_span}
 use Rattle.tt_base.specs.Literal.{IsLiteral}
-use Rattle.tt_base.specs.Range.{start_of, end_of}
-use Rattle.tt_base.specs.Span.{part_of, span_in}
+use Rattle.tt_base.specs.Span.{start_of, end_of, part_of, span_in}
 use Rattle.tt_tables.specs.Tables.{Tables}
 use Rattle.tt_tables.proofs.Lookups.{span_from, literal_is}
 use Rattle.tt_codec.specs.declared.entry.LeafEntry.TheVariants.{Literal as literal}

@@ -1,7 +1,6 @@
 pub mod Ahead
 pub mod Cheapest
 mod CostRows
-mod MoveRows
 pub mod Finding
 pub mod Found
 pub mod HeaderFirst
@@ -10,6 +9,7 @@ pub mod Lengths
 pub mod Limits
 pub mod Lookups
 pub mod Members
+mod MoveRows
 pub mod Naming
 pub mod Positions
 pub mod Shortest

@@ -3,10 +3,9 @@ use Rattle.std.proofs.Common.{◌≡◌, ℕ, ◌<◌, ◌≤◌, ◌↔◌, Boo
 use Rattle.std.proofs.lemmas.Bool.{ltb-true, ltb-false}
 use Rattle.tt_base.specs.declared.fault.TtFault.TheVariants.{TooManySpanParts, TooManySymbols, TooManyBytes}
 use Rattle.tt_base.specs.Forest.{Root, size, flat_root}
-use Rattle.tt_base.specs.ForestCode.{flat_root-injective}
-use Rattle.tt_tables.specs.Limits.{most_tokens}
+use Rattle.tt_base.specs.Unflat.{flat_root-injective}
+use Rattle.tt_tables.specs.Stored.{most_tokens, IsWithinLimits}
 use Rattle.tt_tables.specs.PackFault.{IsPackFault}
-use Rattle.tt_tables.specs.Stored.{IsWithinLimits}
 
 at_most : (n most : ℕ) → (most < n → ⊥) → n ≤ most
 at_most n most none = by_test (nat_lt most n) refl

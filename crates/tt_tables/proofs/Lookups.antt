@@ -11,8 +11,7 @@ use Rattle.tt_base.specs.declared.span.Span.{Span}
 use Rattle.tt_base.specs.declared.span.SpanPart.{SpanPart}
 use Rattle.tt_base.specs.declared.token_tree.TokenTree.{TokenTree}
 use Rattle.tt_base.specs.declared.token_tree.TokenTree.TheVariants as token
-use Rattle.tt_base.specs.Range.{start_of, end_of}
-use Rattle.tt_base.specs.Span.{part_of}
+use Rattle.tt_base.specs.Span.{start_of, end_of, part_of}
 use Rattle.tt_tables.specs.TableOrder.{index_in, IsIn}
 use Rattle.tt_tables.specs.Tables.{Tables, Knows, numbers_of_span, leaf_entry, header_entry, entry_of}
 use Rattle.tt_tables.specs.Uses.{same_part}

@@ -3,8 +3,8 @@ use Rattle.std.proofs.Common.{◌≡◌, ◌-◌, ◌^◌, ◌≤◌, refl}
 use Rattle.tt_base.specs.declared.fault.TtFault.TheVariants.{NotOneSubtree}
 use Rattle.tt_base.specs.declared.leaf.Leaf.{Leaf}
 use Rattle.tt_base.specs.Forest.{Forest, Root, end, leaf, size, flat_root}
-use Rattle.tt_tables.specs.Limits.{most_tokens}
-use Rattle.tt_tables.specs.Moves.{step_after}
+use Rattle.tt_tables.specs.Stored.{most_tokens}
+use Rattle.tt_base.specs.Moves.{step_after}
 use Rattle.tt_tables.specs.PackFault.{IsPackFault}
 
 -- A token is one step, and the count stays at its largest.

@@ -13,14 +13,13 @@ use Rattle.tt_codec.specs.declared.entry.Entry.TheVariants.{Leaf as of_leaf, Hea
 use Rattle.tt_codec.specs.Entry.{EntryFits, entry_bytes}
 use Rattle.tt_base.specs.Fits.{SpanInRange, LeafInRange, TokenInRange}
 use Rattle.tt_base.specs.Forest.{Forest, end, leaf, node, size, header, flat, join}
-use Rattle.tt_base.specs.ForestLaws.{flat-join}
+use Rattle.tt_base.specs.Unflat.{flat-join}
 use Rattle.tt_codec.specs.Header.{HeaderFits}
 use Rattle.tt_codec.specs.declared.entry.LeafEntry.TheVariants.{Punct as punct, Ident as ident, Literal as literal}
 use Rattle.tt_codec.specs.Leaf.{LeafEntryFits}
 use Rattle.tt_tables.specs.Meaning.{CanName}
-use Rattle.tt_tables.specs.Moves.{after_token, after_tree}
-use Rattle.tt_base.specs.Range.{start_of, end_of}
-use Rattle.tt_base.specs.Span.{part_of}
+use Rattle.tt_base.specs.Moves.{after_token, after_tree}
+use Rattle.tt_base.specs.Span.{start_of, end_of, part_of}
 use Rattle.tt_codec.specs.SpanNumbers.{SpanFits}
 use Rattle.tt_tables.specs.Stored.{bytes}
 use Rattle.tt_tables.specs.TableOrder.{IsIn}

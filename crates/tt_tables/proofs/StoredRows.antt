@@ -6,7 +6,7 @@ use Rattle.tt_base.specs.declared.leaf.Leaf.{Leaf}
 use Rattle.tt_base.specs.declared.leaf.Leaf.TheVariants as leaf_of
 use Rattle.tt_base.specs.declared.punct.Spacing.TheVariants.{Alone}
 use Rattle.tt_base.specs.declared.span.SpanPart.{SpanPart}
-use Rattle.tt_base.specs.Delimiter.{delimiter}
+use Rattle.tt_base.specs.Token.{delimiter}
 use Rattle.tt_base.specs.Forest.{end, leaf, Root}
 use Rattle.tt_base.specs.Span.{part_of}
 use Rattle.tt_codec.specs.Reference.{reference_bytes}

@@ -4,11 +4,11 @@ use Rattle.tt_base.specs.declared.delimiter.Subtree.{Subtree}
 use Rattle.tt_base.specs.declared.leaf.Leaf.{Leaf}
 use Rattle.tt_base.specs.declared.leaf.Leaf.TheVariants as leaf
 use Rattle.tt_base.specs.declared.span.Span.{Span}
+use Rattle.tt_base.specs.declared.token_tree.TokenTree.{TokenTree}
 use Rattle.tt_base.specs.declared.token_tree.TokenTree.TheVariants as token
 use Rattle.tt_base.specs.Fits.{SpanInRange, LeafInRange, TokenInRange}
 use Rattle.tt_base.specs.Literal.{symbol_of, span_of, kind_of, suffix_len_of}
-use Rattle.tt_base.specs.Range.{start_of, end_of}
-use Rattle.tt_base.specs.Span.{part_of}
+use Rattle.tt_base.specs.Span.{start_of, end_of, part_of}
 use Rattle.tt_tables.specs.Tables.{Tables}
 use Rattle.tt_codec.specs.declared.entry.HeaderEntry.{HeaderEntry}
 use Rattle.tt_codec.specs.declared.entry.LeafEntry.{LeafEntry}
@@ -41,11 +41,21 @@ pub record FindsSubtree (tables : Tables) (entry : HeaderEntry) (it : Subtree) :
 abbrev pub GivesSpan : Tables → SpanNumbers → Option Span → Type 0
 GivesSpan tables numbers result = (span : Span) → FindsSpan tables numbers span → SpanInRange span → result ≡ Some span
 
+-- a leaf that the numbers name
+abbrev pub IsLeaf : Tables → LeafEntry → TokenTree → Type 0
+IsLeaf tables entry (token.Leaf it) = FindsLeaf tables entry it
+IsLeaf tables entry (token.Subtree it) = ⊥
+
+-- a header that the numbers name
+abbrev pub IsSubtree : Tables → HeaderEntry → TokenTree → Type 0
+IsSubtree tables entry (token.Leaf it) = ⊥
+IsSubtree tables entry (token.Subtree it) = FindsSubtree tables entry it
+
 -- if a leaf in range is named, it is the result
-abbrev pub GivesLeaf : Tables → LeafEntry → Option Leaf → Type 0
-GivesLeaf tables entry result = (it : Leaf) → FindsLeaf tables entry it → LeafInRange it → result ≡ Some it
+abbrev pub GivesLeaf : Tables → LeafEntry → Option TokenTree → Type 0
+GivesLeaf tables entry result = (it : Leaf) → FindsLeaf tables entry it → LeafInRange it → result ≡ Some (token.Leaf it)
 
 -- if a header in range is named, it is the result
-abbrev pub GivesSubtree : Tables → HeaderEntry → Option Subtree → Type 0
+abbrev pub GivesSubtree : Tables → HeaderEntry → Option TokenTree → Type 0
 GivesSubtree tables entry result =
-    (it : Subtree) → FindsSubtree tables entry it → TokenInRange (token.Subtree it) → result ≡ Some it
+    (it : Subtree) → FindsSubtree tables entry it → TokenInRange (token.Subtree it) → result ≡ Some (token.Subtree it)

@@ -1,10 +1,7 @@
 -- The two tables, tokens in numbers under them, and what is stored for a tree.
 pub mod Cost
 pub mod Found
-pub mod Limits
 pub mod Meaning
-pub mod Moves
-pub mod Named
 pub mod NextToken
 pub mod PackFault
 pub mod Searches

@@ -3,8 +3,7 @@ use Rattle.std.specs.Prelude.{◌≡◌, ℕ, zero, suc, ◌≤◌, List, [], dr
 use Rattle.std.specs.List.{AllByRecursion}
 use Rattle.tt_base.specs.Fits.{TokenInRange}
 use Rattle.tt_base.specs.Forest.{Forest, end, node, Root, size, flat}
-use Rattle.tt_tables.specs.Limits.{most_parts, most_symbols, most_bytes}
-use Rattle.tt_tables.specs.Stored.{Stored, bytes, packed, IsInRange, IsWithinLimits}
+use Rattle.tt_tables.specs.Stored.{most_parts, most_symbols, most_bytes, Stored, bytes, packed, IsInRange, IsWithinLimits}
 use Rattle.tt_tables.specs.Tables.{Tables, Knows}
 
 -- this is what is stored for the tree

@@ -4,8 +4,7 @@ use Rattle.tt_base.specs.declared.fault.TtFault.{TtFault}
 use Rattle.tt_base.specs.declared.fault.TtFault.TheVariants.{Memory, NotOneSubtree, NoSuchPlace, NotALeaf, SuffixTooLong, BadScan, TooManyTokens, TooManySpanParts, TooManySymbols, TooManyBytes, PointsSpent}
 use Rattle.tt_base.specs.declared.token_tree.TokenTree.{TokenTree}
 use Rattle.tt_base.specs.Forest.{Root, size, flat, flat_root, IsOneSubtree}
-use Rattle.tt_tables.specs.Limits.{most_tokens, most_parts, most_symbols, most_bytes}
-use Rattle.tt_tables.specs.Stored.{root_parts, bytes_below}
+use Rattle.tt_tables.specs.Stored.{most_tokens, most_parts, most_symbols, most_bytes, root_parts, bytes_below}
 use Rattle.tt_tables.specs.Tables.{tables_for}
 
 -- the list is one subtree, of which this holds

@@ -1,14 +1,29 @@
--- What is stored for a tree: its bytes, the two tables, and the number of its tokens.
+-- What is stored for a tree, and how large a tree can be that is stored.
 use Rattle.std.specs.Prelude.{ℕ, suc, ◌≤◌, true, List, [], ◌∷◌, ◌++◌, length}
 use Rattle.std.specs.List.{AllByRecursion}
 use Rattle.tt_base.specs.declared.span.SpanPart.{SpanPart}
-use Rattle.tt_base.specs.declared.token_tree.TokenTree.TheVariants as token
 use Rattle.tt_base.specs.Fits.{TokenInRange}
 use Rattle.tt_base.specs.Forest.{Forest, end, leaf, node, Root, size, header, flat, flat_root}
 use Rattle.tt_codec.specs.Header.{format_4, top_entry}
 use Rattle.tt_base.specs.Span.{part_of}
-use Rattle.tt_tables.specs.Limits.{most_tokens, most_parts, most_symbols, most_bytes}
 use Rattle.tt_tables.specs.Tables.{Tables, tables_for, token_bytes}
+use Rattle.tt_base.specs.declared.token_tree.TokenTree.TheVariants as token
+
+-- the most tokens below the top: a header counts them in 32 bits
+abbrev pub most_tokens : ℕ
+most_tokens = 4294967295
+
+-- the most span parts, the top's two among them: an index of a part has 28 bits
+abbrev pub most_parts : ℕ
+most_parts = 268435456
+
+-- the most symbols: an index of a symbol has 29 bits
+abbrev pub most_symbols : ℕ
+most_symbols = 536870912
+
+-- the most bytes below the top: a header counts them in 32 bits
+abbrev pub most_bytes : ℕ
+most_bytes = 4294967295
 
 -- the bytes of each token in reading order; a header counts the bytes of all that it holds
 unfoldable pub bytes : Tables → Forest → List ℕ

@@ -15,8 +15,7 @@ use Rattle.tt_codec.specs.declared.entry.HeaderEntry.{HeaderEntry}
 use Rattle.tt_codec.specs.declared.entry.LeafEntry.{LeafEntry}
 use Rattle.tt_codec.specs.declared.entry.LeafEntry.TheVariants.{Punct as punct, Ident as ident, Literal as literal}
 use Rattle.tt_base.specs.Literal.{symbol_of, span_of, kind_of, suffix_len_of}
-use Rattle.tt_base.specs.Range.{start_of, end_of}
-use Rattle.tt_base.specs.Span.{part_of}
+use Rattle.tt_base.specs.Span.{start_of, end_of, part_of}
 use Rattle.tt_codec.specs.declared.span.SpanNumbers.{SpanNumbers}
 use Rattle.tt_tables.specs.TableOrder.{index_in, table, IsIn}
 use Rattle.tt_tables.specs.Uses.{same_part, token_parts, token_symbols, part_uses, symbol_uses}

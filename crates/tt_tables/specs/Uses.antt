@@ -6,7 +6,7 @@ use Rattle.tt_base.specs.declared.leaf.Leaf.TheVariants as leaf
 use Rattle.tt_base.specs.declared.span.SpanPart.{SpanPart}
 use Rattle.tt_base.specs.declared.token_tree.TokenTree.{TokenTree}
 use Rattle.tt_base.specs.declared.token_tree.TokenTree.TheVariants as token
-use Rattle.tt_base.specs.Leaf.{leaf_span}
+use Rattle.tt_base.specs.Token.{leaf_span}
 use Rattle.tt_base.specs.Literal.{symbol_of}
 use Rattle.tt_base.specs.Span.{part_of}
 

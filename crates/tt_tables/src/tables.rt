@@ -1,7 +1,6 @@
 //! From tokens to numbers: what a token uses is searched in two given tables.
 ghost use Rattle.std.specs.Prelude.{◌≡◌, ◌≤◌, ◌^◌, length, position, take};
-ghost use Rattle.tt_tables.specs.Named.{NamesLeaf, NamesHeader, NamesToken};
-ghost use Rattle.tt_tables.specs.Searches.{IsIndex, NumbersSpan, IndexesSymbol, first_entries};
+ghost use Rattle.tt_tables.specs.Searches.{NamesLeaf, NamesHeader, NamesToken, IsIndex, NumbersSpan, IndexesSymbol, first_entries};
 
 use tt_base::{Leaf, Span, SpanPart, Subtree, Symbol, TokenTree};
 use tt_codec::{Entry, HeaderEntry, LeafEntry, MOST_PARTS, MOST_SYMBOLS, SpanNumbers};

@@ -1,15 +1,17 @@
 //! The way back: from numbers to the tokens that they name.
 
 ghost use Rattle.std.specs.Prelude.{◌≡◌, IfSome, slice_get};
-ghost use Rattle.tt_tables.specs.Found.{FindsSpan, FindsLeaf, FindsSubtree, GivesSpan, GivesLeaf, GivesSubtree};
+ghost use Rattle.tt_tables.specs.Found.{FindsSpan, IsLeaf, IsSubtree, GivesSpan, GivesLeaf, GivesSubtree};
 
 use crate::tables::Tables;
 use tt_base::{
     Delimiter, Ident, Leaf, Literal, Punct, Span, SpanPart, Subtree, Symbol, TextRange, TextSize,
+    TokenTree,
 };
 use tt_codec::{HeaderEntry, LeafEntry, SpanNumbers};
 
 // The other arm is proved not to be reached, so this takes no memory.
+#[inline(always)]
 fn copy_of(symbol: &Symbol) -> Symbol
     ensures { result ≡ symbol.now }
 {
@@ -23,6 +25,7 @@ impl<'a> Tables<'a> {
     ghost use Rattle.tt_tables.specs.TablesOf.{tables_of};
 
     // The part at an index, if the table is as long.
+    #[inline(always)]
     fn part_at(self, index: u32) -> Option<SpanPart>
         ensures { result ≡ slice_get (tables_of self.entry).parts index }
     {
@@ -30,6 +33,7 @@ impl<'a> Tables<'a> {
     }
 
     // The symbol at an index, if the table is as long.
+    #[inline(always)]
     fn symbol_at(self, index: u32) -> Option<Symbol>
         ensures { result ≡ slice_get (tables_of self.entry).symbols index }
     {
@@ -38,6 +42,7 @@ impl<'a> Tables<'a> {
 
     /// The span of these numbers, or `None` where the tables do not have its part, or where it would end
     /// at 2^32 or later.
+    #[inline(always)]
     pub(crate) fn span(self, numbers: SpanNumbers) -> Option<Span>
         ensures gives { GivesSpan (tables_of self.entry) numbers result }
         ensures only { IfSome result (FindsSpan (tables_of self.entry) numbers) }
@@ -49,47 +54,50 @@ impl<'a> Tables<'a> {
 
     /// The leaf that the numbers name, or `None` where the tables do not have what they name, or where
     /// it would be no leaf.
-    pub fn leaf(self, entry: LeafEntry) -> Option<Leaf>
+    #[inline(always)]
+    pub fn leaf(self, entry: LeafEntry) -> Option<TokenTree>
         ensures gives { GivesLeaf (tables_of self.entry) entry result }
-        ensures only { IfSome result (FindsLeaf (tables_of self.entry) entry) }
+        ensures only { IfSome result (IsLeaf (tables_of self.entry) entry) }
     {
         match entry {
             LeafEntry::Punct(char, spacing, numbers) => {
                 let span = self.span(numbers)?;
-                Some(Leaf::Punct(Punct {
+                Some(TokenTree::Leaf(Leaf::Punct(Punct {
                     char,
                     spacing,
                     span,
-                }))
+                })))
             }
             LeafEntry::Ident(symbol, is_raw, numbers) => {
                 let span = self.span(numbers)?;
                 let sym = self.symbol_at(symbol)?;
-                Some(Leaf::Ident(Ident { sym, span, is_raw }))
+                Some(TokenTree::Leaf(Leaf::Ident(Ident { sym, span, is_raw })))
             }
             LeafEntry::Literal(symbol, kind, suffix_len, numbers) => {
                 let span = self.span(numbers)?;
                 let symbol = self.symbol_at(symbol)?;
                 let literal = Literal::from_parts(symbol, span, kind, suffix_len)?;
-                Some(Leaf::Literal(literal))
+                Some(TokenTree::Leaf(Leaf::Literal(literal)))
             }
         }
     }
 
     /// The header that the numbers name, or `None` where the tables do not have its parts.
-    pub fn subtree(self, entry: HeaderEntry) -> Option<Subtree>
+    #[inline(always)]
+    pub fn subtree(self, entry: HeaderEntry) -> Option<TokenTree>
         ensures gives { GivesSubtree (tables_of self.entry) entry result }
-        ensures only { IfSome result (FindsSubtree (tables_of self.entry) entry) }
+        ensures only { IfSome result (IsSubtree (tables_of self.entry) entry) }
     {
         let open_span = self.span(entry.opening)?;
         let close = self.span(entry.closing)?;
-        Some(Subtree {
-            delimiter: Delimiter {
-                open_span,
-                close,
-                kind: entry.kind,
-            },
+        let delimiter = Delimiter {
+            open_span,
+            close,
+            kind: entry.kind,
+        };
+        Some(TokenTree::Subtree(Subtree {
+            delimiter,
             len: entry.len,
-        })
+        }))
     }
 }

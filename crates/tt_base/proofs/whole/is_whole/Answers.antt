@@ -1,7 +1,7 @@
 use Rattle.std.proofs.Common.{◌↔◌, sym, subst, rules}
 use Rattle.tt_base.specs.Forest.{IsWhole}
-use Rattle.tt_base.specs.Levels.{AreLevels}
-use Rattle.tt_base.specs.OpenLevels.{open_levels}
+use Rattle.tt_base.specs.Levels.{open_levels}
+use Rattle.tt_base.specs.Forest.{AreLevels}
 use Rattle.tt_base.proofs.CutLists.{one_level, walk_on, walk_stops, walk_ends}
 use Rattle.tt_base.proofs.whole.is_whole.Goals as goal
 

@@ -1,8 +1,8 @@
 -- The tokens are a whole list exactly if those to come make up the open levels.
 use Rattle.std.proofs.Common.{◌↔◌, drop}
 use Rattle.tt_base.specs.Forest.{IsWhole}
-use Rattle.tt_base.specs.Levels.{AreLevels}
-use Rattle.tt_base.specs.OpenLevels.{open_levels}
+use Rattle.tt_base.specs.Levels.{open_levels}
+use Rattle.tt_base.specs.Forest.{AreLevels}
 use Rattle.tt_base.proofs.whole.is_whole.Given as goal
 
 abbrev pub invariant-loop-token : goal.invariant-loop-token

@@ -4,7 +4,7 @@ use Rattle.std.specs.Map.{keys_of}
 use Rattle.tt_base.specs.Span.{part_of}
 use Rattle.tt_tables.specs.Uses.{same_part}
 use Rattle.tt_pack.specs.Counted.{HasRoomFor}
-use Rattle.tt_pack.specs.Indexed.{StandsAt, AreUses}
+use Rattle.tt_pack.specs.TablesOf.{StandsAt, AreUses}
 use Rattle.tt_pack.proofs.Counting.{room_used}
 use Rattle.tt_pack.proofs.Kept.{stands_on}
 use Rattle.tt_pack.proofs.uses.count_token.Goals as goal

@@ -1,5 +1,5 @@
 use Rattle.std.proofs.Common.{true, reverse, arith}
-use Rattle.tt_base.specs.OpenLevels.{open_levels, GoesBack, Opens}
+use Rattle.tt_base.specs.Levels.{open_levels, GoesBack, Opens}
 use Rattle.tt_base.proofs.CutLists.{takes_leaf, takes_node, takes_no_node}
 use Rattle.tt_base.proofs.levels.Levels.take.Goals as goal
 

@@ -1,6 +1,6 @@
 use Rattle.std.proofs.Common.{◌≡◌, ap, rules}
-use Rattle.tt_base.specs.Punct.{zero_punct, zero_span}
-use Rattle.tt_base.specs.Range.{start_of, end_of}
+use Rattle.tt_base.specs.Token.{zero_punct, zero_span}
+use Rattle.tt_base.specs.Span.{start_of, end_of}
 use Rattle.tt_base.proofs.Ranges.{same_range}
 use Rattle.tt_base.proofs.punct.PunctDefault.default.Goals as goal
 

@@ -1,7 +1,7 @@
 use Rattle.std.proofs.Common.{◌≡◌, ◌+◌, ◌<◌, ◌≤◌, ◌^◌, length, Err, ◌∷◌, ap, ◌∙◌, arith, rules}
 use Rattle.tt_base.specs.declared.token_tree.TokenTree.TheVariants as token
 use Rattle.tt_base.specs.Forest.{Root, size, flat_root}
-use Rattle.tt_tables.specs.Limits.{most_tokens}
+use Rattle.tt_tables.specs.Stored.{most_tokens}
 use Rattle.tt_tables.specs.Meaning.{IsStored}
 use Rattle.tt_tables.proofs.StoredAlike.{meaning_is}
 use Rattle.tt_pack.specs.Packed.{stored_of, root_of, IsStoreFault}

@@ -1,38 +1,51 @@
-use Rattle.std.proofs.Common.{◌≡◌, ◌<◌, ◌≤◌, ◌^◌, ◌↔◌, None, length, refl, sym, ap, subst, ◌∙◌, arith, rules}
-use Rattle.tt_base.specs.Forest.{end}
-use Rattle.tt_tables.specs.Moves.{first_token, after_token}
-use Rattle.tt_pack.specs.ReaderOf.{bytes_of, offset_of, steps_of, ahead_of}
-use Rattle.tt_pack.proofs.Moves.{ends, inside, steps_to, stays, one_step}
+use Rattle.std.proofs.Common.{◌≡◌, ◌-◌, Some, None, length, refl, sym, ap, subst, ◌∙◌, arith, rules}
+use Rattle.tt_base.specs.Moves.{first_token, after_token}
+use Rattle.tt_tables.specs.Meaning.{IsAhead}
+use Rattle.tt_pack.specs.StoredIn.{bytes_in}
+use Rattle.tt_pack.specs.ReaderOf.{bytes_of, tables_of, steps_of, ahead_of}
+use Rattle.tt_pack.proofs.Decoded.{decoded_ahead, some_is_first, none_is_ahead, no_tree}
+use Rattle.tt_pack.proofs.Moves.{ends, steps_to, stays, one_step}
 use Rattle.tt_pack.proofs.reader.Reader.advance.Goals as goal
 
-pub returns-in_err-found-clause-end : goal.returns-in_err-found-clause-end
-returns-in_err-found-clause-end c =
-    let self = c.args.self.now in
-    let none : first_token (ahead_of self) ≡ c.from_residual.result = search rules in
-    subst (λ r. (r ≡ None) ↔ (length (bytes_of self) ≤ offset_of self)) none (ends _ _ _ _ self.ahead.1)
+pub returns-in_err-tree-clause-token : goal.returns-in_err-tree-clause-token
+returns-in_err-tree-clause-token c =
+    let none : c.args.self.now.tree ≡ None = search rules in
+    c.from_residual.ensures ∙ sym (ap first_token (no_tree c.args.self.now none))
 
-pub returns-in_err-found-clause-moved : goal.returns-in_err-found-clause-moved
-returns-in_err-found-clause-moved c =
+pub returns-in_err-tree-clause-moved : goal.returns-in_err-tree-clause-moved
+returns-in_err-tree-clause-moved c =
     let self = c.args.self.now in
-    let nothing : ahead_of self ≡ end = search rules in
+    let none : self.tree ≡ None = search rules in
+    let nothing = no_tree self none in
     stays self (after_token (ahead_of self)) nothing (ap after_token nothing)
 
-pub overflow_add-self : goal.overflow_add-self
-overflow_add-self c =
+pub returns-then-is_some-clause-moved : goal.returns-then-is_some-clause-moved
+returns-then-is_some-clause-moved c =
     let self = c.args.self.now in
-    let small : length (bytes_of self) < 2 ^ 64 = search rules in
-    omega (arith, small, inside _ _ _ _ c.in_ok-found.ensures.inside)
+    let tree : self.tree ≡ Some c.in_ok-tree.tree = search rules in
+    let some : c.decode.new.self.token ≡ None → ⊥ = λ none. search (rules, none) in
+    let found = decoded_ahead self _ c.new-tokens.result c.decode.new.self tree c.new-tokens.ensures.tree c.decode.ensures in
+    let first = (some_is_first self _ _ _ found some).2 in
+    let all : c.bytes.result.now ≡ bytes_of self = c.bytes.ensures.value ∙ sym (ap bytes_in tree) in
+    let counted = one_step (steps_of self) (ahead_of self) _ first.token in
+    steps_to _ _ _ (omega (arith, first.passed, ap length all))
+    (subst (λ most. IsAhead (tables_of self) (bytes_of self) (most - c.decode.new.self.left) (after_token (ahead_of self))) (sym (ap length all)) first.inside)
+    (refl, refl) (c.saturating_add-self.ensures ∙ sym counted)
 
-pub invariant_of-self : goal.invariant_of-self
-invariant_of-self c = record { ahead = (after_token (ahead_of c.args.self.now), c.in_ok-found.ensures.inside) }
-
-pub returns-clause-end : goal.returns-clause-end
-returns-clause-end c =
+pub returns-else-is_some-clause-end : goal.returns-else-is_some-clause-end
+returns-else-is_some-clause-end c =
     let self = c.args.self.now in
-    subst (λ r. (r ≡ None) ↔ (length (bytes_of self) ≤ offset_of self)) c.in_ok-found.ensures.token (ends _ _ _ _ self.ahead.1)
+    let tree : self.tree ≡ Some c.in_ok-tree.tree = search rules in
+    let none : c.decode.new.self.token ≡ None = search rules in
+    let found = decoded_ahead self _ c.new-tokens.result c.decode.new.self tree c.new-tokens.ensures.tree c.decode.ensures in
+    let past = ends _ _ _ _ self.ahead.1 in
+    (λ _. past.0 (ap first_token (none_is_ahead self _ _ _ found none)), λ _. none)
 
-pub returns-clause-moved : goal.returns-clause-moved
-returns-clause-moved c =
+pub returns-else-is_some-clause-moved : goal.returns-else-is_some-clause-moved
+returns-else-is_some-clause-moved c =
     let self = c.args.self.now in
-    let counted = one_step (steps_of self) (ahead_of self) _ c.in_ok-found.ensures.token in
-    steps_to _ _ _ (omega (arith, c.in_ok-found.ensures.passed)) c.in_ok-found.ensures.inside (refl, refl) (c.saturating_add-self.ensures ∙ sym counted)
+    let tree : self.tree ≡ Some c.in_ok-tree.tree = search rules in
+    let none : c.decode.new.self.token ≡ None = search rules in
+    let found = decoded_ahead self _ c.new-tokens.result c.decode.new.self tree c.new-tokens.ensures.tree c.decode.ensures in
+    let nothing = none_is_ahead self _ _ _ found none in
+    stays self (after_token (ahead_of self)) nothing (ap after_token nothing)

@@ -1,56 +1,75 @@
-use Rattle.std.proofs.Common.{◌≡◌, ◌<◌, ◌^◌, None, length, refl, ap, sym, ◌∙◌, arith, rules}
-use Rattle.tt_base.specs.Forest.{end}
-use Rattle.tt_tables.specs.Moves.{first_token, after_token, after_tree}
-use Rattle.tt_pack.specs.ReaderOf.{bytes_of, steps_of, ahead_of}
+use Rattle.std.proofs.Common.{◌≡◌, ◌+◌, ◌-◌, ◌<◌, ◌^◌, Some, None, length, refl, sym, ap, subst, ◌∙◌, arith, rules}
+use Rattle.tt_base.specs.Moves.{first_token, after_token, after_tree}
+use Rattle.tt_tables.specs.Meaning.{IsAhead}
+use Rattle.tt_pack.specs.StoredIn.{bytes_in}
+use Rattle.tt_pack.specs.ReaderOf.{bytes_of, tables_of, steps_of, ahead_of}
+use Rattle.tt_pack.proofs.Decoded.{decoded_ahead, some_is_first, none_is_ahead, no_tree}
 use Rattle.tt_pack.proofs.Moves.{ends, inside, steps_to, stays, one_step}
 use Rattle.tt_pack.proofs.reader.Reader.advance_skip.Goals as goal
 
-pub returns-in_err-found-clause-moved : goal.returns-in_err-found-clause-moved
-returns-in_err-found-clause-moved c =
+pub returns-in_err-tree-clause-token : goal.returns-in_err-tree-clause-token
+returns-in_err-tree-clause-token c =
+    let none : c.args.self.now.tree ≡ None = search rules in
+    rw c.from_residual.ensures (ap first_token (no_tree c.args.self.now none))
+
+pub returns-in_err-tree-clause-moved : goal.returns-in_err-tree-clause-moved
+returns-in_err-tree-clause-moved c =
     let self = c.args.self.now in
-    let nothing : ahead_of self ≡ end = search rules in
+    let none : self.tree ≡ None = search rules in
+    let nothing = no_tree self none in
     stays self (after_tree (ahead_of self)) nothing (ap after_tree nothing)
 
-pub overflow_add-below : goal.overflow_add-below
-overflow_add-below c =
+pub returns-in_err-token-clause-end : goal.returns-in_err-token-clause-end
+returns-in_err-token-clause-end c =
     let self = c.args.self.now in
-    let small : length (bytes_of self) < 2 ^ 64 = search rules in
-    omega (arith, small, inside _ _ _ _ c.in_ok-found.ensures.inside)
+    let tree : self.tree ≡ Some c.in_ok-tree.tree = search rules in
+    let none : c.decode.new.self.token ≡ None = search rules in
+    let found = decoded_ahead self _ c.new-tokens.result c.decode.new.self tree c.new-tokens.ensures.tree c.decode.ensures in
+    let past = ends _ _ _ _ self.ahead.1 in
+    (λ _. past.0 (ap first_token (none_is_ahead self _ _ _ found none)), λ _. c.from_residual-in_err-token.ensures)
+
+pub returns-in_err-token-clause-moved : goal.returns-in_err-token-clause-moved
+returns-in_err-token-clause-moved c =
+    let self = c.args.self.now in
+    let tree : self.tree ≡ Some c.in_ok-tree.tree = search rules in
+    let none : c.decode.new.self.token ≡ None = search rules in
+    let found = decoded_ahead self _ c.new-tokens.result c.decode.new.self tree c.new-tokens.ensures.tree c.decode.ensures in
+    let nothing = none_is_ahead self _ _ _ found none in
+    stays self (after_tree (ahead_of self)) nothing (ap after_tree nothing)
 
 pub overflow_add-self : goal.overflow_add-self
 overflow_add-self c =
     let self = c.args.self.now in
-    let small : length (bytes_of self) < 2 ^ 64 = search rules in
-    omega (arith, small, inside _ _ _ _ c.in_ok-found.ensures.after)
-
-pub invariant_of-below : goal.invariant_of-below
-invariant_of-below c = record { ahead = (after_token (ahead_of c.args.self.now), c.in_ok-found.ensures.inside) }
-
-pub invariant_of-self : goal.invariant_of-self
-invariant_of-self c = record { ahead = (after_tree (ahead_of c.args.self.now), c.in_ok-found.ensures.after) }
+    let tree : self.tree ≡ Some c.in_ok-tree.tree = search rules in
+    let is : c.decode.new.self.token ≡ Some c.in_ok-token.token = search rules in
+    let found = decoded_ahead self _ c.new-tokens.result c.decode.new.self tree c.new-tokens.ensures.tree c.decode.ensures in
+    let first = (some_is_first self _ _ _ found (λ none. cc (sym is ∙ none))).2 in
+    let all : c.bytes.result.now ≡ bytes_of self = c.bytes.ensures.value ∙ sym (ap bytes_in tree) in
+    let small : length c.bytes.result.now < 2 ^ 64 = search rules in
+    omega (arith, small, ap length all, inside _ _ _ _ first.after)
 
 pub returns-clause-below : goal.returns-clause-below
 returns-clause-below c =
     let self = c.args.self.now in
-    let counted = one_step (steps_of self) (ahead_of self) _ c.in_ok-found.ensures.token in
-    steps_to _ _ _ (omega (arith, c.in_ok-found.ensures.passed)) c.in_ok-found.ensures.inside (refl, refl) (c.saturating_add-self.ensures ∙ sym counted)
+    let tree : self.tree ≡ Some c.in_ok-tree.tree = search rules in
+    let is : c.decode.new.self.token ≡ Some c.in_ok-token.token = search rules in
+    let found = decoded_ahead self _ c.new-tokens.result c.decode.new.self tree c.new-tokens.ensures.tree c.decode.ensures in
+    let first = (some_is_first self _ _ _ found (λ none. cc (sym is ∙ none))).2 in
+    let all : c.bytes.result.now ≡ bytes_of self = c.bytes.ensures.value ∙ sym (ap bytes_in tree) in
+    let counted = one_step (steps_of self) (ahead_of self) _ first.token in
+    steps_to _ _ _ (omega (arith, first.passed, ap length all))
+    (subst (λ most. IsAhead (tables_of self) (bytes_of self) (most - c.decode.new.self.left) (after_token (ahead_of self))) (sym (ap length all)) first.inside)
+    (refl, refl) (c.saturating_add-self.ensures ∙ sym counted)
 
 pub returns-clause-moved : goal.returns-clause-moved
 returns-clause-moved c =
     let self = c.args.self.now in
-    let counted = one_step (steps_of self) (ahead_of self) _ c.in_ok-found.ensures.token in
-    steps_to _ _ _ (omega (arith, c.in_ok-found.ensures.passed)) c.in_ok-found.ensures.after (refl, refl) (c.saturating_add-self.ensures ∙ sym counted)
-
-pub returns-in_err-found-clause-end : goal.returns-in_err-found-clause-end
-returns-in_err-found-clause-end c =
-    let self = c.args.self.now in
-    let none : first_token (ahead_of self) ≡ None = search rules in
-    let is : c.from_residual.result ≡ None = search rules in
-    let past = ends _ _ _ _ self.ahead.1 in
-    (λ _. past.0 none, λ _. is)
-
-pub returns-clause-end : goal.returns-clause-end
-returns-clause-end c =
-    let self = c.args.self.now in
-    let past = ends _ _ _ _ self.ahead.1 in
-    (λ none. cc none, λ at_end. cc (sym c.in_ok-found.ensures.token ∙ past.1 at_end))
+    let tree : self.tree ≡ Some c.in_ok-tree.tree = search rules in
+    let is : c.decode.new.self.token ≡ Some c.in_ok-token.token = search rules in
+    let found = decoded_ahead self _ c.new-tokens.result c.decode.new.self tree c.new-tokens.ensures.tree c.decode.ensures in
+    let first = (some_is_first self _ _ _ found (λ none. cc (sym is ∙ none))).2 in
+    let all : c.bytes.result.now ≡ bytes_of self = c.bytes.ensures.value ∙ sym (ap bytes_in tree) in
+    let counted = one_step (steps_of self) (ahead_of self) _ first.token in
+    steps_to _ _ _ (omega (arith, first.passed, ap length all))
+    (subst (λ most. IsAhead (tables_of self) (bytes_of self) (most - c.decode.new.self.left + c.decode.new.self.child_bytes) (after_tree (ahead_of self))) (sym (ap length all)) first.after)
+    (refl, refl) (c.saturating_add-self.ensures ∙ sym counted)

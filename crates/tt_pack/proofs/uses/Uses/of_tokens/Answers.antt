@@ -5,13 +5,13 @@ use Rattle.indexmap.specs.IndexMap.{keys}
 use Rattle.tt_base.specs.contracts.span.SpanPartEq.TheImpl.Laws as part_eq
 use Rattle.tt_base.specs.contracts.symbol.SymbolEq.TheImpl.Laws as symbol_eq
 use Rattle.tt_base.specs.Forest.{IsWhole}
-use Rattle.tt_base.specs.Levels.{AreLevels}
-use Rattle.tt_base.specs.OpenLevels.{open_levels}
+use Rattle.tt_base.specs.Levels.{open_levels}
+use Rattle.tt_base.specs.Forest.{AreLevels}
 use Rattle.tt_tables.specs.Uses.{same_part, token_parts, token_symbols, part_uses, symbol_uses}
 use Rattle.tt_base.proofs.CutLists.{one_level, walk_on, walk_stops, walk_ends}
 use Rattle.tt_tables.proofs.TokenTables.{part_sound, text_sound}
 use Rattle.tt_pack.specs.Counted.{HasRoomFor}
-use Rattle.tt_pack.specs.Indexed.{StandsAt, AreUses}
+use Rattle.tt_pack.specs.TablesOf.{StandsAt, AreUses}
 use Rattle.tt_pack.proofs.Counting.{room_counted, counted_token, few_parts, few_symbols}
 use Rattle.tt_pack.proofs.Kept.{kept_token}
 use Rattle.tt_pack.proofs.uses.Uses.of_tokens.Goals as goal

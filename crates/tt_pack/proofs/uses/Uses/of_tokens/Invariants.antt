@@ -4,11 +4,11 @@ use Rattle.std.proofs.Common.{◌≡◌, ◌↔◌, take, drop, bytes_eq}
 use Rattle.std.specs.List.{AllZip}
 use Rattle.indexmap.specs.IndexMap.{keys}
 use Rattle.tt_base.specs.Forest.{IsWhole}
-use Rattle.tt_base.specs.Levels.{AreLevels}
-use Rattle.tt_base.specs.OpenLevels.{open_levels}
+use Rattle.tt_base.specs.Levels.{open_levels}
+use Rattle.tt_base.specs.Forest.{AreLevels}
 use Rattle.tt_tables.specs.Uses.{same_part, part_uses, symbol_uses}
 use Rattle.tt_pack.specs.Counted.{counted}
-use Rattle.tt_pack.specs.Indexed.{StandsAt, AreUses}
+use Rattle.tt_pack.specs.TablesOf.{StandsAt, AreUses}
 use Rattle.tt_pack.proofs.uses.Uses.of_tokens.Given as goal
 
 abbrev pub invariant-loop-token : goal.invariant-loop-token
