@@ -8,8 +8,6 @@ mod laws;
 #[cfg(test)]
 mod lists;
 #[cfg(test)]
-mod packed;
-#[cfg(test)]
 mod reading;
 #[cfg(test)]
 mod stored_headers;
@@ -17,3 +15,5 @@ mod stored_headers;
 mod tables;
 #[cfg(test)]
 mod tokens;
+#[cfg(test)]
+mod top_subtree;

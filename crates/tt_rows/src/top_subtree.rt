@@ -1,14 +1,14 @@
-//! What is stored for a list, and when two stored trees are equal.
-use crate::lists::{braces, header, ident, punct, stored, top};
+//! Trees of flat lists: what is stored for them, and when two are equal.
+use crate::lists::{braces, header, ident, punct, top};
 use crate::tables::span;
 use std::alloc::Global;
 use std::hash::{DefaultHasher, FoldHasher, Hash, Hasher};
 use std::process::Abort;
 use std::test::Fail;
-use tt_base::{
-    DelimiterKind, Leaf, Punct, Spacing, SpanPart, Symbol, SyntaxContext, TokenTree, TtFault,
+use tt::{
+    DelimSpan, DelimiterKind, Leaf, Punct, Spacing, SpanPart, Symbol, SyntaxContext, TokenTree,
+    TopSubtree, TtFault,
 };
-use tt_pack::Packed;
 
 // The numbers of the files of those parts.
 fn files(alloc: Global, parts: &[SpanPart]) -> Result<Vec<u32>, Fail> {
@@ -22,7 +22,7 @@ fn files(alloc: Global, parts: &[SpanPart]) -> Result<Vec<u32>, Fail> {
 // The list is refused as one that is not one subtree, and is handed back.
 fn is_refused(rt: &impl Abort, alloc: Global, tokens: Vec<TokenTree>) -> Result<(), Fail> {
     let copy = tokens.clone()?;
-    let Err(refused) = Packed::pack(alloc, tokens) else {
+    let Err(refused) = TopSubtree::from_serialized(alloc, tokens) else {
         return Err(Fail::new("the list is accepted"));
     };
     assert_eq!(rt; refused.fault, TtFault::NotOneSubtree);
@@ -34,7 +34,7 @@ fn is_refused(rt: &impl Abort, alloc: Global, tokens: Vec<TokenTree>) -> Result<
 const SEEDS: [u64; 3] = [0, 1, 0x9e37_79b9_7f4a_7c15];
 
 // The hash of a tree from that seed.
-fn hash_from<H: Hasher + Drop>(seed: u64, state: H, tree: &Packed) -> u64 {
+fn hash_from<H: Hasher + Drop>(seed: u64, state: H, tree: &TopSubtree) -> u64 {
     let mut state = state;
     state.write_u64(seed);
     tree.hash(&mut state);
@@ -42,7 +42,7 @@ fn hash_from<H: Hasher + Drop>(seed: u64, state: H, tree: &Packed) -> u64 {
 }
 
 // The hashes of a tree from that seed, under std's hasher and under the fast one.
-fn hashes_of(tree: &Packed, seed: u64) -> (u64, u64) {
+fn hashes_of(tree: &TopSubtree, seed: u64) -> (u64, u64) {
     let sip = hash_from(seed, DefaultHasher::new(), tree);
     let fold = hash_from(seed, FoldHasher::default(), tree);
     (sip, fold)
@@ -56,8 +56,8 @@ fn has_table(rt: &impl Abort, alloc: Global, parts: &[u32], table: &[u32]) -> Re
     for part in parts {
         tokens.push(punct(';', (*part, 0, 1))?)?;
     }
-    let tree = Packed::pack(alloc, tokens)?;
-    let found = files(alloc, tree.parts())?;
+    let tree = TopSubtree::from_serialized(alloc, tokens)?;
+    let found = files(alloc, tree.span_part_table())?;
     assert_eq!(rt; found.as_slice(), table);
     Ok(())
 }
@@ -68,7 +68,7 @@ fn name(alloc: Global, number: u32) -> Result<String, Fail> {
 }
 
 // A top over so many idents, the names from s0 on, and a second of the last one.
-fn last_name_twice(alloc: Global, count: u32) -> Result<Packed, Fail> {
+fn last_name_twice(alloc: Global, count: u32) -> Result<TopSubtree, Fail> {
     let last = count.checked_sub(1).ok_or("no name")?;
     let len = count.checked_add(1).ok_or("too many names")?;
     let mut tokens = vec![in alloc; top(len)?]?;
@@ -76,7 +76,7 @@ fn last_name_twice(alloc: Global, count: u32) -> Result<Packed, Fail> {
         let text = name(alloc, number.min(last))?;
         tokens.push(ident(alloc, text.as_str(), (0, 0, 1))?)?;
     }
-    Ok(Packed::pack(alloc, tokens)?)
+    Ok(TopSubtree::from_serialized(alloc, tokens)?)
 }
 
 // The symbols are that name, and then the others of so many, in their order.
@@ -118,30 +118,31 @@ fn braces_of_another_context(alloc: Global) -> Result<Vec<TokenTree>, Fail> {
 #[test]
 fn a_top_over_nothing(rt: HostRuntime) -> Result<(), Fail> {
     let alloc = rt.alloc();
-    let tree = Packed::pack(alloc, vec![in alloc; top(0)?]?)?;
+    let place = span((0, 0, 0)).ok_or("no span")?;
+    let tree = TopSubtree::empty(alloc, DelimSpan::from_single(place))?;
     let bytes =
         b"\x00\x40\x00\x00\x01\x00\x00\x00\x00\x00\x00\x00\x1d\x04\x40\x00\x00\x01\x00\x00\x00\x00\x00\x00\x00\x00\x00\x00\x00\x00\x00\x00\x00";
-    assert_eq!(rt; tree.bytes(), bytes.as_slice());
-    let part = SpanPart::from_span(&span((0, 0, 0)).ok_or("no span")?);
-    assert_eq!(rt; tree.parts(), [part, part].as_slice());
-    assert!(rt; tree.symbols().is_empty());
-    assert_eq!(rt; tree.len(), 1);
+    assert_eq!(rt; tree.packed_bytes(), bytes.as_slice());
+    let part = SpanPart::from_span(&place);
+    assert_eq!(rt; tree.span_part_table(), [part, part].as_slice());
+    assert!(rt; tree.symbol_table().is_empty());
+    assert_eq!(rt; tree.as_token_trees().len(), 1);
     Ok(())
 }
 
 #[test]
 fn a_brace_over_two_leaves(rt: HostRuntime) -> Result<(), Fail> {
     let alloc = rt.alloc();
-    let tree = Packed::pack(alloc, braces(alloc)?)?;
+    let tree = TopSubtree::from_serialized(alloc, braces(alloc)?)?;
     let bytes =
         b"\x44\x40\x00\x00\x01\x00\x00\x00\x00\x00\x00\x00\x0d\x48\xc0\x02\x00\x01\x00\x00\x00\x00\x00\x00\x00\x02\x00\x00\x00\x0a\x00\x00\x00\x42\x00\x01\x00\x00\x41\x80\x01\x00\x76";
-    assert_eq!(rt; tree.bytes(), bytes.as_slice());
+    assert_eq!(rt; tree.packed_bytes(), bytes.as_slice());
     let part = SpanPart::from_span(&span((0, 0, 0)).ok_or("no span")?);
-    assert_eq!(rt; tree.parts(), [part, part, part].as_slice());
-    let symbols = tree.symbols();
+    assert_eq!(rt; tree.span_part_table(), [part, part, part].as_slice());
+    let symbols = tree.symbol_table();
     assert_eq!(rt; symbols.len(), 1);
     assert_eq!(rt; symbols[0].as_str(), "a");
-    assert_eq!(rt; tree.len(), 3);
+    assert_eq!(rt; tree.as_token_trees().len(), 3);
     Ok(())
 }
 
@@ -161,8 +162,8 @@ fn tables_of_parts(rt: HostRuntime) -> Result<(), Fail> {
         &[15, 0, 1, 2, 3, 4, 5, 6, 7, 8, 9, 10, 11, 12, 13, 14, 20, 21],
     )?;
     let alone = header(DelimiterKind::Parenthesis, (7, 0, 1), (3, 1, 2), 0)?;
-    let tree = Packed::pack(alloc, vec![in alloc; top(1)?, alone]?)?;
-    let found = files(alloc, tree.parts())?;
+    let tree = TopSubtree::from_serialized(alloc, vec![in alloc; top(1)?, alone]?)?;
+    let found = files(alloc, tree.span_part_table())?;
     assert_eq!(rt; found.as_slice(), [7, 3, 0, 0].as_slice());
     Ok(())
 }
@@ -178,9 +179,9 @@ fn tables_of_symbols(rt: HostRuntime) -> Result<(), Fail> {
     ];
     for (count, first, len, bytes) in rows {
         let tree = last_name_twice(alloc, count)?;
-        are_names(&rt, alloc, tree.symbols(), first, count)?;
-        assert_eq!(rt; tree.len(), len);
-        assert_eq!(rt; tree.bytes().len(), bytes);
+        are_names(&rt, alloc, tree.symbol_table(), first, count)?;
+        assert_eq!(rt; tree.as_token_trees().len(), len);
+        assert_eq!(rt; tree.packed_bytes().len(), bytes);
     }
     Ok(())
 }
@@ -203,15 +204,15 @@ fn lists_that_are_not_one_subtree(rt: HostRuntime) -> Result<(), Fail> {
 fn equal_trees(rt: HostRuntime) -> Result<(), Fail> {
     let alloc = rt.alloc();
     let tokens = braces(alloc)?;
-    let tree = stored(alloc, tokens.as_slice())?;
-    let again = Packed::pack(alloc, tokens)?;
+    let again = TopSubtree::from_serialized(alloc, braces(alloc)?)?;
+    let tree = TopSubtree::from_serialized(alloc, tokens)?;
     assert!(rt; tree == again);
     let copy = tree.clone(alloc)?;
     assert!(rt; copy == tree);
-    assert_eq!(rt; copy.bytes(), tree.bytes());
-    assert_eq!(rt; copy.parts(), tree.parts());
-    assert_eq!(rt; copy.symbols(), tree.symbols());
-    assert_eq!(rt; copy.len(), tree.len());
+    assert_eq!(rt; copy.packed_bytes(), tree.packed_bytes());
+    assert_eq!(rt; copy.span_part_table(), tree.span_part_table());
+    assert_eq!(rt; copy.symbol_table(), tree.symbol_table());
+    assert_eq!(rt; copy.as_token_trees().len(), tree.as_token_trees().len());
     Ok(())
 }
 
@@ -219,9 +220,9 @@ fn equal_trees(rt: HostRuntime) -> Result<(), Fail> {
 #[test]
 fn hashes_from_seeds(rt: HostRuntime) -> Result<(), Fail> {
     let alloc = rt.alloc();
-    let tree = Packed::pack(alloc, braces(alloc)?)?;
-    let again = Packed::pack(alloc, braces(alloc)?)?;
-    let other = Packed::pack(alloc, braces_of_another_context(alloc)?)?;
+    let tree = TopSubtree::from_serialized(alloc, braces(alloc)?)?;
+    let again = TopSubtree::from_serialized(alloc, braces(alloc)?)?;
+    let other = TopSubtree::from_serialized(alloc, braces_of_another_context(alloc)?)?;
     assert!(rt; tree == again && tree != other);
     for seed in SEEDS {
         let (sip, fold) = hashes_of(&tree, seed);

@@ -1,0 +1,23 @@
+-- The types that definitions of a user speak of.
+pub use Rattle.tt_base.specs.declared.delimiter.Delimiter
+pub use Rattle.tt_base.specs.declared.delimiter.DelimiterKind
+pub use Rattle.tt_base.specs.declared.delimiter.DelimSpan
+pub use Rattle.tt_base.specs.declared.delimiter.Subtree
+pub use Rattle.tt_base.specs.declared.fault.TtFault
+pub use Rattle.tt_base.specs.declared.ident.Ident
+pub use Rattle.tt_base.specs.declared.ident.IdentIsRaw
+pub use Rattle.tt_base.specs.declared.leaf.Leaf
+pub use Rattle.tt_base.specs.declared.literal.LitKind
+pub use Rattle.tt_base.specs.declared.literal.Literal
+pub use Rattle.tt_base.specs.declared.punct.Punct
+pub use Rattle.tt_base.specs.declared.punct.Spacing
+pub use Rattle.tt_base.specs.declared.span.Span
+pub use Rattle.tt_base.specs.declared.span.SpanPart
+pub use Rattle.tt_base.specs.declared.token_tree.TokenTree
+pub use Rattle.tt_view.specs.declared.flat.FlatTokens
+pub use Rattle.tt_view.specs.declared.iter.TtElement
+pub use Rattle.tt_view.specs.declared.iter.TtIter
+pub use Rattle.tt_view.specs.declared.iter.TtIterSavepoint
+pub use Rattle.tt_view.specs.declared.split.Split
+pub use Rattle.tt_view.specs.declared.subtree_view.SubtreeView
+pub use Rattle.tt_view.specs.declared.view.TokenTreesView

@@ -1,0 +1,3 @@
+//! Walking through trees, into and out of subtrees.
+
+pub use tt_view::Cursor;

@@ -1,0 +1,11 @@
+//! Worked rows on trees, by the calls of `tt`: known values beside what the calls give.
+#![tactic(auto)]
+
+#[cfg(test)]
+mod cursor;
+#[cfg(test)]
+mod expectations;
+#[cfg(test)]
+mod tokens;
+#[cfg(test)]
+mod views;

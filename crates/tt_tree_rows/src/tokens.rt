@@ -1,0 +1,50 @@
+//! Tokens to make trees of.
+use std::alloc::Global;
+use std::test::Fail;
+use tt::{
+    Delimiter, DelimiterKind, Ident, Leaf, Punct, Spacing, Span, SpanPart, Subtree, TextRange,
+    TextSize, TokenTree, TopSubtree,
+};
+
+/// The empty span at that offset.
+pub(crate) fn span(start: u32) -> Span {
+    let range = TextRange::empty(TextSize::new(start));
+    SpanPart::from_span(&Punct::default().span).recombine(range)
+}
+
+/// A punct at offset 0.
+pub(crate) fn punct(char: char, spacing: Spacing) -> TokenTree {
+    let span = span(0);
+    Leaf::from(Punct {
+        char,
+        spacing,
+        span,
+    })
+    .into()
+}
+
+/// An ident at that offset.
+pub(crate) fn ident(alloc: Global, text: &str, start: u32) -> Result<TokenTree, Fail> {
+    Ok(Leaf::from(Ident::new(alloc, text, span(start))?).into())
+}
+
+/// The header of parentheses that open and close at those offsets and hold so many tokens.
+pub(crate) fn parentheses(open: u32, close: u32, len: u32) -> TokenTree {
+    let delimiter = Delimiter {
+        open_span: span(open),
+        close: span(close),
+        kind: DelimiterKind::Parenthesis,
+    };
+    Subtree { delimiter, len }.into()
+}
+
+/// The tree of these tokens under an invisible delimiter.
+pub(crate) fn under(alloc: Global, below: &[TokenTree]) -> Result<TopSubtree, Fail> {
+    let delimiter = Delimiter::invisible_spanned(span(0));
+    let len = u32::try_from(below.len())?;
+    let mut tokens = vec![in alloc; TokenTree::from(Subtree { delimiter, len })]?;
+    for token in below {
+        tokens.push(token.clone()?)?;
+    }
+    Ok(TopSubtree::from_serialized(alloc, tokens)?)
+}

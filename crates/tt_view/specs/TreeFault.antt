@@ -1,0 +1,26 @@
+-- Why no tree is made of what a call was given: the first limit that is passed, want of memory aside.
+use Rattle.std.specs.Prelude.{◌<◌, ◌≤◌}
+use Rattle.tt_base.specs.declared.delimiter.Delimiter.{Delimiter}
+use Rattle.tt_base.specs.declared.fault.TtFault.{TtFault}
+use Rattle.tt_base.specs.declared.fault.TtFault.TheVariants.{Memory, NotOneSubtree, NoSuchPlace, NotALeaf, SuffixTooLong, BadScan, TooManyTokens, TooManySpanParts, TooManySymbols, TooManyBytes, PointsSpent}
+use Rattle.tt_base.specs.Forest.{Forest, Root, size}
+use Rattle.tt_tables.specs.Stored.{most_tokens}
+use Rattle.tt_tables.specs.PackFault.{HasManyParts, HasManySymbols, HasManyBytes}
+
+-- trees under a delimiter
+abbrev pub under : Delimiter → Forest → Root
+under delimiter children = record { delimiter = delimiter; children = children }
+
+-- the tree is refused for that reason; memory may be refused for any tree
+abbrev pub IsTreeFault : Root → TtFault → Type 0
+IsTreeFault root Memory = Unit {0}
+IsTreeFault root NotOneSubtree = ⊥
+IsTreeFault root NoSuchPlace = ⊥
+IsTreeFault root NotALeaf = ⊥
+IsTreeFault root SuffixTooLong = ⊥
+IsTreeFault root BadScan = ⊥
+IsTreeFault root TooManyTokens = most_tokens < size root.children
+IsTreeFault root TooManySpanParts = (size root.children ≤ most_tokens) × HasManyParts root
+IsTreeFault root TooManySymbols = (size root.children ≤ most_tokens) × HasManySymbols root
+IsTreeFault root TooManyBytes = (size root.children ≤ most_tokens) × HasManyBytes root
+IsTreeFault root PointsSpent = ⊥

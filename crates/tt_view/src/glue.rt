@@ -1,0 +1,111 @@
+//! Puncts that stand together as one.
+ghost use Rattle.std.specs.Prelude.{◌≡◌, ◌∷◌, [], option_map, MatchOption, Some};
+ghost use Rattle.std.specs.Result.{result_ok};
+ghost use Rattle.tt_base.specs.Gluing.{glued, glued_behind, glued_two, after_trees, passed_by, is_one_of, twos, threes};
+ghost use Rattle.tt_base.specs.Moves.{after_tree};
+
+use crate::iter::TtIter;
+use arrayvec::ArrayVec;
+use tt_base::{Punct, Spacing};
+
+/// How many puncts stand together as one at most.
+pub const MAX_GLUED_PUNCT_LEN: usize = 3;
+
+// Three characters that stand as one.
+const THREES: [[char; 3]; 4] = [
+    ['.', '.', '.'],
+    ['.', '.', '='],
+    ['<', '<', '='],
+    ['>', '>', '='],
+];
+
+// Two that do.
+const TWOS: [[char; 2]; 21] = [
+    ['-', '='],
+    ['!', '='],
+    ['*', '='],
+    ['/', '='],
+    ['&', '='],
+    ['%', '='],
+    ['^', '='],
+    ['+', '='],
+    ['<', '='],
+    ['=', '='],
+    ['>', '='],
+    ['|', '='],
+    ['-', '>'],
+    ['=', '>'],
+    ['>', '>'],
+    ['<', '-'],
+    [':', ':'],
+    ['.', '.'],
+    ['&', '&'],
+    ['<', '<'],
+    ['|', '|'],
+];
+
+// Whether the table has the characters of two puncts.
+fn is_two(first: &Punct, second: &Punct) -> bool
+    ensures { result ≡ is_one_of twos (first.now.char ∷ second.now.char ∷ []) }
+{
+    let (first, second) = (first.char, second.char);
+    TWOS.contains(&[first, second])
+}
+
+// Whether the table has the characters of three puncts.
+fn is_three(first: &Punct, second: &Punct, third: &Punct) -> bool
+    ensures { result ≡ is_one_of threes (first.now.char ∷ second.now.char ∷ third.now.char ∷ []) }
+{
+    let (first, second, third) = (first.char, second.char, third.char);
+    THREES.contains(&[first, second, third])
+}
+
+impl<'a> TtIter<'a> {
+    ghost use Rattle.tt_view.specs.Iters.{rest_of};
+
+    /// Takes the puncts that stand as one: two or three that the tables have, and else the first alone. No other is
+    /// passed; an element that is no punct is, as by every expectation (docs/FORMATS.md, "Puncts that stand as one").
+    pub fn expect_glued_punct(&mut self) -> Result<ArrayVec<Punct, MAX_GLUED_PUNCT_LEN>, ()>
+        ensures answer { option_map (λ puncts. puncts.items) (result_ok result) ≡ glued (rest_of self.old) }
+        ensures rest { rest_of self.new ≡ after_trees (passed_by (glued (rest_of self.old))) (rest_of self.old) }
+    {
+        let first = self.expect_single_punct()?;
+        let mut puncts = ArrayVec::new();
+        puncts.push(first);
+        if first.spacing == Spacing::Alone {
+            return Ok(puncts);
+        }
+        let mut behind = TtIter::over(self.remaining());
+        let Ok(second) = behind.expect_single_punct() else {
+            return Ok(puncts);
+        };
+        if let Some((third, last)) = behind.third_of(&first, &second) {
+            puncts.push(second);
+            puncts.push(third);
+            *self = last;
+            return Ok(puncts);
+        }
+        if is_two(&first, &second) {
+            puncts.push(second);
+            *self = behind;
+            return Ok(puncts);
+        }
+        Ok(puncts)
+    }
+
+    // Behind two puncts: a third that stands as one with them, and the iterator behind it.
+    fn third_of(&self, first: &Punct, second: &Punct) -> Option<(Punct, TtIter<'a>)>
+        ensures { MatchOption result (glued_behind first.now (Some second.now) (rest_of self.now) ≡ glued_two first.now second.now) (λ found. (glued_behind first.now (Some second.now) (rest_of self.now) ≡ first.now ∷ second.now ∷ found.0 ∷ []) × (rest_of found.1 ≡ after_tree (rest_of self.now))) }
+    {
+        if second.spacing != Spacing::Joint {
+            return None;
+        }
+        let mut last = TtIter::over(self.remaining());
+        let third = last.expect_single_punct().ok()?;
+        if is_three(first, second, &third) {
+            Some((third, last))
+        } else {
+            None
+        }
+    }
+}

@@ -1,0 +1,164 @@
+//! The trees of a list one by one.
+ghost use Rattle.std.specs.Prelude.{◌≡◌, MatchOption, Some, None, option_map};
+ghost use Rattle.tt_base.specs.Forest.{Forest, end, join, flat};
+ghost use Rattle.tt_base.specs.Walk.{events_ahead, tokens_of, flat_left};
+ghost use Rattle.tt_base.specs.Token.{first_span as token_span};
+ghost use Rattle.tt_base.specs.Moves.{first_token, after_tree, step_after};
+ghost use Rattle.tt_base.specs.Siblings.{first_tree, is_end, tree_span};
+
+use crate::cursor::Cursor;
+use crate::view::TokenTreesView;
+use tt_base::{Leaf, Span, Subtree, TokenTree};
+
+/// The trees of a list one by one. To pass one, whatever its size, decodes one token.
+#[derive(Clone, Drop)]
+pub struct TtIter<'a> {
+    inner: TokenTreesView<'a>,
+}
+
+/// A tree of a list.
+#[derive(Clone, Drop)]
+pub enum TtElement<'a> {
+    Leaf(Leaf),
+    /// A header, and the trees below it.
+    Subtree(Subtree, TtIter<'a>),
+}
+
+/// What an iterator had left.
+#[derive(Clone, Copy)]
+pub struct TtIterSavepoint<'a>(TokenTreesView<'a>);
+
+impl<'a> Iterator for TtIter<'a> {
+    ghost use Rattle.std.specs.Iterator.{item_count};
+    ghost use Rattle.tt_base.specs.Siblings.{list_of};
+    ghost use Rattle.tt_view.specs.Iters.{rest_of, GivesSibling};
+
+    type Item = TtElement<'a>;
+
+    ghost next_gives = { GivesSibling };
+
+    ghost remaining = { item_count (λ iter. list_of (rest_of iter)) };
+
+    fn next(&mut self) -> Option<TtElement<'a>> {
+        self.take_element()
+    }
+}
+
+impl<'a> TtElement<'a> {
+    ghost use Rattle.tt_view.specs.Iters.{tree_of};
+
+    /// A leaf's span, or a header's open span.
+    pub fn first_span(&self) -> Span
+        ensures { result ≡ tree_span (tree_of self.now) }
+    {
+        match self {
+            TtElement::Leaf(leaf) => *leaf.span(),
+            TtElement::Subtree(subtree, _) => subtree.delimiter.open_span,
+        }
+    }
+}
+
+impl<'a> TtIterSavepoint<'a> {
+    ghost use Rattle.tt_view.specs.Iters.{saved_of};
+    ghost use Rattle.tt_view.specs.Views.{trees_of};
+
+    /// What the iterator had left.
+    pub fn remaining(self) -> TokenTreesView<'a>
+        ensures { trees_of result ≡ saved_of self.entry }
+    {
+        self.0
+    }
+}
+
+impl<'a> TtIter<'a> {
+    ghost use Rattle.tt_view.specs.Iters.{rest_of, saved_of, steps_of_iter, IsFirstElement, GivesSibling};
+    ghost use Rattle.tt_view.specs.Views.{trees_of};
+
+    pub(crate) fn over(inner: TokenTreesView<'a>) -> TtIter<'a>
+        ensures { rest_of result ≡ trees_of inner.entry }
+    {
+        TtIter { inner }
+    }
+
+    // `next`, with all that it promises as a clause.
+    pub(crate) fn take_element(&mut self) -> Option<TtElement<'a>>
+        ensures { GivesSibling self.old result self.new }
+    {
+        let (token, below, rest) = self.inner.parts()?;
+        self.inner = rest;
+        Some(match token {
+            TokenTree::Leaf(leaf) => TtElement::Leaf(leaf),
+            TokenTree::Subtree(subtree) => TtElement::Subtree(subtree, TtIter { inner: below }),
+        })
+    }
+
+    /// How many tokens were decoded on the way here; the count stays at its largest.
+    pub fn steps(&self) -> u64
+        ensures { result ≡ steps_of_iter self.now }
+    {
+        self.inner.steps()
+    }
+
+    /// What `next` would give.
+    pub fn peek(&self) -> Option<TtElement<'a>>
+        ensures { IsFirstElement (rest_of self.now) result }
+    {
+        TtIter { inner: self.inner }.take_element()
+    }
+
+    /// Whether no tree is left.
+    pub fn is_empty(&self) -> bool
+        ensures { result ≡ is_end (rest_of self.now) }
+    {
+        self.inner.is_empty()
+    }
+
+    /// The first span of what `next` would give.
+    pub fn next_span(&self) -> Option<Span>
+        ensures { result ≡ option_map token_span (first_token (rest_of self.now)) }
+    {
+        self.inner.first_span()
+    }
+
+    /// The trees that are left.
+    pub fn remaining(&self) -> TokenTreesView<'a>
+        ensures { trees_of result ≡ rest_of self.now }
+    {
+        self.inner
+    }
+
+    /// This place, for `from_savepoint`.
+    pub fn savepoint(&self) -> TtIterSavepoint<'a>
+        ensures { saved_of result ≡ rest_of self.now }
+    {
+        TtIterSavepoint(self.inner)
+    }
+
+    /// The trees between a savepoint and here, which stands behind none, one or more of its trees.
+    pub fn from_savepoint(&self, savepoint: TtIterSavepoint<'a>) -> TokenTreesView<'a>
+        requires { (given : Forest) × (saved_of savepoint ≡ join given (rest_of self.now)) }
+        ensures { join (trees_of result) (rest_of self.now) ≡ saved_of savepoint.entry }
+    {
+        savepoint.0.before(self.inner)
+    }
+
+    /// The next tree, as a list of one.
+    pub fn next_as_view(&mut self) -> Option<TokenTreesView<'a>>
+        ensures first { MatchOption result (rest_of self.old ≡ end) (λ view. trees_of view ≡ first_tree (rest_of self.old)) }
+        ensures rest { rest_of self.new ≡ after_tree (rest_of self.old) }
+        ensures steps { steps_of_iter self.new ≡ step_after (steps_of_iter self.old) (rest_of self.old) }
+    {
+        let whole = self.inner;
+        let (_, _, rest) = whole.parts()?;
+        self.inner = rest;
+        Some(whole.before(rest))
+    }
+
+    /// Goes to the cursor's place: what is left are all tokens ahead of it, those behind the subtrees that it is in too.
+    pub fn flat_advance_to(&mut self, cursor: &Cursor<'a>)
+        ensures left { flat (rest_of self.new) ≡ flat_left cursor.now }
+        ensures tokens { flat (rest_of self.new) ≡ tokens_of (events_ahead cursor.now) }
+    {
+        self.inner = cursor.flat_rest();
+    }
+}

@@ -1,0 +1,23 @@
+//! Token trees: one that is stored whole, borrowed views of its parts, and the iterators that read them.
+#![tactic(auto)]
+
+mod cursor;
+mod display;
+mod expect;
+mod flat;
+mod glue;
+mod iter;
+mod split;
+mod subtree_view;
+mod text;
+mod top_subtree;
+mod view;
+
+pub use cursor::Cursor;
+pub use flat::FlatTokens;
+pub use glue::MAX_GLUED_PUNCT_LEN;
+pub use iter::{TtElement, TtIter, TtIterSavepoint};
+pub use split::Split;
+pub use subtree_view::SubtreeView;
+pub use top_subtree::TopSubtree;
+pub use view::TokenTreesView;

@@ -1,0 +1,83 @@
+//! One subtree of a stored tree.
+ghost use Rattle.std.specs.Prelude.{◌≡◌, Some, if◌then◌else◌};
+ghost use Rattle.tt_base.specs.Forest.{only, size};
+ghost use Rattle.tt_view.specs.Cuts.{HoldsRoot, HoldsRoot-prop};
+ghost use Rattle.tt_base.specs.OneRoot.{one_root, stripped};
+ghost use Rattle.tt_view.specs.Views.{trees_of};
+
+use crate::iter::TtIter;
+use crate::view::TokenTreesView;
+use tt_base::{DelimiterKind, Subtree, TokenTree};
+
+/// One subtree.
+#[derive(Clone, Copy)]
+pub struct SubtreeView<'a> {
+    // the list of which it is the only tree
+    whole: TokenTreesView<'a>,
+    pub ghost root: { HoldsRoot (trees_of whole) } by { HoldsRoot-prop (trees_of whole) },
+}
+
+impl<'a> SubtreeView<'a> {
+    ghost use Rattle.tt_view.specs.SubtreeViews.{root_of};
+    ghost use Rattle.tt_view.specs.Iters.{rest_of};
+
+    pub(crate) fn of_one(whole: TokenTreesView<'a>) -> SubtreeView<'a>
+        requires { HoldsRoot (trees_of whole) }
+        ensures { only (root_of result) ≡ trees_of whole.entry }
+    {
+        SubtreeView { whole }
+    }
+
+    /// The subtree, as a list of one.
+    pub fn as_token_trees(self) -> TokenTreesView<'a>
+        ensures { trees_of result ≡ only (root_of self.entry) }
+    {
+        self.whole
+    }
+
+    // The header, and the trees below it.
+    fn parts(self) -> (Subtree, TokenTreesView<'a>)
+        ensures delimiter { result.0.delimiter ≡ (root_of self.entry).delimiter }
+        ensures len { result.0.len ≡ size (root_of self.entry).children }
+        ensures children { trees_of result.1 ≡ (root_of self.entry).children }
+    {
+        match self.whole.parts() {
+            Some((TokenTree::Subtree(top), below, _)) => (top, below),
+            _ => unreachable!(),
+        }
+    }
+
+    /// Its header.
+    pub fn top_subtree(&self) -> Subtree
+        ensures delimiter { result.delimiter ≡ (root_of self.now).delimiter }
+        ensures len { result.len ≡ size (root_of self.now).children }
+    {
+        self.parts().0
+    }
+
+    /// The trees below the header.
+    pub fn token_trees(&self) -> TokenTreesView<'a>
+        ensures { trees_of result ≡ (root_of self.now).children }
+    {
+        self.parts().1
+    }
+
+    /// The trees below the header one by one.
+    pub fn iter(&self) -> TtIter<'a>
+        ensures { rest_of result ≡ (root_of self.now).children }
+    {
+        self.token_trees().iter()
+    }
+
+    /// What it holds if it is invisible, else a list of it alone.
+    pub fn strip_invisible(&self) -> TokenTreesView<'a>
+        ensures { trees_of result ≡ stripped (only (root_of self.now)) }
+    {
+        let (top, below) = self.parts();
+        match top.delimiter.kind {
+            DelimiterKind::Invisible => below,
+            DelimiterKind::Parenthesis | DelimiterKind::Brace | DelimiterKind::Bracket =>
+                self.whole,
+        }
+    }
+}

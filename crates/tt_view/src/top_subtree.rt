@@ -1,0 +1,219 @@
+//! A token tree that is stored whole.
+ghost use Rattle.std.specs.Prelude.{◌≡◌, ◌≤◌, ◌+◌, ◌*◌, ◌-◌, suc, length, drop, take, ◌↔◌, IsTrue, IfOk, IfErr, bytes_eq};
+ghost use Rattle.std.proofs.Common.{rules, ap};
+ghost use Rattle.std.specs.Cmp.Rules.{comparing};
+ghost use Rattle.tt_base.specs.declared.delimiter.DelimiterKind.TheVariants.{Invisible};
+ghost use Rattle.tt_base.specs.declared.fault.TtFault.TheVariants.{Memory};
+ghost use Rattle.tt_base.specs.Equality.{same_token-equivalence, same_root};
+ghost use Rattle.tt_base.specs.Forest.{only, end, size, flat, flat_root};
+ghost use Rattle.tt_base.specs.Siblings.{leaves as leaf_trees};
+ghost use Rattle.tt_base.specs.Token.{delimiter};
+ghost use Rattle.tt_base.proofs.SameTree.{same_root_iff};
+ghost use Rattle.tt_tables.specs.Cost.{IsCheapest};
+ghost use Rattle.tt_tables.specs.PackFault.{IsPackFault};
+ghost use Rattle.tt_tables.specs.Shortest.{HasShortestHeaders};
+ghost use Rattle.tt_tables.specs.Stored.{most_tokens, packed, IsInRange, IsWithinLimits};
+ghost use Rattle.tt_tables.specs.TableOrder.{IsTable};
+ghost use Rattle.tt_tables.specs.Tables.{tables_for, short_parts, short_symbols};
+ghost use Rattle.tt_tables.specs.Uses.{same_part, part_uses, symbol_uses};
+ghost use Rattle.tt_pack.specs.Packed.{fed_tree};
+ghost use Rattle.tt_view.specs.TreeFault.{under, IsTreeFault};
+
+use crate::iter::TtIter;
+use crate::subtree_view::SubtreeView;
+use crate::view::TokenTreesView;
+use std::alloc::Global;
+use std::hash::{Hash, Hasher};
+use std::marker::Model;
+use tt_base::{
+    DelimSpan, Delimiter, Leaf, Refused, Span, SpanPart, Subtree, Symbol, TokenTree, TtFault,
+};
+use tt_pack::Packed;
+
+/// A token tree: a delimiter and the trees inside. A contract sees the tree. It is stored as bytes and two tables,
+/// which are a function of it (docs/FORMATS.md).
+#[derive(Drop)]
+pub struct TopSubtree {
+    packed: Packed,
+}
+
+impl Model for TopSubtree {
+    ghost use Rattle.tt_base.specs.Forest.{Root};
+    ghost use Rattle.tt_base.specs.Unflat.{root_code};
+
+    ghost Value = { Root };
+
+    ghost coded = { root_code };
+
+    ghost view = { λ tree. tree.packed };
+}
+
+impl TopSubtree {
+    ghost use Rattle.tt_view.specs.Views.{trees_of};
+    ghost use Rattle.tt_view.specs.SubtreeViews.{root_of};
+    ghost use Rattle.tt_view.specs.Iters.{rest_of};
+
+    /// An invisible delimiter with those spans, and nothing inside.
+    pub fn empty(alloc: Global, span: DelimSpan) -> Result<TopSubtree, TtFault>
+        ensures ok { IfOk result (λ tree. tree ≡ under (delimiter Invisible span.open_span span.close) end) }
+        ensures err { IfErr result (λ fault. fault ≡ Memory) }
+    {
+        let mut tokens = Vec::new(alloc);
+        tokens.push(TokenTree::Subtree(Subtree {
+            delimiter: Delimiter::invisible_delim_spanned(span),
+            len: 0,
+        }))?;
+        let packed = Packed::pack(alloc, tokens)?;
+        Ok(TopSubtree { packed })
+    }
+
+    /// Leaves under an invisible delimiter, both spans of which are the given one.
+    pub fn invisible_from_leaves<const N: usize>(
+        alloc: Global,
+        span: Span,
+        leaves: [Leaf; N],
+    ) -> Result<TopSubtree, TtFault>
+        ensures ok { IfOk result (λ tree. tree ≡ under (delimiter Invisible span span) (leaf_trees leaves.entry)) }
+        ensures err { IfErr result (IsTreeFault (under (delimiter Invisible span span) (leaf_trees leaves.entry))) }
+    {
+        let leaves = Vec::from_array(alloc, leaves)?;
+        let Ok(len) = u32::try_from(leaves.len()) else {
+            return Err(TtFault::TooManyTokens);
+        };
+        let mut tokens = Vec::new(alloc);
+        tokens.push(TokenTree::Subtree(Subtree {
+            delimiter: Delimiter::invisible_spanned(span),
+            len,
+        }))?;
+        for leaf in leaves {
+            tokens.push(TokenTree::Leaf(leaf))?;
+        }
+        let packed = Packed::pack(alloc, tokens)?;
+        Ok(TopSubtree { packed })
+    }
+
+    /// The tree of a flat list. A list is refused where it is not that of one subtree, has too many span parts, too
+    /// many symbols or too many bytes, in this order, or where memory is refused; it is then handed back.
+    pub fn from_serialized(
+        alloc: Global,
+        tokens: Vec<TokenTree>,
+    ) -> Result<TopSubtree, Refused<Vec<TokenTree>>>
+        ensures ok { IfOk result (λ tree. tokens.items ≡ flat_root tree) }
+        ensures counts { IfOk result (λ tree. size tree.children ≤ most_tokens) }
+        ensures fault { IfErr result (λ refused. IsPackFault tokens.items refused.fault) }
+        ensures list { IfErr result (λ refused. refused.value ≡ tokens) }
+    {
+        Packed::pack(alloc, tokens).map(TopSubtree::from_packed)
+    }
+
+    /// The tree that is meant by what is stored.
+    pub fn from_packed(packed: Packed) -> TopSubtree
+        ensures { result ≡ packed }
+    {
+        TopSubtree { packed }
+    }
+
+    /// The same tree, stored once more.
+    pub fn clone(&self, alloc: Global) -> Result<TopSubtree, TtFault>
+        ensures ok { IfOk result (λ copy. copy ≡ self.now) }
+        ensures err { IfErr result (λ fault. fault ≡ Memory) }
+    {
+        let packed = self.packed.clone(alloc)?;
+        Ok(TopSubtree { packed })
+    }
+
+    /// The whole tree.
+    pub fn view(&self) -> SubtreeView<'_>
+        ensures { root_of result ≡ self.now }
+    {
+        SubtreeView::of_one(TokenTreesView::whole(&self.packed))
+    }
+
+    /// The whole tree, as a list of one.
+    pub fn as_token_trees(&self) -> TokenTreesView<'_>
+        ensures { trees_of result ≡ only self.now }
+    {
+        TokenTreesView::whole(&self.packed)
+    }
+
+    /// The trees below its header.
+    pub fn token_trees(&self) -> TokenTreesView<'_>
+        ensures { trees_of result ≡ self.now.children }
+    {
+        self.view().token_trees()
+    }
+
+    /// Its header.
+    pub fn top_subtree(&self) -> Subtree
+        ensures delimiter { result.delimiter ≡ self.now.delimiter }
+        ensures len { result.len ≡ size self.now.children }
+    {
+        self.view().top_subtree()
+    }
+
+    /// The trees below its header one by one.
+    pub fn iter(&self) -> TtIter<'_>
+        ensures { rest_of result ≡ self.now.children }
+    {
+        self.view().iter()
+    }
+
+    /// The stored bytes: 33 of the top header, and then 5 to 33 of each token below it. Of the formats that can hold
+    /// a header below the top, none is shorter than its own.
+    pub fn packed_bytes(&self) -> &[u8]
+        ensures value { result.now ≡ (packed self.now).bytes }
+        ensures range { IsInRange self.now }
+        ensures limits { IsWithinLimits self.now }
+        ensures least { 33 + 5 * size self.now.children ≤ length result.now }
+        ensures most { length result.now ≤ 33 * suc (size self.now.children) }
+        ensures shortest { HasShortestHeaders (tables_for (flat self.now.children)) self.now.children (drop 33 result.now) }
+    {
+        self.packed.bytes()
+    }
+
+    /// The span parts used below the top, and then the two of the top's spans. More than 15 stand by falling number of
+    /// uses, ties by first use.
+    pub fn span_part_table(&self) -> &[SpanPart]
+        ensures value { result.now ≡ (packed self.now).parts }
+        ensures table { IsTable same_part short_parts (part_uses (flat self.now.children)) (take (length result.now - 2) result.now) }
+    {
+        self.packed.parts()
+    }
+
+    /// The symbols used. More than 63 stand by falling number of uses, ties by first use: in no other order do the
+    /// references to them take fewer bytes.
+    pub fn symbol_table(&self) -> &[Symbol]
+        ensures value { result.now ≡ (packed self.now).symbols }
+        ensures table { IsTable bytes_eq short_symbols (symbol_uses (flat self.now.children)) result.now }
+        ensures least { IsCheapest bytes_eq (symbol_uses (flat self.now.children)) result.now }
+    {
+        self.packed.symbols()
+    }
+}
+
+impl PartialEq for TopSubtree {
+    ghost eq = { same_root };
+
+    ghost laws = { Prim.search (comparing, same_token-equivalence, rules) };
+
+    fn eq(&self, other: &TopSubtree) -> bool
+        ensures value { result ≡ same_root self.now other.now }
+        ensures tree { IsTrue result ↔ self.now ≡ other.now }
+    {
+        self.packed == other.packed
+    }
+}
+
+impl Eq for TopSubtree {
+    ghost laws = { Prim.search (comparing, same_token-equivalence, rules) };
+}
+
+impl Hash for TopSubtree {
+    ghost hash_input = { fed_tree };
+
+    ghost respects_eq = { λ a b same. ap fed_tree ((same_root_iff a b).0 same) };
+
+    fn hash<H: Hasher>(&self, state: &mut H) {
+        self.packed.hash(state);
+    }
+}

@@ -1,0 +1,239 @@
+//! A list of trees in a stored tree.
+ghost use Rattle.std.specs.Prelude.{◌≡◌, ◌+◌, ◌-◌, ◌^◌, ◌<◌, min, ℕ, IfSome, MatchOption, Some, None, option_map, false};
+ghost use Rattle.tt_base.specs.Forest.{Forest, end, only, size, join, flat};
+ghost use Rattle.tt_base.specs.Token.{first_span as token_span};
+ghost use Rattle.tt_base.specs.Moves.{first_token, after_token, after_tree};
+ghost use Rattle.tt_pack.specs.ReaderOf.{ahead_of};
+ghost use Rattle.tt_base.specs.declared.leaf.Leaf.{Leaf};
+ghost use Rattle.tt_base.specs.declared.token_tree.TokenTree.TheVariants as token;
+ghost use Rattle.tt_view.specs.Cuts.{HoldsTrees, HoldsTrees-prop};
+ghost use Rattle.tt_base.specs.Siblings.{children_of, is_end};
+ghost use Rattle.tt_base.specs.OneRoot.{one_root, stripped};
+ghost use Rattle.tt_base.specs.Token.{count_below, close_span};
+ghost use Rattle.tt_base.specs.LastSpan.{last_span as last_span_of};
+ghost use Rattle.tt_base.specs.Walk.{begun};
+
+use crate::cursor::Cursor;
+use crate::flat::FlatTokens;
+use crate::iter::{TtElement, TtIter};
+use crate::split::Split;
+use crate::subtree_view::SubtreeView;
+use std::alloc::Global;
+use tt_base::{Leaf, Span, TokenTree};
+use tt_pack::{Packed, Reader};
+
+/// A list of trees: whole trees that stand one behind the other in a stored tree.
+#[derive(Clone, Copy)]
+pub struct TokenTreesView<'a> {
+    reader: Reader<'a>,
+    // how many tokens the trees have
+    len: usize,
+    pub ghost trees: { HoldsTrees (ahead_of reader) len } by { HoldsTrees-prop (ahead_of reader) len },
+}
+
+// How many tokens a header says are below it.
+fn count_below(token: &TokenTree) -> usize
+    ensures { result ≡ count_below token.now }
+{
+    match token {
+        TokenTree::Leaf(_) => 0,
+        TokenTree::Subtree(subtree) => subtree.usize_len(),
+    }
+}
+
+// A leaf's span, or a header's close span.
+fn close_span(token: &TokenTree) -> Span
+    ensures { result ≡ close_span token.now }
+{
+    match token {
+        TokenTree::Leaf(leaf) => *leaf.span(),
+        TokenTree::Subtree(subtree) => subtree.delimiter.close,
+    }
+}
+
+impl<'a> TokenTreesView<'a> {
+    ghost use Rattle.tt_view.specs.Views.{trees_of, steps_of_view};
+    ghost use Rattle.tt_view.specs.SubtreeViews.{root_of, flat_rest};
+    ghost use Rattle.tt_view.specs.Iters.{rest_of};
+    ghost use Rattle.tt_view.specs.Pieces.{left_in, is_done, asks_by};
+
+    /// No trees.
+    pub fn empty() -> TokenTreesView<'a>
+        ensures { trees_of result ≡ end }
+    {
+        TokenTreesView {
+            reader: Reader::empty(),
+            len: 0,
+        }
+    }
+
+    // A whole stored tree.
+    pub(crate) fn whole(packed: &'a Packed) -> TokenTreesView<'a>
+        ensures { trees_of result ≡ only packed.now }
+    {
+        TokenTreesView {
+            reader: Reader::start(packed),
+            len: packed.len(),
+        }
+    }
+
+    /// How many tokens the trees have, at any depth.
+    pub fn len(&self) -> usize
+        ensures { result ≡ size (trees_of self.now) }
+    {
+        self.len
+    }
+
+    /// Whether there is no tree.
+    pub fn is_empty(&self) -> bool
+        ensures { result ≡ is_end (trees_of self.now) }
+    {
+        self.len == 0
+    }
+
+    // How many tokens were decoded on the way here.
+    pub(crate) fn steps(&self) -> u64
+        ensures { result ≡ steps_of_view self.now }
+    {
+        self.reader.steps()
+    }
+
+    /// The trees one by one.
+    pub fn iter(&self) -> TtIter<'a>
+        ensures { rest_of result ≡ trees_of self.now }
+    {
+        TtIter::over(*self)
+    }
+
+    /// A cursor at the start of the walk through the trees.
+    pub fn cursor(&self, alloc: Global) -> Cursor<'a>
+        ensures { result ≡ begun (trees_of self.now) }
+    {
+        Cursor::new(alloc, *self)
+    }
+
+    /// The tokens one by one, each header before all that it holds.
+    pub fn iter_flat_tokens(&self) -> FlatTokens<'a>
+        ensures { flat_rest result ≡ trees_of self.now }
+    {
+        FlatTokens::over(*self)
+    }
+
+    /// The pieces between the trees of which `is_separator` answers true.
+    pub fn split<F: FnMut(TtElement<'a>) -> bool + Drop>(self, is_separator: F) -> Split<'a, F>
+        ensures rest { left_in result ≡ trees_of self.entry }
+        ensures done { is_done result ≡ false }
+        ensures asks { asks_by result ≡ is_separator }
+    {
+        Split::over(self.iter(), is_separator)
+    }
+
+    /// The one subtree that the list is, if it is one.
+    pub fn try_into_subtree(self) -> Option<SubtreeView<'a>>
+        ensures { option_map root_of result ≡ one_root (trees_of self.entry) }
+    {
+        let (token, _, behind) = self.parts()?;
+        match token {
+            TokenTree::Leaf(_) => None,
+            TokenTree::Subtree(_) => {
+                if behind.is_empty() {
+                    Some(SubtreeView::of_one(self))
+                } else {
+                    None
+                }
+            }
+        }
+    }
+
+    /// What the one invisible subtree holds that the list is; any other list as it is.
+    pub fn strip_invisible(self) -> TokenTreesView<'a>
+        ensures { trees_of result ≡ stripped (trees_of self.entry) }
+    {
+        match self.try_into_subtree() {
+            Some(subtree) => subtree.strip_invisible(),
+            None => self,
+        }
+    }
+
+    /// The span of the first token.
+    pub fn first_span(&self) -> Option<Span>
+        ensures { result ≡ option_map token_span (first_token (trees_of self.now)) }
+    {
+        let (token, _) = self.flat_parts()?;
+        Some(token.first_span())
+    }
+
+    /// The last leaf's span, or the closing span of an empty subtree where one comes last.
+    pub fn last_span(&self) -> Option<Span>
+        ensures { result ≡ last_span_of (trees_of self.now) }
+    {
+        let mut last = None;
+        let mut rest = *self;
+        while let Some((token, below, behind)) = rest.parts() {
+            if behind.is_empty() {
+                last = Some(close_span(&token));
+                rest = below;
+            } else {
+                rest = behind;
+            }
+        }
+        last
+    }
+
+    // The trees before `rest`, with which the list ends.
+    pub(crate) fn before(self, rest: TokenTreesView<'a>) -> TokenTreesView<'a>
+        requires { (given : Forest) × (trees_of self ≡ join given (trees_of rest)) }
+        ensures { join (trees_of result) (trees_of rest.entry) ≡ trees_of self.entry }
+    {
+        TokenTreesView {
+            reader: self.reader,
+            len: self.len - rest.len,
+        }
+    }
+
+    // The first token, what it holds if it is a header, and the trees behind all that.
+    pub(crate) fn parts(self) -> Option<(TokenTree, TokenTreesView<'a>, TokenTreesView<'a>)>
+        ensures parts { MatchOption result (trees_of self.entry ≡ end) (λ found. (first_token (trees_of self.entry) ≡ Some found.0) × (trees_of found.1 ≡ children_of (trees_of self.entry)) × (trees_of found.2 ≡ after_tree (trees_of self.entry))) }
+        ensures steps { IfSome result (λ found. steps_of_view found.2 ≡ min (steps_of_view self.entry + 1) (2 ^ 64 - 1)) }
+    {
+        if self.len == 0 {
+            return None;
+        }
+        let mut rest = self.reader;
+        let (token, below) = rest.advance_skip()?;
+        let len = count_below(&token);
+        let children = TokenTreesView { reader: below, len };
+        let rest = TokenTreesView {
+            reader: rest,
+            len: self.len - 1 - len,
+        };
+        Some((token, children, rest))
+    }
+
+    // The first token, and the trees that follow it when its own come next.
+    pub(crate) fn flat_parts(self) -> Option<(TokenTree, TokenTreesView<'a>)>
+        ensures { MatchOption result (trees_of self.entry ≡ end) (λ found. (first_token (trees_of self.entry) ≡ Some found.0) × (trees_of found.1 ≡ after_token (trees_of self.entry))) }
+    {
+        if self.len == 0 {
+            return None;
+        }
+        let mut reader = self.reader;
+        let token = reader.advance()?;
+        let rest = TokenTreesView {
+            reader,
+            len: self.len - 1,
+        };
+        Some((token, rest))
+    }
+
+    // The first token, if it is a leaf, and the trees that follow it.
+    pub(crate) fn flat_leaf(self) -> Option<(Leaf, TokenTreesView<'a>)>
+        ensures { MatchOption result ((it : Leaf) → first_token (trees_of self.entry) ≡ Some (token.Leaf it) → ⊥) (λ found. (first_token (trees_of self.entry) ≡ Some (token.Leaf found.0)) × (trees_of found.1 ≡ after_token (trees_of self.entry))) }
+    {
+        let (token, rest) = self.flat_parts()?;
+        match token {
+            TokenTree::Leaf(leaf) => Some((leaf, rest)),
+            TokenTree::Subtree(_) => None,
+        }
+    }
+}
