@@ -2,9 +2,9 @@
 use Rattle.std.proofs.Common.{List, [], ◌∷◌, ◌++◌, ◌∙◌, ℕ, ap, append-nil, refl, subst, sym}
 use Rattle.std.specs.List.{AllZip, concat}
 use Rattle.std.proofs.lemmas.List.Folds.{concat-append}
-use Rattle.tt_run.specs.declared.command.Command.{Command}
+use Rattle.tt_language.specs.declared.command.Command.{Command}
 use Rattle.tt_run.specs.State.{State}
-use Rattle.tt_run.specs.Command.{StandsFor}
+use Rattle.tt_language.specs.Command.{StandsFor}
 use Rattle.tt_run.specs.Machine.{Step, Run}
 use Rattle.tt_run.specs.Run.{Answered}
 

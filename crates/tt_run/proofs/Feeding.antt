@@ -7,7 +7,8 @@ use Rattle.std.proofs.KnownBytes.{Appends-nil, Appends-trans, Appends-kept}
 use Rattle.tt_run.specs.declared.outcome.RunFault.{RunFault}
 use Rattle.tt_run.specs.declared.outcome.RunFault.TheVariants.{Read, Write, Memory}
 use Rattle.tt_run.specs.Stage.{Stage}
-use Rattle.tt_run.specs.Lines.{ended_lines, IsOneLine}
+use Rattle.tt_language.specs.Reading.{IsOneLine}
+use Rattle.tt_run.specs.Lines.{ended_lines}
 use Rattle.tt_run.specs.Run.{bad_line}
 use Rattle.tt_run.specs.Session.{Follows, Halts, Breaks, Answers, Feeds}
 use Rattle.tt_run.proofs.Answering.{Answered-none, Answered-trans}

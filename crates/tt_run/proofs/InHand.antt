@@ -2,7 +2,8 @@
 use Rattle.std.proofs.Common.{◌≡◌, ◌≢◌, ℕ, ◌+◌, ◌<◌, ◌≤◌, List, [], ◌∷◌, ◌++◌, length, ap, ◌∙◌, refl, inl, inr, append_assoc, length-append, arith}
 use Rattle.std.proofs.lemmas.Bool.{cases_eq}
 use Rattle.std.proofs.lemmas.List.Elements.{All-nil, All-cons, All-head, All-tail}
-use Rattle.tt_run.specs.Lines.{ended_lines, EndsLine, IsOneLine}
+use Rattle.tt_language.specs.Reading.{IsOneLine}
+use Rattle.tt_run.specs.Lines.{ended_lines, EndsLine}
 
 -- bytes begin with one line, which ends in them or at their end
 pub record InHand (bytes : List ℕ) : Type 0 where

@@ -3,7 +3,8 @@ use Rattle.std.proofs.Common.{◌≡◌, ◌≢◌, ℕ, List, [], ◌∷◌, �
 use Rattle.std.specs.List.{All, onto_first}
 use Rattle.std.proofs.lemmas.Grind.{common_steps}
 use Rattle.std.proofs.lemmas.List.Elements.{All-head, All-tail}
-use Rattle.tt_run.specs.Lines.{lines_of, ended_lines, IsOneLine}
+use Rattle.tt_language.specs.Reading.{IsOneLine}
+use Rattle.tt_run.specs.Lines.{lines_of, ended_lines}
 
 not_feed : (byte : ℕ) → byte ≢ 10 → eqb byte 10 ≡ false
 not_feed byte other = grind (rules, common_steps)

@@ -3,7 +3,7 @@ use Rattle.std.proofs.Common.{◌≡◌, ◌≢◌, ℕ, ◌+◌, ◌<◌, ◌==
 use Rattle.std.proofs.lemmas.List.{get_or-take, take_more}
 use Rattle.std.proofs.lemmas.List.Elements.{All-from_get_or}
 use Rattle.memchr.specs.Find.{IsFirstByte, is_byte}
-use Rattle.tt_run.specs.Lines.{IsOneLine}
+use Rattle.tt_language.specs.Reading.{IsOneLine}
 
 -- where none is found, there is one line
 pub IsOneLine-none : (bytes : List ℕ) → IsFirstByte (is_byte 10) bytes None → IsOneLine bytes

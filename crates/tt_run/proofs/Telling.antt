@@ -14,7 +14,8 @@ use Rattle.tt_run.specs.Output.{text_told}
 use Rattle.tt_run.specs.Progress.{Progress, fresh}
 use Rattle.tt_run.specs.Stage.{Stage, stage_of}
 use Rattle.tt_run.specs.State.{start}
-use Rattle.tt_run.specs.Lines.{lines_of, ended_lines, IsOneLine}
+use Rattle.tt_language.specs.Reading.{IsOneLine}
+use Rattle.tt_run.specs.Lines.{lines_of, ended_lines}
 use Rattle.tt_run.specs.Run.{AreAnswers, PrecedesBadLine, bad_line, StopsWithin, Tells}
 use Rattle.tt_run.specs.Session.{Follows, Breaks, Answers, Feeds, Finishes}
 use Rattle.tt_run.proofs.Answering.{Answered-none, Answered-trans}

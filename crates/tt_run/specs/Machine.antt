@@ -1,23 +1,31 @@
 -- The plain machine: what each command answers, and the state it leaves. A later command is one more case.
 use Rattle.std.specs.Prelude.{◌≡◌, ◌≢◌, ℕ, List, [], ◌∷◌, ◌++◌, ◌⊎◌, Option, None, Some}
-use Rattle.tt_base.specs.declared.fault.TtFault.TheVariants.{Memory, NotOneSubtree}
-use Rattle.tt_base.specs.Forest.{Root, IsOneSubtree, only}
-use Rattle.tt_base.specs.TreeText.{display}
-use Rattle.tt_run.specs.declared.command.Command.{Command}
-use Rattle.tt_run.specs.declared.command.Command.TheVariants as command
-use Rattle.tt_run.specs.Answer.{line, ok_line, empty_line, yes_line, no_line, fault_line}
+use Rattle.tt.specs.Forest.{Root, IsOneSubtree}
+use Rattle.tt.specs.PackFault.{IsPackFault}
+use Rattle.tt.specs.Stored.{IsWithinLimits}
+use Rattle.tt_base.specs.declared.fault.TtFault.{TtFault}
+use Rattle.tt_base.specs.declared.fault.TtFault.TheVariants.{Memory}
+use Rattle.tt_language.specs.declared.command.Command.{Command}
+use Rattle.tt_language.specs.declared.command.Command.TheVariants as command
+use Rattle.tt_run.specs.Answer.{ok_line, empty_line, yes_line, no_line, fault_line}
 use Rattle.tt_run.specs.State.{State, tree_in, with_tree}
+use Rattle.tt_run.specs.ViewText.{split_text, view_text}
 
--- the list becomes a tree in the slot, and is then empty; a list that is not one subtree stays
+-- the list becomes a tree in the slot, and is then empty; a list that is not packed stays
 abbrev pub MakesTree : State → ℕ → List ℕ → State → Type 0
 MakesTree old slot answer new =
-    ((one : IsOneSubtree old.list) × (answer ≡ ok_line) × (new ≡ record (with_tree old slot one.0) { list = [] }))
-    ⊎ ((IsOneSubtree old.list → ⊥) × (answer ≡ fault_line NotOneSubtree) × (new ≡ old))
+    ((one : IsOneSubtree old.list) × IsWithinLimits one.0 × (answer ≡ ok_line) × (new ≡ record (with_tree old slot one.0) { list = [] }))
+    ⊎ ((fault : TtFault) × IsPackFault old.list fault × (answer ≡ fault_line fault) × (new ≡ old))
 
--- the Display text of a slot's tree
-abbrev pub shown : Option Root → List ℕ
-shown None = empty_line
-shown (Some root) = line (display (only root))
+-- the tree, if there is one, comes to the slot too
+abbrev pub Copies : State → ℕ → Option Root → List ℕ → State → Type 0
+Copies old to None answer new = (answer ≡ empty_line) × (new ≡ old)
+Copies old to (Some root) answer new = (answer ≡ ok_line) × (new ≡ with_tree old to root)
+
+-- the text of a slot's tree, if it holds one
+abbrev pub text_or_empty : (Root → List ℕ) → Option Root → List ℕ
+text_or_empty text None = empty_line
+text_or_empty text (Some root) = text root
 
 -- yes exactly where both slots hold the same tree
 abbrev pub Compares : Option Root → Option Root → List ℕ → Type 0
@@ -28,15 +36,21 @@ Compares (Some left) (Some right) answer = ((left ≡ right) × (answer ≡ yes_
 -- where there is memory, the machine answers so to the command, and goes on from old to new
 abbrev pub Does : State → Command → List ℕ → State → Type 0
 Does old (command.Item token) answer new = (answer ≡ ok_line) × (new ≡ record old { list = old.list ++ token ∷ [] })
+Does old command.Clear answer new = (answer ≡ ok_line) × (new ≡ record old { list = [] })
 Does old (command.List slot) answer new = MakesTree old slot answer new
-Does old (command.Show slot) answer new = (answer ≡ shown (tree_in old slot)) × (new ≡ old)
+Does old (command.Copy to from) answer new = Copies old to (tree_in old from) answer new
+Does old (command.View view slot) answer new = (answer ≡ text_or_empty (view_text view) (tree_in old slot)) × (new ≡ old)
+Does old (command.Split slot char) answer new = (answer ≡ text_or_empty (split_text char) (tree_in old slot)) × (new ≡ old)
 Does old (command.Equal left right) answer new = Compares (tree_in old left) (tree_in old right) answer × (new ≡ old)
 
 -- the command may run out of memory
 abbrev pub TakesMemory : Command → Type 0
 TakesMemory (command.Item token) = Unit {0}
+TakesMemory command.Clear = ⊥
 TakesMemory (command.List slot) = Unit {0}
-TakesMemory (command.Show slot) = Unit {0}
+TakesMemory (command.Copy to from) = Unit {0}
+TakesMemory (command.View view slot) = Unit {0}
+TakesMemory (command.Split slot char) = Unit {0}
 TakesMemory (command.Equal left right) = ⊥
 
 -- a step of the machine: a command that runs out of memory answers fault 1 and changes nothing

@@ -3,17 +3,18 @@ use Rattle.std.specs.Prelude.{◌≡◌, ◌≤◌, ℕ, ◌+◌, ◌-◌, ◌^�
 use Rattle.std.specs.List.{All, AllZip, concat}
 use Rattle.std.specs.Fmt.{decimal}
 use Rattle.std.specs.Io.KnownBytes.{Appends, Consumes, IsAtEnd}
-use Rattle.tt_run.specs.declared.command.Command.{Command}
+use Rattle.tt_language.specs.declared.command.Command.{Command}
 use Rattle.tt_run.specs.declared.outcome.End.{End}
 use Rattle.tt_run.specs.declared.outcome.End.TheVariants.{Clean, BadLine}
 use Rattle.tt_run.specs.declared.outcome.RunFault.{RunFault}
 use Rattle.tt_run.specs.declared.outcome.RunFault.TheVariants.{Read, Write, Memory}
 use Rattle.tt_run.specs.declared.output.TheConstants.{BLOCK}
 use Rattle.tt_run.specs.State.{State, start}
-use Rattle.tt_run.specs.Command.{StandsFor, IsNoCommand}
+use Rattle.tt_language.specs.Command.{StandsFor, IsNoCommand}
 use Rattle.tt_run.specs.Answer.{line}
 use Rattle.tt_run.specs.Machine.{Run}
-use Rattle.tt_run.specs.Lines.{lines_of, ended_lines, EndsLine, IsOneLine}
+use Rattle.tt_language.specs.Reading.{IsOneLine}
+use Rattle.tt_run.specs.Lines.{lines_of, ended_lines, EndsLine}
 
 -- each line is a command, and text is the answers to them of a run of the machine from old to new
 pub record Answered (old : State) (lines : List (List ℕ)) (text : List ℕ) (new : State) : Type 0 where

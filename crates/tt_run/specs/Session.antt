@@ -8,8 +8,9 @@ use Rattle.tt_run.specs.declared.outcome.RunFault.{RunFault}
 use Rattle.tt_run.specs.declared.outcome.RunFault.TheVariants.{Read, Write, Memory}
 use Rattle.tt_run.specs.State.{State}
 use Rattle.tt_run.specs.Stage.{Stage}
-use Rattle.tt_run.specs.Lines.{lines_of, ended_lines, IsOneLine}
-use Rattle.tt_run.specs.Command.{IsNoCommand}
+use Rattle.tt_language.specs.Reading.{IsOneLine}
+use Rattle.tt_run.specs.Lines.{lines_of, ended_lines}
+use Rattle.tt_language.specs.Command.{IsNoCommand}
 use Rattle.tt_run.specs.Run.{Answered, next_number, bad_line}
 
 -- each line that ends in the bytes was answered, and what comes after them has begun

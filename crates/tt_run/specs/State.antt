@@ -2,7 +2,7 @@
 use Rattle.std.specs.Coded.{Coded, code_by, coded×, coded_list, coded_option}
 use Rattle.std.specs.Prelude.{ℕ, List, [], Option, None, Some, refl, replicate, slice_index_or, slice_set}
 use Rattle.tt_base.specs.Forest.{Root}
-use Rattle.tt_base.specs.ForestCode.{root_code}
+use Rattle.tt_base.specs.Unflat.{root_code}
 use Rattle.tt_base.specs.contracts.token_tree.TokenTree.{the_row as token_row}
 use Rattle.tt_base.specs.declared.token_tree.TokenTree.{TokenTree}
 

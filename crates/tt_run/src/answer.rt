@@ -1,6 +1,8 @@
 //! What the machine answers, in bytes.
-ghost use Rattle.std.specs.Prelude.{◌≡◌, ◌++◌, ◌∷◌, [], string_bytes, if◌then◌else◌};
+ghost use Rattle.std.specs.Prelude.{◌≡◌, ◌++◌, ◌∷◌, [], MatchResult, string_bytes, if◌then◌else◌};
+ghost use Rattle.tt_base.specs.declared.fault.TtFault.TheVariants.{Memory};
 
+use std::alloc::AllocError;
 use std::marker::Model;
 use tt_base::TtFault;
 
@@ -46,12 +48,15 @@ impl Answer {
         }
     }
 
-    /// The lines of a text, which ends in a line feed.
-    pub(crate) fn built(text: String) -> Answer
-        ensures { result ≡ string_bytes text }
+    /// The lines of a text, which ends in a line feed; `fault 1` where memory for it was refused.
+    pub(crate) fn of_text(text: Result<String, AllocError>) -> Answer
+        ensures { MatchResult text (λ built. result ≡ string_bytes built) (λ _. result ≡ fault_line Memory) }
     {
-        Answer {
-            held: Held::Built(text),
+        match text {
+            Ok(text) => Answer {
+                held: Held::Built(text),
+            },
+            Err(_) => Answer::fault(TtFault::Memory),
         }
     }
 

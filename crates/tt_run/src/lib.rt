@@ -1,26 +1,27 @@
 //! The program `tt_run`: reads commands on token trees, one a line, and writes the answers.
 //!
-//! `run` is the loop over lines, `Command` the language (`docs/LANGUAGE.md`) and `Machine` what the commands work on.
+//! `run` is the loop over lines, `Command` what a line may ask (`docs/LANGUAGE.md`) and `Machine` what the commands work on.
 #![tactic(auto)]
 
 mod answer;
-mod command;
-mod display;
+mod glued;
 mod machine;
 mod noted;
 mod outcome;
 mod output;
+mod pieces;
 mod session;
-mod slot;
-mod top_subtree;
+mod stored_lines;
+mod token_lines;
+mod view_text;
+mod walk_lines;
 
 pub use answer::Answer;
-pub use command::Command;
 pub use machine::Machine;
 pub use noted::Noted;
 pub use outcome::{End, RunFault};
 pub use session::run;
-pub use slot::Slot;
+pub use tt_language::{Command, Slot, View};
 
 #[cfg(test)]
 mod tests;

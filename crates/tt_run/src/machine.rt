@@ -2,13 +2,13 @@
 ghost use Rattle.std.specs.Prelude.{◌≡◌};
 
 use crate::answer::Answer;
-use crate::command::Command;
-use crate::slot::Slot;
-use crate::top_subtree::TopSubtree;
+use crate::pieces::piece_sizes;
+use crate::view_text::view_text;
 use std::alloc::Global;
 use std::marker::Model;
 use std::mem;
-use tt_base::{TokenTree, TtFault};
+use tt::{TokenTree, TopSubtree, TtFault};
+use tt_language::{Command, Slot, View};
 
 /// What the commands work on: 16 slots, each empty or a tree, and a list of tokens.
 /// A contract sees the state of the plain machine.
@@ -54,8 +54,11 @@ impl Machine {
     {
         match command {
             Command::Item(token) => self.item(token),
+            Command::Clear => self.clear(),
             Command::List(slot) => self.list(slot),
-            Command::Show(slot) => self.show(slot),
+            Command::Copy(to, from) => self.copy(to, from),
+            Command::View(view, slot) => self.view(view, slot),
+            Command::Split(slot, char) => self.split(slot, char),
             Command::Equal(left, right) => self.equal(left, right),
         }
     }
@@ -69,12 +72,21 @@ impl Machine {
         Answer::ok()
     }
 
+    fn clear(&mut self) -> Answer
+        ensures { Step self.old Command.Clear result self.new }
+    {
+        self.list.clear();
+        Answer::ok()
+    }
+
     fn list(&mut self, slot: Slot) -> Answer
         ensures { Step self.old (Command.List slot) result self.new }
     {
         let list = mem::replace(&mut self.list, Vec::new(self.alloc));
         match TopSubtree::from_serialized(self.alloc, list) {
             Ok(tree) => {
+                // its contract says that the tree is within the limits
+                let _stored = tree.packed_bytes();
                 self.slots[slot.index()] = Some(tree);
                 Answer::ok()
             }
@@ -92,16 +104,37 @@ impl Machine {
         self.slots[slot.index()].as_ref()
     }
 
-    fn show(&self, slot: Slot) -> Answer
-        ensures { Step self.now (Command.Show slot) result self.now }
+    fn copy(&mut self, to: Slot, from: Slot) -> Answer
+        ensures { Step self.old (Command.Copy to from) result self.new }
+    {
+        let Some(tree) = self.tree(from) else {
+            return Answer::empty();
+        };
+        match tree.clone(self.alloc) {
+            Ok(copy) => {
+                self.slots[to.index()] = Some(copy);
+                Answer::ok()
+            }
+            Err(fault) => Answer::fault(fault),
+        }
+    }
+
+    fn view(&self, view: View, slot: Slot) -> Answer
+        ensures { Step self.now (Command.View view slot) result self.now }
     {
         let Some(tree) = self.tree(slot) else {
             return Answer::empty();
         };
-        match format!(in self.alloc; "{tree}\n") {
-            Ok(text) => Answer::built(text),
-            Err(_) => Answer::fault(TtFault::Memory),
-        }
+        Answer::of_text(view_text(self.alloc, view, tree))
+    }
+
+    fn split(&self, slot: Slot, char: char) -> Answer
+        ensures { Step self.now (Command.Split slot char) result self.now }
+    {
+        let Some(tree) = self.tree(slot) else {
+            return Answer::empty();
+        };
+        Answer::of_text(piece_sizes(self.alloc, tree, char))
     }
 
     fn equal(&self, left: Slot, right: Slot) -> Answer

@@ -4,15 +4,14 @@ ghost use Rattle.std.specs.Io.KnownBytes.{Keeps};
 ghost use Rattle.tt_run.specs.Noted.{noted_inner, noted_failed};
 ghost use Rattle.tt_run.specs.Output.{text_told};
 ghost use Rattle.tt_run.specs.Progress.{Progress, fresh, progress_code};
-ghost use Rattle.tt_run.specs.Command.{IsNoCommand, PrintsTree, StandsFor};
-ghost use Rattle.tt_run.specs.Lines.{IsOneLine};
+ghost use Rattle.tt_language.specs.Command.{IsNoCommand, PrintsTree, StandsFor};
+ghost use Rattle.tt_language.specs.Reading.{IsOneLine};
 ghost use Rattle.tt_run.specs.Machine.{Step};
 ghost use Rattle.tt_run.specs.Run.{Tells, Fails};
 ghost use Rattle.tt_run.specs.Session.{Answers, Feeds, Finishes};
 ghost use Rattle.tt_run.specs.Stage.{stage_of};
 
 use crate::answer::Answer;
-use crate::command::Command;
 use crate::machine::Machine;
 use crate::noted::Noted;
 use crate::outcome::{End, RunFault};
@@ -23,6 +22,7 @@ use std::io::{Read, Write};
 use std::marker::Model;
 use std::mem;
 use tt_base::TtFault;
+use tt_language::Command;
 
 // The machine, the line that began in an earlier block, how many lines were answered, and the answers.
 #[derive(Drop)]

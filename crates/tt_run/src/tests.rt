@@ -6,10 +6,9 @@ use std::io::ErrorKind;
 use std::process::Abort;
 use std::test::Fail;
 
-mod bad_lines;
 mod fakes;
-mod good_lines;
 mod long_runs;
+mod texts;
 
 // The first run of `docs/LANGUAGE.md`.
 const SCRIPT: &[u8] = b"item sub paren 0:0@0..1#0 0:0@3..4#0 2

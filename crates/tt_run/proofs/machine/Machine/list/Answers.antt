@@ -1,6 +1,5 @@
-use Rattle.std.proofs.Common.{◌≡◌, [], Some, inl, set, ◌∙◌, rules}
-use Rattle.tt_base.specs.Forest.{IsOneSubtree}
-use Rattle.tt_run.proofs.Steps.{refused_list}
+use Rattle.std.proofs.Common.{◌≡◌, [], Some, inl, inr, set, ◌∙◌, rules}
+use Rattle.tt.specs.Forest.{IsOneSubtree}
 use Rattle.tt_run.proofs.machine.Machine.list.Goals as goal
 
 pub returns-in-Ok : goal.returns-in-Ok
@@ -8,12 +7,11 @@ returns-in-Ok c =
     let list : c.self.inside.list.items ≡ c.replace-list.result.items = search rules in
     let empty : c.replace-list.new.dest.items ≡ [] = search rules in
     let one : IsOneSubtree c.self.inside.list.items = (c.in-Ok.tree, list ∙ c.in-Ok.ensures.ok, c.in-Ok.ensures.counts) in
-    rw (← c.self.view_is) (inl (inl (one, c.ok.ensures, λ i. record { slots = set c.self.inside.slots (c.index.ensures.value i) (Some c.in-Ok.tree); list = empty i })))
+    rw (← c.self.view_is)
+    (inl (inl (one, c.packed_bytes-stored.ensures.limits, c.ok.ensures, λ i. record { slots = set c.self.inside.slots (c.index.ensures.value i) (Some c.in-Ok.tree); list = empty i })))
 
 pub returns-in-Err : goal.returns-in-Err
 returns-in-Err c =
     let list : c.in-Err.refused.value.items ≡ c.self.inside.list.items = search rules in
     let why = rw c.replace-list.ensures.value at c.in-Err.ensures.fault in
-    rw (← c.self.view_is)
-    (refused_list (record { slots = c.self.inside.slots; list = c.self.inside.list.items }) (record { slots = c.self.inside.slots; list = c.in-Err.refused.value.items })
-    c.args.slot c.fault.result c.in-Err.refused.fault (λ i. record { slots = c.self.inside.slots; list = list i }) c.fault.ensures why)
+    rw (← c.self.view_is) (inl (inr (c.in-Err.refused.fault, why, c.fault.ensures, λ i. record { slots = c.self.inside.slots; list = list i })))

@@ -1,0 +1,117 @@
+-- What a line's first word tells of its command. A later command is one more case of `part`, `make` and `taken_apart`.
+use Rattle.std.proofs.Common.{◌≡◌, ◌<◌, ℕ, List, ◌++◌, Option, Some, None, Result, Ok, Err, IfOk, IfSome, MatchOption, refl, sym, ap, subst, ◌∙◌, rules}
+use Rattle.std.specs.Prelude.{decimal, encode_utf8}
+use Rattle.std.specs.Char.{IsScalar}
+use Rattle.std.specs.Option.{option_map}
+use Rattle.tt_base.specs.declared.fault.TtFault.{TtFault}
+use Rattle.tt_base.specs.Fits.{TokenFits}
+use Rattle.tt_language.specs.declared.command.Command.{Command}
+use Rattle.tt_language.specs.declared.command.Command.TheVariants as command
+use Rattle.tt_language.specs.declared.command.verb.Verb.{Verb}
+use Rattle.tt_language.specs.declared.command.verb.Verb.TheVariants as verb
+use Rattle.tt_language.specs.Command.{CommandFits, IsNoCommand, StandsFor, spell}
+use Rattle.tt_language.specs.Reading.{IsOneLine, IsTail, Lacks, Reads, ReadsPieces, line_of, spaced}
+use Rattle.tt_language.specs.Token.{token_words}
+use Rattle.tt_language.specs.Verb.{verb_word}
+use Rattle.tt_language.specs.WordLaws.{spaceless_slot, spaceless_verb}
+use Rattle.tt_language.proofs.Cutting.{IsTail-spaced, word_unique}
+use Rattle.tt_language.proofs.OneToOne.{one_character, one_slot, one_token, one_verb}
+use Rattle.tt_language.proofs.Parts.{Part, nothing, word_then, rest_of_line}
+
+abbrev slot_then : Part → Part
+slot_then = word_then decimal (λ slot. slot < 16) spaceless_slot one_slot
+
+-- what follows the verb
+abbrev pub part : Verb → Part
+part verb.Item = rest_of_line token_words TokenFits one_token
+part verb.Clear = nothing
+part verb.List = slot_then nothing
+part verb.Copy = slot_then (slot_then nothing)
+part verb.Split = slot_then (rest_of_line encode_utf8 IsScalar one_character)
+part verb.Equal = slot_then (slot_then nothing)
+part (verb.View view) = slot_then nothing
+
+-- the command of a verb and of what follows it
+abbrev pub make : (v : Verb) → (part v).Values → Command
+make verb.Item = command.Item
+make verb.Clear = λ _. command.Clear
+make verb.List = λ (slot, _). command.List slot
+make verb.Copy = λ (a, (b, _)). command.Copy a b
+make verb.Split = λ (a, char). command.Split a char
+make verb.Equal = λ (a, (b, _)). command.Equal a b
+make (verb.View view) = λ (slot, _). command.View view slot
+
+-- it is spelled so
+spells_right : (v : Verb) (a : (part v).Values) → spell (make v a) ≡ line_of (verb_word v) ((part v).pieces a)
+spells_right verb.Item a = refl
+spells_right v a = refl
+
+-- and it fits where that does
+fits_right : (v : Verb) (a : (part v).Values) → (part v).Fits a → CommandFits (make v a)
+fits_right verb.Item a p = p
+fits_right v a p = search rules
+
+-- the command is that of the verb and of values that fit
+record IsMade (v : Verb) (c : Command) : Type 0 where
+  value : (part v).Values
+  fits : (part v).Fits value
+  made : c ≡ make v value
+
+-- every command that fits is
+taken_apart : (c : Command) → CommandFits c → (v : Verb) × IsMade v c
+taken_apart (command.Item token) fits = (verb.Item, record { value = token; fits = fits; made = refl })
+taken_apart command.Clear fits = (verb.Clear, record { value = tt; fits = tt; made = refl })
+taken_apart (command.List slot) fits = (verb.List, record { value = (slot, tt); fits = (fits, tt); made = refl })
+taken_apart (command.Copy a b) fits = (verb.Copy, record { value = (a, (b, tt)); fits = (fits.0, (fits.1, tt)); made = refl })
+taken_apart (command.Split a char) fits = (verb.Split, record { value = (a, char); fits = (fits.0, fits.1); made = refl })
+taken_apart (command.Equal a b) fits = (verb.Equal, record { value = (a, (b, tt)); fits = (fits.0, (fits.1, tt)); made = refl })
+taken_apart (command.View view slot) fits = (verb.View view, record { value = (slot, tt); fits = (fits, tt); made = refl })
+
+spelled_as : (v : Verb) (c : Command) (is : IsMade v c) → spell c ≡ verb_word v ++ spaced ((part v).pieces is.value)
+spelled_as v c is = ap spell is.made ∙ spells_right v is.value
+
+-- the first word of a line tells the verb, and its tail the values
+told : (line tail : List ℕ) (v : Verb) (c : Command) → IsTail tail → line ≡ verb_word v ++ tail → line ≡ spell c → CommandFits c
+    → (is : IsMade v c) × (tail ≡ spaced ((part v).pieces is.value))
+told line tail v c t e d fits =
+    let (w, is) = taken_apart c fits in
+    let u = word_unique _ _ _ _ (spaceless_verb w) (spaceless_verb v) (IsTail-spaced ((part w).pieces is.value)) t (sym (d ∙ spelled_as w c is) ∙ e) in
+    let verbs : w ≡ v = one_verb w v tt tt u.0 in
+    subst (λ (x : Verb). (made : IsMade x c) × (tail ≡ spaced ((part x).pieces made.value))) verbs (is, sym u.1)
+
+pub StandsFor-unique : (line : List ℕ) (c d : Command) → StandsFor line c → StandsFor line d → c ≡ d
+StandsFor-unique line c d s t =
+    let (v, is) = taken_apart c s.fits in
+    let (other, same) = told line (spaced ((part v).pieces is.value)) v d (IsTail-spaced ((part v).pieces is.value)) (s.spelled ∙ spelled_as v c is) t.spelled t.fits in
+    is.made ∙ ap (make v) ((part v).one is.value other.value is.fits other.fits same) ∙ sym other.made
+
+-- a line that begins with no verb is no command
+pub no_verb : (line word tail : List ℕ) → line ≡ word ++ tail → IsTail tail → Lacks 32 word → ((v : Verb) → Unit {0} → word ≡ verb_word v → ⊥) → (c : Command) → CommandFits c → line ≡ spell c → ⊥
+no_verb line word tail e t lacks none c fits d =
+    let (v, is) = taken_apart c fits in
+    let u = word_unique _ _ _ _ lacks (spaceless_verb v) t (IsTail-spaced ((part v).pieces is.value)) (sym e ∙ d ∙ spelled_as v c is) in
+    none v tt u.0
+
+-- what follows a verb is read as the command's values
+pub command_read : (v : Verb) (line word tail : List ℕ) (r : Option (part v).Values) (found : Option Command) → line ≡ word ++ tail → IsTail tail → word ≡ verb_word v
+    → ReadsPieces (part v).pieces (part v).Fits tail r → found ≡ option_map (make v) r → Reads spell CommandFits line found
+command_read v line word tail None found e t w unread is =
+    rw is
+    (λ c fits d.
+    let (made, same) = told line tail v c t (e ∙ ap (λ x. x ++ tail) w) d fits in
+    unread made.value made.fits same)
+command_read v line word tail (Some a) found e t w (spelled, fits) is =
+    rw is (e ∙ ap (λ x. x ++ tail) w ∙ ap (λ x. verb_word v ++ x) spelled ∙ sym (spells_right v a), fits_right v a fits)
+
+-- what a line reads as is what it stands for
+pub line_read : (line : List ℕ) (found : Result (Option Command) TtFault) → IsOneLine line → IfOk found (Reads spell CommandFits line)
+    → IfOk found (λ command. MatchOption command (IsNoCommand line) (StandsFor line))
+line_read line (Err fault) one p = tt
+line_read line (Ok None) one p = λ command stands. p command stands.fits stands.spelled
+line_read line (Ok (Some command)) one (spelled, fits) = record { one_line = one; spelled = spelled; fits = fits }
+
+-- a command was read from one line
+pub one_line_read : (line : List ℕ) (found : Result (Option Command) TtFault) → IsOneLine line → IfOk found (λ command. IfSome command (λ _. IsOneLine line))
+one_line_read line (Err fault) one = tt
+one_line_read line (Ok None) one = tt
+one_line_read line (Ok (Some command)) one = one

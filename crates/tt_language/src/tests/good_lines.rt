@@ -1,0 +1,254 @@
+//! Lines, each with the command that it stands for.
+use crate::{Command, Slot, View};
+use std::alloc::Global;
+use std::process::Abort;
+use std::test::Fail;
+use tt_base::{
+    Delimiter, DelimiterKind, ErasedFileAstId, FileId, Ident, IdentIsRaw, Leaf, LitKind, Literal,
+    Punct, Spacing, Span, SpanAnchor, Subtree, Symbol, SyntaxContext, TextRange, TextSize,
+    TokenTree, TtFault,
+};
+
+// 1:2@3..3#4
+fn small_span() -> Span {
+    Span {
+        range: TextRange::empty(TextSize::new(3)),
+        anchor: SpanAnchor {
+            file_id: FileId(1),
+            ast_id: ErasedFileAstId(2),
+        },
+        ctx: SyntaxContext(4),
+    }
+}
+
+// The span of the largest numbers.
+fn large_span() -> Span {
+    Span {
+        range: TextRange::empty(TextSize::new(u32::MAX)),
+        anchor: SpanAnchor {
+            file_id: FileId(u32::MAX),
+            ast_id: ErasedFileAstId(u32::MAX),
+        },
+        ctx: SyntaxContext(u32::MAX),
+    }
+}
+
+#[test]
+fn stand_for_commands_of_slots(rt: HostRuntime) -> Result<(), Fail> {
+    let zero = Slot::new(0).ok_or("0")?;
+    let last = Slot::new(15).ok_or("15")?;
+    let rows = [
+        ("clear", Command::Clear),
+        ("list 0", Command::List(zero)),
+        ("list 15", Command::List(last)),
+        ("copy 0 15", Command::Copy(zero, last)),
+        ("show 15", Command::View(View::Show, last)),
+        ("flat 15", Command::View(View::Flat, last)),
+        ("siblings 0", Command::View(View::Siblings, zero)),
+        ("walk 15", Command::View(View::Walk, last)),
+        ("glue 0", Command::View(View::Glue, zero)),
+        ("bytes 0", Command::View(View::Bytes, zero)),
+        ("parts 0", Command::View(View::Parts, zero)),
+        ("symbols 0", Command::View(View::Symbols, zero)),
+        ("split 0 ;", Command::Split(zero, ';')),
+        ("split 15  ", Command::Split(last, ' ')),
+        ("split 15 \u{2192}", Command::Split(last, '\u{2192}')),
+        ("equal 0 15", Command::Equal(zero, last)),
+        ("equal 15 0", Command::Equal(last, zero)),
+    ];
+    for (line, command) in rows {
+        let found = Command::parse(rt.alloc(), line.as_bytes())?;
+        assert_eq!(rt; found, Some(command), "{line}");
+    }
+    Ok(())
+}
+
+// A header with the largest numbers.
+const LARGEST_HEAD: &str =
+    "item sub paren 1:2@3..3#4 4294967295:4294967295@4294967295..4294967295#4294967295 4294967295";
+
+fn head(kind: DelimiterKind, close: Span, len: u32) -> Command {
+    let delimiter = Delimiter {
+        open_span: small_span(),
+        close,
+        kind,
+    };
+    Command::Item(TokenTree::Subtree(Subtree { delimiter, len }))
+}
+
+#[test]
+fn stand_for_heads(rt: HostRuntime) -> Result<(), Fail> {
+    let rows = [
+        (
+            "item sub paren 1:2@3..3#4 1:2@3..3#4 0",
+            DelimiterKind::Parenthesis,
+            small_span(),
+            0,
+        ),
+        (
+            "item sub brace 1:2@3..3#4 1:2@3..3#4 10",
+            DelimiterKind::Brace,
+            small_span(),
+            10,
+        ),
+        (
+            "item sub bracket 1:2@3..3#4 1:2@3..3#4 1",
+            DelimiterKind::Bracket,
+            small_span(),
+            1,
+        ),
+        (
+            "item sub invisible 1:2@3..3#4 1:2@3..3#4 1",
+            DelimiterKind::Invisible,
+            small_span(),
+            1,
+        ),
+        (
+            LARGEST_HEAD,
+            DelimiterKind::Parenthesis,
+            large_span(),
+            u32::MAX,
+        ),
+    ];
+    for (line, kind, close, len) in rows {
+        let found = Command::parse(rt.alloc(), line.as_bytes())?;
+        assert_eq!(rt; found, Some(head(kind, close, len)), "{line}");
+    }
+    Ok(())
+}
+
+#[test]
+fn stand_for_puncts(rt: HostRuntime) -> Result<(), Fail> {
+    let rows = [
+        ("item punct alone 1:2@3..3#4 ;", Spacing::Alone, ';'),
+        ("item punct joint 1:2@3..3#4  ", Spacing::Joint, ' '),
+        (
+            "item punct hidden 1:2@3..3#4 \u{2192}",
+            Spacing::JointHidden,
+            '\u{2192}',
+        ),
+        ("item punct alone 1:2@3..3#4 \r", Spacing::Alone, '\r'),
+    ];
+    for (line, spacing, char) in rows {
+        let punct = Punct {
+            char,
+            spacing,
+            span: small_span(),
+        };
+        let found = Command::parse(rt.alloc(), line.as_bytes())?;
+        let item = Command::Item(TokenTree::Leaf(Leaf::Punct(punct)));
+        assert_eq!(rt; found, Some(item), "{line}");
+    }
+    Ok(())
+}
+
+#[test]
+fn stand_for_idents(rt: HostRuntime) -> Result<(), Fail> {
+    let rows = [
+        ("item ident plain 1:2@3..3#4 a", IdentIsRaw::No, "a"),
+        ("item ident raw 1:2@3..3#4 type", IdentIsRaw::Yes, "type"),
+        ("item ident plain 1:2@3..3#4 r#a", IdentIsRaw::No, "r#a"),
+        ("item ident plain 1:2@3..3#4 ", IdentIsRaw::No, ""),
+        ("item ident plain 1:2@3..3#4  a b ", IdentIsRaw::No, " a b "),
+        ("item ident plain 1:2@3..3#4 a\r", IdentIsRaw::No, "a\r"),
+    ];
+    for (line, is_raw, name) in rows {
+        let ident = Ident {
+            sym: Symbol::new(rt.alloc(), name)?,
+            span: small_span(),
+            is_raw,
+        };
+        let found = Command::parse(rt.alloc(), line.as_bytes())?;
+        let item = Command::Item(TokenTree::Leaf(Leaf::Ident(ident)));
+        assert_eq!(rt; found, Some(item), "{line}");
+    }
+    Ok(())
+}
+
+fn literal(
+    alloc: Global,
+    text: &str,
+    kind: LitKind,
+    suffix_len: u8,
+) -> Result<Option<Command>, TtFault> {
+    let symbol = Symbol::new(alloc, text)?;
+    let Some(literal) = Literal::from_parts(symbol, small_span(), kind, suffix_len) else {
+        return Ok(None);
+    };
+    Ok(Some(Command::Item(TokenTree::Leaf(Leaf::Literal(literal)))))
+}
+
+// The line stands for the literal of that text, kind and suffix length.
+fn stands_for_literal(
+    rt: &impl Abort,
+    alloc: Global,
+    row: (&str, &str, LitKind, u8),
+) -> Result<(), Fail> {
+    let (line, text, kind, suffix_len) = row;
+    let expected = literal(alloc, text, kind, suffix_len)?;
+    assert!(rt; expected.is_some());
+    let found = Command::parse(alloc, line.as_bytes())?;
+    assert_eq!(rt; found, expected, "{line}");
+    Ok(())
+}
+
+#[test]
+fn stand_for_literals(rt: HostRuntime) -> Result<(), Fail> {
+    let rows = [
+        ("item lit byte 0 1:2@3..3#4 x", "x", LitKind::Byte, 0),
+        (
+            "item lit char 0 1:2@3..3#4 \u{2192}",
+            "\u{2192}",
+            LitKind::Char,
+            0,
+        ),
+        (
+            "item lit int 3 1:2@3..3#4 12u32",
+            "12u32",
+            LitKind::Integer,
+            3,
+        ),
+        ("item lit float 0 1:2@3..3#4 1.5", "1.5", LitKind::Float, 0),
+        ("item lit str 0 1:2@3..3#4 ", "", LitKind::Str, 0),
+        ("item lit bstr 0 1:2@3..3#4 a", "a", LitKind::ByteStr, 0),
+        ("item lit cstr 1 1:2@3..3#4 a", "a", LitKind::CStr, 1),
+        (
+            "item lit err 2 1:2@3..3#4 \u{e9}",
+            "\u{e9}",
+            LitKind::Err(()),
+            2,
+        ),
+    ];
+    for row in rows {
+        stands_for_literal(&rt, rt.alloc(), row)?;
+    }
+    Ok(())
+}
+
+#[test]
+fn stand_for_raw_literals(rt: HostRuntime) -> Result<(), Fail> {
+    let rows = [
+        (
+            "item lit rstr:255 0 1:2@3..3#4 a b",
+            "a b",
+            LitKind::StrRaw(255),
+            0,
+        ),
+        (
+            "item lit rbstr:0 0 1:2@3..3#4 a",
+            "a",
+            LitKind::ByteStrRaw(0),
+            0,
+        ),
+        (
+            "item lit rcstr:17 0 1:2@3..3#4 a",
+            "a",
+            LitKind::CStrRaw(17),
+            0,
+        ),
+    ];
+    for row in rows {
+        stands_for_literal(&rt, rt.alloc(), row)?;
+    }
+    Ok(())
+}

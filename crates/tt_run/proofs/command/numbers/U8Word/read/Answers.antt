@@ -1,5 +1,0 @@
-use Rattle.tt_run.proofs.Numbers.{byte_read}
-use Rattle.tt_run.proofs.command.numbers.U8Word.read.Goals as goal
-
-pub returns : goal.returns
-returns c = rw c.ok.ensures.value (byte_read _ _ _ c.in_ok-number.ensures.0 c.in_ok-number.ensures.1 c.try_from.ensures)

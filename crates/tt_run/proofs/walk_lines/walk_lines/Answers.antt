@@ -1,0 +1,16 @@
+use Rattle.std.proofs.Common.{rules, ◌≡◌, ◌++◌, false, ap₂, ◌∙◌}
+use Rattle.std.specs.Prelude.{string_bytes}
+use Rattle.tt.specs.Walk.{events_ahead, is_over, one_on}
+use Rattle.tt_run.specs.Answer.{line}
+use Rattle.tt_run.specs.ViewText.{listed, event_words, here_words}
+use Rattle.tt_run.proofs.Walking.{one_place}
+use Rattle.tt_run.proofs.walk_lines.walk_lines.Goals as goal
+
+pub loop-text-preserved : goal.loop-text-preserved
+loop-text-preserved c =
+    let at = c.loop-text.cursor in
+    let more : is_over (events_ahead at) ≡ false = search rules in
+    let wrote : string_bytes c.write_here.new.text ≡ string_bytes c.loop-text.text ++ line (here_words c.token_tree.result) = search rules in
+    let moved : c.bump_or_end.new.self ≡ one_on at = search rules in
+    ap₂ (λ text place. text ++ listed event_words (events_ahead place)) wrote moved
+    ∙ one_place at c.token_tree.result (string_bytes c.loop-text.text) _ c.token_tree.ensures more c.loop-text.invariant
