@@ -1,14 +1,14 @@
 //! Why nothing was timed.
 use std::io;
 use thiserror::Error;
-use tt_base::TtFault;
+use tt::TtFault;
 
 /// Why nothing was timed.
 #[derive(Debug, Drop, Error)]
 pub enum BenchError {
     /// The arguments ask for nothing that there is.
     #[error("usage: tt_bench MODE ROUNDS [apart] < ITEMS\n\
-        MODE: pack flat flat_whole skip siblings siblings_whole equal fold sip clone drop")]
+        MODE: pack flat flat_whole skip siblings siblings_whole walk show equal fold sip clone drop")]
     Usage,
     /// That line, counted from 1, is no `item` line.
     #[error("line {0} is no item")]

@@ -1,7 +1,7 @@
 //! Equal texts as one symbol.
 use std::alloc::Global;
 use std::collections::HashSet;
-use tt_base::{Ident, Leaf, Literal, Symbol, TokenTree, TtFault};
+use tt::{Ident, Leaf, Literal, Symbol, TokenTree, TtFault};
 
 /// Makes equal texts one symbol, as a front end does that interns its names.
 #[derive(Drop)]

@@ -4,8 +4,8 @@ use crate::interner::Interner;
 use memchr::memchr;
 use std::alloc::Global;
 use std::str::FromStr;
-use tt_base::{TokenTree, TtFault};
-use tt_run::Command;
+use tt::{TokenTree, TtFault};
+use tt_language::Command;
 
 /// Whether tokens of one text share the block of memory that holds it.
 #[derive(Clone, Copy, Debug, PartialEq, Eq)]

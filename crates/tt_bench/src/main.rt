@@ -1,4 +1,4 @@
-//! Times the packed form on one tree: `tt_bench MODE ROUNDS [apart] < ITEMS`.
+//! Times the calls of `tt` on one tree: `tt_bench MODE ROUNDS [apart] < ITEMS`.
 //!
 //! Standard input spells the tree's flat list, as `item` lines (docs/LANGUAGE.md). The line that is printed has the
 //! nanoseconds of all rounds, a sum to know the answer by, and how many bytes, span parts and symbols are stored.

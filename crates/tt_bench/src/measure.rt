@@ -10,8 +10,7 @@ use std::alloc::Global;
 use std::fmt;
 use std::hash::{DefaultHasher, FoldHasher, Hash, Hasher};
 use std::time::{CpuClock, Duration};
-use tt_base::{TokenTree, TtFault};
-use tt_pack::Packed;
+use tt::{TokenTree, TopSubtree, TtFault};
 
 /// What was measured. Its text is one line: nanoseconds, sum, bytes, parts, symbols.
 #[derive(Clone, Copy, Debug, PartialEq, Eq)]
@@ -54,9 +53,9 @@ pub fn measure<R: CpuClock + AllocGlobal>(
     Ok(Measured {
         time: watch.total(),
         sum,
-        bytes: tree.bytes().len(),
-        parts: tree.parts().len(),
-        symbols: tree.symbols().len(),
+        bytes: tree.packed_bytes().len(),
+        parts: tree.span_part_table().len(),
+        symbols: tree.symbol_table().len(),
     })
 }
 
@@ -70,7 +69,8 @@ fn measure_rounds<R: CpuClock>(
 ) -> Result<u64, BenchError> {
     match job.mode {
         Mode::Pack => pack(watch, alloc, list, job.rounds),
-        Mode::Walk(way) => walk(watch, twins, way, job.rounds),
+        Mode::Walk(way) => walk(watch, alloc, twins, way, job.rounds),
+        Mode::Show => show(watch, alloc, twins, job.rounds),
         Mode::Equal => equal(watch, twins, job.rounds),
         Mode::Fold => hash(watch, twins, FoldHasher::default(), job.rounds),
         Mode::Sip => hash(watch, twins, DefaultHasher::default(), job.rounds),
@@ -98,6 +98,7 @@ fn pack<R: CpuClock>(
 
 fn walk<R: CpuClock>(
     watch: &mut Stopwatch<R>,
+    alloc: Global,
     twins: &Twins,
     way: Walk,
     rounds: u32,
@@ -105,7 +106,25 @@ fn walk<R: CpuClock>(
     let mut sum = 0;
     watch.start()?;
     for round in 0..rounds {
-        sum = way.sum(twins.at(round))?;
+        sum = way.sum(alloc, twins.at(round))?;
+    }
+    watch.stop()?;
+    Ok(sum)
+}
+
+// Each round prints a tree, and lets the text go. The sum is the length of a text.
+fn show<R: CpuClock>(
+    watch: &mut Stopwatch<R>,
+    alloc: Global,
+    twins: &Twins,
+    rounds: u32,
+) -> Result<u64, BenchError> {
+    let mut sum = 0;
+    watch.start()?;
+    for round in 0..rounds {
+        let tree = twins.at(round);
+        let text = format!(in alloc; "{tree}").map_err(|_error| TtFault::Memory)?;
+        sum = text.len() as u64;
     }
     watch.stop()?;
     Ok(sum)

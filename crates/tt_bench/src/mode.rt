@@ -10,6 +10,8 @@ pub enum Mode {
     Pack,
     /// Reading a tree.
     Walk(Walk),
+    /// Printing a tree.
+    Show,
     /// Comparing a tree with its twin.
     Equal,
     /// Hashing a tree by a fast hasher, `FoldHasher`.
@@ -33,6 +35,8 @@ impl FromStr for Mode {
             "skip" => Ok(Mode::Walk(Walk::Skip)),
             "siblings" => Ok(Mode::Walk(Walk::Siblings)),
             "siblings_whole" => Ok(Mode::Walk(Walk::SiblingsWhole)),
+            "walk" => Ok(Mode::Walk(Walk::Cursor)),
+            "show" => Ok(Mode::Show),
             "equal" => Ok(Mode::Equal),
             "fold" => Ok(Mode::Fold),
             "sip" => Ok(Mode::Sip),

@@ -24,6 +24,8 @@ fn measures_by_each_mode(rt: HostRuntime) -> Result<(), Fail> {
         ("skip", 5),
         ("siblings", 15),
         ("siblings_whole", 15),
+        ("walk", 15),
+        ("show", 11),
         ("equal", 3),
         ("clone", 0),
         ("drop", 0),
@@ -75,6 +77,6 @@ fn tells_what_is_wrong(rt: HostRuntime) -> Result<(), Fail> {
         let shown = format!(in rt.alloc(); "{error}")?;
         assert_eq!(rt; shown.as_str(), message);
     }
-    assert!(rt; "walk".parse::<Mode>().is_err());
+    assert!(rt; "run".parse::<Mode>().is_err());
     Ok(())
 }

@@ -2,14 +2,13 @@
 use crate::error::BenchError;
 use crate::items::{Texts, items};
 use std::alloc::Global;
-use tt_base::{TokenTree, TtFault};
-use tt_pack::Packed;
+use tt::{TokenTree, TopSubtree, TtFault};
 
 /// Two equal trees, which are used in turn, so that no round finds just what the one before it left in the caches.
 #[derive(Drop)]
 pub struct Twins {
-    first: Packed,
-    second: Packed,
+    first: TopSubtree,
+    second: TopSubtree,
 }
 
 impl Twins {
@@ -30,7 +29,7 @@ impl Twins {
     }
 
     /// The tree of that round.
-    pub fn at(&self, round: u32) -> &Packed {
+    pub fn at(&self, round: u32) -> &TopSubtree {
         if round % 2 == 0 {
             &self.first
         } else {
@@ -40,8 +39,8 @@ impl Twins {
 }
 
 /// The tree of a list, or why the list is refused.
-pub fn packed(alloc: Global, list: Vec<TokenTree>) -> Result<Packed, BenchError> {
-    match Packed::pack(alloc, list) {
+pub fn packed(alloc: Global, list: Vec<TokenTree>) -> Result<TopSubtree, BenchError> {
+    match TopSubtree::from_serialized(alloc, list) {
         Ok(tree) => Ok(tree),
         Err(refused) => Err(BenchError::Fault(refused.fault)),
     }

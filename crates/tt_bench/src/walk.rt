@@ -1,8 +1,8 @@
 //! Ways to read a tree.
 use crate::error::BenchError;
-use crate::look::{AtStart, AtWhole, Look};
-use tt_base::TokenTree;
-use tt_pack::{Packed, Reader};
+use crate::look::{AtStart, AtWhole, Look, start_of};
+use std::alloc::Global;
+use tt::{TopSubtree, TtElement, TtFault, TtIter};
 
 // How deep a walk by siblings goes. Each level takes some hundred bytes of stack.
 const MOST_DEPTH: u32 = 4096;
@@ -20,78 +20,80 @@ pub enum Walk {
     Siblings,
     /// The same, with the whole of each token looked at.
     SiblingsWhole,
+    /// Each place of the walk through the tree, by a cursor.
+    Cursor,
 }
 
 impl Walk {
     /// The sum of the start offsets of the tokens that are read. `TooDeep` where a walk by siblings cannot enter all.
-    pub fn sum(self, tree: &Packed) -> Result<u64, BenchError> {
+    pub fn sum(self, alloc: Global, tree: &TopSubtree) -> Result<u64, BenchError> {
         match self {
             Walk::Flat => Ok(flat::<AtStart>(tree)),
             Walk::FlatWhole => Ok(flat::<AtWhole>(tree)),
             Walk::Skip => Ok(skip(tree)),
             Walk::Siblings => siblings::<AtStart>(tree),
             Walk::SiblingsWhole => siblings::<AtWhole>(tree),
+            Walk::Cursor => Ok(by_cursor(alloc, tree)?),
         }
     }
 }
 
 // Reads token by token.
 #[inline(never)]
-fn flat<L: Look>(tree: &Packed) -> u64 {
-    let mut reader = Reader::start(tree);
+fn flat<L: Look>(tree: &TopSubtree) -> u64 {
     let mut sum = 0u64;
-    for _ in 0..tree.len() {
-        let Some(token) = reader.advance() else {
-            break;
-        };
-        sum = sum.wrapping_add(L::start(&token));
+    for token in tree.as_token_trees().iter_flat_tokens() {
+        sum = sum.wrapping_add(L::token(&token));
     }
     sum
 }
 
-// Enters the top, and passes its children.
+// Passes the children of the top.
 #[inline(never)]
-fn skip(tree: &Packed) -> u64 {
-    let mut reader = Reader::start(tree);
-    let _top = reader.advance();
+fn skip(tree: &TopSubtree) -> u64 {
     let mut sum = 0u64;
-    for _ in 0..tree.len() {
-        let Some((token, _below)) = reader.advance_skip() else {
-            break;
-        };
-        sum = sum.wrapping_add(AtStart::start(&token));
+    for child in tree.iter() {
+        sum = sum.wrapping_add(start_of(&child.first_span()));
     }
     sum
 }
 
 // Passes the top, enters it, and so on below.
 #[inline(never)]
-fn siblings<L: Look>(tree: &Packed) -> Result<u64, BenchError> {
-    let all = Reader::start(tree);
-    let sum = sum_up_to::<L>(all, tree.bytes().len(), tree.len(), MOST_DEPTH);
-    sum.ok_or(BenchError::TooDeep)
+fn siblings<L: Look>(tree: &TopSubtree) -> Result<u64, BenchError> {
+    let all = tree.as_token_trees().iter();
+    sum_of::<L>(all, MOST_DEPTH).ok_or(BenchError::TooDeep)
 }
 
-// The sum of the siblings from the reader up to an offset, and of all that they hold. There are at most so many
-// siblings; `None` tells that they hold more levels than that.
-fn sum_up_to<L: Look>(start: Reader, end: usize, most: usize, levels: u32) -> Option<u64> {
+// The sum of siblings and of all that they hold. `None` tells that they hold more levels than so many.
+fn sum_of<L: Look>(siblings: TtIter<'_>, levels: u32) -> Option<u64> {
     if levels == 0 {
         return None;
     }
-    let mut reader = start;
     let mut sum = 0u64;
-    for _ in 0..most {
-        if reader.offset() >= end {
-            break;
-        }
-        let Some((token, below)) = reader.advance_skip() else {
-            break;
-        };
-        sum = sum.wrapping_add(L::start(&token));
-        if let TokenTree::Subtree(_) = &token {
-            let inside = sum_up_to::<L>(below, reader.offset(), most, levels - 1)?;
-            sum = sum.wrapping_add(inside);
+    for sibling in siblings {
+        match sibling {
+            TtElement::Leaf(leaf) => sum = sum.wrapping_add(L::leaf(&leaf)),
+            TtElement::Subtree(subtree, below) => {
+                let inside = sum_of::<L>(below, levels - 1)?;
+                sum = sum.wrapping_add(L::subtree(&subtree));
+                sum = sum.wrapping_add(inside);
+            }
         }
     }
     Some(sum)
+}
+
+// Goes from place to place, and looks at the token there, if there is one.
+#[inline(never)]
+fn by_cursor(alloc: Global, tree: &TopSubtree) -> Result<u64, TtFault> {
+    let mut cursor = tree.as_token_trees().cursor(alloc);
+    let mut sum = 0u64;
+    while !cursor.eof() {
+        if let Some(token) = cursor.token_tree() {
+            sum = sum.wrapping_add(AtStart::token(&token));
+        }
+        cursor.bump_or_end()?;
+    }
+    Ok(sum)
 }
