@@ -1,11 +1,10 @@
 -- What one call for puncts that stand as one leaves to those that follow.
 use Rattle.std.proofs.Common.{◌≡◌, ◌<◌, ◌≤◌, ◌-◌, ℕ, zero, suc, Bool, true, false, List, [], ◌∷◌, Option, Some, None, length, if◌then◌else◌, refl, ap, sym, ◌∙◌, arith}
 use Rattle.std.specs.Prelude.{option_map}
-use Rattle.tt_base.specs.declared.leaf.Leaf.{Leaf}
 use Rattle.tt_base.specs.declared.leaf.Leaf.TheVariants as leaf_kind
 use Rattle.tt_base.specs.declared.punct.Punct.{Punct}
 use Rattle.tt_base.specs.Forest.{Forest, end, leaf, node}
-use Rattle.tt_base.specs.Gluing.{twos, threes, is_one_of, is_alone, is_joint, first_punct, glued_two, glued_three, glued_behind, glued_from, glued, after_trees, passed_by, sizes_after, glued_sizes}
+use Rattle.tt_base.specs.Gluing.{twos, threes, is_one_of, is_alone, is_joint, first_punct, glued_two, glued_three, glued_behind, glued, after_trees, passed_by, sizes_after, glued_sizes}
 use Rattle.tt_base.specs.Moves.{after_tree}
 use Rattle.tt_base.specs.Siblings.{is_end, list_of}
 

@@ -1,5 +1,5 @@
 -- What the first tree of a list is taken for.
-use Rattle.std.specs.Prelude.{◌≡◌, ℕ, Bool, true, false, ◌==◌, ◌∷◌, [], List, Option, Some, None, codes, bytes_eq, if◌then◌else◌}
+use Rattle.std.specs.Prelude.{ℕ, Bool, true, false, ◌==◌, ◌∷◌, [], List, Option, Some, None, codes, bytes_eq, if◌then◌else◌}
 use Rattle.std.specs.List.{list_any}
 use Rattle.tt_base.specs.declared.ident.Ident.{Ident}
 use Rattle.tt_base.specs.declared.leaf.Leaf.{Leaf}

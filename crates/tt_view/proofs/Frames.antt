@@ -1,23 +1,13 @@
 -- What is left of a walk, where some subtrees are open.
-use Rattle.std.proofs.Common.{◌≡◌, ◌==◌, ◌<◌, ◌≤◌, ℕ, zero, suc, ◌+◌, ◌-◌, Some, None, true, false, List, [], ◌∷◌, ◌++◌, length, take, drop, reverse, refl, ap, ap₂, sym, subst, ◌∙◌, arith, append_assoc, append-nil, length-append}
-use Rattle.std.proofs.Math.Seq.{drop-append_seam}
-use Rattle.std.proofs.lemmas.Bool.Decides.{nat_tests}
-use Rattle.std.proofs.lemmas.List.{reverse-append, length-reverse, take-append-drop, drop-drop}
-use Rattle.std.specs.List.{slice_get}
+use Rattle.std.proofs.Common.{◌≡◌, ◌<◌, ℕ, ◌-◌, List, [], ◌∷◌, ◌++◌, refl, ap, ap₂, sym, subst, ◌∙◌, arith, append_assoc}
 use Rattle.tt_base.specs.declared.delimiter.Delimiter.{Delimiter}
-use Rattle.tt_base.specs.declared.delimiter.Subtree.{Subtree}
 use Rattle.tt_base.specs.declared.leaf.Leaf.{Leaf}
-use Rattle.tt_base.specs.declared.token_tree.TokenTree.TheVariants as token
-use Rattle.tt_base.specs.Forest.{Forest, end, leaf, node, size, header, flat, join, IsWhole}
-use Rattle.tt_base.specs.Unflat.{flat-join, front-join, behind-join, front, behind}
-use Rattle.tt_base.specs.Moves.{first_token, after_token}
-use Rattle.tt_base.specs.Walk.{Event, passes, opens, closes, subtree_of, walk, Walked, events_ahead, is_over, is_at_close, is_at_open, token_at, two_leaves_at, open_nodes, tokens_of, one_if_any, one_on, flat_left}
-use Rattle.tt_base.specs.Siblings.{is_end}
-use Rattle.tt_view.specs.Innermost.{is_end_of}
+use Rattle.tt_base.specs.Forest.{Forest, end, leaf, node, size, join}
+use Rattle.tt_base.specs.Unflat.{front-join, behind-join, front, behind}
+use Rattle.tt_base.specs.Walk.{Event, passes, opens, closes, subtree_of, walk}
 use Rattle.tt_view.specs.Frames.{left, IsBelow, Stands}
 use Rattle.tt_view.specs.declared.cursor.Frame.{Frame}
 use Rattle.tt_base.proofs.Joins.{size-join, join-assoc}
-use Rattle.tt_base.proofs.Walks.{walk-join}
 
 -- What is left, where the trees of the innermost level are known.
 pub left_join : (f : Frame) (fs : List Frame) (inner outer ahead : Forest) → ahead ≡ join inner outer → size outer ≡ f.behind

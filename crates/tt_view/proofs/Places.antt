@@ -1,24 +1,23 @@
 -- The place of a cursor, and what is read of it.
-use Rattle.std.proofs.Common.{◌≡◌, ◌==◌, ◌<◌, ◌≤◌, ℕ, zero, suc, ◌+◌, ◌-◌, Some, None, true, false, List, [], ◌∷◌, ◌++◌, length, take, drop, reverse, refl, ap, ap₂, sym, subst, ◌∙◌, arith, append_assoc, append-nil, length-append}
+use Rattle.std.proofs.Common.{◌≡◌, ◌==◌, ◌<◌, ◌≤◌, ℕ, suc, ◌+◌, ◌-◌, Some, None, true, false, List, [], ◌∷◌, ◌++◌, length, drop, reverse, refl, ap, ap₂, sym, subst, ◌∙◌, arith, append_assoc, append-nil, length-append}
 use Rattle.std.proofs.Math.Seq.{drop-append_seam}
 use Rattle.std.proofs.lemmas.Bool.Decides.{nat_tests}
-use Rattle.std.proofs.lemmas.List.{reverse-append, length-reverse, take-append-drop, drop-drop}
+use Rattle.std.proofs.lemmas.List.{reverse-append, length-reverse}
 use Rattle.std.specs.List.{slice_get}
-use Rattle.tt_base.specs.declared.delimiter.Delimiter.{Delimiter}
 use Rattle.tt_base.specs.declared.delimiter.Subtree.{Subtree}
 use Rattle.tt_base.specs.declared.leaf.Leaf.{Leaf}
 use Rattle.tt_base.specs.declared.token_tree.TokenTree.TheVariants as token
-use Rattle.tt_base.specs.Forest.{Forest, end, leaf, node, size, header, flat, join, IsWhole}
-use Rattle.tt_base.specs.Unflat.{flat-join, front-join, behind-join, front, behind}
+use Rattle.tt_base.specs.Forest.{Forest, end, leaf, node, size, flat, join}
+use Rattle.tt_base.specs.Unflat.{flat-join, front, behind}
 use Rattle.tt_base.specs.Moves.{first_token, after_token}
-use Rattle.tt_base.specs.Walk.{Event, passes, opens, closes, subtree_of, walk, Walked, events_ahead, is_over, is_at_close, is_at_open, token_at, two_leaves_at, open_nodes, tokens_of, one_if_any, one_on, flat_left}
+use Rattle.tt_base.specs.Walk.{Event, passes, opens, closes, subtree_of, walk, Walked, is_over, is_at_close, token_at, open_nodes, tokens_of, one_if_any, one_on}
 use Rattle.tt_base.specs.Siblings.{is_end}
 use Rattle.tt_view.specs.Innermost.{is_end_of}
-use Rattle.tt_view.specs.Frames.{left, IsBelow, Stands}
+use Rattle.tt_view.specs.Frames.{left, Stands}
 use Rattle.tt_view.specs.declared.cursor.Frame.{Frame}
-use Rattle.tt_base.proofs.Joins.{size-join, join-assoc}
-use Rattle.tt_base.proofs.Walks.{whole_drop, walk-join, open_walk, tokens-append, tokens_walk, stays, opens_at, no_first, no_second, two, none_at_close, over_end, not_over, flat_left_is, flat_left_whole, event_passed, one_fewer}
-use Rattle.tt_view.proofs.Frames.{left_join, IsOpen, Past, grown, past_leaf, past_node, Into, into_node, OutOf, open_above, out_of}
+use Rattle.tt_base.proofs.Joins.{size-join}
+use Rattle.tt_base.proofs.Walks.{walk-join, open_walk, tokens-append, tokens_walk, over_end, not_over}
+use Rattle.tt_view.proofs.Frames.{left_join, IsOpen, past_leaf, past_node, into_node, open_above}
 
 -- What is left is an end of the whole walk.
 pub ends : (o : Forest) (fs : List Frame) (ahead : Forest) → Stands o fs ahead → (first : List Event) × (walk o ≡ first ++ left fs ahead)

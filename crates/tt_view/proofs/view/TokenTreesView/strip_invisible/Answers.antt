@@ -1,4 +1,4 @@
-use Rattle.std.proofs.Common.{rules, ◌≡◌, Some, sym, ◌∙◌}
+use Rattle.std.proofs.Common.{rules, ◌≡◌, Some, ◌∙◌}
 use Rattle.tt_base.specs.OneRoot.{one_root}
 use Rattle.tt_base.proofs.Joins.{stripped_of_one}
 use Rattle.tt_view.specs.SubtreeViews.{root_of}
