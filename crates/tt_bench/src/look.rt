@@ -8,7 +8,9 @@ const LAST_OFFSET: u64 = u32::MAX as u64;
 /// What a walk looks at in a token. Each call gives the start offset of the token's first span.
 pub trait Look {
     fn token(token: &TokenTree) -> u64;
+
     fn leaf(leaf: &Leaf) -> u64;
+
     fn subtree(subtree: &Subtree) -> u64;
 }
 

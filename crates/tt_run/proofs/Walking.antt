@@ -1,8 +1,6 @@
 -- What is written of a walk, one place after another.
-use Rattle.std.proofs.Common.{◌≡◌, ℕ, false, refl, List, [], ◌∷◌, ◌++◌, Option, Some, None, ap, ap₂, sym, ◌∙◌}
-use Rattle.std.specs.Prelude.{codes}
+use Rattle.std.proofs.Common.{◌≡◌, ℕ, false, refl, List, [], ◌∷◌, ◌++◌, Option, ap₂, ◌∙◌}
 use Rattle.tt_base.specs.declared.token_tree.TokenTree.{TokenTree}
-use Rattle.tt_base.specs.declared.token_tree.TokenTree.TheVariants as token
 use Rattle.tt.specs.Walk.{Event, passes, opens, closes, Walked, events_ahead, is_over, token_at, one_on}
 use Rattle.tt_base.proofs.Walks.{event_passed}
 use Rattle.tt_run.specs.Answer.{line}

@@ -7,7 +7,10 @@ use tt::{TokenTree, TtElement};
 fn into_parentheses_and_out(rt: HostRuntime) -> Result<(), Fail> {
     let alloc = rt.alloc();
     let a = ident(alloc, "a", 1)?;
-    let tree = under(alloc, &[parentheses(0, 2, 1), a.clone()?, ident(alloc, "b", 3)?])?;
+    let tree = under(
+        alloc,
+        &[parentheses(0, 2, 1), a.clone()?, ident(alloc, "b", 3)?],
+    )?;
     let mut cursor = tree.token_trees().cursor(alloc);
     cursor.bump_or_end()?;
     assert_eq!(rt; cursor.token_tree(), Some(a));
@@ -28,7 +31,12 @@ fn into_parentheses_and_out(rt: HostRuntime) -> Result<(), Fail> {
 fn an_iterator_goes_to_a_cursor(rt: HostRuntime) -> Result<(), Fail> {
     let alloc = rt.alloc();
     let (b, c) = (ident(alloc, "b", 2)?, ident(alloc, "c", 4)?);
-    let tokens = [parentheses(0, 3, 2), ident(alloc, "a", 1)?, b.clone()?, c.clone()?];
+    let tokens = [
+        parentheses(0, 3, 2),
+        ident(alloc, "a", 1)?,
+        b.clone()?,
+        c.clone()?,
+    ];
     let tree = under(alloc, &tokens)?;
     let mut cursor = tree.token_trees().cursor(alloc);
     cursor.bump_or_end()?;
