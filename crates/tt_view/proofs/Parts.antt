@@ -3,10 +3,10 @@ use Rattle.std.proofs.Common.{◌≡◌, ℕ, ◌+◌, ◌-◌, ◌<◌, ◌≤�
 use Rattle.tt_base.specs.declared.token_tree.TokenTree.{TokenTree}
 use Rattle.tt_base.specs.declared.token_tree.TokenTree.TheVariants as token
 use Rattle.tt_base.specs.Forest.{Forest, end, leaf, node, size, header, join}
-use Rattle.std.specs.Prelude.{min, ◌^◌}
+use Rattle.std.specs.Prelude.{false, min, ◌^◌}
 use Rattle.tt_base.specs.Moves.{first_token, after_token, after_tree, step_after}
 use Rattle.tt_view.specs.Cuts.{HoldsTrees}
-use Rattle.tt_base.specs.Siblings.{children_of}
+use Rattle.tt_base.specs.Siblings.{children_of, is_end}
 use Rattle.tt_base.specs.Token.{count_below}
 use Rattle.tt_base.proofs.Joins.{join-assoc, size-join}
 
@@ -82,3 +82,9 @@ pub one_step : (steps : ℕ) (trees : Forest) (t : TokenTree) → first_token tr
 one_step steps end t e = cc
 one_step steps (leaf it rest) t e = refl
 one_step steps (node d children rest) t e = refl
+
+-- Where there is a first token, trees are left.
+pub some_left : (trees : Forest) (t : TokenTree) → first_token trees ≡ Some t → is_end trees ≡ false
+some_left end t e = cc
+some_left (leaf it rest) t e = refl
+some_left (node d children rest) t e = refl

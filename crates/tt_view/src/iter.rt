@@ -1,5 +1,5 @@
 //! The trees of a list one by one.
-ghost use Rattle.std.specs.Prelude.{◌≡◌, MatchOption, Some, None, option_map};
+ghost use Rattle.std.specs.Prelude.{◌≡◌, IfSome, MatchOption, Some, None, false, option_map};
 ghost use Rattle.tt_base.specs.Forest.{Forest, end, join, flat};
 ghost use Rattle.tt_base.specs.Walk.{events_ahead, tokens_of, flat_left};
 ghost use Rattle.tt_base.specs.Token.{first_span as token_span};
@@ -145,6 +145,7 @@ impl<'a> TtIter<'a> {
     /// The next tree, as a list of one.
     pub fn next_as_view(&mut self) -> Option<TokenTreesView<'a>>
         ensures first { MatchOption result (rest_of self.old ≡ end) (λ view. trees_of view ≡ first_tree (rest_of self.old)) }
+        ensures some { IfSome result (λ _. is_end (rest_of self.old) ≡ false) }
         ensures rest { rest_of self.new ≡ after_tree (rest_of self.old) }
         ensures steps { steps_of_iter self.new ≡ step_after (steps_of_iter self.old) (rest_of self.old) }
     {
