@@ -2,12 +2,12 @@
 use Rattle.std.proofs.Common.{◌≡◌, [], ◌∷◌, codes, refl, lit<, lit≤, not-le_of_lt}
 use Rattle.tt_base.specs.declared.delimiter.DelimiterKind.TheVariants.{Parenthesis, Brace, Invisible}
 use Rattle.tt_base.specs.declared.literal.LitKind.TheVariants as lit
-use Rattle.tt_base.specs.declared.punct.Spacing.TheVariants.{Alone, JointHidden}
+use Rattle.tt_base.specs.declared.punct.Spacing.TheVariants.{Alone, Joint, JointHidden}
 use Rattle.tt_base.specs.declared.token_tree.TokenTree.TheVariants as token
 use Rattle.tt_base.specs.Token.{delimiter}
 use Rattle.tt_base.specs.Forest.{Forest, end, leaf, node, flat, header}
 use Rattle.tt_base.specs.LeafText.{leaf_text}
-use Rattle.tt_base.specs.TreeText.{display}
+use Rattle.tt_base.specs.TreeText.{display, pretty}
 use Rattle.tt_base.proofs.Samples.{span, punct, ident, literal, subtree}
 
 abbrev a : Forest → Forest
@@ -27,6 +27,18 @@ first_run_flat = refl
 hidden_plus : display (a (leaf (punct 43 JointHidden) (b end))) ≡ codes "a +b"
 unfolding display lib.Utf8.encode
 hidden_plus = refl
+
+hidden_plus_pretty : pretty (a (leaf (punct 43 JointHidden) (b end))) ≡ codes "a + b"
+unfolding pretty lib.Utf8.encode
+hidden_plus_pretty = refl
+
+joint_plus_pretty : pretty (a (leaf (punct 43 Joint) (b end))) ≡ codes "a +b"
+unfolding pretty lib.Utf8.encode
+joint_plus_pretty = refl
+
+two_spaces_pretty : pretty (a (node (delimiter Invisible (span 0 0) (span 0 0)) end (b end))) ≡ codes "a  b"
+unfolding pretty
+two_spaces_pretty = refl
 
 two_spaces : display (a (node (delimiter Invisible (span 0 0) (span 0 0)) end (b end))) ≡ codes "a  b"
 unfolding display

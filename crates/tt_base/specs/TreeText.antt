@@ -1,4 +1,4 @@
--- What Display writes of trees, as bytes.
+-- What Display and `pretty` write of trees, as bytes.
 use Rattle.std.specs.Prelude.{ℕ, Bool, true, false, List, [], ◌++◌, codes, if◌then◌else◌}
 use Rattle.tt_base.specs.declared.delimiter.DelimiterKind.{DelimiterKind}
 use Rattle.tt_base.specs.declared.delimiter.DelimiterKind.TheVariants.{Parenthesis, Brace, Bracket, Invisible}
@@ -27,25 +27,35 @@ closing_text Invisible = []
 abbrev pub space_if : Bool → List ℕ
 space_if due = if due then codes " " else []
 
--- whether a spacing lets a space follow
+-- whether a space may follow a punct in Display: only alone lets one
 abbrev pub is_alone : Spacing → Bool
 is_alone Alone = true
 is_alone Joint = false
 is_alone JointHidden = false
 
--- whether a space may follow a leaf: after all but a punct that is joint or joint hidden
-abbrev pub space_after : Leaf → Bool
-space_after (leaf.Literal literal) = true
-space_after (leaf.Punct punct) = is_alone punct.spacing
-space_after (leaf.Ident ident) = true
+-- whether a space may follow a punct in `pretty`: joint alone takes it away
+abbrev pub is_not_joint : Spacing → Bool
+is_not_joint Alone = true
+is_not_joint Joint = false
+is_not_joint JointHidden = true
+
+-- whether a space may follow a leaf: after all but a punct whose spacing lets none
+abbrev pub space_after : (lets : Spacing → Bool) → Leaf → Bool
+space_after lets (leaf.Literal literal) = true
+space_after lets (leaf.Punct punct) = lets punct.spacing
+space_after lets (leaf.Ident ident) = true
 
 -- siblings in order, with a space before each but the first where one may stand; due tells whether one is due now
-abbrev pub siblings_text : (due : Bool) → Forest → List ℕ
-siblings_text due end = []
-siblings_text due (leaf_then leaf rest) = space_if due ++ leaf_text leaf ++ siblings_text (space_after leaf) rest
-siblings_text due (node delimiter children rest) =
-    space_if due ++ opening_text delimiter.kind ++ siblings_text false children ++ closing_text delimiter.kind ++ siblings_text true rest
+abbrev pub siblings_text : (lets : Spacing → Bool) → (due : Bool) → Forest → List ℕ
+siblings_text lets due end = []
+siblings_text lets due (leaf_then leaf rest) = space_if due ++ leaf_text leaf ++ siblings_text lets (space_after lets leaf) rest
+siblings_text lets due (node delimiter children rest) =
+    space_if due ++ opening_text delimiter.kind ++ siblings_text lets false children ++ closing_text delimiter.kind ++ siblings_text lets true rest
 
--- what Display writes
+-- what Display writes: a punct that is joint or joint hidden takes the space away
 unfoldable pub display : Forest → List ℕ
-display trees = siblings_text false trees
+display trees = siblings_text is_alone false trees
+
+-- what `pretty` writes: only a joint punct does
+unfoldable pub pretty : Forest → List ℕ
+pretty trees = siblings_text is_not_joint false trees

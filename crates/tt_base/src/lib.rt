@@ -3,6 +3,7 @@
 //! `specs/` has what a token tree means: all definitions that two crates speak of stand there.
 #![tactic(auto)]
 
+mod debug_line;
 mod delimiter;
 mod fault;
 mod ident;
@@ -11,6 +12,7 @@ mod levels;
 mod literal;
 mod literal_text;
 mod punct;
+mod scan;
 mod shared;
 mod span;
 mod symbol;
@@ -19,6 +21,7 @@ mod text_range;
 mod token_tree;
 mod whole;
 
+pub use debug_line::{HeaderLine, Indent, LeafLine, line_break};
 pub use delimiter::{DelimSpan, Delimiter, DelimiterKind, Subtree};
 pub use fault::{Refused, TtFault};
 pub use ident::{Ident, IdentIsRaw};
@@ -26,6 +29,7 @@ pub use leaf::Leaf;
 pub use levels::Levels;
 pub use literal::{Lit, LitKind, Literal};
 pub use punct::{Punct, Spacing};
+pub use scan::{LiteralScan, token_to_literal};
 pub use span::{ErasedFileAstId, FileId, Span, SpanAnchor, SpanPart, SyntaxContext};
 pub use symbol::Symbol;
 pub use text_range::{TextRange, TextSize};

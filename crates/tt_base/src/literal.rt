@@ -1,5 +1,5 @@
 //! Literals: one text with a suffix at its end.
-ghost use Rattle.std.specs.Prelude.{◌≡◌, ◌-◌, ◌≤◌, ◌++◌, length, IsCharBoundary, IfOk, IfErr, MatchOption, Some, if◌then◌else◌, nat_lt, ⊤};
+ghost use Rattle.std.specs.Prelude.{◌≡◌, ◌-◌, ◌≤◌, ◌++◌, length, IsCharBoundary, IfOk, IfErr, IsTrue, ◌↔◌, MatchOption, Some, if◌then◌else◌, nat_lt, ⊤};
 ghost use Rattle.std.proofs.Props.{props};
 ghost use Rattle.tt_base.specs.declared.fault.TtFault.TheVariants.{Memory, SuffixTooLong};
 
@@ -8,8 +8,8 @@ use crate::span::Span;
 use crate::symbol::Symbol;
 use std::alloc::{AllocError, Global};
 
-/// What a literal is. A raw kind counts its hashes.
-#[derive(Debug, Clone, Copy, PartialEq, Eq, Hash)]
+/// What a literal is. A raw kind counts its hashes. Its Debug text is its name, and the hashes of a raw one.
+#[derive(Clone, Copy, PartialEq, Eq, Hash)]
 pub enum LitKind {
     Byte,
     Char,
@@ -91,17 +91,23 @@ impl Literal {
         })
     }
 
+    // Whether the last so many bytes of the text begin at a character.
+    #[inline(never)]
+    fn cuts(symbol: &Symbol, suffix_len: u8) -> bool
+        ensures { IsTrue result ↔ CutsText symbol.now suffix_len }
+    {
+        let text = symbol.as_str();
+        let suffix = suffix_len as usize;
+        suffix <= text.len() && text.is_char_boundary(text.len() - suffix)
+    }
+
     /// The literal whose text and suffix are the symbol, or `None` where a suffix of that length
-    /// would not begin at a character.
+    /// would not begin at a character. Where there is none, the text is not looked at.
+    #[inline(always)]
     pub fn from_parts(symbol: Symbol, span: Span, kind: LitKind, suffix_len: u8) -> Option<Literal>
         ensures { MatchOption result (¬ (CutsText symbol suffix_len)) (λ literal. IsLiteral literal symbol span kind suffix_len) }
     {
-        let len = symbol.as_str().len();
-        let suffix = suffix_len as usize;
-        if len < suffix {
-            return None;
-        }
-        if !symbol.as_str().is_char_boundary(len - suffix) {
+        if suffix_len != 0 && !Literal::cuts(&symbol, suffix_len) {
             return None;
         }
         Some(Literal {

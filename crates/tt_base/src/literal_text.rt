@@ -1,6 +1,7 @@
-//! How a literal is printed.
+//! How a literal is printed, and its kind.
 ghost use Rattle.std.specs.Prelude.{◌++◌, codes, Some};
 ghost use Rattle.std.specs.Fmt.{WritesOnOk};
+ghost use Rattle.tt_base.specs.DebugText.{kind_text};
 ghost use Rattle.tt_base.specs.LeafText.{hashes, literal_text};
 
 use crate::literal::{LitKind, Literal};
@@ -52,4 +53,24 @@ fn write_raw<W: fmt::Write>(
         (prefix.now ++ hashes fence.0 ++ codes "\"" ++ text.now ++ codes "\"" ++ hashes fence.0 ++ suffix.now) f.new }
 {
     write!(f, "{prefix}{fence}\"{text}\"{fence}{suffix}")
+}
+
+impl fmt::Debug for LitKind {
+    ghost debug_output = { λ kind. Some (kind_text kind) };
+
+    fn fmt<W: fmt::Write>(&self, f: &mut fmt::Formatter<W>) -> fmt::Result {
+        match self {
+            LitKind::Byte => f.write_str("Byte"),
+            LitKind::Char => f.write_str("Char"),
+            LitKind::Integer => f.write_str("Integer"),
+            LitKind::Float => f.write_str("Float"),
+            LitKind::Str => f.write_str("Str"),
+            LitKind::StrRaw(count) => write!(f, "StrRaw({count})"),
+            LitKind::ByteStr => f.write_str("ByteStr"),
+            LitKind::ByteStrRaw(count) => write!(f, "ByteStrRaw({count})"),
+            LitKind::CStr => f.write_str("CStr"),
+            LitKind::CStrRaw(count) => write!(f, "CStrRaw({count})"),
+            LitKind::Err(()) => f.write_str("Err(())"),
+        }
+    }
 }

@@ -1,7 +1,8 @@
 //! Where a token comes from.
-ghost use Rattle.std.specs.Prelude.{◌≡◌};
+ghost use Rattle.std.specs.Prelude.{◌≡◌, Some};
 
 use crate::text_range::TextRange;
+use std::fmt;
 
 #[derive(Debug, Clone, Copy, PartialEq, Eq, Hash)]
 pub struct FileId(pub u32);
@@ -19,13 +20,32 @@ pub struct SpanAnchor {
     pub ast_id: ErasedFileAstId,
 }
 
-/// Where a token comes from.
-#[derive(Debug, Clone, Copy, PartialEq, Eq, Hash)]
+/// Where a token comes from. Its Debug text is `file:ast@start..end#ctx`, in decimal.
+#[derive(Clone, Copy, PartialEq, Eq, Hash)]
 pub struct Span {
     /// Counted from the start of the anchor's item.
     pub range: TextRange,
     pub anchor: SpanAnchor,
     pub ctx: SyntaxContext,
+}
+
+impl fmt::Debug for Span {
+    ghost use Rattle.tt_base.specs.Span.{span_text};
+
+    ghost debug_output = { λ span. Some (span_text span) };
+
+    fn fmt<W: fmt::Write>(&self, f: &mut fmt::Formatter<W>) -> fmt::Result {
+        let Span { range, anchor, ctx } = self;
+        write!(
+            f,
+            "{}:{}@{}..{}#{}",
+            anchor.file_id.0,
+            anchor.ast_id.0,
+            range.start().raw(),
+            range.end().raw(),
+            ctx.0
+        )
+    }
 }
 
 /// A span without its range: what many spans of one tree share.

@@ -1,0 +1,49 @@
+-- What a scan makes of short texts, and which scans do not fit them.
+use Rattle.std.proofs.Common.{◌≡◌, [], ◌∷◌, codes, refl, true, false, Some, None, lit<, lit≤, not-le_of_lt}
+use Rattle.tt_base.specs.declared.literal.LitKind.TheVariants as lit
+use Rattle.tt_base.specs.declared.scan.LiteralScan.TheVariants as scan
+use Rattle.tt_base.specs.Scan.{parts_told, no_literal, FitsText}
+
+number : parts_told (codes "1u8") (Some (scan.Int, 1)) ≡ record { kind = lit.Integer; value = codes "1"; suffix = codes "u8" }
+number = refl
+
+raw_string : parts_told (codes "r#\"a\"#") (Some (scan.RawStr (Some 1), 6)) ≡ record { kind = lit.StrRaw 1; value = codes "a"; suffix = [] }
+raw_string = refl
+
+raw_c_string : parts_told (codes "cr##\"a\"##") (Some (scan.RawCStr (Some 2), 9)) ≡ record { kind = lit.CStrRaw 2; value = codes "a"; suffix = [] }
+raw_c_string = refl
+
+character_with_suffix : parts_told (codes "'a'u8") (Some (scan.Char true, 3)) ≡ no_literal (codes "'a'u8")
+character_with_suffix = refl
+
+byte : parts_told (codes "b'x'") (Some (scan.Byte true, 4)) ≡ record { kind = lit.Byte; value = codes "x"; suffix = [] }
+byte = refl
+
+open_string : parts_told (codes "\"ab") (Some (scan.Str false, 3)) ≡ record { kind = lit.Str; value = codes "ab"; suffix = [] }
+open_string = refl
+
+underscore : parts_told (codes "1_") (Some (scan.Int, 1)) ≡ record { kind = lit.Integer; value = codes "1"; suffix = [] }
+underscore = refl
+
+no_scan : parts_told (codes "x") None ≡ no_literal (codes "x")
+no_scan = refl
+
+place_past_the_text : FitsText (codes "1") scan.Int 2 → ⊥
+place_past_the_text fits = not-le_of_lt (lit< tt) fits.suffix_starts.0
+
+place_in_a_character : FitsText (195 ∷ 169 ∷ []) scan.Int 1 → ⊥
+place_in_a_character fits = not-le_of_lt (lit< tt) (fits.suffix_starts.1 (lit< tt) (lit≤ tt))
+
+one_quote_twice : FitsText (codes "'") (scan.Char true) 1 → ⊥
+one_quote_twice fits = not-le_of_lt (lit< tt) fits.room
+
+no_hashes_counted : FitsText (codes "r\"") (scan.RawStr None) 2 → ⊥
+no_hashes_counted fits = not-le_of_lt (lit< tt) fits.room
+
+raw_string_fits : FitsText (codes "r#\"a\"#") (scan.RawStr (Some 1)) 6
+raw_string_fits = record {
+  suffix_starts = (lit≤ tt, λ h. absurd (not-le_of_lt h (lit≤ tt)));
+  room = lit≤ tt;
+  value_starts = (lit≤ tt, λ h wide. absurd (not-le_of_lt (lit< tt) wide));
+  value_ends = (lit≤ tt, λ h wide. absurd (not-le_of_lt (lit< tt) wide));
+}
