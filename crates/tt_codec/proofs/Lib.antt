@@ -4,6 +4,7 @@ pub mod Found
 pub mod HeaderReading
 mod HeaderRows
 pub mod LeafReading
+pub mod Overwriting
 pub mod ReadAgain
 pub mod ReferenceReading
 pub mod SpanReading

@@ -3,6 +3,7 @@ pub mod Entry
 pub mod Header
 pub mod Kinds
 pub mod Leaf
+pub mod Overwriting
 pub mod Read
 pub mod Reference
 pub mod SpanNumbers

@@ -30,7 +30,7 @@ const FORMAT_3_BYTES: u32 = (1 << (16 - PART_BITS)) - 1;
 const FORMAT_3_PART: u32 = (1 << (HIGH_BITS + PART_BITS)) - 1;
 
 // The byte behind the open span: the form, the kind, and what the form has its high bits for.
-fn control(form: u8, kind: DelimiterKind, high: u8) -> u8
+pub(crate) fn control(form: u8, kind: DelimiterKind, high: u8) -> u8
     requires form { form < 8 }
     requires high { high < 8 }
     ensures { result ≡ form + delimiter_number kind * 8 + high * 32 }

@@ -13,6 +13,7 @@ mod header_write;
 mod kinds;
 mod leaf_read;
 mod leaf_write;
+mod overwrite;
 mod reference;
 mod span;
 mod words;

@@ -2,7 +2,7 @@
 ghost use Rattle.std.specs.Prelude.{◌≡◌, ◌<◌, ◌^◌, ◌++◌, IsTrue, IfErr, OnOk};
 ghost use Rattle.tt_base.specs.declared.fault.TtFault.TheVariants.{Memory};
 ghost use Rattle.tt_base.specs.Fits.{SpanInRange};
-ghost use Rattle.tt_codec.specs.SpanNumbers.{span_numbers, SpanFits, first_word, middle_word, rests, fits_one_word, fits_two_words, middle_span, heavy_span, span_bytes, part_rest, length_rest, start_rest, SpansAgain, spanned, from_rests, after_one_word, after_two_words, span_at};
+ghost use Rattle.tt_codec.specs.SpanNumbers.{span_numbers, SpanFits, first_word, middle_word, rests, fits_one_word, fits_two_words, middle_span, heavy_span, span_bytes, word, part_rest, length_rest, start_rest, SpansAgain, spanned, from_rests, after_one_word, after_two_words, span_at};
 ghost use Rattle.tt_codec.specs.Read.{IsRead};
 
 use crate::back_buf::BackBuf;
@@ -157,6 +157,19 @@ impl SpanNumbers {
         into.put_word(self.first_word(extra, 1))
     }
 
+    /// The span in three words, the first in front.
+    #[inline(always)]
+    pub(crate) fn heavy_words(self, extra: u32) -> (u32, u32, u32)
+        requires part { self.part < 2 ^ 28 }
+        requires extra { extra < 4 }
+        ensures { word result.0 ++ word result.1 ++ word result.2 ≡ heavy_span extra self }
+    {
+        let rests = self.rests();
+        let second = ((rests >> WORD_BITS) as u32) << 1 | 1;
+        let third = (rests & WORD_MASK) as u32;
+        (self.first_word(extra, 1), second, third)
+    }
+
     // Puts three words before the bytes.
     #[inline(never)]
     fn write_heavy(self, into: &mut BackBuf, extra: u32) -> Result<(), TtFault>
@@ -165,10 +178,10 @@ impl SpanNumbers {
         ensures ok { OnOk result (into.new ≡ heavy_span extra self ++ into.old) }
         ensures err { IfErr result (λ fault. fault ≡ Memory) }
     {
-        let rests = self.rests();
-        into.put_word((rests & WORD_MASK) as u32)?;
-        into.put_word(((rests >> WORD_BITS) as u32) << 1 | 1)?;
-        into.put_word(self.first_word(extra, 1))
+        let (first, second, third) = self.heavy_words(extra);
+        into.put_word(third)?;
+        into.put_word(second)?;
+        into.put_word(first)
     }
 
     /// Puts the bytes of the span before the others, in three words where `heavy` demands them.

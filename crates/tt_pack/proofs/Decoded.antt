@@ -10,7 +10,7 @@ use Rattle.tt_codec.specs.declared.entry.HeaderEntry.{HeaderEntry}
 use Rattle.tt_codec.specs.declared.entry.LeafEntry.{LeafEntry}
 use Rattle.tt_codec.specs.Entry.{entry_at}
 use Rattle.tt_codec.specs.Read.{Read, IsMade}
-use Rattle.tt_tables.specs.Found.{GivesLeaf, GivesSubtree}
+use Rattle.tt_tables.specs.Searches.{GivesLeaf, GivesSubtree}
 use Rattle.tt_tables.specs.Meaning.{IsAhead}
 use Rattle.tt_tables.specs.NextToken.{LeafAhead, NodeAhead}
 use Rattle.tt_tables.specs.Tables.{Tables}

@@ -73,12 +73,6 @@ stays reader trees nothing none =
         end_is_passed (tables_of reader) (bytes_of reader) (offset_of reader)
         (subst (IsAhead (tables_of reader) (bytes_of reader) (offset_of reader)) nothing reader.ahead.1)
 
--- A token that is there is counted.
-pub one_step : (steps : ℕ) (trees : Forest) (it : TokenTree) → first_token trees ≡ Some it → step_after steps trees ≡ min (steps + 1) (2 ^ 64 - 1)
-one_step steps end it e = cc e
-one_step steps (leaf first rest) it e = refl
-one_step steps (node delimiter children rest) it e = refl
-
 -- a table whose indices can be written
 pub record HasFewEntries (tables : Tables) : Type 0 where
   pub parts : length tables.parts ≤ most_parts

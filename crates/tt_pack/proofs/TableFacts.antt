@@ -8,9 +8,8 @@ use Rattle.std.specs.List.{AllByRecursion, IsDistinct}
 use Rattle.tt_tables.specs.TableOrder.{index_in, uses_of, IsEarlier, IsMoreUsed, Before, IsTable, different, falling, table}
 use Rattle.tt_tables.proofs.Cheapest.{distinct_order}
 use Rattle.tt_tables.proofs.TableOrder.{length-falling}
-use Rattle.tt_pack.specs.Counted.{counted}
+use Rattle.tt_pack.specs.Counted.{counted, FindsAt}
 use Rattle.tt_pack.specs.TablesOf.{StandsAt, HasNewIndexAt}
-use Rattle.tt_pack.specs.Rows.{FindsAt}
 
 -- `same` tells whether two values are equal
 module _ {X : Type 0} (same : X → X → Bool) where

@@ -2,7 +2,6 @@
 pub mod Counted
 pub mod Packed
 pub mod ReaderOf
-pub mod Rows
 pub mod StoredIn
 pub mod TablesOf
 pub mod TokenAt

@@ -1,5 +1,6 @@
 -- What the parts of a stored tree say together, and which tree a list means.
 use Rattle.std.specs.Prelude.{◌≡◌, ◌⊎◌, ◌+◌, ◌<◌, ◌≤◌, ℕ, List, length, [], ◌∷◌, ◌++◌}
+use Rattle.tt_base.specs.declared.delimiter.Delimiter.{Delimiter}
 use Rattle.tt_base.specs.declared.delimiter.Subtree.{Subtree}
 use Rattle.tt_base.specs.declared.fault.TtFault.{TtFault}
 use Rattle.tt_base.specs.declared.fault.TtFault.TheVariants.{Memory, NotOneSubtree, TooManySpanParts, TooManySymbols, TooManyBytes}
@@ -16,6 +17,10 @@ use Rattle.tt_base.specs.contracts.span.SpanPartHash.TheImpl as part_impl
 -- what is stored, of its parts
 abbrev pub stored_of : (bytes : List ℕ) → List SpanPart → (symbols : List (List ℕ)) → (len : ℕ) → Stored
 stored_of bytes parts symbols len = record { bytes = bytes; parts = parts; symbols = symbols; len = len }
+
+-- the tree whose top has that delimiter
+abbrev pub with_top : Delimiter → Root → Root
+with_top delimiter root = record { delimiter = delimiter; children = root.children }
 
 -- the tree of a header and the tokens below it
 abbrev pub root_of : Subtree → List TokenTree → Root

@@ -5,7 +5,7 @@ use Rattle.tt_base.specs.Forest.{Forest, end}
 use Rattle.tt_base.specs.Moves.{first_token, after_token, after_tree}
 use Rattle.tt_codec.specs.declared.entry.Entry.{Entry}
 use Rattle.tt_codec.specs.declared.entry.Entry.TheVariants as stored
-use Rattle.tt_tables.specs.Found.{GivesLeaf, GivesSubtree}
+use Rattle.tt_tables.specs.Searches.{GivesLeaf, GivesSubtree}
 use Rattle.tt_tables.specs.Meaning.{IsAhead}
 use Rattle.tt_tables.specs.Tables.{Tables}
 use Rattle.tt_pack.specs.StoredIn.{bytes_for, tables_stored}

@@ -17,6 +17,8 @@ ghost use Rattle.std.proofs.Common.{rules, ap};
 ghost use Rattle.std.specs.Cmp.Rules.{comparing};
 ghost use Rattle.tt_base.specs.Equality.{same_token-equivalence, same_root};
 
+mod top;
+
 use crate::pack::write_tree;
 use std::alloc::Global;
 use std::hash::{Hash, Hasher};
@@ -55,6 +57,7 @@ impl Packed {
     pub fn pack(alloc: Global, tokens: Vec<TokenTree>) -> Result<Packed, Refused<Vec<TokenTree>>>
         ensures ok { IfOk result (λ stored. tokens.items ≡ flat_root stored) }
         ensures counts { IfOk result (λ stored. size stored.children ≤ most_tokens) }
+        ensures limits { IfOk result (λ stored. IsWithinLimits stored) }
         ensures fault { IfErr result (λ refused. IsPackFault tokens.items refused.fault) }
         ensures list { IfErr result (λ refused. refused.value ≡ tokens) }
     {
@@ -67,9 +70,9 @@ impl Packed {
         }
     }
 
-    // What is stored for a list, if it is one subtree.
-    fn of_list(alloc: Global, tokens: &[TokenTree]) -> Result<Packed, TtFault>
-        ensures ok { IfOk result (λ stored. (tokens.now ≡ flat_root stored) × (size stored.children ≤ most_tokens)) }
+    /// The tree of a flat list that stays with the caller, refused where `pack` refuses it.
+    pub fn of_list(alloc: Global, tokens: &[TokenTree]) -> Result<Packed, TtFault>
+        ensures ok { IfOk result (λ stored. (tokens.now ≡ flat_root stored) × (size stored.children ≤ most_tokens) × IsWithinLimits stored) }
         ensures err { IfErr result (IsPackFault tokens.now) }
     {
         let Some((TokenTree::Subtree(top), below)) = tokens.split_first() else {

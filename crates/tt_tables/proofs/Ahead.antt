@@ -9,7 +9,7 @@ use Rattle.tt_base.specs.declared.leaf.Leaf.{Leaf}
 use Rattle.tt_base.specs.declared.span.SpanPart.{SpanPart}
 use Rattle.tt_base.specs.declared.token_tree.TokenTree.{TokenTree}
 use Rattle.tt_base.specs.declared.token_tree.TokenTree.TheVariants as token
-use Rattle.tt_tables.specs.Found.{FindsSubtree}
+use Rattle.tt_tables.specs.Searches.{FindsSubtree}
 use Rattle.tt_codec.specs.declared.entry.Entry.TheVariants.{Leaf as of_leaf, Header as of_header}
 use Rattle.tt_codec.specs.Entry.{entry_at}
 use Rattle.tt_base.specs.Forest.{Forest, end, leaf, node, Root, size, header, flat, join}

@@ -8,7 +8,7 @@ use Rattle.tt_base.specs.declared.leaf.Leaf.TheVariants as leaf
 use Rattle.tt_base.specs.declared.span.Span.{Span}
 use Rattle.tt_base.specs.declared.span.SpanPart.{SpanPart}
 use Rattle.tt_base.specs.declared.token_tree.TokenTree.TheVariants as token
-use Rattle.tt_tables.specs.Found.{FindsSpan, FindsLeaf, FindsSubtree}
+use Rattle.tt_tables.specs.Searches.{FindsSpan, FindsLeaf, FindsSubtree}
 use Rattle.tt_base.specs.Span.{part_of}
 use Rattle.tt_codec.specs.SpanNumbers.{span_numbers}
 use Rattle.tt_tables.specs.TableOrder.{index_in, IsIn}

@@ -16,7 +16,7 @@ use Rattle.tt_tables.specs.Tables.{Tables}
 use Rattle.tt_tables.proofs.Lookups.{span_from, literal_is}
 use Rattle.tt_codec.specs.declared.entry.LeafEntry.TheVariants.{Literal as literal}
 use Rattle.tt_codec.specs.declared.span.SpanNumbers.{SpanNumbers}
-use Rattle.tt_tables.specs.Found.{FindsSpan, FindsLeaf}
+use Rattle.tt_tables.specs.Searches.{FindsSpan, FindsLeaf}
 
 -- The span of a leaf in range is in range.
 pub leaf_in_range : (it : Leaf) → LeafInRange it → SpanInRange (leaf_span it)

@@ -1,4 +1,5 @@
 pub mod Ahead
+mod AstIdRows
 pub mod Cheapest
 mod CostRows
 pub mod Finding
@@ -21,4 +22,5 @@ pub mod TableOrder
 mod TableRows
 pub mod TableUnique
 pub mod TokenTables
+pub mod TopSet
 pub mod TreesAlike

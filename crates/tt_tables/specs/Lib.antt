@@ -1,6 +1,6 @@
 -- The two tables, tokens in numbers under them, and what is stored for a tree.
+pub mod AstIds
 pub mod Cost
-pub mod Found
 pub mod Meaning
 pub mod NextToken
 pub mod PackFault

@@ -1,7 +1,7 @@
 //! The way back: from numbers to the tokens that they name.
 
 ghost use Rattle.std.specs.Prelude.{◌≡◌, IfSome, slice_get};
-ghost use Rattle.tt_tables.specs.Found.{FindsSpan, IsLeaf, IsSubtree, GivesSpan, GivesLeaf, GivesSubtree};
+ghost use Rattle.tt_tables.specs.Searches.{FindsSpan, IsLeaf, IsSubtree, GivesSpan, GivesLeaf, GivesSubtree};
 
 use crate::tables::Tables;
 use tt_base::{

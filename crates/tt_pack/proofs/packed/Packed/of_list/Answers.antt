@@ -1,7 +1,7 @@
-use Rattle.std.proofs.Common.{◌≡◌, ◌+◌, ◌<◌, ◌≤◌, ◌^◌, length, Err, ◌∷◌, ap, ◌∙◌, arith, rules}
+use Rattle.std.proofs.Common.{◌≡◌, ◌+◌, ◌<◌, ◌≤◌, ◌^◌, length, Err, ◌∷◌, ap, sym, subst, ◌∙◌, arith, rules}
 use Rattle.tt_base.specs.declared.token_tree.TokenTree.TheVariants as token
 use Rattle.tt_base.specs.Forest.{Root, size, flat_root}
-use Rattle.tt_tables.specs.Stored.{most_tokens}
+use Rattle.tt_tables.specs.Stored.{most_tokens, IsWithinLimits}
 use Rattle.tt_tables.specs.Meaning.{IsStored}
 use Rattle.tt_tables.proofs.StoredAlike.{meaning_is}
 use Rattle.tt_pack.specs.Packed.{stored_of, root_of, IsStoreFault}
@@ -42,6 +42,6 @@ returns-clause-ok c =
     let list : c.args.tokens.now ≡ token.Subtree top ∷ below = c.in-Some-Subtree-default.ensures.cases.0 ∙ ap (λ t. t ∷ below) c.in-Some-Subtree-default.field-0-0-is in
     let it : Splits c.args.tokens.now top below = record { list = list; counted = c.if-top-below.false; few = omega (arith, fits) } in
     let is : IsStored (stored_of c.in_ok-bytes.bytes.items c.in_ok-bytes.parts.items c.in_ok-bytes.symbols.items (length below + 1)) (root_of top below) = search rules in
-    let its : (root : Root) → root ≡ root_of top below → (c.args.tokens.now ≡ flat_root root) × (size root.children ≤ most_tokens) =
-    λ root e. stored_list _ _ _ root it c.in_ok-bytes.ensures.whole e in
+    let its : (root : Root) → root ≡ root_of top below → (c.args.tokens.now ≡ flat_root root) × (size root.children ≤ most_tokens) × IsWithinLimits root =
+    λ root e. let list = stored_list _ _ _ root it c.in_ok-bytes.ensures.whole e in (list.0, list.1, subst IsWithinLimits (sym e) is.1) in
     search (rules, its, meaning_is, is)

@@ -4,7 +4,8 @@ use Rattle.tt_tables.specs.Meaning.{IsAhead}
 use Rattle.tt_pack.specs.StoredIn.{bytes_in}
 use Rattle.tt_pack.specs.ReaderOf.{bytes_of, tables_of, steps_of, ahead_of}
 use Rattle.tt_pack.proofs.Decoded.{decoded_ahead, some_is_first, none_is_ahead, no_tree}
-use Rattle.tt_pack.proofs.Moves.{ends, inside, steps_to, stays, one_step}
+use Rattle.tt_pack.proofs.Moves.{ends, inside, steps_to, stays}
+use Rattle.tt_base.proofs.Moves.{one_step}
 use Rattle.tt_pack.proofs.reader.Reader.advance_skip.Goals as goal
 
 pub returns-in_err-tree-clause-token : goal.returns-in_err-tree-clause-token

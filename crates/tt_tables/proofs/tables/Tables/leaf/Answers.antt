@@ -2,7 +2,7 @@ use Rattle.std.proofs.Common.{◌≡◌, Some, slice_get, ap, sym, subst, ◌∙
 use Rattle.tt_base.specs.declared.token_tree.TokenTree.TheVariants as token
 use Rattle.tt_base.specs.Token.{leaf_span}
 use Rattle.tt_base.specs.Literal.{IsLiteral}
-use Rattle.tt_tables.specs.Found.{FindsLeaf}
+use Rattle.tt_tables.specs.Searches.{FindsLeaf}
 use Rattle.tt_tables.specs.TablesOf.{tables_of}
 use Rattle.tt_tables.proofs.Found.{leaf_in_range, leaf_span_found, literal_made}
 use Rattle.tt_tables.proofs.tables.Tables.leaf.Goals as goal

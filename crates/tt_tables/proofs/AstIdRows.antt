@@ -1,0 +1,57 @@
+-- What new ids give on small trees.
+use Rattle.std.proofs.Common.{◌≡◌, ℕ, [], ◌∷◌, refl, le-add_right}
+use Rattle.tt_base.specs.declared.delimiter.DelimiterKind.TheVariants.{Parenthesis}
+use Rattle.tt_base.specs.declared.leaf.Leaf.{Leaf}
+use Rattle.tt_base.specs.declared.leaf.Leaf.TheVariants as leaf_of
+use Rattle.tt_base.specs.declared.punct.Spacing.TheVariants.{Alone}
+use Rattle.tt_base.specs.declared.span.Span.{Span}
+use Rattle.tt_base.specs.Token.{delimiter}
+use Rattle.tt_base.specs.Forest.{end, leaf, Root}
+use Rattle.tt_tables.specs.AstIds.{stored_ids, ids_changed}
+use Rattle.tt_tables.specs.TableOrder.{table}
+
+-- a span of an id, at 0..1
+abbrev of_id : ℕ → Span
+of_id id =
+    record {
+      range = record { start = record { raw = 0 }; end = record { raw = 1 }; ordered = le-add_right 0 1 };
+      anchor = record { file_id = record { 0 = 0 }; ast_id = record { 0 = id } };
+      ctx = record { 0 = 0 };
+    }
+
+-- ; of an id
+abbrev semicolon : ℕ → Leaf
+semicolon id = leaf_of.Punct (record { char = 59; spacing = Alone; span = of_id id })
+
+-- a parenthesis of the ids 5 and 6 over ; of the id 7
+three_parts : Root
+three_parts = record { delimiter = delimiter Parenthesis (of_id 5) (of_id 6); children = leaf (semicolon 7) end }
+
+asked : stored_ids three_parts ≡ record { 0 = 7 } ∷ record { 0 = 5 } ∷ record { 0 = 6 } ∷ []
+unfolding three_parts table
+asked = refl
+
+one_id : ids_changed (record { 0 = 1 } ∷ []) three_parts ≡ record { delimiter = delimiter Parenthesis (of_id 5) (of_id 6); children = leaf (semicolon 1) end }
+unfolding three_parts table
+one_id = refl
+
+three_ids : stored_ids (ids_changed (record { 0 = 9 } ∷ record { 0 = 9 } ∷ record { 0 = 9 } ∷ []) (ids_changed (record { 0 = 1 } ∷ []) three_parts))
+    ≡ record { 0 = 9 } ∷ record { 0 = 9 } ∷ record { 0 = 9 } ∷ []
+unfolding three_parts table
+three_ids = refl
+
+-- two parts below the top that differ in their ids alone, and a top like them
+two_parts : Root
+two_parts = record { delimiter = delimiter Parenthesis (of_id 3) (of_id 4); children = leaf (semicolon 1) (leaf (semicolon 2) end) }
+
+-- all become one
+all_one : stored_ids (ids_changed (record { 0 = 0 } ∷ record { 0 = 0 } ∷ record { 0 = 0 } ∷ record { 0 = 0 } ∷ []) two_parts)
+    ≡ record { 0 = 0 } ∷ record { 0 = 0 } ∷ record { 0 = 0 } ∷ []
+unfolding two_parts table
+all_one = refl
+
+-- each takes its own
+exchanged : ids_changed (record { 0 = 2 } ∷ record { 0 = 1 } ∷ record { 0 = 4 } ∷ record { 0 = 3 } ∷ []) two_parts
+    ≡ record { delimiter = delimiter Parenthesis (of_id 4) (of_id 3); children = leaf (semicolon 2) (leaf (semicolon 1) end) }
+unfolding two_parts table
+exchanged = refl

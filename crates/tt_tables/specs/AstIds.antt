@@ -1,0 +1,32 @@
+-- New ids for the span parts of a tree, one for each entry of the table that is stored for it.
+use Rattle.std.specs.Prelude.{ℕ, ◌+◌, List, length, map, get_or}
+use Rattle.tt_base.specs.declared.span.ErasedFileAstId.{ErasedFileAstId}
+use Rattle.tt_base.specs.declared.span.Span.{Span}
+use Rattle.tt_base.specs.declared.span.SpanPart.{SpanPart}
+use Rattle.tt_base.specs.Edits.{with_id, respanned}
+use Rattle.tt_base.specs.Forest.{Root, flat}
+use Rattle.tt_base.specs.Span.{part_of}
+use Rattle.tt_base.specs.Token.{delimiter}
+use Rattle.tt_tables.specs.Stored.{root_parts}
+use Rattle.tt_tables.specs.TableOrder.{index_in}
+use Rattle.tt_tables.specs.Tables.{part_table}
+use Rattle.tt_tables.specs.Uses.{same_part}
+
+-- the ids of the stored parts, in order
+abbrev pub stored_ids : Root → List ErasedFileAstId
+stored_ids root = map (λ part. part.anchor.ast_id) (root_parts root)
+
+-- the span takes the id that is given for an entry; where none is given it keeps its own
+abbrev pub with_id_at : (ids : List ErasedFileAstId) → (index : ℕ) → Span → Span
+with_id_at ids index span = with_id (get_or ids index span.anchor.ast_id) span
+
+-- the tree in which each span has the id that is given for its entry: below the top that of the span's part, and of the top's open and close
+-- span the last but one and the last
+abbrev pub ids_changed : (ids : List ErasedFileAstId) → Root → Root
+ids_changed ids root =
+    let parts = part_table (flat root.children) in
+    let top = root.delimiter in
+    record {
+      delimiter = delimiter top.kind (with_id_at ids (length parts) top.open_span) (with_id_at ids (length parts + 1) top.close);
+      children = respanned (λ span. with_id_at ids (index_in (same_part (part_of span)) parts) span) root.children;
+    }
