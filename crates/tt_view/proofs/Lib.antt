@@ -1,6 +1,10 @@
 pub mod Asked
 pub mod Cuts
+pub mod Drained
+pub mod FlatPlaces
 pub mod Frames
+pub mod LeafAt
+pub mod NewIds
 pub mod Places
 pub mod Parts
 pub mod Reading

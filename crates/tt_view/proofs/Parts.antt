@@ -77,12 +77,6 @@ not_none ahead len h n e = some h.0.0 h.0.1 (omega (arith, h.1.1, n)) (sym (ap f
     some (leaf it rest) g s e = cc
     some (node d children rest) g s e = cc
 
--- One more token is counted where there is one.
-pub one_step : (steps : ℕ) (trees : Forest) (t : TokenTree) → first_token trees ≡ Some t → step_after steps trees ≡ min (steps + 1) (2 ^ 64 - 1)
-one_step steps end t e = cc
-one_step steps (leaf it rest) t e = refl
-one_step steps (node d children rest) t e = refl
-
 -- Where there is a first token, trees are left.
 pub some_left : (trees : Forest) (t : TokenTree) → first_token trees ≡ Some t → is_end trees ≡ false
 some_left end t e = cc

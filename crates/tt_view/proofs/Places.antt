@@ -10,13 +10,14 @@ use Rattle.tt_base.specs.declared.token_tree.TokenTree.TheVariants as token
 use Rattle.tt_base.specs.Forest.{Forest, end, leaf, node, size, flat, join}
 use Rattle.tt_base.specs.Unflat.{flat-join, front, behind}
 use Rattle.tt_base.specs.Moves.{first_token, after_token}
-use Rattle.tt_base.specs.Walk.{Event, passes, opens, closes, subtree_of, walk, Walked, is_over, is_at_close, token_at, open_nodes, tokens_of, one_if_any, one_on}
+use Rattle.tt_base.specs.Walk.{Event, passes, opens, closes, subtree_of, walk, Walked, events_ahead, is_over, is_at_close, token_at, open_nodes, tokens_of, one_if_any, one_on}
 use Rattle.tt_base.specs.Siblings.{is_end}
 use Rattle.tt_view.specs.Innermost.{is_end_of}
-use Rattle.tt_view.specs.Frames.{left, Stands}
+use Rattle.tt_view.specs.Frames.{left, Stands, StandsInWalk, walked, events_left}
+use Rattle.tt_view.specs.declared.cursor.Cursor.TheInside.{Inside}
 use Rattle.tt_view.specs.declared.cursor.Frame.{Frame}
 use Rattle.tt_base.proofs.Joins.{size-join}
-use Rattle.tt_base.proofs.Walks.{walk-join, open_walk, tokens-append, tokens_walk, over_end, not_over}
+use Rattle.tt_base.proofs.Walks.{walk-join, open_walk, tokens-append, tokens_walk, over_end, not_over, stays}
 use Rattle.tt_view.proofs.Frames.{left_join, IsOpen, past_leaf, past_node, into_node, open_above}
 
 -- What is left is an end of the whole walk.
@@ -44,6 +45,10 @@ place_of o fs ahead s =
     let e = ends o fs ahead s in
     let far : length (walk o) - length (left fs ahead) ≡ length e.0 = omega (arith, ap length e.1, length-append e.0 (left fs ahead)) in
     ap₂ drop far e.1 ∙ drop-append_seam e.0 (left fs ahead)
+
+-- What is left of a cursor is what lies ahead of its place.
+pub ahead_is : (cursor : Inside) (now : Walked) → StandsInWalk cursor → walked cursor ≡ now → events_ahead now ≡ events_left cursor
+ahead_is cursor now stands view_is = ap events_ahead (sym view_is) ∙ place_of _ _ _ stands
 
 -- the place where these events are left
 abbrev pub at : Forest → List Event → Walked
@@ -151,19 +156,11 @@ closing o fs f ahead s e =
     let same : (f.behind == size ahead) ≡ true = close_some o fs f ahead s f.behind (size ahead) refl refl ∙ e in
     grind (arith, nat_tests)
 
--- Past a leaf, and into a node, of which no more is known than its token.
+-- Into a node, of which no more is known than its token.
 pub record Gone (o : Forest) (fs gs : List Frame) (ahead rest : Forest) : Type 0 where
   pub event : Event
   pub is : left fs ahead ≡ event ∷ left gs rest
   pub stands : Stands o gs rest
-
-pub gone_leaf : (o : Forest) (fs : List Frame) (ahead rest : Forest) (it : Leaf) → Stands o fs ahead → is_at_close (left fs ahead) ≡ false
-    → first_token ahead ≡ Some (token.Leaf it) → rest ≡ after_token ahead → Gone o fs fs ahead rest
-gone_leaf o fs end rest it s e t r = cc
-gone_leaf o fs (leaf other after) rest it s e t r =
-    let past = past_leaf o fs other after s (open_or_over o fs (leaf other after) s e) in
-    record { event = passes other; is = past.is ∙ ap (λ v. passes other ∷ left fs v) (sym r); stands = subst (Stands o fs) (sym r) past.stands }
-gone_leaf o fs (node d c after) rest it s e t r = cc
 
 pub gone_node : (o : Forest) (fs gs : List Frame) (f : Frame) (ahead rest : Forest) (h : Subtree) → Stands o fs ahead → is_at_close (left fs ahead) ≡ false
     → first_token ahead ≡ Some (token.Subtree h) → rest ≡ after_token ahead → f.header ≡ h → f.behind ≡ size rest - h.len → gs ≡ f ∷ fs → Gone o fs gs ahead rest
@@ -217,3 +214,13 @@ leaf_gone o fs (leaf other after) rest it s e t r =
     let past = past_leaf o fs other after s (open_or_over o fs (leaf other after) s e) in
     record { is = past.is ∙ ap₂ (λ v w. passes v ∷ left fs w) same (sym r); stands = subst (Stands o fs) (sym r) past.stands }
 leaf_gone o fs (node d c after) rest it s e t r = cc
+
+-- Past a leaf, or nowhere at the end of the walk.
+pub gone_plain : (o : Forest) (fs : List Frame) (ahead rest : Forest) → Stands o fs ahead → is_at_close (left fs ahead) ≡ false
+    → ((it : Subtree) → first_token ahead ≡ Some (token.Subtree it) → ⊥) → rest ≡ after_token ahead
+    → Stands o fs rest × (at o (left fs rest) ≡ one_on (at o (left fs ahead)))
+gone_plain o fs end rest s e n r =
+    (subst (Stands o fs) (sym r) s, ap (λ v. at o (left fs v)) r ∙ stays (at o (left fs end)) (place_of o fs end s ∙ none_left o fs end s e refl))
+gone_plain o fs (leaf it after) rest s e n r =
+    let gone = leaf_gone o fs (leaf it after) rest it s e refl r in (gone.stands, moved o fs fs (leaf it after) rest (passes it) s gone.stands gone.is)
+gone_plain o fs (node d c after) rest s e n r = absurd (n _ refl)

@@ -1,5 +1,5 @@
 -- What the first token says of the flat list, of the last span and of the one root.
-use Rattle.std.proofs.Common.{◌≡◌, true, false, Option, Some, None, [], ◌∷◌, ◌++◌, refl, ap, sym, ◌∙◌}
+use Rattle.std.proofs.Common.{◌≡◌, true, false, Option, Some, None, [], ◌∷◌, ◌++◌, length, refl, ap, sym, ◌∙◌, arith}
 use Rattle.tt_base.specs.declared.delimiter.Subtree.{Subtree}
 use Rattle.tt_base.specs.declared.leaf.Leaf.{Leaf}
 use Rattle.tt_base.specs.declared.span.Span.{Span}
@@ -7,6 +7,9 @@ use Rattle.tt_base.specs.declared.token_tree.TokenTree.{TokenTree}
 use Rattle.tt_base.specs.declared.token_tree.TokenTree.TheVariants as token
 use Rattle.tt_base.specs.Forest.{Forest, end, leaf, node, size, header, flat, only}
 use Rattle.tt_base.specs.Unflat.{flat-join}
+use Rattle.std.specs.Iterator.{YieldsFirst, MakesProgress, item_count}
+use Rattle.tt_view.specs.SubtreeViews.{flat_rest}
+use Rattle.tt_view.specs.declared.flat.FlatTokens.{FlatTokens}
 use Rattle.tt_base.specs.Moves.{first_token, after_token, after_tree}
 use Rattle.tt_base.specs.Siblings.{children_of, is_end}
 use Rattle.tt_base.specs.OneRoot.{one_root}
@@ -26,6 +29,24 @@ flat_step (node d children rest) g t e a =
     let is : header d (size children) ≡ t = cc in
     let more : flat g ≡ flat children ++ flat rest = ap flat a ∙ flat-join children rest in
     λ i. is i ∷ sym more i
+
+-- A call that gives the first token, if there is one, and leaves the trees that follow it, gives the first of the flat list.
+pub flat_yields : (s t : FlatTokens) (found : Option TokenTree) → found ≡ first_token (flat_rest s) → flat_rest t ≡ after_token (flat_rest s)
+    → YieldsFirst (λ tokens. flat (flat_rest tokens)) s found t
+flat_yields s t None e a = none (flat_rest s) (flat_rest t) e a
+  where
+    none : (f g : Forest) → None ≡ first_token f → g ≡ after_token f → (flat f ≡ []) × (flat g ≡ [])
+    none end g e a = (refl, ap flat a)
+    none (leaf it rest) g e a = cc
+    none (node d children rest) g e a = cc
+flat_yields s t (Some it) e a = flat_step (flat_rest s) (flat_rest t) it (sym e) a
+
+-- So less of the list is left.
+pub flat_goes : (can : FlatTokens → Type 0) (s t : FlatTokens) (found : Option TokenTree) → can t → found ≡ first_token (flat_rest s)
+    → flat_rest t ≡ after_token (flat_rest s) → MakesProgress can (item_count (λ tokens. flat (flat_rest tokens))) s found t
+flat_goes can s t None ok e a = record { on = λ _. tt; keeps = tt; rests = λ _. tt }
+flat_goes can s t (Some it) ok e a =
+    let step = flat_step (flat_rest s) (flat_rest t) it (sym e) a in record { on = λ _. (ok, tt, omega (arith, ap length step)); keeps = ok; rests = λ _. tt }
 
 -- No token is the first only of no trees.
 pub none_flat : (f : Forest) → f ≡ end → flat f ≡ []

@@ -33,7 +33,7 @@ frames_of cursor = reverse cursor.stack.items
 
 -- the events that a cursor has left
 abbrev pub events_left : Inside → List Event
-events_left cursor = left (frames_of cursor) (trees_of cursor.ahead)
+events_left cursor = left (frames_of cursor) (cursor.ahead)
 
 -- its place
 abbrev pub walked : Inside → Walked
@@ -41,4 +41,4 @@ walked cursor = record { origin = trees_of cursor.origin; place = length (walk (
 
 -- what holds of it
 abbrev pub StandsInWalk : Inside → Type 0
-StandsInWalk cursor = Stands (trees_of cursor.origin) (frames_of cursor) (trees_of cursor.ahead)
+StandsInWalk cursor = Stands (trees_of cursor.origin) (frames_of cursor) (cursor.ahead)

@@ -1,4 +1,5 @@
 -- What the contracts of trees, views and iterators speak of; and, of the crates below, what is stored for a tree and why none is.
+pub use Rattle.tt_tables.specs.AstIds
 pub use Rattle.tt_tables.specs.Cost
 pub use Rattle.tt_tables.specs.PackFault
 pub use Rattle.tt_tables.specs.Shortest
@@ -10,8 +11,11 @@ pub mod Cuts
 pub mod Frames
 pub mod Innermost
 pub mod Iters
+pub mod Lookahead
+pub mod NewIds
 pub mod Pieces
 pub mod SiblingText
+pub mod SpaceRules
 pub mod SubtreeViews
 pub mod TreeFault
 pub mod Views

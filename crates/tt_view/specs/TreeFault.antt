@@ -1,9 +1,11 @@
 -- Why no tree is made of what a call was given: the first limit that is passed, want of memory aside.
-use Rattle.std.specs.Prelude.{◌<◌, ◌≤◌}
+use Rattle.std.specs.Prelude.{ℕ, ◌<◌, ◌≤◌, length}
 use Rattle.tt_base.specs.declared.delimiter.Delimiter.{Delimiter}
 use Rattle.tt_base.specs.declared.fault.TtFault.{TtFault}
 use Rattle.tt_base.specs.declared.fault.TtFault.TheVariants.{Memory, NotOneSubtree, NoSuchPlace, NotALeaf, SuffixTooLong, BadScan, TooManyTokens, TooManySpanParts, TooManySymbols, TooManyBytes, PointsSpent}
-use Rattle.tt_base.specs.Forest.{Forest, Root, size}
+use Rattle.tt_base.specs.declared.leaf.Leaf.{Leaf}
+use Rattle.tt_base.specs.Edits.{HasLeafAt, HasHeaderAt, leaf_set}
+use Rattle.tt_base.specs.Forest.{Forest, Root, size, flat_root}
 use Rattle.tt_tables.specs.Stored.{most_tokens}
 use Rattle.tt_tables.specs.PackFault.{HasManyParts, HasManySymbols, HasManyBytes}
 
@@ -24,3 +26,9 @@ IsTreeFault root TooManySpanParts = (size root.children ≤ most_tokens) × HasM
 IsTreeFault root TooManySymbols = (size root.children ≤ most_tokens) × HasManySymbols root
 IsTreeFault root TooManyBytes = (size root.children ≤ most_tokens) × HasManyBytes root
 IsTreeFault root PointsSpent = ⊥
+
+-- why no leaf is set at a place: there is none, or a header stands there, or the tree with the leaf there is refused
+abbrev pub IsSetFault : Root → (place : ℕ) → Leaf → TtFault → Type 0
+IsSetFault root place it NoSuchPlace = length (flat_root root) ≤ place
+IsSetFault root place it NotALeaf = HasHeaderAt (flat_root root) place
+IsSetFault root place it fault = HasLeafAt (flat_root root) place × IsTreeFault (leaf_set place it root) fault

@@ -5,6 +5,7 @@ ghost use Rattle.tt_base.specs.Forest.{flat};
 ghost use Rattle.tt_view.specs.Innermost.{is_end_of};
 ghost use Rattle.tt_base.specs.Walk.{Event, closes, walk, begun, events_ahead, is_over, is_at_close, is_at_open, token_at, two_leaves_at, open_nodes, one_on, tokens_of, flat_left};
 
+use crate::lookahead::Lookahead;
 use crate::view::TokenTreesView;
 use std::alloc::Global;
 use std::marker::Model;
@@ -29,12 +30,12 @@ fn ends_node(stack: &[Frame], ahead: usize) -> bool
 }
 
 /// A place in the walk through a list of trees, which goes past each leaf, and into and out of each subtree. It decodes
-/// a token when asked for it. Only entering a subtree may take memory, for the stack of those that are open.
+/// each token once. Only entering a subtree may take memory, for the stack of those that are open.
 #[derive(Drop)]
 pub struct Cursor<'a> {
     origin: TokenTreesView<'a>,
     // all tokens ahead, those behind the open subtrees too
-    ahead: TokenTreesView<'a>,
+    ahead: Lookahead<'a>,
     stack: Vec<Frame>,
 }
 
@@ -61,7 +62,7 @@ impl<'a> Cursor<'a> {
     {
         Cursor {
             origin,
-            ahead: origin,
+            ahead: Lookahead::over(origin),
             stack: Vec::new(alloc),
         }
     }
@@ -94,8 +95,7 @@ impl<'a> Cursor<'a> {
         if self.is_at_close() {
             return None;
         }
-        let (token, _) = self.ahead.flat_parts()?;
-        Some(token)
+        self.ahead.token()
     }
 
     /// Goes one place on, into a subtree where its header is here. At the end of a subtree, which `token_tree` tells
@@ -107,18 +107,15 @@ impl<'a> Cursor<'a> {
         ensures opens { OnErr result (is_at_open (events_ahead self.old) ≡ true) }
         ensures fault { IfErr result (λ fault. fault ≡ Memory) }
     {
-        let Some((token, rest)) = self.ahead.flat_parts() else {
+        let Some(header) = self.ahead.header() else {
+            self.ahead.pass();
             return Ok(());
         };
-        if let TokenTree::Subtree(header) = token {
-            self.stack.push(Frame {
-                header,
-                behind: rest.len() - header.usize_len(),
-            })?;
-            self.ahead = rest;
-            return Ok(());
-        }
-        self.ahead = rest;
+        self.stack.push(Frame {
+            header,
+            behind: self.ahead.len() - 1 - header.usize_len(),
+        })?;
+        self.ahead.pass();
         Ok(())
     }
 
@@ -155,7 +152,7 @@ impl<'a> Cursor<'a> {
         if self.is_at_close() {
             return None;
         }
-        let (first, rest) = self.ahead.flat_leaf()?;
+        let (first, rest) = self.ahead.leaf()?;
         if ends_node(self.stack.as_slice(), rest.len()) {
             return None;
         }
@@ -168,7 +165,7 @@ impl<'a> Cursor<'a> {
         requires { open_nodes (events_ahead self.now) ≡ 0 }
         ensures { walk (trees_of result) ++ events_ahead self.now ≡ walk self.now.origin }
     {
-        self.origin.before(self.ahead)
+        self.origin.before(self.ahead.trees())
     }
 
     // The trees of all tokens ahead.
@@ -176,6 +173,6 @@ impl<'a> Cursor<'a> {
         ensures tokens { flat (trees_of result) ≡ tokens_of (events_ahead self.now) }
         ensures left { flat (trees_of result) ≡ flat_left self.now }
     {
-        self.ahead
+        self.ahead.trees()
     }
 }

@@ -2,7 +2,7 @@
 ghost use Rattle.std.specs.Prelude.{◌≡◌, false, Some};
 ghost use Rattle.std.specs.Fmt.{WritesOnOk};
 ghost use Rattle.tt_base.specs.Forest.{only};
-ghost use Rattle.tt_base.specs.TreeText.{siblings_text, display};
+ghost use Rattle.tt_base.specs.TreeText.{is_alone, siblings_text, display};
 ghost use Rattle.tt_view.specs.Iters.{rest_of, tree_of};
 ghost use Rattle.tt_view.specs.SiblingText.{tree_text};
 ghost use Rattle.tt_view.specs.SubtreeViews.{root_of};
@@ -42,7 +42,7 @@ impl fmt::Display for TopSubtree {
 // Writes trees, with no space before the first one.
 #[cycle(write)]
 fn write_siblings<W: fmt::Write>(mut siblings: TtIter<'_>, f: &mut fmt::Formatter<W>) -> fmt::Result
-    ensures { WritesOnOk W.write_str_gives f.old result (siblings_text false (rest_of siblings.entry)) f.new }
+    ensures { WritesOnOk W.write_str_gives f.old result (siblings_text is_alone false (rest_of siblings.entry)) f.new }
 {
     let mut due = false;
     while let Some(sibling) = siblings.next() {

@@ -11,13 +11,13 @@ use crate::view::TokenTreesView;
 use tt_base::{Leaf, Span, Subtree, TokenTree};
 
 /// The trees of a list one by one. To pass one, whatever its size, decodes one token.
-#[derive(Clone, Drop)]
+#[derive(Debug, Clone, Drop)]
 pub struct TtIter<'a> {
     inner: TokenTreesView<'a>,
 }
 
 /// A tree of a list.
-#[derive(Clone, Drop)]
+#[derive(Debug, Clone, Drop)]
 pub enum TtElement<'a> {
     Leaf(Leaf),
     /// A header, and the trees below it.
@@ -84,8 +84,7 @@ impl<'a> TtIter<'a> {
     pub(crate) fn take_element(&mut self) -> Option<TtElement<'a>>
         ensures { GivesSibling self.old result self.new }
     {
-        let (token, below, rest) = self.inner.parts()?;
-        self.inner = rest;
+        let (token, below) = self.inner.next_tree()?;
         Some(match token {
             TokenTree::Leaf(leaf) => TtElement::Leaf(leaf),
             TokenTree::Subtree(subtree) => TtElement::Subtree(subtree, TtIter { inner: below }),
@@ -150,9 +149,8 @@ impl<'a> TtIter<'a> {
         ensures steps { steps_of_iter self.new ≡ step_after (steps_of_iter self.old) (rest_of self.old) }
     {
         let whole = self.inner;
-        let (_, _, rest) = whole.parts()?;
-        self.inner = rest;
-        Some(whole.before(rest))
+        self.inner.next_tree()?;
+        Some(whole.before(self.inner))
     }
 
     /// Goes to the cursor's place: what is left are all tokens ahead of it, those behind the subtrees that it is in too.

@@ -2,14 +2,16 @@
 #![tactic(auto)]
 
 mod cursor;
+mod debug;
 mod display;
 mod expect;
 mod flat;
 mod glue;
 mod iter;
+mod lookahead;
 mod split;
 mod subtree_view;
-mod text;
+pub mod text;
 mod top_subtree;
 mod view;
 

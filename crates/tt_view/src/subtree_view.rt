@@ -41,8 +41,9 @@ impl<'a> SubtreeView<'a> {
         ensures len { result.0.len ≡ size (root_of self.entry).children }
         ensures children { trees_of result.1 ≡ (root_of self.entry).children }
     {
-        match self.whole.parts() {
-            Some((TokenTree::Subtree(top), below, _)) => (top, below),
+        let mut rest = self.whole;
+        match rest.next_tree() {
+            Some((TokenTree::Subtree(top), below)) => (top, below),
             _ => unreachable!(),
         }
     }

@@ -19,6 +19,10 @@ ghost use Rattle.tt_tables.specs.Uses.{same_part, part_uses, symbol_uses};
 ghost use Rattle.tt_pack.specs.Packed.{fed_tree};
 ghost use Rattle.tt_view.specs.TreeFault.{under, IsTreeFault};
 
+mod ast_ids;
+mod edits;
+mod setters;
+
 use crate::iter::TtIter;
 use crate::subtree_view::SubtreeView;
 use crate::view::TokenTreesView;
@@ -100,10 +104,49 @@ impl TopSubtree {
     ) -> Result<TopSubtree, Refused<Vec<TokenTree>>>
         ensures ok { IfOk result (λ tree. tokens.items ≡ flat_root tree) }
         ensures counts { IfOk result (λ tree. size tree.children ≤ most_tokens) }
+        ensures limits { IfOk result (λ tree. IsWithinLimits tree) }
         ensures fault { IfErr result (λ refused. IsPackFault tokens.items refused.fault) }
         ensures list { IfErr result (λ refused. refused.value ≡ tokens) }
     {
         Packed::pack(alloc, tokens).map(TopSubtree::from_packed)
+    }
+
+    /// The tree of a flat list that stays with the caller, refused where `from_serialized` refuses it.
+    pub fn from_tokens(alloc: Global, tokens: &[TokenTree]) -> Result<TopSubtree, TtFault>
+        ensures ok { IfOk result (λ tree. tokens.now ≡ flat_root tree) }
+        ensures counts { IfOk result (λ tree. size tree.children ≤ most_tokens) }
+        ensures err { IfErr result (IsPackFault tokens.now) }
+    {
+        let packed = Packed::of_list(alloc, tokens)?;
+        Ok(TopSubtree { packed })
+    }
+
+    /// The trees of a list, under that delimiter.
+    pub fn from_token_trees(
+        alloc: Global,
+        delimiter: Delimiter,
+        trees: TokenTreesView<'_>,
+    ) -> Result<TopSubtree, TtFault>
+        ensures ok { IfOk result (λ tree. tree ≡ under delimiter (trees_of trees.entry)) }
+        ensures err { IfErr result (IsTreeFault (under delimiter (trees_of trees.entry))) }
+    {
+        let Ok(len) = u32::try_from(trees.len()) else {
+            return Err(TtFault::TooManyTokens);
+        };
+        let mut tokens = Vec::with_capacity(alloc, trees.len() + 1)?;
+        tokens.push(TokenTree::Subtree(Subtree { delimiter, len }))?;
+        tokens.extend(trees.iter_flat_tokens())?;
+        let packed = Packed::of_list(alloc, &tokens)?;
+        Ok(TopSubtree { packed })
+    }
+
+    /// One subtree, as a tree of its own.
+    pub fn from_subtree(alloc: Global, subtree: SubtreeView<'_>) -> Result<TopSubtree, TtFault>
+        ensures ok { IfOk result (λ tree. tree ≡ root_of subtree.entry) }
+        ensures err { IfErr result (IsTreeFault (root_of subtree.entry)) }
+    {
+        let delimiter = subtree.top_subtree().delimiter;
+        TopSubtree::from_token_trees(alloc, delimiter, subtree.token_trees())
     }
 
     /// The tree that is meant by what is stored.

@@ -1,8 +1,8 @@
 //! A list of trees in a stored tree.
-ghost use Rattle.std.specs.Prelude.{◌≡◌, ◌+◌, ◌-◌, ◌^◌, ◌<◌, min, ℕ, IfSome, MatchOption, Some, None, option_map, false};
+ghost use Rattle.std.specs.Prelude.{◌≡◌, ◌+◌, ◌-◌, ◌^◌, ◌<◌, min, ℕ, IfSome, MatchOption, Some, None, option_map, slice_get, false};
 ghost use Rattle.tt_base.specs.Forest.{Forest, end, only, size, join, flat};
 ghost use Rattle.tt_base.specs.Token.{first_span as token_span};
-ghost use Rattle.tt_base.specs.Moves.{first_token, after_token, after_tree};
+ghost use Rattle.tt_base.specs.Moves.{first_token, after_token, after_tree, step_after};
 ghost use Rattle.tt_pack.specs.ReaderOf.{ahead_of};
 ghost use Rattle.tt_base.specs.declared.leaf.Leaf.{Leaf};
 ghost use Rattle.tt_base.specs.declared.token_tree.TokenTree.TheVariants as token;
@@ -132,7 +132,8 @@ impl<'a> TokenTreesView<'a> {
     pub fn try_into_subtree(self) -> Option<SubtreeView<'a>>
         ensures { option_map root_of result ≡ one_root (trees_of self.entry) }
     {
-        let (token, _, behind) = self.parts()?;
+        let mut behind = self;
+        let (token, _) = behind.next_tree()?;
         match token {
             TokenTree::Leaf(_) => None,
             TokenTree::Subtree(_) => {
@@ -159,7 +160,8 @@ impl<'a> TokenTreesView<'a> {
     pub fn first_span(&self) -> Option<Span>
         ensures { result ≡ option_map token_span (first_token (trees_of self.now)) }
     {
-        let (token, _) = self.flat_parts()?;
+        let mut rest = *self;
+        let token = rest.next_token()?;
         Some(token.first_span())
     }
 
@@ -169,12 +171,10 @@ impl<'a> TokenTreesView<'a> {
     {
         let mut last = None;
         let mut rest = *self;
-        while let Some((token, below, behind)) = rest.parts() {
-            if behind.is_empty() {
+        while let Some((token, below)) = rest.next_tree() {
+            if rest.is_empty() {
                 last = Some(close_span(&token));
                 rest = below;
-            } else {
-                rest = behind;
             }
         }
         last
@@ -191,47 +191,60 @@ impl<'a> TokenTreesView<'a> {
         }
     }
 
-    // The first token, what it holds if it is a header, and the trees behind all that.
-    pub(crate) fn parts(self) -> Option<(TokenTree, TokenTreesView<'a>, TokenTreesView<'a>)>
-        ensures parts { MatchOption result (trees_of self.entry ≡ end) (λ found. (first_token (trees_of self.entry) ≡ Some found.0) × (trees_of found.1 ≡ children_of (trees_of self.entry)) × (trees_of found.2 ≡ after_tree (trees_of self.entry))) }
-        ensures steps { IfSome result (λ found. steps_of_view found.2 ≡ min (steps_of_view self.entry + 1) (2 ^ 64 - 1)) }
+    // Takes the first token. What follows it is left, and the trees that it holds come first.
+    pub(crate) fn next_token(&mut self) -> Option<TokenTree>
+        ensures token { result ≡ first_token (trees_of self.old) }
+        ensures rest { trees_of self.new ≡ after_token (trees_of self.old) }
     {
         if self.len == 0 {
             return None;
         }
-        let mut rest = self.reader;
-        let (token, below) = rest.advance_skip()?;
-        let len = count_below(&token);
-        let children = TokenTreesView { reader: below, len };
-        let rest = TokenTreesView {
-            reader: rest,
-            len: self.len - 1 - len,
-        };
-        Some((token, children, rest))
+        let token = self.reader.advance()?;
+        self.len -= 1;
+        Some(token)
     }
 
-    // The first token, and the trees that follow it when its own come next.
-    pub(crate) fn flat_parts(self) -> Option<(TokenTree, TokenTreesView<'a>)>
-        ensures { MatchOption result (trees_of self.entry ≡ end) (λ found. (first_token (trees_of self.entry) ≡ Some found.0) × (trees_of found.1 ≡ after_token (trees_of self.entry))) }
+    // The token at a place of the flat list. Trees that end before it are passed, each by decoding one token.
+    pub(crate) fn token_at(self, place: usize) -> Option<TokenTree>
+        ensures { result ≡ slice_get (flat (trees_of self.entry)) place }
+    {
+        let mut rest = self;
+        let mut left = place;
+        while let Some((token, below)) = rest.next_tree() {
+            if left == 0 {
+                return Some(token);
+            }
+            left -= 1;
+            if left < below.len {
+                rest = below;
+            } else {
+                left -= below.len;
+            }
+        }
+        None
+    }
+
+    // Takes the first tree, and gives its token and the trees that this holds.
+    pub(crate) fn next_tree(&mut self) -> Option<(TokenTree, TokenTreesView<'a>)>
+        ensures tree { MatchOption result (trees_of self.old ≡ end) (λ found. (first_token (trees_of self.old) ≡ Some found.0) × (trees_of found.1 ≡ children_of (trees_of self.old))) }
+        ensures rest { trees_of self.new ≡ after_tree (trees_of self.old) }
+        ensures steps { steps_of_view self.new ≡ step_after (steps_of_view self.old) (trees_of self.old) }
     {
         if self.len == 0 {
             return None;
         }
-        let mut reader = self.reader;
-        let token = reader.advance()?;
-        let rest = TokenTreesView {
-            reader,
-            len: self.len - 1,
-        };
-        Some((token, rest))
+        let (token, below) = self.reader.advance_skip()?;
+        let len = count_below(&token);
+        self.len -= 1 + len;
+        Some((token, TokenTreesView { reader: below, len }))
     }
 
     // The first token, if it is a leaf, and the trees that follow it.
     pub(crate) fn flat_leaf(self) -> Option<(Leaf, TokenTreesView<'a>)>
         ensures { MatchOption result ((it : Leaf) → first_token (trees_of self.entry) ≡ Some (token.Leaf it) → ⊥) (λ found. (first_token (trees_of self.entry) ≡ Some (token.Leaf found.0)) × (trees_of found.1 ≡ after_token (trees_of self.entry))) }
     {
-        let (token, rest) = self.flat_parts()?;
-        match token {
+        let mut rest = self;
+        match rest.next_token()? {
             TokenTree::Leaf(leaf) => Some((leaf, rest)),
             TokenTree::Subtree(_) => None,
         }

@@ -4,12 +4,12 @@ use Rattle.tt_view.specs.Innermost.{is_end_of}
 use Rattle.tt_view.specs.Views.{trees_of}
 use Rattle.tt_base.specs.Walk.{events_ahead, is_at_close}
 use Rattle.tt_view.specs.Frames.{events_left, frames_of}
-use Rattle.tt_view.proofs.Places.{place_of, close_is}
+use Rattle.tt_view.proofs.Places.{ahead_is, close_is}
 use Rattle.tt_view.proofs.cursor.Cursor.is_at_close.Goals as goal
 
 pub returns : goal.returns
 returns c =
     let a = c.self.inside in
-    let whole : events_ahead c.args.self.now ≡ events_left a = ap events_ahead (sym c.self.view_is) ∙ place_of _ _ _ c.self.invariant in
-    let same : c.ends_node.result ≡ is_end_of (frames_of a) (size (trees_of a.ahead)) = search rules in
+    let whole : events_ahead c.args.self.now ≡ events_left a = ahead_is a _ c.self.invariant c.self.view_is in
+    let same : c.ends_node.result ≡ is_end_of (frames_of a) (size a.ahead) = search rules in
     same ∙ close_is _ _ _ c.self.invariant ∙ sym (ap is_at_close whole)

@@ -8,26 +8,26 @@ use Rattle.tt_view.specs.Views.{trees_of}
 use Rattle.tt_base.specs.Walk.{events_ahead, is_at_close, two_leaves_at}
 use Rattle.tt_view.specs.Frames.{events_left, frames_of}
 use Rattle.tt_base.proofs.Walks.{no_first, no_second, two, none_at_close}
-use Rattle.tt_view.proofs.Places.{place_of, close_is, token_ahead, leaf_gone}
+use Rattle.tt_view.proofs.Places.{ahead_is, close_is, token_ahead, leaf_gone}
 use Rattle.tt_view.proofs.cursor.Cursor.peek_two_leaves.Goals as goal
 
 pub returns-in_err-first : goal.returns-in_err-first
 returns-in_err-first c =
     let a = c.self.inside in
-    let whole : events_ahead c.args.self.now ≡ events_left a = ap events_ahead (sym c.self.view_is) ∙ place_of _ _ _ c.self.invariant in
+    let whole : events_ahead c.args.self.now ≡ events_left a = ahead_is a _ c.self.invariant c.self.view_is in
     let no : is_at_close (events_left a) ≡ false = sym (ap is_at_close whole) ∙ sym c.is_at_close.ensures ∙ c.if-is_at_close.false in
-    let none : (it : Leaf) → first_token (trees_of a.ahead) ≡ Some (token.Leaf it) → ⊥ = search rules in
+    let none : (it : Leaf) → first_token a.ahead ≡ Some (token.Leaf it) → ⊥ = search rules in
     let result : c.from_residual.result ≡ None = search rules in
     result ∙ no_first (events_left a) (λ it t. none it (token_ahead _ _ _ c.self.invariant no ∙ t)) ∙ ap two_leaves_at (sym whole)
 
 pub returns-then-ends_node : goal.returns-then-ends_node
 returns-then-ends_node c =
     let a = c.self.inside in
-    let whole : events_ahead c.args.self.now ≡ events_left a = ap events_ahead (sym c.self.view_is) ∙ place_of _ _ _ c.self.invariant in
+    let whole : events_ahead c.args.self.now ≡ events_left a = ahead_is a _ c.self.invariant c.self.view_is in
     let no : is_at_close (events_left a) ≡ false = sym (ap is_at_close whole) ∙ sym c.is_at_close.ensures ∙ c.if-is_at_close.false in
-    let first : first_token (trees_of a.ahead) ≡ Some (token.Leaf c.in_ok-first.first) = search rules in
-    let rest : trees_of c.in_ok-first.rest ≡ after_token (trees_of a.ahead) = search rules in
-    let gone = leaf_gone (trees_of a.origin) (frames_of a) (trees_of a.ahead) (trees_of c.in_ok-first.rest) c.in_ok-first.first c.self.invariant no first rest in
+    let first : first_token a.ahead ≡ Some (token.Leaf c.in_ok-first.first) = search rules in
+    let rest : trees_of c.in_ok-first.rest ≡ after_token a.ahead = search rules in
+    let gone = leaf_gone (trees_of a.origin) (frames_of a) a.ahead (trees_of c.in_ok-first.rest) c.in_ok-first.first c.self.invariant no first rest in
     let at_end : c.ends_node.result ≡ is_end_of (frames_of a) (size (trees_of c.in_ok-first.rest)) = search rules in
     let close = at_end ∙ close_is _ _ _ gone.stands in
     let is = whole ∙ gone.is in
@@ -36,11 +36,11 @@ returns-then-ends_node c =
 pub returns-in_err-second : goal.returns-in_err-second
 returns-in_err-second c =
     let a = c.self.inside in
-    let whole : events_ahead c.args.self.now ≡ events_left a = ap events_ahead (sym c.self.view_is) ∙ place_of _ _ _ c.self.invariant in
+    let whole : events_ahead c.args.self.now ≡ events_left a = ahead_is a _ c.self.invariant c.self.view_is in
     let no : is_at_close (events_left a) ≡ false = sym (ap is_at_close whole) ∙ sym c.is_at_close.ensures ∙ c.if-is_at_close.false in
-    let first : first_token (trees_of a.ahead) ≡ Some (token.Leaf c.in_ok-first.first) = search rules in
-    let rest : trees_of c.in_ok-first.rest ≡ after_token (trees_of a.ahead) = search rules in
-    let gone = leaf_gone (trees_of a.origin) (frames_of a) (trees_of a.ahead) (trees_of c.in_ok-first.rest) c.in_ok-first.first c.self.invariant no first rest in
+    let first : first_token a.ahead ≡ Some (token.Leaf c.in_ok-first.first) = search rules in
+    let rest : trees_of c.in_ok-first.rest ≡ after_token a.ahead = search rules in
+    let gone = leaf_gone (trees_of a.origin) (frames_of a) a.ahead (trees_of c.in_ok-first.rest) c.in_ok-first.first c.self.invariant no first rest in
     let at_end : c.ends_node.result ≡ is_end_of (frames_of a) (size (trees_of c.in_ok-first.rest)) = search rules in
     let close = at_end ∙ close_is _ _ _ gone.stands in
     let is = whole ∙ gone.is in
@@ -53,11 +53,11 @@ returns-in_err-second c =
 pub returns : goal.returns
 returns c =
     let a = c.self.inside in
-    let whole : events_ahead c.args.self.now ≡ events_left a = ap events_ahead (sym c.self.view_is) ∙ place_of _ _ _ c.self.invariant in
+    let whole : events_ahead c.args.self.now ≡ events_left a = ahead_is a _ c.self.invariant c.self.view_is in
     let no : is_at_close (events_left a) ≡ false = sym (ap is_at_close whole) ∙ sym c.is_at_close.ensures ∙ c.if-is_at_close.false in
-    let first : first_token (trees_of a.ahead) ≡ Some (token.Leaf c.in_ok-first.first) = search rules in
-    let rest : trees_of c.in_ok-first.rest ≡ after_token (trees_of a.ahead) = search rules in
-    let gone = leaf_gone (trees_of a.origin) (frames_of a) (trees_of a.ahead) (trees_of c.in_ok-first.rest) c.in_ok-first.first c.self.invariant no first rest in
+    let first : first_token a.ahead ≡ Some (token.Leaf c.in_ok-first.first) = search rules in
+    let rest : trees_of c.in_ok-first.rest ≡ after_token a.ahead = search rules in
+    let gone = leaf_gone (trees_of a.origin) (frames_of a) a.ahead (trees_of c.in_ok-first.rest) c.in_ok-first.first c.self.invariant no first rest in
     let at_end : c.ends_node.result ≡ is_end_of (frames_of a) (size (trees_of c.in_ok-first.rest)) = search rules in
     let close = at_end ∙ close_is _ _ _ gone.stands in
     let is = whole ∙ gone.is in

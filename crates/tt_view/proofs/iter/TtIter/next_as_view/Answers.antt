@@ -11,17 +11,16 @@ use Rattle.tt_view.proofs.iter.TtIter.next_as_view.Goals as goal
 pub before-requires : goal.before-requires
 before-requires c =
     let f = trees_of c.args.self.now.inner in
-    let e : trees_of c.in_ok-rest.rest ≡ after_tree f = search rules in
-    (first_tree f, tree_by_tree f ∙ ap (join (first_tree f)) (sym e))
+    (first_tree f, tree_by_tree f ∙ ap (join (first_tree f)) (sym c.next_tree.ensures.rest))
 
 pub returns-clause-first : goal.returns-clause-first
 returns-clause-first c =
     let f = trees_of c.args.self.now.inner in
-    let e : trees_of c.in_ok-rest.rest ≡ after_tree f = search rules in
-    join-cancel _ _ (trees_of c.in_ok-rest.rest) (c.before-2.ensures ∙ tree_by_tree f ∙ ap (join (first_tree f)) (sym e))
+    let e : trees_of c.next_tree.new.self ≡ after_tree f = c.next_tree.ensures.rest in
+    join-cancel _ _ (trees_of c.next_tree.new.self) (c.before-2.ensures ∙ tree_by_tree f ∙ ap (join (first_tree f)) (sym e))
 
 pub returns-clause-some : goal.returns-clause-some
 returns-clause-some c =
     let f = trees_of c.args.self.now.inner in
-    let first : first_token f ≡ Some c.in_ok-rest.field-0-0 = search rules in
+    let first : first_token f ≡ Some c.in_ok-next_tree.field-0.0 = search rules in
     some_left f _ first

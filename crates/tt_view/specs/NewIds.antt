@@ -1,0 +1,34 @@
+-- Ids that were answered for the entries of a table, found again by part.
+use Rattle.std.specs.Prelude.{◌≡◌, Bool, List, [], ◌∷◌, map, Option, Some, None, unwrap_or, if◌then◌else◌}
+use Rattle.tt_base.specs.declared.delimiter.Delimiter.{Delimiter}
+use Rattle.tt_base.specs.declared.span.ErasedFileAstId.{ErasedFileAstId}
+use Rattle.tt_base.specs.declared.span.Span.{Span}
+use Rattle.tt_base.specs.declared.span.SpanPart.{SpanPart}
+use Rattle.tt_base.specs.declared.token_tree.TokenTree.{TokenTree}
+use Rattle.tt_base.specs.declared.token_tree.TokenTree.TheVariants as token
+use Rattle.tt_base.specs.Asked.{AsksAll}
+use Rattle.tt_base.specs.Edits.{with_id, respanned_leaf, respanned_delimiter}
+use Rattle.tt_base.specs.Forest.{Root, header}
+use Rattle.tt_base.specs.Span.{part_of}
+use Rattle.tt_tables.specs.AstIds.{stored_ids}
+use Rattle.tt_tables.specs.Uses.{same_part}
+
+-- the callback was asked for the id of each stored part of the tree, in order, and answered these
+pub record AnswersIds {F : Type 0} (call : F → ErasedFileAstId → ErasedFileAstId → F → Type 0) (first : F) (root : Root) (ids : List ErasedFileAstId) : Type 0 where
+  pub last : F
+  pub asked : AsksAll call first (stored_ids root) ids last
+
+-- the id of the first entry that is this part, if one is
+abbrev pub id_for : List SpanPart → List ErasedFileAstId → SpanPart → Option ErasedFileAstId
+id_for [] ids part = None
+id_for (entry ∷ parts) [] part = None
+id_for (entry ∷ parts) (id ∷ ids) part = if same_part part entry then Some id else id_for parts ids part
+
+-- the span takes the id that its part has, if it has one
+abbrev pub span_with : (SpanPart → Option ErasedFileAstId) → Span → Span
+span_with ids span = with_id (unwrap_or (ids (part_of span)) span.anchor.ast_id) span
+
+-- so do all spans of a token
+abbrev pub respanned_token : (Span → Span) → TokenTree → TokenTree
+respanned_token f (token.Leaf it) = token.Leaf (respanned_leaf f it)
+respanned_token f (token.Subtree it) = header (respanned_delimiter f it.delimiter) it.len

@@ -1,0 +1,195 @@
+//! New ids for all spans of a tree.
+ghost use Rattle.std.specs.Prelude.{◌≡◌, ◌<◌, ◌≤◌, ◌⊎◌, ◌∷◌, List, map, length, IfOk, IfErr, OnOk, OnErr};
+ghost use Rattle.indexmap.specs.IndexMap.{get};
+ghost use Rattle.tt_base.specs.declared.fault.TtFault.TheVariants.{Memory};
+ghost use Rattle.tt_base.specs.declared.span.ErasedFileAstId.{ErasedFileAstId as Id};
+ghost use Rattle.tt_base.specs.declared.span.SpanPart.{SpanPart as Part};
+ghost use Rattle.tt_base.specs.declared.token_tree.TokenTree.TheVariants as token;
+ghost use Rattle.tt_base.specs.Asked.{AsksAll};
+ghost use Rattle.tt_base.specs.Edits.{with_id, respanned_leaf};
+ghost use Rattle.tt_base.specs.Forest.{flat};
+ghost use Rattle.tt_tables.specs.AstIds.{with_id_at, ids_changed};
+ghost use Rattle.tt_tables.specs.Stored.{root_parts};
+ghost use Rattle.tt_tables.specs.Uses.{same_part};
+ghost use Rattle.tt_view.specs.NewIds.{AnswersIds, id_for, span_with, respanned_token};
+ghost use Rattle.tt_view.specs.TreeFault.{IsTreeFault};
+ghost use Rattle.tt_view.specs.Views.{trees_of};
+
+use crate::top_subtree::TopSubtree;
+use crate::view::TokenTreesView;
+use indexmap::IndexMap;
+use std::alloc::{AllocError, Global};
+use tt_base::{
+    Delimiter, ErasedFileAstId, Ident, Leaf, Punct, Span, SpanAnchor, SpanPart, Subtree, TokenTree,
+    TtFault,
+};
+use tt_pack::Packed;
+
+// The last parts of a table are those of the top's two spans.
+const TOP_PARTS: usize = 2;
+
+// Asks for each part's id, in order.
+fn ask_all<F: FnMut(ErasedFileAstId) -> ErasedFileAstId>(
+    alloc: Global,
+    parts: &[SpanPart],
+    mut callback: F,
+) -> Result<Vec<ErasedFileAstId>, AllocError>
+    requires { F.IsAlwaysCallable callback }
+    ensures { IfOk result (λ ids. (last : F) × AsksAll (λ p x y q. F.step p x y q) callback (map (λ part. part.anchor.ast_id) parts.now) ids.items last) }
+{
+    let mut ids = Vec::with_capacity(alloc, parts.len())?;
+    let mut rest = parts;
+    while let Some((part, others)) = rest.split_first() {
+        ids.push(callback(part.anchor.ast_id))?;
+        rest = others;
+    }
+    Ok(ids)
+}
+
+// The id of each part.
+fn by_part(
+    alloc: Global,
+    parts: &[SpanPart],
+    ids: &[ErasedFileAstId],
+) -> Result<IndexMap<SpanPart, ErasedFileAstId>, AllocError>
+    requires { length parts.now ≤ length ids.now }
+    ensures { IfOk result (λ found. (part : Part) → get same_part found part ≡ id_for parts.now ids.now part) }
+{
+    let mut found = IndexMap::new(alloc);
+    let mut index = parts.len();
+    // The first of equal parts would come last, and stay.
+    while index > 0 {
+        index -= 1;
+        found.insert(parts[index], ids[index])?;
+    }
+    Ok(found)
+}
+
+// The span with another id.
+fn with_id(id: ErasedFileAstId, span: Span) -> Span
+    ensures { result ≡ with_id id span }
+{
+    Span {
+        range: span.range,
+        anchor: SpanAnchor {
+            file_id: span.anchor.file_id,
+            ast_id: id,
+        },
+        ctx: span.ctx,
+    }
+}
+
+// The span with the id at an index.
+fn with_id_at(ids: &[ErasedFileAstId], index: usize, span: Span) -> Span
+    requires { index < length ids.now }
+    ensures { result ≡ with_id_at ids.now index span }
+{
+    with_id(ids[index], span)
+}
+
+// The span with the id that its part has.
+fn new_span(ids: &IndexMap<SpanPart, ErasedFileAstId>, span: Span) -> Span
+    ensures { result ≡ span_with (get same_part ids.now) span }
+{
+    match ids.get(&SpanPart::from_span(&span)) {
+        Some(id) => with_id(*id, span),
+        None => span,
+    }
+}
+
+// The leaf with the id that its part has.
+fn new_leaf(ids: &IndexMap<SpanPart, ErasedFileAstId>, leaf: Leaf) -> Leaf
+    ensures { result ≡ respanned_leaf (span_with (get same_part ids.now)) leaf }
+{
+    let span = new_span(ids, *leaf.span());
+    match leaf {
+        Leaf::Literal(literal) => Leaf::Literal(literal.with_span(span)),
+        Leaf::Punct(punct) => Leaf::Punct(Punct {
+            char: punct.char,
+            spacing: punct.spacing,
+            span,
+        }),
+        Leaf::Ident(ident) => Leaf::Ident(Ident {
+            sym: ident.sym,
+            span,
+            is_raw: ident.is_raw,
+        }),
+    }
+}
+
+// The token with the ids that its parts have.
+fn new_token(ids: &IndexMap<SpanPart, ErasedFileAstId>, token: TokenTree) -> TokenTree
+    ensures { result ≡ respanned_token (span_with (get same_part ids.now)) token }
+{
+    match token {
+        TokenTree::Leaf(leaf) => TokenTree::Leaf(new_leaf(ids, leaf)),
+        TokenTree::Subtree(subtree) => TokenTree::Subtree(Subtree {
+            delimiter: Delimiter {
+                open_span: new_span(ids, subtree.delimiter.open_span),
+                close: new_span(ids, subtree.delimiter.close),
+                kind: subtree.delimiter.kind,
+            },
+            len: subtree.len,
+        }),
+    }
+}
+
+// A header, and below it the trees with the ids that their parts have.
+fn new_list(
+    alloc: Global,
+    ids: &IndexMap<SpanPart, ErasedFileAstId>,
+    top: Subtree,
+    below: TokenTreesView<'_>,
+) -> Result<Vec<TokenTree>, AllocError>
+    ensures { IfOk result (λ list. list.items ≡ token.Subtree top ∷ map (respanned_token (span_with (get same_part ids.now))) (flat (trees_of below.entry))) }
+{
+    let mut list = Vec::with_capacity(alloc, below.len().saturating_add(1))?;
+    list.push(TokenTree::Subtree(top))?;
+    for token in below.iter_flat_tokens() {
+        list.push(new_token(ids, token))?;
+    }
+    Ok(list)
+}
+
+impl TopSubtree {
+    /// Changes the ids of all spans. The callback is asked once for the id of each entry of the table of span parts, in
+    /// order, so for those of the top's open and close span last. A span takes the id that was answered for its entry.
+    /// The tree is then stored anew. Where it would be too large then, or memory is refused, it stays as it was.
+    pub fn change_every_ast_id<F: FnMut(ErasedFileAstId) -> ErasedFileAstId>(
+        &mut self,
+        alloc: Global,
+        callback: F,
+    ) -> Result<(), TtFault>
+        requires { F.IsAlwaysCallable callback }
+        ensures ok { OnOk result ((ids : List Id) × AnswersIds (λ p x y q. F.step p x y q) callback self.old ids × (self.new ≡ ids_changed ids self.old)) }
+        ensures err { OnErr result (self.new ≡ self.old) }
+        ensures fault { IfErr result (λ fault. (fault ≡ Memory) ⊎ ((ids : List Id) × AnswersIds (λ p x y q. F.step p x y q) callback self.old ids × IsTreeFault (ids_changed ids self.old) fault)) }
+    {
+        let ids = ask_all(alloc, self.packed.parts(), callback)?;
+        self.packed = self.with_ids(alloc, &ids)?;
+        Ok(())
+    }
+
+    // The tree with these ids, stored once more.
+    fn with_ids(&self, alloc: Global, ids: &[ErasedFileAstId]) -> Result<Packed, TtFault>
+        requires { length ids.now ≡ length (root_parts self.now) }
+        ensures ok { IfOk result (λ packed. packed ≡ ids_changed ids.now self.now) }
+        ensures err { IfErr result (IsTreeFault (ids_changed ids.now self.now)) }
+    {
+        let parts = self.packed.parts();
+        let below = parts.len() - TOP_PARTS;
+        let found = by_part(alloc, &parts[..below], ids)?;
+        let top = self.top_subtree();
+        let delimiter = Delimiter {
+            open_span: with_id_at(ids, below, top.delimiter.open_span),
+            close: with_id_at(ids, below + 1, top.delimiter.close),
+            kind: top.delimiter.kind,
+        };
+        let header = Subtree {
+            delimiter,
+            len: top.len,
+        };
+        let list = new_list(alloc, &found, header, self.token_trees())?;
+        Ok(Packed::pack(alloc, list)?)
+    }
+}
