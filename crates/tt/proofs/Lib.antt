@@ -1,0 +1,16 @@
+pub mod Alone
+pub mod Building
+pub mod Closing
+pub mod Filters
+pub mod Finding
+pub mod Growing
+pub mod OnTheWay
+pub mod OpenKinds
+pub mod Pointing
+pub mod Removing
+pub mod Restoring
+pub mod Results
+pub mod Taking
+pub mod TextsLeft
+pub mod WorkStands
+pub mod Working

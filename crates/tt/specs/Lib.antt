@@ -1,4 +1,9 @@
 -- What the contracts of the library speak of, whichever crate says it.
+pub use Rattle.tt_base.specs.Asked
+pub use Rattle.tt_base.specs.Building
+pub use Rattle.tt_base.specs.BuildingCode
+pub use Rattle.tt_base.specs.DebugText
+pub use Rattle.tt_base.specs.Edits
 pub use Rattle.tt_base.specs.Equality
 pub use Rattle.tt_base.specs.Expectations
 pub use Rattle.tt_base.specs.Fault
@@ -11,12 +16,15 @@ pub use Rattle.tt_base.specs.Levels
 pub use Rattle.tt_base.specs.Literal
 pub use Rattle.tt_base.specs.Moves
 pub use Rattle.tt_base.specs.OneRoot
+pub use Rattle.tt_base.specs.Rewriting
+pub use Rattle.tt_base.specs.Scan
 pub use Rattle.tt_base.specs.Siblings
 pub use Rattle.tt_base.specs.Span
 pub use Rattle.tt_base.specs.Token
 pub use Rattle.tt_base.specs.TreeText
 pub use Rattle.tt_base.specs.Unflat
 pub use Rattle.tt_base.specs.Walk
+pub use Rattle.tt_view.specs.AstIds
 pub use Rattle.tt_view.specs.Cost
 pub use Rattle.tt_view.specs.PackFault
 pub use Rattle.tt_view.specs.Shortest
@@ -25,8 +33,14 @@ pub use Rattle.tt_view.specs.TableOrder
 pub use Rattle.tt_view.specs.Tables
 pub use Rattle.tt_view.specs.Uses
 pub use Rattle.tt_view.specs.Iters
+pub use Rattle.tt_view.specs.NewIds
 pub use Rattle.tt_view.specs.Pieces
 pub use Rattle.tt_view.specs.SubtreeViews
 pub use Rattle.tt_view.specs.TreeFault
 pub use Rattle.tt_view.specs.Views
+pub mod BuilderFields
+pub mod OneState
+pub mod Points
+pub mod Rewrites
 pub mod Types
+pub mod Work

@@ -11,9 +11,11 @@ pub use Rattle.tt_base.specs.declared.literal.LitKind
 pub use Rattle.tt_base.specs.declared.literal.Literal
 pub use Rattle.tt_base.specs.declared.punct.Punct
 pub use Rattle.tt_base.specs.declared.punct.Spacing
+pub use Rattle.tt_base.specs.declared.scan.LiteralScan
 pub use Rattle.tt_base.specs.declared.span.Span
 pub use Rattle.tt_base.specs.declared.span.SpanPart
 pub use Rattle.tt_base.specs.declared.token_tree.TokenTree
+pub use Rattle.tt_view.specs.declared.cursor.Cursor
 pub use Rattle.tt_view.specs.declared.flat.FlatTokens
 pub use Rattle.tt_view.specs.declared.iter.TtElement
 pub use Rattle.tt_view.specs.declared.iter.TtIter

@@ -1,0 +1,62 @@
+-- The kinds of the open subtrees stand at the places of their headers.
+use Rattle.std.proofs.Common.{◌≡◌, ℕ, zero, suc, ◌<◌, ◌≤◌, List, [], ◌∷◌, ◌++◌, length, get_or, map, Bool, Option, Some, None, MatchBool, MatchOption, is_some, refl, ap, ap₂, sym, subst, ◌∙◌, arith, append_assoc, append-nil}
+use Rattle.std.specs.Prelude.{reverse}
+use Rattle.std.proofs.lemmas.List.{map-append, reverse-append}
+use Rattle.tt_base.specs.declared.delimiter.Delimiter.{Delimiter}
+use Rattle.tt_base.specs.declared.delimiter.DelimiterKind.{DelimiterKind}
+use Rattle.tt_base.specs.declared.delimiter.DelimiterKind.TheVariants.{Invisible}
+use Rattle.tt_base.specs.declared.token_tree.TokenTree.{TokenTree}
+use Rattle.tt_base.specs.Building.{Stack, lowest, above, open_kinds, tokens_held, BuilderState, IsAbove}
+use Rattle.tt_base.specs.Forest.{flat}
+use Rattle.tt.specs.declared.builder.standing.Standing.{Standing}
+use Rattle.tt.specs.BuilderFields.{written, places, open_header, kind_of, kind_at, kinds_at, IsStateOf}
+use Rattle.tt.specs.OneState.{length-written}
+
+-- The kind at a place of the list.
+pub kind_there : (tokens : List TokenTree) (place : ℕ) (d : TokenTree) → place < length tokens → kind_at tokens place ≡ kind_of (get_or tokens place d)
+kind_there [] place d within = absurd (omega (arith, within))
+kind_there (it ∷ tokens) zero d within = refl
+kind_there (it ∷ tokens) (suc place) d within = kind_there tokens place d (omega (arith, within))
+
+-- Behind the list there is none.
+pub no_kind : (tokens : List TokenTree) (place : ℕ) → length tokens ≤ place → kind_at tokens place ≡ Invisible
+no_kind [] place past = refl
+no_kind (it ∷ tokens) zero past = absurd (omega (arith, past))
+no_kind (it ∷ tokens) (suc place) past = no_kind tokens place (omega (arith, past))
+
+-- The last of the places comes first.
+pub kinds_last : (tokens : List TokenTree) (outer : List ℕ) (place : ℕ) → kinds_at tokens (outer ++ place ∷ []) ≡ kind_at tokens place ∷ kinds_at tokens outer
+kinds_last tokens outer place =
+    ap reverse (map-append (kind_at tokens) outer (place ∷ [])) ∙ reverse-append (map (kind_at tokens) outer) (kind_at tokens place ∷ [])
+
+-- The kind of an open header behind what is written.
+kind_behind : (before : List TokenTree) (h : TokenTree) (after : List TokenTree) (place : ℕ) → place ≡ length before → kind_at (before ++ h ∷ after) place ≡ kind_of h
+kind_behind [] h after zero here = refl
+kind_behind [] h after (suc place) here = absurd (omega (arith, here))
+kind_behind (b ∷ before) h after zero here = absurd (omega (arith, here))
+kind_behind (b ∷ before) h after (suc place) here = kind_behind before h after place (omega (arith, here))
+
+-- The headers of what is written, and whatever follows it, have the kinds of the open subtrees.
+kinds_written : (top : Delimiter) (stack : Stack) (more : List TokenTree) → kinds_at (written top stack ++ more) (places stack) ≡ open_kinds stack
+kinds_written top (lowest trees) more = refl
+kinds_written top (above outer kind open_span trees) more =
+    let all : written top (above outer kind open_span trees) ++ more ≡ written top outer ++ open_header kind open_span ∷ (flat trees ++ more) =
+    append_assoc (written top outer) (open_header kind open_span ∷ flat trees) more in
+    ap (λ l. kinds_at l (places outer ++ suc (tokens_held outer) ∷ [])) all
+    ∙ kinds_last (written top outer ++ open_header kind open_span ∷ (flat trees ++ more)) (places outer) (suc (tokens_held outer))
+    ∙ ap₂ ◌∷◌ (kind_behind (written top outer) (open_header kind open_span) (flat trees ++ more) (suc (tokens_held outer)) (sym (length-written top outer)))
+    (kinds_written top outer (open_header kind open_span ∷ (flat trees ++ more)))
+
+-- So the fields tell them.
+pub kinds_open : (tokens : List TokenTree) (headers : List ℕ) (mark : Option ℕ) (points : List Standing) (taken : ℕ) (s : BuilderState)
+    → IsStateOf tokens headers mark points taken s → kinds_at tokens headers ≡ open_kinds s.stack
+kinds_open tokens headers mark points taken s is =
+    ap₂ kinds_at (is.list ∙ sym (append-nil (written s.top s.stack))) is.open_places ∙ kinds_written s.top s.stack []
+
+-- The kinds of the open subtrees tell whether one is open.
+pub open_told : (kinds rest : List DelimiterKind) (stack : Stack) (r : Option DelimiterKind) (b : Bool) → kinds ≡ open_kinds stack
+    → MatchOption r ((kinds ≡ []) × (rest ≡ [])) (λ kind. kinds ≡ kind ∷ rest) → b ≡ is_some r → MatchBool b (IsAbove stack) (IsAbove stack → ⊥)
+open_told kinds rest (lowest trees) (Some kind) b are first is = absurd (cc (are, first))
+open_told kinds rest (lowest trees) None b are none is = subst (λ x. MatchBool x ⊥ (⊥ → ⊥)) (sym is) (λ x. x)
+open_told kinds rest (above outer kind span trees) (Some k) b are first is = subst (λ x. MatchBool x (Unit {0}) (Unit {0} → ⊥)) (sym is) tt
+open_told kinds rest (above outer kind span trees) None b are none is = absurd (cc (are, none.0))

@@ -1,0 +1,10 @@
+use Rattle.std.proofs.Common.{length}
+use Rattle.tt.specs.Work.{Work, StandsFor, StaysSame}
+use Rattle.tt.proofs.transform.Rewriting.next.Given as goal
+
+-- Whatever the work was, what is there now comes to the same.
+abbrev pub invariant-loop-element : goal.invariant-loop-element
+invariant-loop-element l = StaysSame l.fn.self l.self
+
+abbrev pub decreases-loop-element : goal.decreases-loop-element
+decreases-loop-element l = length l.self.frames.items

@@ -1,0 +1,148 @@
+//! Trees as texts. What is left of each subtree that was entered is kept in memory, so a tree may be as deep as that holds.
+ghost use Rattle.std.specs.Prelude.{◌≡◌, ◌++◌, false, IfOk, IfErr, OnOk, string_bytes};
+ghost use Rattle.tt_base.specs.DebugText.{break_if, debug, header_line, indent, leaf_line, lines_text};
+ghost use Rattle.tt_base.specs.LeafText.{leaf_text};
+ghost use Rattle.tt_base.specs.TreeText.{display, pretty, siblings_text, space_after, space_if};
+ghost use Rattle.tt_base.specs.declared.fault.TtFault.TheVariants.{Memory};
+ghost use Rattle.tt_view.specs.SpaceRules.{lets_of};
+ghost use Rattle.tt_view.specs.Views.{trees_of};
+
+use std::alloc::{AllocError, Global};
+use tt_base::{DelimiterKind, HeaderLine, Indent, Leaf, LeafLine, Subtree, TtFault, line_break};
+use tt_view::text::{SpaceRule, closing, leaf_lets_space, opening, space};
+use tt_view::{TokenTreesView, TtElement, TtIter};
+
+// What is left of a subtree that was entered, and what stands round it.
+#[derive(Drop)]
+struct Level<'a> {
+    rest: TtIter<'a>,
+    kind: DelimiterKind,
+}
+
+/// The trees with one space between siblings, except behind a punct that is joint.
+pub fn pretty(alloc: Global, trees: TokenTreesView<'_>) -> Result<String, TtFault>
+    ensures ok { IfOk result (λ text. string_bytes text ≡ pretty (trees_of trees.entry)) }
+    ensures err { IfErr result (λ fault. fault ≡ Memory) }
+{
+    let text = spaced_text(alloc, SpaceRule::Pretty, trees)?;
+    Ok(text)
+}
+
+/// The text that Display writes, which takes stack for each level of the trees where this takes memory.
+pub fn display_text(alloc: Global, trees: TokenTreesView<'_>) -> Result<String, TtFault>
+    ensures ok { IfOk result (λ text. string_bytes text ≡ display (trees_of trees.entry)) }
+    ensures err { IfErr result (λ fault. fault ≡ Memory) }
+{
+    let text = spaced_text(alloc, SpaceRule::Display, trees)?;
+    Ok(text)
+}
+
+/// The text that Debug writes, which takes stack for each level of the trees where this takes memory.
+pub fn debug_text(alloc: Global, trees: TokenTreesView<'_>) -> Result<String, TtFault>
+    ensures ok { IfOk result (λ text. string_bytes text ≡ debug (trees_of trees.entry)) }
+    ensures err { IfErr result (λ fault. fault ≡ Memory) }
+{
+    let text = token_lines(alloc, trees)?;
+    Ok(text)
+}
+
+// Adds the leaf, behind a space if one is due, and tells whether a space may stand behind it.
+fn write_leaf(text: &mut String, rule: SpaceRule, due: bool, leaf: Leaf) -> Result<bool, AllocError>
+    ensures written { OnOk result (string_bytes text.new ≡ string_bytes text.old ++ (space_if due ++ leaf_text leaf)) }
+    ensures due { IfOk result (λ next. next ≡ space_after (lets_of rule) leaf) }
+{
+    write!(text, "{}{leaf}", space(due))?;
+    Ok(leaf_lets_space(rule, &leaf))
+}
+
+// Adds the line of the leaf, behind a line feed if one is due.
+fn write_leaf_line(text: &mut String, due: bool, depth: usize, leaf: Leaf) -> Result<(), AllocError>
+    ensures { OnOk result (string_bytes text.new ≡ string_bytes text.old ++ ((break_if due ++ indent depth) ++ leaf_line leaf)) }
+{
+    let (gap, line) = (line_break(due), LeafLine(&leaf));
+    write!(text, "{gap}{}{line}", Indent(depth))
+}
+
+// Adds the line of the header, behind a line feed if one is due.
+fn write_header_line(
+    text: &mut String,
+    due: bool,
+    depth: usize,
+    subtree: Subtree,
+) -> Result<(), AllocError>
+    ensures { OnOk result (string_bytes text.new ≡ string_bytes text.old ++ ((break_if due ++ indent depth) ++ header_line subtree.delimiter)) }
+{
+    let (gap, line) = (line_break(due), HeaderLine(subtree.delimiter));
+    write!(text, "{gap}{}{line}", Indent(depth))
+}
+
+// The trees on one line, with spaces by the rule.
+fn spaced_text(
+    alloc: Global,
+    rule: SpaceRule,
+    trees: TokenTreesView<'_>,
+) -> Result<String, AllocError>
+    ensures { IfOk result (λ text. string_bytes text ≡ siblings_text (lets_of rule) false (trees_of trees.entry)) }
+{
+    let mut text = String::new(alloc);
+    let mut due = false;
+    // the innermost last; the trees themselves stand in nothing that is printed
+    let mut levels = Vec::new(alloc);
+    levels.push(Level {
+        rest: trees.iter(),
+        kind: DelimiterKind::Invisible,
+    })?;
+    while let Some(mut level) = levels.pop() {
+        match level.rest.next() {
+            None => {
+                text.push_str(closing(level.kind))?;
+                due = true;
+            }
+            Some(TtElement::Leaf(leaf)) => {
+                levels.push(level)?;
+                due = write_leaf(&mut text, rule, due, leaf)?;
+            }
+            Some(TtElement::Subtree(subtree, children)) => {
+                let kind = subtree.delimiter.kind;
+                levels.push(level)?;
+                levels.push(Level {
+                    rest: children,
+                    kind,
+                })?;
+                write!(text, "{}{}", space(due), opening(kind))?;
+                due = false;
+            }
+        }
+    }
+    Ok(text)
+}
+
+// A line for each token.
+fn token_lines(alloc: Global, trees: TokenTreesView<'_>) -> Result<String, AllocError>
+    ensures { IfOk result (λ text. string_bytes text ≡ lines_text false 0 (trees_of trees.entry)) }
+{
+    let mut text = String::new(alloc);
+    let mut due = false;
+    // what is left of each subtree that was entered, the innermost last
+    let mut levels = Vec::new(alloc);
+    levels.push(trees.iter())?;
+    while let Some(mut level) = levels.pop() {
+        let depth = levels.len();
+        match level.next() {
+            // the level ends behind a line
+            None => due = true,
+            Some(TtElement::Leaf(leaf)) => {
+                levels.push(level)?;
+                write_leaf_line(&mut text, due, depth, leaf)?;
+                due = true;
+            }
+            Some(TtElement::Subtree(subtree, children)) => {
+                levels.push(level)?;
+                levels.push(children)?;
+                write_header_line(&mut text, due, depth, subtree)?;
+                due = true;
+            }
+        }
+    }
+    Ok(text)
+}
