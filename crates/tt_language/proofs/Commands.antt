@@ -1,32 +1,60 @@
 -- What a line's first word tells of its command. A later command is one more case of `part`, `make` and `taken_apart`.
-use Rattle.std.proofs.Common.{◌≡◌, ◌<◌, ℕ, List, ◌++◌, Option, Some, None, Result, Ok, Err, IfOk, IfSome, MatchOption, refl, sym, ap, subst, ◌∙◌, rules}
+use Rattle.std.proofs.Common.{◌≡◌, ◌<◌, ◌^◌, ℕ, List, ◌++◌, Option, Some, None, Result, Ok, Err, IfOk, IfSome, MatchOption, refl, sym, ap, subst, ◌∙◌, rules}
 use Rattle.std.specs.Prelude.{decimal, encode_utf8}
 use Rattle.std.specs.Char.{IsScalar}
 use Rattle.std.specs.Option.{option_map}
 use Rattle.tt_base.specs.declared.fault.TtFault.{TtFault}
-use Rattle.tt_base.specs.Fits.{TokenFits}
+use Rattle.tt_base.specs.Fits.{LeafFits, SpanFits, TokenFits}
+use Rattle.tt_base.specs.Span.{span_text}
+use Rattle.tt_base.specs.Token.{delimiter}
 use Rattle.tt_language.specs.declared.command.Command.{Command}
 use Rattle.tt_language.specs.declared.command.Command.TheVariants as command
 use Rattle.tt_language.specs.declared.command.verb.Verb.{Verb}
 use Rattle.tt_language.specs.declared.command.verb.Verb.TheVariants as verb
 use Rattle.tt_language.specs.Command.{CommandFits, IsNoCommand, StandsFor, spell}
 use Rattle.tt_language.specs.Reading.{IsOneLine, IsTail, Lacks, Reads, ReadsPieces, line_of, spaced}
-use Rattle.tt_language.specs.Token.{token_words}
+use Rattle.tt_language.specs.Token.{action_word, ActionFits, kind_word, leaf_words, token_words}
 use Rattle.tt_language.specs.Verb.{verb_word}
-use Rattle.tt_language.specs.WordLaws.{spaceless_slot, spaceless_verb}
+use Rattle.tt_language.specs.WordLaws.{spaceless_action, spaceless_kind, spaceless_long_number, spaceless_number, spaceless_slot, spaceless_span, spaceless_verb}
 use Rattle.tt_language.proofs.Cutting.{IsTail-spaced, word_unique}
-use Rattle.tt_language.proofs.OneToOne.{one_character, one_slot, one_token, one_verb}
-use Rattle.tt_language.proofs.Parts.{Part, nothing, word_then, rest_of_line}
+use Rattle.tt_language.proofs.OneToOne.{one_action, one_character, one_kind, one_leaf, one_long_number, one_number, one_slot, one_span, one_token, one_verb}
+use Rattle.tt_language.proofs.Parts.{Part, nothing, word_then, rest_of_line, words_of}
+
+abbrev kind_then : Part → Part
+kind_then = word_then kind_word (λ _. Unit {0}) (λ kind _. spaceless_kind kind) one_kind
+
+abbrev span_then : Part → Part
+span_then = word_then span_text SpanFits spaceless_span one_span
 
 abbrev slot_then : Part → Part
 slot_then = word_then decimal (λ slot. slot < 16) spaceless_slot one_slot
+
+abbrev number_then : Part → Part
+number_then = word_then decimal (λ n. n < 2 ^ 32) spaceless_number one_number
 
 -- what follows the verb
 abbrev pub part : Verb → Part
 part verb.Item = rest_of_line token_words TokenFits one_token
 part verb.Clear = nothing
 part verb.List = slot_then nothing
+part verb.New = kind_then (span_then (span_then nothing))
+part verb.Open = kind_then (span_then nothing)
+part verb.Push = rest_of_line leaf_words LeafFits one_leaf
+part verb.Close = span_then nothing
+part verb.Append = slot_then nothing
+part verb.Alone = slot_then nothing
+part verb.Unwrap = nothing
+part verb.Point = nothing
+part verb.Restore = word_then decimal (λ n. n < 2 ^ 64) spaceless_long_number one_long_number nothing
+part verb.Expected = nothing
+part verb.Build = slot_then nothing
+part verb.Skip = slot_then nothing
 part verb.Copy = slot_then (slot_then nothing)
+part verb.Kind = slot_then (kind_then nothing)
+part verb.Spans = slot_then (span_then (span_then nothing))
+part verb.Set = slot_then (number_then (rest_of_line leaf_words LeafFits one_leaf))
+part verb.Ids = slot_then (words_of decimal (λ n. n < 2 ^ 32) spaceless_number one_number)
+part verb.Rewrite = slot_then (words_of action_word ActionFits spaceless_action one_action)
 part verb.Split = slot_then (rest_of_line encode_utf8 IsScalar one_character)
 part verb.Equal = slot_then (slot_then nothing)
 part (verb.View view) = slot_then nothing
@@ -36,7 +64,24 @@ abbrev pub make : (v : Verb) → (part v).Values → Command
 make verb.Item = command.Item
 make verb.Clear = λ _. command.Clear
 make verb.List = λ (slot, _). command.List slot
+make verb.New = λ (kind, (open_span, (close, _))). command.New (delimiter kind open_span close)
+make verb.Open = λ (kind, (span, _)). command.Open kind span
+make verb.Push = command.Push
+make verb.Close = λ (span, _). command.Close span
+make verb.Append = λ (slot, _). command.Append slot
+make verb.Alone = λ (slot, _). command.Alone slot
+make verb.Unwrap = λ _. command.Unwrap
+make verb.Point = λ _. command.Point
+make verb.Restore = λ (number, _). command.Restore number
+make verb.Expected = λ _. command.Expected
+make verb.Build = λ (slot, _). command.Build slot
+make verb.Skip = λ (slot, _). command.Skip slot
 make verb.Copy = λ (a, (b, _)). command.Copy a b
+make verb.Kind = λ (a, (k, _)). command.Kind a k
+make verb.Spans = λ (a, (o, (c, _))). command.Spans a o c
+make verb.Set = λ (a, (n, leaf)). command.Set a n leaf
+make verb.Ids = λ (a, ids). command.Ids a ids
+make verb.Rewrite = λ (a, actions). command.Rewrite a actions
 make verb.Split = λ (a, char). command.Split a char
 make verb.Equal = λ (a, (b, _)). command.Equal a b
 make (verb.View view) = λ (slot, _). command.View view slot
@@ -44,11 +89,13 @@ make (verb.View view) = λ (slot, _). command.View view slot
 -- it is spelled so
 spells_right : (v : Verb) (a : (part v).Values) → spell (make v a) ≡ line_of (verb_word v) ((part v).pieces a)
 spells_right verb.Item a = refl
+spells_right verb.Push a = refl
 spells_right v a = refl
 
 -- and it fits where that does
 fits_right : (v : Verb) (a : (part v).Values) → (part v).Fits a → CommandFits (make v a)
 fits_right verb.Item a p = p
+fits_right verb.Push a p = p
 fits_right v a p = search rules
 
 -- the command is that of the verb and of values that fit
@@ -62,7 +109,24 @@ taken_apart : (c : Command) → CommandFits c → (v : Verb) × IsMade v c
 taken_apart (command.Item token) fits = (verb.Item, record { value = token; fits = fits; made = refl })
 taken_apart command.Clear fits = (verb.Clear, record { value = tt; fits = tt; made = refl })
 taken_apart (command.List slot) fits = (verb.List, record { value = (slot, tt); fits = (fits, tt); made = refl })
+taken_apart (command.New d) fits = (verb.New, record { value = (d.kind, (d.open_span, (d.close, tt))); fits = (tt, (fits.0, (fits.1, tt))); made = refl })
+taken_apart (command.Open kind span) fits = (verb.Open, record { value = (kind, (span, tt)); fits = (tt, (fits, tt)); made = refl })
+taken_apart (command.Push leaf) fits = (verb.Push, record { value = leaf; fits = fits; made = refl })
+taken_apart (command.Close span) fits = (verb.Close, record { value = (span, tt); fits = (fits, tt); made = refl })
+taken_apart (command.Append slot) fits = (verb.Append, record { value = (slot, tt); fits = (fits, tt); made = refl })
+taken_apart (command.Alone slot) fits = (verb.Alone, record { value = (slot, tt); fits = (fits, tt); made = refl })
+taken_apart command.Unwrap fits = (verb.Unwrap, record { value = tt; fits = tt; made = refl })
+taken_apart command.Point fits = (verb.Point, record { value = tt; fits = tt; made = refl })
+taken_apart (command.Restore number) fits = (verb.Restore, record { value = (number, tt); fits = (fits, tt); made = refl })
+taken_apart command.Expected fits = (verb.Expected, record { value = tt; fits = tt; made = refl })
+taken_apart (command.Build slot) fits = (verb.Build, record { value = (slot, tt); fits = (fits, tt); made = refl })
+taken_apart (command.Skip slot) fits = (verb.Skip, record { value = (slot, tt); fits = (fits, tt); made = refl })
 taken_apart (command.Copy a b) fits = (verb.Copy, record { value = (a, (b, tt)); fits = (fits.0, (fits.1, tt)); made = refl })
+taken_apart (command.Kind a k) fits = (verb.Kind, record { value = (a, (k, tt)); fits = (fits, (tt, tt)); made = refl })
+taken_apart (command.Spans a o c) fits = (verb.Spans, record { value = (a, (o, (c, tt))); fits = (fits.0, (fits.1, (fits.2, tt))); made = refl })
+taken_apart (command.Set a n leaf) fits = (verb.Set, record { value = (a, (n, leaf)); fits = (fits.0, (fits.1, fits.2)); made = refl })
+taken_apart (command.Ids a ids) fits = (verb.Ids, record { value = (a, ids); fits = (fits.0, fits.1); made = refl })
+taken_apart (command.Rewrite a actions) fits = (verb.Rewrite, record { value = (a, actions); fits = (fits.0, fits.1); made = refl })
 taken_apart (command.Split a char) fits = (verb.Split, record { value = (a, char); fits = (fits.0, fits.1); made = refl })
 taken_apart (command.Equal a b) fits = (verb.Equal, record { value = (a, (b, tt)); fits = (fits.0, (fits.1, tt)); made = refl })
 taken_apart (command.View view slot) fits = (verb.View view, record { value = (slot, tt); fits = (fits, tt); made = refl })

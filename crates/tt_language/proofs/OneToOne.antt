@@ -19,12 +19,15 @@ use Rattle.tt_base.specs.Literal.{symbol_of, span_of, kind_of, suffix_len_of}
 use Rattle.tt_base.specs.Span.{start_of, end_of, span_text}
 use Rattle.tt_base.proofs.Equality.{same_literal}
 use Rattle.tt_base.proofs.Ranges.{same_range}
+use Rattle.tt_language.specs.declared.command.action.Action.{Action}
+use Rattle.tt_language.specs.declared.command.action.Action.TheVariants as action
 use Rattle.tt_language.specs.Reading.{words}
-use Rattle.tt_language.specs.Token.{kind_word, spacing_word, raw_word, literal_kind_word, placed_words, PlacedFits, punct_words, ident_words, literal_words, subtree_words, leaf_words, token_words}
+use Rattle.tt_language.specs.Token.{kind_word, spacing_word, raw_word, literal_kind_word, placed_words, PlacedFits, punct_words, ident_words, literal_words, subtree_words, leaf_words, token_words, action_word, ActionFits}
 use Rattle.tt_language.specs.Verb.{verb_word, view_word}
 use Rattle.tt_language.specs.WordLaws.{own, spaceless_byte, spaceless_kind, spaceless_spacing, spaceless_rawness, spaceless_literal_kind, spaceless_span}
 use Rattle.tt_language.proofs.Cutting.{words_same}
-use Rattle.tt_language.proofs.Spans.{Begins, after_file, after_ast, after_start, span_text-from_left, past_file, past_ast, past_start, past_end}
+use Rattle.tt_language.proofs.Spans.{Begins, after_file, after_ast, after_start, past_file, past_ast, past_start, past_end}
+use Rattle.tt_base.proofs.SpanTexts.{span_text-from_left}
 
 -- values that fit are equal where they are spelled alike
 abbrev pub IsOneToOne : {A : Type 0} → (A → List ℕ) → (A → Type 0) → Type 0
@@ -81,6 +84,9 @@ literal_kind_back-word (lit.Err unit) fits = refl
 pub one_literal_kind : IsOneToOne literal_kind_word KindFits
 one_literal_kind = by_inverse literal_kind_word KindFits literal_kind_back literal_kind_back-word
 
+pub one_long_number : IsOneToOne decimal (λ n. n < 2 ^ 64)
+one_long_number m n p q e = decimal_injective m n (omega arith) (omega arith) e
+
 pub one_number : IsOneToOne decimal (λ n. n < 2 ^ 32)
 one_number m n p q e = decimal_injective m n (omega arith) (omega arith) e
 
@@ -89,6 +95,22 @@ one_byte m n p q e = decimal_injective m n (omega arith) (omega arith) e
 
 pub one_slot : IsOneToOne decimal (λ n. n < 16)
 one_slot m n p q e = decimal_injective m n (omega arith) (omega arith) e
+
+-- the first byte tells an action, and the number follows the first four
+abbrev action_back : List ℕ → Action
+action_back word =
+    let front = take 1 word in
+    if bytes_eq front (codes "k") then action.Keep
+    else if bytes_eq front (codes "r") then action.Remove
+    else action.Put (digits_value 10 (drop 4 word))
+
+action_back-word : (a : Action) → ActionFits a → action_back (action_word a) ≡ a
+action_back-word action.Keep fits = refl
+action_back-word action.Remove fits = refl
+action_back-word (action.Put slot) fits = ap action.Put (digits_value-decimal own slot (omega arith))
+
+pub one_action : IsOneToOne action_word ActionFits
+one_action = by_inverse action_word ActionFits action_back action_back-word
 
 pub one_character : IsOneToOne encode_utf8 IsScalar
 one_character c d p q e = (encode_same c d [] [] (append-nil _ ∙ e ∙ sym (append-nil _))).0

@@ -1,10 +1,11 @@
 -- How the text of a span is taken apart.
-use Rattle.std.proofs.Common.{◌≡◌, ◌⊎◌, ℕ, ◌^◌, ◌<◌, List, ◌∷◌, ◌++◌, inl, inr, sym, ◌∙◌, lit<, arith, append_assoc}
+use Rattle.std.proofs.Common.{◌≡◌, ◌⊎◌, ℕ, ◌^◌, ◌<◌, List, ◌∷◌, ◌++◌, inl, inr, sym, ◌∙◌, lit<, arith}
 use Rattle.std.specs.Fmt.{decimal}
 use Rattle.std.proofs.lemmas.Fmt.{decimal_injective}
 use Rattle.tt_base.specs.declared.span.Span.{Span}
 use Rattle.tt_base.specs.Fits.{SpanFits}
 use Rattle.tt_base.specs.Span.{start_of, end_of, span_text}
+use Rattle.tt_base.proofs.SpanTexts.{span_text-from_left}
 use Rattle.tt_language.specs.WordLaws.{Lacks-decimal}
 use Rattle.tt_language.proofs.Cutting.{cut_unique}
 
@@ -15,7 +16,7 @@ Begins byte text n rest = (text ≡ decimal n ++ byte ∷ rest) × (n < 2 ^ 32)
 -- with one number and one rest only
 pub Begins-unique : (byte : ℕ) (text : List ℕ) (m : ℕ) (x : List ℕ) (n : ℕ) (y : List ℕ) → byte < 48 ⊎ 57 < byte → Begins byte text m x → Begins byte text n y → (m ≡ n) × (x ≡ y)
 Begins-unique byte text m x n y other (d, p) (e, q) =
-    let u = cut_unique byte (decimal m) x (decimal n) y (Lacks-decimal byte other m p) (Lacks-decimal byte other n q) (sym d ∙ e) in
+    let u = cut_unique byte (decimal m) x (decimal n) y (Lacks-decimal byte other m (omega (arith, p))) (Lacks-decimal byte other n (omega (arith, q))) (sym d ∙ e) in
     (decimal_injective m n (omega arith) (omega arith) u.0, u.1)
 
 -- what follows a span's start
@@ -29,10 +30,6 @@ after_ast span = decimal (start_of span.range) ++ 46 ∷ after_start span
 -- its file
 abbrev pub after_file : Span → List ℕ
 after_file span = decimal span.anchor.ast_id.0 ++ 64 ∷ after_ast span
-
--- the text of a span, from the left
-pub span_text-from_left : (span : Span) → span_text span ≡ decimal span.anchor.file_id.0 ++ 58 ∷ after_file span
-span_text-from_left span = simp append_assoc
 
 -- what is read of that text is the span's, number by number
 pub past_file : {word : List ℕ} {file : ℕ} {a : List ℕ} (span : Span) → SpanFits span → word ≡ span_text span

@@ -1,5 +1,5 @@
 -- How the parts of a line are spelled: kinds and tokens.
-use Rattle.std.specs.Prelude.{ℕ, List, ◌++◌, codes, decimal, encode_utf8, IsUtf8}
+use Rattle.std.specs.Prelude.{ℕ, ◌<◌, List, ◌++◌, codes, decimal, encode_utf8, IsUtf8}
 use Rattle.tt_base.specs.declared.delimiter.DelimiterKind.{DelimiterKind}
 use Rattle.tt_base.specs.declared.delimiter.DelimiterKind.TheVariants.{Parenthesis, Brace, Bracket, Invisible}
 use Rattle.tt_base.specs.declared.delimiter.Subtree.{Subtree}
@@ -20,6 +20,8 @@ use Rattle.tt_base.specs.declared.token_tree.TokenTree.TheVariants as token
 use Rattle.tt_base.specs.Fits.{SpanFits}
 use Rattle.tt_base.specs.Literal.{symbol_of, span_of, kind_of, suffix_len_of}
 use Rattle.tt_base.specs.Span.{span_text}
+use Rattle.tt_language.specs.declared.command.action.Action.{Action}
+use Rattle.tt_language.specs.declared.command.action.Action.TheVariants as action
 use Rattle.tt_language.specs.Reading.{words}
 
 -- KIND
@@ -90,3 +92,15 @@ subtree_words subtree =
 abbrev pub token_words : TokenTree → List ℕ
 token_words (token.Leaf leaf) = leaf_words leaf
 token_words (token.Subtree subtree) = words (codes "sub") (subtree_words subtree)
+
+-- what becomes of a token
+abbrev pub action_word : Action → List ℕ
+action_word action.Keep = codes "keep"
+action_word action.Remove = codes "remove"
+action_word (action.Put slot) = codes "put:" ++ decimal slot
+
+-- its slot is below 16
+abbrev pub ActionFits : Action → Type 0
+ActionFits action.Keep = Unit {0}
+ActionFits action.Remove = Unit {0}
+ActionFits (action.Put slot) = slot < 16

@@ -14,17 +14,19 @@ use Rattle.tt_base.specs.declared.punct.Spacing.{Spacing}
 use Rattle.tt_base.specs.declared.span.Span.{Span}
 use Rattle.tt_base.specs.Fits.{SpanFits, KindFits}
 use Rattle.tt_base.specs.Span.{span_text}
+use Rattle.tt_language.specs.declared.command.action.Action.{Action}
+use Rattle.tt_language.specs.declared.command.action.Action.TheVariants as action
 use Rattle.tt_language.specs.declared.command.verb.Verb.{Verb}
 use Rattle.tt_language.specs.declared.command.view.View.{View}
 use Rattle.tt_language.specs.Reading.{Lacks}
-use Rattle.tt_language.specs.Token.{kind_word, spacing_word, raw_word, literal_kind_word}
+use Rattle.tt_language.specs.Token.{kind_word, spacing_word, raw_word, literal_kind_word, action_word, ActionFits}
 use Rattle.tt_language.specs.Verb.{verb_word, view_word}
 
 pub own : IsNumeralModel (AllDigits 10) (digits_value 10)
 own = numerals_by_value (AllDigits 10) tells_digits
 
 -- a number has digits alone
-pub Lacks-decimal : (byte : ℕ) → byte < 48 ⊎ 57 < byte → (n : ℕ) → n < 2 ^ 32 → Lacks byte (decimal n)
+pub Lacks-decimal : (byte : ℕ) → byte < 48 ⊎ 57 < byte → (n : ℕ) → n < 2 ^ 64 → Lacks byte (decimal n)
 Lacks-decimal byte other n small k d here e =
     let digit = digit_at (decimal n) k (digits_decimal own n (omega arith)) here in
     let same : get_or (decimal n) k 0 ≡ byte = get_or_default (decimal n) k 0 d here ∙ e in
@@ -33,8 +35,11 @@ Lacks-decimal byte other n small k d here e =
 pub Lacks-append : (byte : ℕ) (a b : List ℕ) → Lacks byte a → Lacks byte b → Lacks byte (a ++ b)
 Lacks-append byte a b p q = All-append (λ x. x ≢ byte) a b p q
 
+pub spaceless_long_number : (n : ℕ) → n < 2 ^ 64 → Lacks 32 (decimal n)
+spaceless_long_number n small = Lacks-decimal 32 (inl (lit< tt)) n small
+
 pub spaceless_number : (n : ℕ) → n < 2 ^ 32 → Lacks 32 (decimal n)
-spaceless_number n small = Lacks-decimal 32 (inl (lit< tt)) n small
+spaceless_number n small = spaceless_long_number n (omega (arith, small))
 
 pub spaceless_byte : (n : ℕ) → n ≤ 255 → Lacks 32 (decimal n)
 spaceless_byte n small = spaceless_number n (omega arith)
@@ -63,6 +68,11 @@ spaceless_literal_kind (lit.ByteStrRaw count) fits = Lacks-append 32 (codes "rbs
 spaceless_literal_kind lit.CStr fits = search rules
 spaceless_literal_kind (lit.CStrRaw count) fits = Lacks-append 32 (codes "rcstr:") _ (search rules) (spaceless_byte count fits)
 spaceless_literal_kind (lit.Err unit) fits = search rules
+
+pub spaceless_action : (action : Action) → ActionFits action → Lacks 32 (action_word action)
+spaceless_action action.Keep fits = search rules
+spaceless_action action.Remove fits = search rules
+spaceless_action (action.Put slot) fits = Lacks-append 32 (codes "put:") _ (search rules) (spaceless_slot slot fits)
 
 pub spaceless_span : (span : Span) → SpanFits span → Lacks 32 (span_text span)
 spaceless_span span fits =

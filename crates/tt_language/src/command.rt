@@ -1,8 +1,9 @@
 //! What a line may ask, and how it is read.
-ghost use Rattle.std.specs.Prelude.{◌≡◌, ◌↔◌, IfOk, IfErr, IfSome, IsTrue, MatchOption};
+ghost use Rattle.std.specs.Prelude.{◌≡◌, IfOk, IfErr, IfSome, MatchOption};
 ghost use Rattle.tt_base.specs.declared.fault.TtFault.TheVariants.{Memory};
 ghost use Rattle.tt_language.specs.Reading.{IsOneLine, Reads};
 
+mod action;
 mod kinds;
 mod numbers;
 mod part;
@@ -12,10 +13,12 @@ mod verb;
 mod view;
 mod word;
 
+use crate::many::Many;
 use crate::slot::Slot;
+pub use action::Action;
 use part::Part;
 use std::alloc::Global;
-use tt_base::{TokenTree, TtFault};
+use tt_base::{Delimiter, DelimiterKind, Leaf, Span, TokenTree, TtFault};
 use verb::Verb;
 pub use view::View;
 use word::{Word, cut, first_word};
@@ -29,8 +32,42 @@ pub enum Command {
     Clear,
     /// Makes the list a tree, in the slot.
     List(Slot),
+    /// Makes a builder, in place of any.
+    New(Delimiter),
+    /// Opens a subtree in the builder.
+    Open(DelimiterKind, Span),
+    /// Appends a leaf.
+    Push(Leaf),
+    /// Closes the subtree that was opened last.
+    Close(Span),
+    /// Appends a slot's tree.
+    Append(Slot),
+    /// Appends a slot's tree, of which the last token becomes alone if it is a punct.
+    Alone(Slot),
+    /// Takes the delimiter away of the subtree that was closed last, if it is invisible.
+    Unwrap,
+    /// Takes a restore point.
+    Point,
+    /// Goes back to the restore point of that number.
+    Restore(u64),
+    /// The kinds of the open subtrees, innermost first.
+    Expected,
+    /// Builds the tree, in the slot.
+    Build(Slot),
+    /// Builds the tree without the top, where that holds one subtree alone.
+    Skip(Slot),
     /// Copies a tree: to the first slot, from the second.
     Copy(Slot, Slot),
+    /// Changes the kind of the top.
+    Kind(Slot, DelimiterKind),
+    /// Changes the spans of the top.
+    Spans(Slot, Span, Span),
+    /// Changes the leaf at a place of the flat list.
+    Set(Slot, u32, Leaf),
+    /// Gives the stored span parts these ids, in order; the others keep theirs.
+    Ids(Slot, Many<u32>),
+    /// Rewrites a tree by these actions, in order; behind them all is kept.
+    Rewrite(Slot, Many<Action>),
     /// The text of a slot's tree in one of its forms.
     View(View, Slot),
     /// How many tokens stand in each piece between the puncts of that character, below the top.
@@ -40,7 +77,7 @@ pub enum Command {
 }
 
 impl Command {
-    ghost use Rattle.tt_language.specs.Command.{CommandFits, IsNoCommand, PrintsTree, StandsFor, spell};
+    ghost use Rattle.tt_language.specs.Command.{CommandFits, IsNoCommand, StandsFor, spell};
 
     /// The command that the line stands for, if there is one. The line is given without its line feed.
     pub fn parse(alloc: Global, line: &[u8]) -> Result<Option<Command>, TtFault>
@@ -53,14 +90,6 @@ impl Command {
             return Ok(None);
         }
         Command::read(alloc, line)
-    }
-
-    /// Whether it prints a slot's tree. Its answer has no fixed bound then, and making it may take stack
-    /// for each level of the tree.
-    pub fn prints_tree(&self) -> bool
-        ensures { IsTrue result ↔ PrintsTree self.now }
-    {
-        matches!(self, Command::View(..))
     }
 
     // The first word tells how the rest is read.
@@ -76,8 +105,45 @@ impl Command {
             Verb::Item => Ok(Part::read(alloc, rest)?.map(Command::Item)),
             Verb::Clear => Ok(Part::read(alloc, rest)?.map(|()| Command::Clear)),
             Verb::List => Ok(Part::read(alloc, rest)?.map(|(slot, ())| Command::List(slot))),
+            Verb::New => Ok(Part::read(alloc, rest)?.map(|(kind, (open_span, (close, ())))| {
+                Command::New(Delimiter {
+                    open_span,
+                    close,
+                    kind,
+                })
+            })),
+            Verb::Open => Ok(Part::read(alloc, rest)?.map(|(kind, (span, ()))| Command::Open(
+                kind, span,
+            ))),
+            Verb::Push => Ok(Part::read(alloc, rest)?.map(Command::Push)),
+            Verb::Close => Ok(Part::read(alloc, rest)?.map(|(span, ())| Command::Close(span))),
+            Verb::Append => Ok(Part::read(alloc, rest)?.map(|(slot, ())| Command::Append(slot))),
+            Verb::Alone => Ok(Part::read(alloc, rest)?.map(|(slot, ())| Command::Alone(slot))),
+            Verb::Unwrap => Ok(Part::read(alloc, rest)?.map(|()| Command::Unwrap)),
+            Verb::Point => Ok(Part::read(alloc, rest)?.map(|()| Command::Point)),
+            Verb::Restore => Ok(Part::read(alloc, rest)?.map(|(number, ())| Command::Restore(
+                number,
+            ))),
+            Verb::Expected => Ok(Part::read(alloc, rest)?.map(|()| Command::Expected)),
+            Verb::Build => Ok(Part::read(alloc, rest)?.map(|(slot, ())| Command::Build(slot))),
+            Verb::Skip => Ok(Part::read(alloc, rest)?.map(|(slot, ())| Command::Skip(slot))),
             Verb::Copy => Ok(Part::read(alloc, rest)?.map(|(to, (from, ()))| Command::Copy(
                 to, from,
+            ))),
+            Verb::Kind => Ok(Part::read(alloc, rest)?.map(|(slot, (kind, ()))| Command::Kind(
+                slot, kind,
+            ))),
+            Verb::Spans => {
+                Ok(Part::read(alloc, rest)?.map(|(slot, (open, (close, ())))| Command::Spans(
+                    slot, open, close,
+                )))
+            }
+            Verb::Set => Ok(Part::read(alloc, rest)?.map(|(slot, (place, leaf))| Command::Set(
+                slot, place, leaf,
+            ))),
+            Verb::Ids => Ok(Part::read(alloc, rest)?.map(|(slot, ids)| Command::Ids(slot, ids))),
+            Verb::Rewrite => Ok(Part::read(alloc, rest)?.map(|(slot, actions)| Command::Rewrite(
+                slot, actions,
             ))),
             Verb::View(view) => Ok(Part::read(alloc, rest)?.map(|(slot, ())| Command::View(
                 view, slot,

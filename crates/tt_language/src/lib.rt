@@ -3,12 +3,14 @@
 #![tactic(auto)]
 
 mod command;
+mod many;
 mod slot;
 mod spelling;
 
-pub use command::{Command, View};
+pub use command::{Action, Command, View};
+pub use many::Many;
 pub use slot::Slot;
-pub use spelling::Spelled;
+pub use spelling::{Spelled, kind_name};
 
 #[cfg(test)]
 mod tests;

@@ -1,13 +1,11 @@
 //! Tokens in the spelling in which lines give them.
 ghost use Rattle.std.specs.Prelude.{◌≡◌, Some};
 ghost use Rattle.std.specs.Fmt.{WritesOnOk};
-ghost use Rattle.tt_base.specs.Span.{span_text};
 ghost use Rattle.tt_language.specs.Token.{kind_word, spacing_word, raw_word, literal_kind_word, punct_words, ident_words, literal_words, subtree_words, token_words};
 
 use std::fmt;
 use tt_base::{
-    DelimiterKind, Ident, IdentIsRaw, Leaf, LitKind, Literal, Punct, Spacing, Span, Subtree,
-    TokenTree,
+    DelimiterKind, Ident, IdentIsRaw, Leaf, LitKind, Literal, Punct, Spacing, Subtree, TokenTree,
 };
 
 /// A token in the spelling that a line of `item` gives it.
@@ -40,10 +38,10 @@ impl fmt::Display for SpelledSubtree<'_> {
         let delimiter = &self.0.delimiter;
         write!(
             f,
-            "{} {} {} {}",
+            "{} {:?} {:?} {}",
             kind_name(delimiter.kind),
-            SpelledSpan(&delimiter.open_span),
-            SpelledSpan(&delimiter.close),
+            delimiter.open_span,
+            delimiter.close,
             self.0.len
         )
     }
@@ -62,7 +60,7 @@ impl fmt::Display for SpelledPunct<'_> {
             spacing,
             span,
         } = self.0;
-        write!(f, "{} {} {char}", spacing_name(*spacing), SpelledSpan(span))
+        write!(f, "{} {span:?} {char}", spacing_name(*spacing))
     }
 }
 
@@ -75,7 +73,7 @@ impl fmt::Display for SpelledIdent<'_> {
 
     fn fmt<W: fmt::Write>(&self, f: &mut fmt::Formatter<W>) -> fmt::Result {
         let Ident { sym, span, is_raw } = self.0;
-        write!(f, "{} {} {sym}", raw_name(*is_raw), SpelledSpan(span))
+        write!(f, "{} {span:?} {sym}", raw_name(*is_raw))
     }
 }
 
@@ -90,10 +88,10 @@ impl fmt::Display for SpelledLiteral<'_> {
         let literal = self.0;
         write!(
             f,
-            "{} {} {} {}",
+            "{} {} {:?} {}",
             SpelledKind(literal.kind()),
             literal.suffix_len(),
-            SpelledSpan(literal.span()),
+            literal.span(),
             literal.symbol()
         )
     }
@@ -123,28 +121,7 @@ impl fmt::Display for SpelledKind {
     }
 }
 
-// A span.
-#[derive(Clone, Copy)]
-struct SpelledSpan<'a>(&'a Span);
-
-impl fmt::Display for SpelledSpan<'_> {
-    ghost output = { λ spelled. Some (span_text spelled.0.now) };
-
-    fn fmt<W: fmt::Write>(&self, f: &mut fmt::Formatter<W>) -> fmt::Result {
-        let Span { range, anchor, ctx } = self.0;
-        write!(
-            f,
-            "{}:{}@{}..{}#{}",
-            anchor.file_id.0,
-            anchor.ast_id.0,
-            range.start().raw(),
-            range.end().raw(),
-            ctx.0
-        )
-    }
-}
-
-fn kind_name(kind: DelimiterKind) -> &'static str
+pub fn kind_name(kind: DelimiterKind) -> &'static str
     ensures { result.now ≡ kind_word kind }
 {
     match kind {

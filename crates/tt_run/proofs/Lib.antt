@@ -1,8 +1,13 @@
 pub mod Answering
+pub mod BuilderSteps
 pub mod Feeding
+pub mod Editing
+pub mod Following
 pub mod InHand
 pub mod LineCuts
 pub mod Listing
+pub mod Putting
+pub mod Rewriting
 pub mod Searching
 pub mod Splitting
 pub mod Stacked

@@ -1,5 +1,5 @@
 -- What is written of a walk, one place after another.
-use Rattle.std.proofs.Common.{◌≡◌, ℕ, false, refl, List, [], ◌∷◌, ◌++◌, Option, ap₂, ◌∙◌}
+use Rattle.std.proofs.Common.{◌≡◌, ℕ, false, true, codes, refl, List, [], ◌∷◌, ◌++◌, Option, ap₂, ◌∙◌}
 use Rattle.tt_base.specs.declared.token_tree.TokenTree.{TokenTree}
 use Rattle.tt.specs.Walk.{Event, passes, opens, closes, Walked, events_ahead, is_over, token_at, one_on}
 use Rattle.tt_base.proofs.Walks.{event_passed}
@@ -24,3 +24,13 @@ one_place w here done all is more lines = by (events_ahead w) refl is more lines
     by (closes subtree ∷ others) same is more lines =
         ap₂ (λ h e. (done ++ line (here_words h)) ++ listed event_words e) is (event_passed w (closes subtree) others same)
         ∙ one_line_more event_words done all (closes subtree) others lines
+
+-- At the end of the walk the last line is all that is left to write.
+pub last_line : (w : Walked) (done all : List ℕ) → is_over (events_ahead w) ≡ true → done ++ listed event_words (events_ahead w) ≡ all → done ++ codes "end\n" ≡ all
+last_line w done all over lines = by (events_ahead w) over lines
+  where
+    by : (events : List Event) → is_over events ≡ true → done ++ listed event_words events ≡ all → done ++ codes "end\n" ≡ all
+    by [] over lines = lines
+    by (passes it ∷ others) over lines = cc
+    by (opens subtree ∷ others) over lines = cc
+    by (closes subtree ∷ others) over lines = cc

@@ -15,6 +15,22 @@ ok_line = line (codes "ok")
 abbrev pub empty_line : List ℕ
 empty_line = line (codes "empty")
 
+-- a slot's own tree was to be put into it
+abbrev pub same_line : List ℕ
+same_line = line (codes "same")
+
+-- there is no builder
+abbrev pub no_builder_line : List ℕ
+no_builder_line = line (codes "no builder")
+
+-- no subtree is open in the builder
+abbrev pub none_open_line : List ℕ
+none_open_line = line (codes "none open")
+
+-- a subtree is open in the builder
+abbrev pub still_open_line : List ℕ
+still_open_line = line (codes "still open")
+
 -- what was asked is so
 abbrev pub yes_line : List ℕ
 yes_line = line (codes "yes")

@@ -1,5 +1,7 @@
 -- The plain machine, and what a run of the program reads and writes.
 pub mod Answer
+pub mod Building
+pub mod Editing
 pub mod Held
 pub mod Lines
 pub mod Machine

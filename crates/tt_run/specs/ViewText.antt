@@ -2,11 +2,12 @@
 use Rattle.std.specs.Prelude.{ℕ, ◌/◌, ◌%◌, false, List, [], ◌∷◌, ◌++◌, Option, Some, None, codes, decimal}
 use Rattle.std.specs.Fmt.{digit_glyph}
 use Rattle.std.specs.List.{flat_map}
+use Rattle.tt.specs.DebugText.{debug}
 use Rattle.tt.specs.Forest.{Root, flat, flat_root, only}
 use Rattle.tt.specs.Gluing.{glued_sizes}
 use Rattle.tt.specs.Siblings.{Tree}
 use Rattle.tt.specs.Stored.{packed}
-use Rattle.tt.specs.TreeText.{display}
+use Rattle.tt.specs.TreeText.{display, pretty}
 use Rattle.tt.specs.Walk.{Event, passes, opens, closes, walk}
 use Rattle.tt_base.specs.declared.span.SpanPart.{SpanPart}
 use Rattle.tt_base.specs.declared.token_tree.TokenTree.{TokenTree}
@@ -48,6 +49,8 @@ glued_size (Some count) = 32 ∷ decimal count
 -- a tree in each of its forms
 abbrev pub view_text : View → Root → List ℕ
 view_text view.Show root = line (display (only root))
+view_text view.Pretty root = line (pretty (only root))
+view_text view.Debug root = line (debug (only root)) ++ line (codes "end")
 view_text view.Flat root = listed token_words (flat_root root)
 view_text view.Siblings root = listed token_words (flat root.children)
 view_text view.Walk root = listed event_words (walk (only root))

@@ -29,7 +29,7 @@ impl Model for Answer {
 }
 
 impl Answer {
-    ghost use Rattle.tt_run.specs.Answer.{ok_line, empty_line, yes_line, no_line, fault_line};
+    ghost use Rattle.tt_run.specs.Answer.{ok_line, empty_line, same_line, no_builder_line, none_open_line, still_open_line, yes_line, no_line, fault_line};
 
     pub fn as_bytes(&self) -> &[u8]
         ensures { result.now ≡ self.now }
@@ -74,6 +74,34 @@ impl Answer {
         Answer::fixed(b"empty\n")
     }
 
+    /// `same`: a slot's own tree was to be put into it.
+    pub(crate) fn same() -> Answer
+        ensures { result ≡ same_line }
+    {
+        Answer::fixed(b"same\n")
+    }
+
+    /// `no builder`: a command needs one.
+    pub(crate) fn no_builder() -> Answer
+        ensures { result ≡ no_builder_line }
+    {
+        Answer::fixed(b"no builder\n")
+    }
+
+    /// `none open`: no subtree can be closed.
+    pub(crate) fn none_open() -> Answer
+        ensures { result ≡ none_open_line }
+    {
+        Answer::fixed(b"none open\n")
+    }
+
+    /// `still open`: no tree can be built.
+    pub(crate) fn still_open() -> Answer
+        ensures { result ≡ still_open_line }
+    {
+        Answer::fixed(b"still open\n")
+    }
+
     /// `yes` or `no`.
     pub(crate) fn yes_or_no(yes: bool) -> Answer
         ensures { result ≡ (if yes then yes_line else no_line) }
@@ -82,6 +110,16 @@ impl Answer {
             Answer::fixed(b"yes\n")
         } else {
             Answer::fixed(b"no\n")
+        }
+    }
+
+    /// `ok`, or the fault.
+    pub(crate) fn ok_or_fault(done: Result<(), TtFault>) -> Answer
+        ensures { MatchResult done (λ _. result ≡ ok_line) (λ fault. result ≡ fault_line fault) }
+    {
+        match done {
+            Ok(()) => Answer::ok(),
+            Err(fault) => Answer::fault(fault),
         }
     }
 

@@ -13,6 +13,7 @@ mod pieces;
 mod session;
 mod stored_lines;
 mod token_lines;
+mod tree_texts;
 mod view_text;
 mod walk_lines;
 

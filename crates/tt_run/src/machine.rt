@@ -1,5 +1,9 @@
-//! The slots and the list, and what each command does to them.
+//! The slots, the list and the builder, and what each command does to them.
 ghost use Rattle.std.specs.Prelude.{◌≡◌};
+
+mod building;
+mod editing;
+mod rewriting;
 
 use crate::answer::Answer;
 use crate::pieces::piece_sizes;
@@ -7,15 +11,16 @@ use crate::view_text::view_text;
 use std::alloc::Global;
 use std::marker::Model;
 use std::mem;
-use tt::{TokenTree, TopSubtree, TtFault};
+use tt::{TokenTree, TopSubtree, TopSubtreeBuilder, TtFault};
 use tt_language::{Command, Slot, View};
 
-/// What the commands work on: 16 slots, each empty or a tree, and a list of tokens.
+/// What the commands work on: 16 slots, each empty or a tree, a list of tokens, and a builder or none.
 /// A contract sees the state of the plain machine.
 #[derive(Drop)]
 pub struct Machine {
     slots: [Option<TopSubtree>; 16],
     list: Vec<TokenTree>,
+    builder: Option<TopSubtreeBuilder>,
     alloc: Global,
 }
 
@@ -26,7 +31,7 @@ impl Model for Machine {
 
     ghost coded = { state_code };
 
-    ghost view = { λ machine. record { slots = machine.slots; list = machine.list.items } };
+    ghost view = { λ machine. record { slots = machine.slots; list = machine.list.items; builder = machine.builder } };
 }
 
 impl Machine {
@@ -34,7 +39,7 @@ impl Machine {
     ghost use Rattle.tt_run.specs.State.{start, tree_in};
     ghost use Rattle.tt_run.specs.Machine.{Step};
 
-    /// All slots and the list are empty.
+    /// All slots and the list are empty, and there is no builder.
     pub fn new(alloc: Global) -> Machine
         ensures { result ≡ start }
     {
@@ -44,6 +49,7 @@ impl Machine {
                 None, None,
             ],
             list: Vec::new(alloc),
+            builder: None,
             alloc,
         }
     }
@@ -56,7 +62,24 @@ impl Machine {
             Command::Item(token) => self.item(token),
             Command::Clear => self.clear(),
             Command::List(slot) => self.list(slot),
+            Command::New(delimiter) => self.begin(delimiter),
+            Command::Open(kind, span) => self.open(kind, span),
+            Command::Push(leaf) => self.push(leaf),
+            Command::Close(span) => self.close(span),
+            Command::Append(slot) => self.append(slot),
+            Command::Alone(slot) => self.append_alone(slot),
+            Command::Unwrap => self.unwrap(),
+            Command::Point => self.point(),
+            Command::Restore(number) => self.restore(number),
+            Command::Expected => self.expected(),
+            Command::Build(slot) => self.build(slot),
+            Command::Skip(slot) => self.skip(slot),
             Command::Copy(to, from) => self.copy(to, from),
+            Command::Kind(slot, kind) => self.kind(slot, kind),
+            Command::Spans(slot, open_span, close) => self.spans(slot, open_span, close),
+            Command::Set(slot, place, leaf) => self.set(slot, place, leaf),
+            Command::Ids(slot, ids) => self.ids(slot, ids),
+            Command::Rewrite(slot, actions) => self.rewrite(slot, actions),
             Command::View(view, slot) => self.view(view, slot),
             Command::Split(slot, char) => self.split(slot, char),
             Command::Equal(left, right) => self.equal(left, right),
@@ -85,8 +108,6 @@ impl Machine {
         let list = mem::replace(&mut self.list, Vec::new(self.alloc));
         match TopSubtree::from_serialized(self.alloc, list) {
             Ok(tree) => {
-                // its contract says that the tree is within the limits
-                let _stored = tree.packed_bytes();
                 self.slots[slot.index()] = Some(tree);
                 Answer::ok()
             }

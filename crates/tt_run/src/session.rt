@@ -4,9 +4,8 @@ ghost use Rattle.std.specs.Io.KnownBytes.{Keeps};
 ghost use Rattle.tt_run.specs.Noted.{noted_inner, noted_failed};
 ghost use Rattle.tt_run.specs.Output.{text_told};
 ghost use Rattle.tt_run.specs.Progress.{Progress, fresh, progress_code};
-ghost use Rattle.tt_language.specs.Command.{IsNoCommand, PrintsTree, StandsFor};
+ghost use Rattle.tt_language.specs.Command.{IsNoCommand, StandsFor};
 ghost use Rattle.tt_language.specs.Reading.{IsOneLine};
-ghost use Rattle.tt_run.specs.Machine.{Step};
 ghost use Rattle.tt_run.specs.Run.{Tells, Fails};
 ghost use Rattle.tt_run.specs.Session.{Answers, Feeds, Finishes};
 ghost use Rattle.tt_run.specs.Stage.{stage_of};
@@ -90,36 +89,6 @@ impl Session {
         self.output.write_out(writer)
     }
 
-    // Writes what is pending before a command that may end the program.
-    fn prepare<W: Write>(
-        &mut self,
-        command: &Command,
-        writer: &mut Noted<W>,
-    ) -> Result<(), RunFault>
-        ensures told { OnOk result (Keeps
-            (text_told W.contents writer.old self.old.pending)
-            (text_told W.contents writer.new self.new.pending)) }
-        ensures written { OnOk result (PrintsTree command.now → self.new.pending ≡ []) }
-        ensures same { self.new ≡ record self.old { pending = self.new.pending } }
-        ensures sound { OnOk result (noted_failed writer.new ≡ noted_failed writer.old) }
-        ensures failed { OnErr result (noted_failed writer.new ≡ true) }
-        ensures kind { IfErr result (λ fault. fault ≡ RunFault.Write) }
-    {
-        if command.prints_tree() {
-            self.write_out(writer)?;
-        }
-        Ok(())
-    }
-
-    // Carries out the command. One that prints a tree may end the program, so no answer is pending then.
-    fn step(&mut self, command: Command) -> Answer
-        requires written { PrintsTree command → self.old.pending ≡ [] }
-        ensures step { Step self.old.machine command result self.new.machine }
-        ensures same { self.new ≡ record self.old { machine = self.new.machine } }
-    {
-        self.machine.step(command)
-    }
-
     // Answers the line. Where it is no command, says so and gives its number.
     fn answer<W: Write>(
         &mut self,
@@ -138,8 +107,7 @@ impl Session {
             self.output.put(text.as_bytes(), writer)?;
             return Ok(Some(number));
         };
-        self.prepare(&command, writer)?;
-        let answer = self.step(command);
+        let answer = self.machine.step(command);
         self.output.put(answer.as_bytes(), writer)?;
         self.count = number;
         Ok(None)

@@ -23,8 +23,8 @@ const ANSWERS: [&[u8]; 6] = [b"ok\n", b"ok\n", b"ok\n", b"ok\n", b"(a ;)\n", b"y
 // How often a `FakeWriter` is written to while SCRIPT is read byte by byte: it takes three bytes a write.
 const WRITES: u64 = 8;
 
-// How often it is flushed: before each read, one of which is at the end of the input, before `show`, and at the end.
-const FLUSHES: u64 = SCRIPT.len() as u64 + 3;
+// How often it is flushed: before each read, one of which is at the end of the input, and at the end.
+const FLUSHES: u64 = SCRIPT.len() as u64 + 2;
 
 // The answers to the first lines.
 fn answers_to(alloc: Global, lines: usize) -> Result<Vec<u8>, AllocError> {
@@ -212,16 +212,6 @@ fn no_call_is_left_to_fail(rt: HostRuntime) {
         assert_eq!(rt; ended, Ok(End::Clean));
         assert!(rt; !writer.failed());
     }
-}
-
-// One flush comes before the first read, which gives all three lines, and the second before `show`.
-#[test]
-fn answers_are_written_before_a_tree_is_printed(rt: HostRuntime) {
-    let mut reader = Noted::new(b"equal 0 0\nshow 0\nequal 0 0\n".as_slice());
-    let mut writer = Noted::new(FakeWriter::new(rt.alloc(), WriteFailure::Flush(2)));
-    let ended = run(rt.alloc(), &mut reader, &mut writer);
-    assert_eq!(rt; ended, Err(RunFault::Write));
-    assert_eq!(rt; writer.into_inner().taken(), b"empty\n".as_slice());
 }
 
 #[test]

@@ -5,6 +5,7 @@ ghost use Rattle.tt_run.specs.ViewText as text;
 use crate::glued::glued_sizes;
 use crate::stored_lines::{part_lines, stored_bytes, symbol_lines};
 use crate::token_lines::{sibling_lines, token_lines};
+use crate::tree_texts::{debug_lines, display_line, pretty_line};
 use crate::walk_lines::walk_lines;
 use std::alloc::{AllocError, Global};
 use tt::TopSubtree;
@@ -15,7 +16,9 @@ pub(crate) fn view_text(alloc: Global, view: View, tree: &TopSubtree) -> Result<
     ensures { IfOk result (λ written. string_bytes written ≡ text.view_text view tree.now) }
 {
     match view {
-        View::Show => format!(in alloc; "{tree}\n"),
+        View::Show => display_line(alloc, tree.as_token_trees()),
+        View::Pretty => pretty_line(alloc, tree.as_token_trees()),
+        View::Debug => debug_lines(alloc, tree.as_token_trees()),
         View::Flat => token_lines(alloc, tree.as_token_trees()),
         View::Siblings => sibling_lines(alloc, tree.iter()),
         View::Walk => walk_lines(alloc, tree.as_token_trees()),

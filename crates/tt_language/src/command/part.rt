@@ -1,15 +1,16 @@
 //! What follows the first word of a line.
-ghost use Rattle.std.specs.Prelude.{◌≡◌, IfOk, IfErr, ℕ, List, [], ◌∷◌, encode_utf8};
+ghost use Rattle.std.specs.Prelude.{◌≡◌, IfOk, IfErr, ℕ, List, [], ◌∷◌, All, map, encode_utf8};
 ghost use Rattle.std.specs.Char.{IsScalar};
-ghost use Rattle.tt_base.specs.Fits.{TokenFits};
+ghost use Rattle.tt_base.specs.Fits.{LeafFits, TokenFits};
 ghost use Rattle.tt_base.specs.declared.fault.TtFault.TheVariants.{Memory};
 ghost use Rattle.tt_language.specs.Reading.{ReadsPieces};
-ghost use Rattle.tt_language.specs.Token.{token_words};
+ghost use Rattle.tt_language.specs.Token.{leaf_words, token_words};
 
-use crate::command::tokens::{character, token};
+use crate::command::tokens::{character, leaf, token};
 use crate::command::word::{Word, next};
+use crate::many::Many;
 use std::alloc::Global;
-use tt_base::{TokenTree, TtFault};
+use tt_base::{Leaf, TokenTree, TtFault};
 
 /// Values that the pieces behind the first word of a line spell.
 pub trait Part: Sized {
@@ -54,6 +55,26 @@ impl<W: Word + Drop, P: Part> Part for (W, P) {
     }
 }
 
+// Any number of words of one kind.
+impl<W: Word + Drop> Part for Many<W> {
+    ghost pieces = { map W.spelling };
+
+    ghost fits = { All W.fits };
+
+    fn read(alloc: Global, text: &[u8]) -> Result<Option<Many<W>>, TtFault> {
+        let mut items = Vec::new(alloc);
+        let mut rest = text;
+        while !rest.is_empty() {
+            let Some((word, more)) = next(rest) else {
+                return Ok(None);
+            };
+            items.push(word)?;
+            rest = more;
+        }
+        Ok(Some(Many { items }))
+    }
+}
+
 // One character, which is all the rest.
 impl Part for char {
     ghost pieces = { λ char. encode_utf8 char ∷ [] };
@@ -68,7 +89,21 @@ impl Part for char {
     }
 }
 
-// A token takes all the rest.
+// A leaf takes all the rest.
+impl Part for Leaf {
+    ghost pieces = { λ leaf. leaf_words leaf ∷ [] };
+
+    ghost fits = { LeafFits };
+
+    fn read(alloc: Global, text: &[u8]) -> Result<Option<Leaf>, TtFault> {
+        let Some(text) = text.strip_prefix(b" ".as_slice()) else {
+            return Ok(None);
+        };
+        leaf(alloc, text)
+    }
+}
+
+// So does a token.
 impl Part for TokenTree {
     ghost pieces = { λ token. token_words token ∷ [] };
 

@@ -6,6 +6,10 @@ use crate::command::word::{Word, is, named};
 pub enum View {
     /// Its Display text.
     Show,
+    /// Its `pretty` text.
+    Pretty,
+    /// Its Debug text.
+    Debug,
     /// All its tokens.
     Flat,
     /// The tokens below the top, sibling by sibling.
@@ -33,6 +37,8 @@ impl Word for View {
     fn read(word: &[u8]) -> Option<View> {
         named!(word;
             b"show" => View::Show,
+            b"pretty" => View::Pretty,
+            b"debug" => View::Debug,
             b"flat" => View::Flat,
             b"siblings" => View::Siblings,
             b"walk" => View::Walk,

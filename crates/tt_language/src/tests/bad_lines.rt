@@ -3,7 +3,7 @@ use crate::Command;
 use std::test::Fail;
 
 // Lines that are no command, each for one rule of `docs/LANGUAGE.md`.
-const BAD_LINES: [&[u8]; 87] = [
+const BAD_LINES: [&[u8]; 118] = [
     // No command.
     b"",
     b" ",
@@ -16,8 +16,18 @@ const BAD_LINES: [&[u8]; 87] = [
     b"clear ",
     b"clear 0",
     b"clears",
-    b"new paren 0:0@0..0#0 0:0@0..0#0",
-    b"debug 0",
+    b"pretty 16",
+    // Trees that are changed.
+    b"kind 0",
+    b"spans 0 0:0@0..1#0",
+    b"set 0 0",
+    b"set 0 -1 punct alone 0:0@0..1#0 ;",
+    b"ids 0 ",
+    b"ids 0 01",
+    b"rewrite",
+    b"rewrite 0 put",
+    b"rewrite 0 put:16",
+    b"rewrite 0 Keep",
     b" list 0",
     // Slots.
     b"list ",
@@ -50,6 +60,29 @@ const BAD_LINES: [&[u8]; 87] = [
     b"split 0 ",
     b"split 0 ;;",
     b"split 16 ;",
+    // Commands of the builder.
+    b"new paren 0:0@0..0#0",
+    b"new round 0:0@0..0#0 0:0@0..0#0",
+    b"new paren 0:0@0..0#0 0:0@0..0#0 0",
+    b"open paren",
+    b"open paren 0:0@1..0#0",
+    b"push sub paren 0:0@0..1#0 0:0@3..4#0 2",
+    b"push",
+    b"close",
+    b"close ",
+    b"append 16",
+    b"alone",
+    b"unwrap ",
+    b"point 0",
+    b"restore",
+    b"restore 18446744073709551616",
+    b"restore 99999999999999999999",
+    b"restore 100000000000000000000",
+    b"restore 00",
+    b"restore +1",
+    b"expected 0",
+    b"build 16",
+    b"skip 0 1",
     // Spans.
     b"item ident plain 0:0@1..0#0 a",
     b"item ident plain 00:0@0..1#0 a",

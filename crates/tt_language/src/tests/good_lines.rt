@@ -41,8 +41,19 @@ fn stand_for_commands_of_slots(rt: HostRuntime) -> Result<(), Fail> {
         ("clear", Command::Clear),
         ("list 0", Command::List(zero)),
         ("list 15", Command::List(last)),
+        ("append 0", Command::Append(zero)),
+        ("alone 15", Command::Alone(last)),
+        ("unwrap", Command::Unwrap),
+        ("point", Command::Point),
+        ("restore 0", Command::Restore(0)),
+        ("restore 18446744073709551615", Command::Restore(u64::MAX)),
+        ("expected", Command::Expected),
+        ("build 0", Command::Build(zero)),
+        ("skip 15", Command::Skip(last)),
         ("copy 0 15", Command::Copy(zero, last)),
         ("show 15", Command::View(View::Show, last)),
+        ("pretty 0", Command::View(View::Pretty, zero)),
+        ("debug 15", Command::View(View::Debug, last)),
         ("flat 15", Command::View(View::Flat, last)),
         ("siblings 0", Command::View(View::Siblings, zero)),
         ("walk 15", Command::View(View::Walk, last)),
@@ -55,6 +66,40 @@ fn stand_for_commands_of_slots(rt: HostRuntime) -> Result<(), Fail> {
         ("split 15 \u{2192}", Command::Split(last, '\u{2192}')),
         ("equal 0 15", Command::Equal(zero, last)),
         ("equal 15 0", Command::Equal(last, zero)),
+    ];
+    for (line, command) in rows {
+        let found = Command::parse(rt.alloc(), line.as_bytes())?;
+        assert_eq!(rt; found, Some(command), "{line}");
+    }
+    Ok(())
+}
+
+#[test]
+fn stand_for_commands_of_the_builder(rt: HostRuntime) -> Result<(), Fail> {
+    let delimiter = Delimiter {
+        open_span: small_span(),
+        close: large_span(),
+        kind: DelimiterKind::Brace,
+    };
+    let comma = Punct {
+        char: ',',
+        spacing: Spacing::Joint,
+        span: small_span(),
+    };
+    let rows = [
+        (
+            "new brace 1:2@3..3#4 4294967295:4294967295@4294967295..4294967295#4294967295",
+            Command::New(delimiter),
+        ),
+        (
+            "open bracket 1:2@3..3#4",
+            Command::Open(DelimiterKind::Bracket, small_span()),
+        ),
+        (
+            "push punct joint 1:2@3..3#4 ,",
+            Command::Push(Leaf::Punct(comma)),
+        ),
+        ("close 1:2@3..3#4", Command::Close(small_span())),
     ];
     for (line, command) in rows {
         let found = Command::parse(rt.alloc(), line.as_bytes())?;

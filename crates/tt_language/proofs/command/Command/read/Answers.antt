@@ -33,6 +33,66 @@ returns-in_ok-read-in-Clear-clause-reads c =
     let made : c.map-in-Clear.result ≡ option_map (make verb.Clear) c.in_ok-read-in-Clear.field-0 = search rules in
     command_read verb.Clear _ _ _ _ _ c.first_word.ensures.whole c.first_word.ensures.tail (rw c.in-Clear.is at c.in-Some.ensures.0) c.in_ok-read-in-Clear.ensures.reads made
 
+pub returns-in_ok-read-in-New-clause-reads : goal.returns-in_ok-read-in-New-clause-reads
+returns-in_ok-read-in-New-clause-reads c =
+    let made : c.map-in-New.result ≡ option_map (make verb.New) c.in_ok-read-in-New.field-0 = search rules in
+    command_read verb.New _ _ _ _ _ c.first_word.ensures.whole c.first_word.ensures.tail (rw c.in-New.is at c.in-Some.ensures.0) c.in_ok-read-in-New.ensures.reads made
+
+pub returns-in_ok-read-in-Open-clause-reads : goal.returns-in_ok-read-in-Open-clause-reads
+returns-in_ok-read-in-Open-clause-reads c =
+    let made : c.map-in-Open.result ≡ option_map (make verb.Open) c.in_ok-read-in-Open.field-0 = search rules in
+    command_read verb.Open _ _ _ _ _ c.first_word.ensures.whole c.first_word.ensures.tail (rw c.in-Open.is at c.in-Some.ensures.0) c.in_ok-read-in-Open.ensures.reads made
+
+pub returns-in_ok-read-in-Push-clause-reads : goal.returns-in_ok-read-in-Push-clause-reads
+returns-in_ok-read-in-Push-clause-reads c =
+    let made : c.map-in-Push.result ≡ option_map (make verb.Push) c.in_ok-read-in-Push.field-0 = search rules in
+    command_read verb.Push _ _ _ _ _ c.first_word.ensures.whole c.first_word.ensures.tail (rw c.in-Push.is at c.in-Some.ensures.0) c.in_ok-read-in-Push.ensures.reads made
+
+pub returns-in_ok-read-in-Close-clause-reads : goal.returns-in_ok-read-in-Close-clause-reads
+returns-in_ok-read-in-Close-clause-reads c =
+    let made : c.map-in-Close.result ≡ option_map (make verb.Close) c.in_ok-read-in-Close.field-0 = search rules in
+    command_read verb.Close _ _ _ _ _ c.first_word.ensures.whole c.first_word.ensures.tail (rw c.in-Close.is at c.in-Some.ensures.0) c.in_ok-read-in-Close.ensures.reads made
+
+pub returns-in_ok-read-in-Append-clause-reads : goal.returns-in_ok-read-in-Append-clause-reads
+returns-in_ok-read-in-Append-clause-reads c =
+    let made : c.map-in-Append.result ≡ option_map (make verb.Append) c.in_ok-read-in-Append.field-0 = search rules in
+    command_read verb.Append _ _ _ _ _ c.first_word.ensures.whole c.first_word.ensures.tail (rw c.in-Append.is at c.in-Some.ensures.0) c.in_ok-read-in-Append.ensures.reads made
+
+pub returns-in_ok-read-in-Alone-clause-reads : goal.returns-in_ok-read-in-Alone-clause-reads
+returns-in_ok-read-in-Alone-clause-reads c =
+    let made : c.map-in-Alone.result ≡ option_map (make verb.Alone) c.in_ok-read-in-Alone.field-0 = search rules in
+    command_read verb.Alone _ _ _ _ _ c.first_word.ensures.whole c.first_word.ensures.tail (rw c.in-Alone.is at c.in-Some.ensures.0) c.in_ok-read-in-Alone.ensures.reads made
+
+pub returns-in_ok-read-in-Unwrap-clause-reads : goal.returns-in_ok-read-in-Unwrap-clause-reads
+returns-in_ok-read-in-Unwrap-clause-reads c =
+    let made : c.map-in-Unwrap.result ≡ option_map (make verb.Unwrap) c.in_ok-read-in-Unwrap.field-0 = search rules in
+    command_read verb.Unwrap _ _ _ _ _ c.first_word.ensures.whole c.first_word.ensures.tail (rw c.in-Unwrap.is at c.in-Some.ensures.0) c.in_ok-read-in-Unwrap.ensures.reads made
+
+pub returns-in_ok-read-in-Point-clause-reads : goal.returns-in_ok-read-in-Point-clause-reads
+returns-in_ok-read-in-Point-clause-reads c =
+    let made : c.map-in-Point.result ≡ option_map (make verb.Point) c.in_ok-read-in-Point.field-0 = search rules in
+    command_read verb.Point _ _ _ _ _ c.first_word.ensures.whole c.first_word.ensures.tail (rw c.in-Point.is at c.in-Some.ensures.0) c.in_ok-read-in-Point.ensures.reads made
+
+pub returns-in_ok-read-in-Restore-clause-reads : goal.returns-in_ok-read-in-Restore-clause-reads
+returns-in_ok-read-in-Restore-clause-reads c =
+    let made : c.map-in-Restore.result ≡ option_map (make verb.Restore) c.in_ok-read-in-Restore.field-0 = search rules in
+    command_read verb.Restore _ _ _ _ _ c.first_word.ensures.whole c.first_word.ensures.tail (rw c.in-Restore.is at c.in-Some.ensures.0) c.in_ok-read-in-Restore.ensures.reads made
+
+pub returns-in_ok-read-in-Expected-clause-reads : goal.returns-in_ok-read-in-Expected-clause-reads
+returns-in_ok-read-in-Expected-clause-reads c =
+    let made : c.map-in-Expected.result ≡ option_map (make verb.Expected) c.in_ok-read-in-Expected.field-0 = search rules in
+    command_read verb.Expected _ _ _ _ _ c.first_word.ensures.whole c.first_word.ensures.tail (rw c.in-Expected.is at c.in-Some.ensures.0) c.in_ok-read-in-Expected.ensures.reads made
+
+pub returns-in_ok-read-in-Build-clause-reads : goal.returns-in_ok-read-in-Build-clause-reads
+returns-in_ok-read-in-Build-clause-reads c =
+    let made : c.map-in-Build.result ≡ option_map (make verb.Build) c.in_ok-read-in-Build.field-0 = search rules in
+    command_read verb.Build _ _ _ _ _ c.first_word.ensures.whole c.first_word.ensures.tail (rw c.in-Build.is at c.in-Some.ensures.0) c.in_ok-read-in-Build.ensures.reads made
+
+pub returns-in_ok-read-in-Skip-clause-reads : goal.returns-in_ok-read-in-Skip-clause-reads
+returns-in_ok-read-in-Skip-clause-reads c =
+    let made : c.map-in-Skip.result ≡ option_map (make verb.Skip) c.in_ok-read-in-Skip.field-0 = search rules in
+    command_read verb.Skip _ _ _ _ _ c.first_word.ensures.whole c.first_word.ensures.tail (rw c.in-Skip.is at c.in-Some.ensures.0) c.in_ok-read-in-Skip.ensures.reads made
+
 pub returns-in_ok-read-in-Copy-clause-reads : goal.returns-in_ok-read-in-Copy-clause-reads
 returns-in_ok-read-in-Copy-clause-reads c =
     let made : c.map-in-Copy.result ≡ option_map (make verb.Copy) c.in_ok-read-in-Copy.field-0 = search rules in
@@ -42,3 +102,28 @@ pub returns-in_ok-read-in-Split-clause-reads : goal.returns-in_ok-read-in-Split-
 returns-in_ok-read-in-Split-clause-reads c =
     let made : c.map-in-Split.result ≡ option_map (make verb.Split) c.in_ok-read-in-Split.field-0 = search rules in
     command_read verb.Split _ _ _ _ _ c.first_word.ensures.whole c.first_word.ensures.tail (rw c.in-Split.is at c.in-Some.ensures.0) c.in_ok-read-in-Split.ensures.reads made
+
+pub returns-in_ok-read-in-Kind-clause-reads : goal.returns-in_ok-read-in-Kind-clause-reads
+returns-in_ok-read-in-Kind-clause-reads c =
+    let made : c.map-in-Kind.result ≡ option_map (make verb.Kind) c.in_ok-read-in-Kind.field-0 = search rules in
+    command_read verb.Kind _ _ _ _ _ c.first_word.ensures.whole c.first_word.ensures.tail (rw c.in-Kind.is at c.in-Some.ensures.0) c.in_ok-read-in-Kind.ensures.reads made
+
+pub returns-in_ok-read-in-Spans-clause-reads : goal.returns-in_ok-read-in-Spans-clause-reads
+returns-in_ok-read-in-Spans-clause-reads c =
+    let made : c.map-in-Spans.result ≡ option_map (make verb.Spans) c.in_ok-read-in-Spans.field-0 = search rules in
+    command_read verb.Spans _ _ _ _ _ c.first_word.ensures.whole c.first_word.ensures.tail (rw c.in-Spans.is at c.in-Some.ensures.0) c.in_ok-read-in-Spans.ensures.reads made
+
+pub returns-in_ok-read-in-Set-clause-reads : goal.returns-in_ok-read-in-Set-clause-reads
+returns-in_ok-read-in-Set-clause-reads c =
+    let made : c.map-in-Set.result ≡ option_map (make verb.Set) c.in_ok-read-in-Set.field-0 = search rules in
+    command_read verb.Set _ _ _ _ _ c.first_word.ensures.whole c.first_word.ensures.tail (rw c.in-Set.is at c.in-Some.ensures.0) c.in_ok-read-in-Set.ensures.reads made
+
+pub returns-in_ok-read-in-Ids-clause-reads : goal.returns-in_ok-read-in-Ids-clause-reads
+returns-in_ok-read-in-Ids-clause-reads c =
+    let made : c.map-in-Ids.result ≡ option_map (make verb.Ids) c.in_ok-read-in-Ids.field-0 = search rules in
+    command_read verb.Ids _ _ _ _ _ c.first_word.ensures.whole c.first_word.ensures.tail (rw c.in-Ids.is at c.in-Some.ensures.0) c.in_ok-read-in-Ids.ensures.reads made
+
+pub returns-in_ok-read-in-Rewrite-clause-reads : goal.returns-in_ok-read-in-Rewrite-clause-reads
+returns-in_ok-read-in-Rewrite-clause-reads c =
+    let made : c.map-in-Rewrite.result ≡ option_map (make verb.Rewrite) c.in_ok-read-in-Rewrite.field-0 = search rules in
+    command_read verb.Rewrite _ _ _ _ _ c.first_word.ensures.whole c.first_word.ensures.tail (rw c.in-Rewrite.is at c.in-Some.ensures.0) c.in_ok-read-in-Rewrite.ensures.reads made

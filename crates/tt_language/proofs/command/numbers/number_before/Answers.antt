@@ -1,4 +1,4 @@
-use Rattle.std.proofs.Common.{◌∙◌, sym, subst}
+use Rattle.std.proofs.Common.{arith, ◌∙◌, sym, subst}
 use Rattle.tt_language.specs.Reading.{Lacks}
 use Rattle.tt_language.specs.WordLaws.{Lacks-decimal}
 use Rattle.tt_language.proofs.Cutting.{cut_unique, Lacks-apart}
@@ -10,5 +10,5 @@ returns-in_err-word c = rw c.from_residual.ensures (λ n rest small e. Lacks-apa
 pub returns-in_err-value : goal.returns-in_err-value
 returns-in_err-value c = rw c.from_residual-in_err-value.ensures
     (λ n rest small e.
-    let u = cut_unique c.args.byte _ _ _ _ c.in_ok-word.ensures.1 (Lacks-decimal c.args.byte c.requires n small) (sym c.in_ok-word.ensures.0 ∙ e) in
+    let u = cut_unique c.args.byte _ _ _ _ c.in_ok-word.ensures.1 (Lacks-decimal c.args.byte c.requires n (omega (arith, small))) (sym c.in_ok-word.ensures.0 ∙ e) in
     c.in_err-value.ensures n small u.0)

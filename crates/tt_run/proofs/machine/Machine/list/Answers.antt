@@ -8,10 +8,10 @@ returns-in-Ok c =
     let empty : c.replace-list.new.dest.items ≡ [] = search rules in
     let one : IsOneSubtree c.self.inside.list.items = (c.in-Ok.tree, list ∙ c.in-Ok.ensures.ok, c.in-Ok.ensures.counts) in
     rw (← c.self.view_is)
-    (inl (inl (one, c.packed_bytes-stored.ensures.limits, c.ok.ensures, λ i. record { slots = set c.self.inside.slots (c.index.ensures.value i) (Some c.in-Ok.tree); list = empty i })))
+    (inl (inl (one, c.in-Ok.ensures.limits, c.ok.ensures, λ i. record { slots = set c.self.inside.slots (c.index.ensures.value i) (Some c.in-Ok.tree); list = empty i; builder = c.self.inside.builder })))
 
 pub returns-in-Err : goal.returns-in-Err
 returns-in-Err c =
     let list : c.in-Err.refused.value.items ≡ c.self.inside.list.items = search rules in
     let why = rw c.replace-list.ensures.value at c.in-Err.ensures.fault in
-    rw (← c.self.view_is) (inl (inr (c.in-Err.refused.fault, why, c.fault.ensures, λ i. record { slots = c.self.inside.slots; list = list i })))
+    rw (← c.self.view_is) (inl (inr (c.in-Err.refused.fault, why, c.fault.ensures, λ i. record { slots = c.self.inside.slots; list = list i; builder = c.self.inside.builder })))

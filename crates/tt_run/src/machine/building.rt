@@ -1,0 +1,207 @@
+//! What the commands on the builder do.
+ghost use Rattle.std.specs.Prelude.{◌≡◌, IfOk, MatchBool, string_bytes};
+ghost use Rattle.tt.specs.Building.{IsOpen};
+ghost use Rattle.tt_run.specs.Building.{expected_text, point_line};
+ghost use Rattle.tt_run.specs.Machine.{Step};
+
+use super::Machine;
+use crate::answer::Answer;
+use std::alloc::{AllocError, Global};
+use tt::{Delimiter, DelimiterKind, Leaf, Span, SubtreeBuilderRestorePoint, TopSubtreeBuilder};
+use tt_language::{Command, Slot, kind_name};
+
+// The kinds of the open subtrees, on one line.
+fn expected_text(alloc: Global, builder: &TopSubtreeBuilder) -> Result<String, AllocError>
+    ensures { IfOk result (λ text. string_bytes text ≡ expected_text builder.now) }
+{
+    let mut text = String::from_str(alloc, "expected")?;
+    for kind in builder.expected_delimiters() {
+        write!(text, " {}", kind_name(kind))?;
+    }
+    text.push_str("\n")?;
+    Ok(text)
+}
+
+// The number of a restore point, on one line.
+fn point_text(alloc: Global, number: u64) -> Result<String, AllocError>
+    ensures { IfOk result (λ text. string_bytes text ≡ point_line number) }
+{
+    format!(in alloc; "point {number}\n")
+}
+
+// Whether a subtree is open.
+fn has_open(builder: &TopSubtreeBuilder) -> bool
+    ensures { MatchBool result (IsOpen builder.now) (IsOpen builder.now → ⊥) }
+{
+    builder.expected_delimiters().next().is_some()
+}
+
+impl Machine {
+    pub(super) fn begin(&mut self, delimiter: Delimiter) -> Answer
+        ensures { Step self.old (Command.New delimiter) result self.new }
+    {
+        match TopSubtreeBuilder::new(self.alloc, delimiter) {
+            Ok(builder) => {
+                self.builder = Some(builder);
+                Answer::ok()
+            }
+            Err(fault) => Answer::fault(fault),
+        }
+    }
+
+    pub(super) fn open(&mut self, kind: DelimiterKind, span: Span) -> Answer
+        ensures { Step self.old (Command.Open kind span) result self.new }
+    {
+        let Some(builder) = &mut self.builder else {
+            return Answer::no_builder();
+        };
+        Answer::ok_or_fault(builder.open(kind, span))
+    }
+
+    pub(super) fn push(&mut self, leaf: Leaf) -> Answer
+        ensures { Step self.old (Command.Push leaf) result self.new }
+    {
+        let Some(builder) = &mut self.builder else {
+            return Answer::no_builder();
+        };
+        match builder.push(leaf) {
+            Ok(()) => Answer::ok(),
+            Err(refused) => Answer::fault(refused.fault),
+        }
+    }
+
+    pub(super) fn close(&mut self, span: Span) -> Answer
+        ensures { Step self.old (Command.Close span) result self.new }
+    {
+        let Some(mut builder) = self.builder.take() else {
+            return Answer::no_builder();
+        };
+        if !has_open(&builder) {
+            self.builder = Some(builder);
+            return Answer::none_open();
+        }
+        let done = builder.close(span);
+        self.builder = Some(builder);
+        Answer::ok_or_fault(done)
+    }
+
+    pub(super) fn append(&mut self, slot: Slot) -> Answer
+        ensures { Step self.old (Command.Append slot) result self.new }
+    {
+        let Some(mut builder) = self.builder.take() else {
+            return Answer::no_builder();
+        };
+        let done = match self.tree(slot) {
+            Some(tree) => Answer::ok_or_fault(builder.extend_with_tt(tree.as_token_trees())),
+            None => Answer::empty(),
+        };
+        self.builder = Some(builder);
+        done
+    }
+
+    pub(super) fn append_alone(&mut self, slot: Slot) -> Answer
+        ensures { Step self.old (Command.Alone slot) result self.new }
+    {
+        let Some(mut builder) = self.builder.take() else {
+            return Answer::no_builder();
+        };
+        let done = match self.tree(slot) {
+            Some(tree) => Answer::ok_or_fault(builder.extend_with_tt_alone(tree.as_token_trees())),
+            None => Answer::empty(),
+        };
+        self.builder = Some(builder);
+        done
+    }
+
+    pub(super) fn unwrap(&mut self) -> Answer
+        ensures { Step self.old Command.Unwrap result self.new }
+    {
+        let Some(builder) = &mut self.builder else {
+            return Answer::no_builder();
+        };
+        builder.remove_last_subtree_if_invisible();
+        Answer::ok()
+    }
+
+    // The text is made first, so that nothing has changed where there is no memory for it.
+    pub(super) fn point(&mut self) -> Answer
+        ensures { Step self.old Command.Point result self.new }
+    {
+        let Some(builder) = &mut self.builder else {
+            return Answer::no_builder();
+        };
+        let text = match point_text(self.alloc, builder.points_taken()) {
+            Ok(text) => text,
+            Err(error) => return Answer::of_text(Err(error)),
+        };
+        match builder.restore_point() {
+            Ok(_) => Answer::of_text(Ok(text)),
+            Err(fault) => Answer::fault(fault),
+        }
+    }
+
+    pub(super) fn restore(&mut self, number: u64) -> Answer
+        ensures { Step self.old (Command.Restore number) result self.new }
+    {
+        let Some(builder) = &mut self.builder else {
+            return Answer::no_builder();
+        };
+        Answer::yes_or_no(builder.restore(SubtreeBuilderRestorePoint::from_number(number)))
+    }
+
+    pub(super) fn expected(&self) -> Answer
+        ensures { Step self.now Command.Expected result self.now }
+    {
+        let Some(builder) = &self.builder else {
+            return Answer::no_builder();
+        };
+        Answer::of_text(expected_text(self.alloc, builder))
+    }
+
+    pub(super) fn build(&mut self, slot: Slot) -> Answer
+        ensures { Step self.old (Command.Build slot) result self.new }
+    {
+        let Some(builder) = self.builder.take() else {
+            return Answer::no_builder();
+        };
+        if has_open(&builder) {
+            self.builder = Some(builder);
+            return Answer::still_open();
+        }
+        match builder.build() {
+            Ok(tree) => {
+                // its contract says that the tree is within the limits
+                let _stored = tree.packed_bytes();
+                self.slots[slot.index()] = Some(tree);
+                Answer::ok()
+            }
+            Err(refused) => {
+                self.builder = Some(refused.value);
+                Answer::fault(refused.fault)
+            }
+        }
+    }
+
+    pub(super) fn skip(&mut self, slot: Slot) -> Answer
+        ensures { Step self.old (Command.Skip slot) result self.new }
+    {
+        let Some(builder) = self.builder.take() else {
+            return Answer::no_builder();
+        };
+        if has_open(&builder) {
+            self.builder = Some(builder);
+            return Answer::still_open();
+        }
+        match builder.build_skip_top_subtree() {
+            Ok(tree) => {
+                let _stored = tree.packed_bytes();
+                self.slots[slot.index()] = Some(tree);
+                Answer::ok()
+            }
+            Err(refused) => {
+                self.builder = Some(refused.value);
+                Answer::fault(refused.fault)
+            }
+        }
+    }
+}
