@@ -4,6 +4,7 @@
 //! nanoseconds of all rounds, a sum to know the answer by, and how many bytes, span parts and symbols are stored.
 #![tactic(auto)]
 
+mod building;
 mod error;
 mod interner;
 mod items;
@@ -12,6 +13,7 @@ mod look;
 mod measure;
 mod mode;
 mod stopwatch;
+mod texts;
 mod twins;
 mod walk;
 

@@ -1,9 +1,11 @@
 //! One measurement, from a job to its line of numbers.
+use crate::building;
 use crate::error::BenchError;
 use crate::items::items;
 use crate::job::Job;
 use crate::mode::Mode;
 use crate::stopwatch::Stopwatch;
+use crate::texts::Text;
 use crate::twins::{Twins, packed};
 use crate::walk::Walk;
 use std::alloc::Global;
@@ -69,8 +71,9 @@ fn measure_rounds<R: CpuClock>(
 ) -> Result<u64, BenchError> {
     match job.mode {
         Mode::Pack => pack(watch, alloc, list, job.rounds),
+        Mode::Build => build(watch, alloc, list, job.rounds),
         Mode::Walk(way) => walk(watch, alloc, twins, way, job.rounds),
-        Mode::Show => show(watch, alloc, twins, job.rounds),
+        Mode::Print(text) => print(watch, alloc, twins, text, job.rounds),
         Mode::Equal => equal(watch, twins, job.rounds),
         Mode::Fold => hash(watch, twins, FoldHasher::default(), job.rounds),
         Mode::Sip => hash(watch, twins, DefaultHasher::default(), job.rounds),
@@ -96,6 +99,24 @@ fn pack<R: CpuClock>(
     Ok(0)
 }
 
+// Each round makes the same calls, of which a copy is made before the watch starts.
+fn build<R: CpuClock>(
+    watch: &mut Stopwatch<R>,
+    alloc: Global,
+    list: &[TokenTree],
+    rounds: u32,
+) -> Result<u64, BenchError> {
+    let (top, calls) = building::calls(alloc, list)?;
+    for _ in 0..rounds {
+        let copy = calls.to_vec(alloc).map_err(TtFault::from)?;
+        watch.start()?;
+        let tree = building::build(alloc, top, copy)?;
+        watch.stop()?;
+        drop(tree);
+    }
+    Ok(0)
+}
+
 fn walk<R: CpuClock>(
     watch: &mut Stopwatch<R>,
     alloc: Global,
@@ -113,18 +134,17 @@ fn walk<R: CpuClock>(
 }
 
 // Each round prints a tree, and lets the text go. The sum is the length of a text.
-fn show<R: CpuClock>(
+fn print<R: CpuClock>(
     watch: &mut Stopwatch<R>,
     alloc: Global,
     twins: &Twins,
+    text: Text,
     rounds: u32,
 ) -> Result<u64, BenchError> {
     let mut sum = 0;
     watch.start()?;
     for round in 0..rounds {
-        let tree = twins.at(round);
-        let text = format!(in alloc; "{tree}").map_err(|_error| TtFault::Memory)?;
-        sum = text.len() as u64;
+        sum = text.len(alloc, twins.at(round))?;
     }
     watch.stop()?;
     Ok(sum)

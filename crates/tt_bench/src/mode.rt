@@ -1,5 +1,6 @@
 //! What can be timed.
 use crate::error::BenchError;
+use crate::texts::Text;
 use crate::walk::Walk;
 use std::str::FromStr;
 
@@ -8,10 +9,12 @@ use std::str::FromStr;
 pub enum Mode {
     /// Packing a list, and letting the list go.
     Pack,
+    /// Building a tree by opening and closing its subtrees.
+    Build,
     /// Reading a tree.
     Walk(Walk),
     /// Printing a tree.
-    Show,
+    Print(Text),
     /// Comparing a tree with its twin.
     Equal,
     /// Hashing a tree by a fast hasher, `FoldHasher`.
@@ -30,13 +33,17 @@ impl FromStr for Mode {
     fn from_str(name: &str) -> Result<Mode, BenchError> {
         match name {
             "pack" => Ok(Mode::Pack),
+            "build" => Ok(Mode::Build),
             "flat" => Ok(Mode::Walk(Walk::Flat)),
             "flat_whole" => Ok(Mode::Walk(Walk::FlatWhole)),
             "skip" => Ok(Mode::Walk(Walk::Skip)),
             "siblings" => Ok(Mode::Walk(Walk::Siblings)),
             "siblings_whole" => Ok(Mode::Walk(Walk::SiblingsWhole)),
             "walk" => Ok(Mode::Walk(Walk::Cursor)),
-            "show" => Ok(Mode::Show),
+            "show" => Ok(Mode::Print(Text::Show)),
+            "display" => Ok(Mode::Print(Text::Display)),
+            "pretty" => Ok(Mode::Print(Text::Pretty)),
+            "debug" => Ok(Mode::Print(Text::Debug)),
             "equal" => Ok(Mode::Equal),
             "fold" => Ok(Mode::Fold),
             "sip" => Ok(Mode::Sip),

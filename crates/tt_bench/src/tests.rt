@@ -19,6 +19,7 @@ item lit int 2 0:0@6..9#0 7u8
 fn measures_by_each_mode(rt: HostRuntime) -> Result<(), Fail> {
     let sums = [
         ("pack", 0),
+        ("build", 0),
         ("flat", 15),
         ("flat_whole", 15),
         ("skip", 5),
@@ -26,6 +27,9 @@ fn measures_by_each_mode(rt: HostRuntime) -> Result<(), Fail> {
         ("siblings_whole", 15),
         ("walk", 15),
         ("show", 11),
+        ("display", 11),
+        ("pretty", 11),
+        ("debug", 153),
         ("equal", 3),
         ("clone", 0),
         ("drop", 0),

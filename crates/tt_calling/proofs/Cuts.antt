@@ -7,7 +7,8 @@ use Rattle.tt.specs.Siblings.{Tree, list_of}
 use Rattle.tt.specs.Types.Split.{Split}
 use Rattle.tt.specs.Types.TokenTreesView.{TokenTreesView}
 use Rattle.tt.specs.Types.TtElement.{TtElement}
-use Rattle.tt_calling.specs.Commas.{is_comma, put_first, cut}
+use Rattle.std.specs.List.{slice_split, onto_first}
+use Rattle.tt_calling.specs.Commas.{is_comma}
 use Rattle.tt_calling.specs.ViewTrees.{view_trees}
 
 module _ {X : Type 0} (test : X → Bool) where
@@ -16,18 +17,18 @@ module _ {X : Type 0} (test : X → Bool) where
   NonePasses = AllByRecursion (λ x. test x ≡ false)
 
   -- A piece up to one that passes.
-  cut_before : (xs : List X) (x : X) (rest : List X) → NonePasses xs → test x ≡ true → cut test (xs ++ (x ∷ rest)) ≡ xs ∷ cut test rest
+  cut_before : (xs : List X) (x : X) (rest : List X) → NonePasses xs → test x ≡ true → slice_split test (xs ++ (x ∷ rest)) ≡ xs ∷ slice_split test rest
   cut_before [] x rest fail pass = rw pass refl
-  cut_before (y ∷ xs) x rest fail pass = rw fail.0 (ap (put_first y) (cut_before xs x rest fail.1 pass))
+  cut_before (y ∷ xs) x rest fail pass = rw fail.0 (ap (onto_first y) (cut_before xs x rest fail.1 pass))
 
   -- The last piece.
-  cut_last : (xs : List X) → NonePasses xs → cut test xs ≡ xs ∷ []
+  cut_last : (xs : List X) → NonePasses xs → slice_split test xs ≡ xs ∷ []
   cut_last [] fail = refl
-  cut_last (y ∷ xs) fail = rw fail.0 (ap (put_first y) (cut_last xs fail.1))
+  cut_last (y ∷ xs) fail = rw fail.0 (ap (onto_first y) (cut_last xs fail.1))
 
 -- what is to come of the pieces
 abbrev pub to_come : {F : Type 0} → Split F → List (List Tree)
-to_come s = cond (is_done s) [] (cut is_comma (list_of (left_in s)))
+to_come s = cond (is_done s) [] (slice_split is_comma (list_of (left_in s)))
 
 module _ {F : Type 0} (step : F → TtElement → Bool → F → Type 0)
     (answers : (p : F) (e : TtElement) (b : Bool) (q : F) → step p e b q → b ≡ is_comma (tree_of e)) where
@@ -40,16 +41,16 @@ module _ {F : Type 0} (step : F → TtElement → Bool → F → Type 0)
   pub one_piece : (s t : Split F) (piece : TokenTreesView) → GivesPiece step s (Some piece) t → to_come s ≡ view_trees piece ∷ to_come t
   one_piece s t piece (going, (asked, are, counted, told)) = rw going (either told)
     where
-      last : IsLast step s asked t → cut is_comma (list_of (left_in s)) ≡ view_trees piece ∷ to_come t
-      last it = rw it.done (ap (cut is_comma) (sym it.all) ∙ cut_last is_comma (map tree_of asked) (no_commas _ asked _ it.no) ∙ ap (λ x. x ∷ []) are)
+      last : IsLast step s asked t → slice_split is_comma (list_of (left_in s)) ≡ view_trees piece ∷ to_come t
+      last it = rw it.done (ap (slice_split is_comma) (sym it.all) ∙ cut_last is_comma (map tree_of asked) (no_commas _ asked _ it.no) ∙ ap (λ x. x ∷ []) are)
 
-      before : IsBefore step s asked t → cut is_comma (list_of (left_in s)) ≡ view_trees piece ∷ to_come t
+      before : IsBefore step s asked t → slice_split is_comma (list_of (left_in s)) ≡ view_trees piece ∷ to_come t
       before it =
           rw it.more
-          (ap (cut is_comma) it.all
+          (ap (slice_split is_comma) it.all
           ∙ cut_before is_comma (map tree_of asked) (tree_of it.separator) _ (no_commas _ asked _ it.no) (sym (answers _ it.separator true _ it.yes))
-          ∙ ap (λ x. x ∷ cut is_comma (list_of (left_in t))) are)
+          ∙ ap (λ x. x ∷ slice_split is_comma (list_of (left_in t))) are)
 
-      either : IsLast step s asked t ⊎ IsBefore step s asked t → cut is_comma (list_of (left_in s)) ≡ view_trees piece ∷ to_come t
+      either : IsLast step s asked t ⊎ IsBefore step s asked t → slice_split is_comma (list_of (left_in s)) ≡ view_trees piece ∷ to_come t
       either (inl it) = last it
       either (inr it) = before it

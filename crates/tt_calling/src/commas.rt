@@ -1,8 +1,9 @@
 //! Trees cut at their commas.
+ghost use Rattle.std.specs.List.{slice_split};
 ghost use Rattle.std.specs.Prelude.{◌≡◌, IfOk, map};
 ghost use Rattle.tt.specs.Iters.{tree_of};
 ghost use Rattle.tt.specs.Siblings.{list_of};
-ghost use Rattle.tt_calling.specs.Commas.{is_comma, cut};
+ghost use Rattle.tt_calling.specs.Commas.{is_comma};
 ghost use Rattle.tt_calling.specs.ViewTrees.{view_trees};
 
 use std::alloc::Global;
@@ -13,7 +14,7 @@ pub fn arguments<'a>(
     alloc: Global,
     trees: TokenTreesView<'a>,
 ) -> Result<Vec<TokenTreesView<'a>>, TtFault>
-    ensures { IfOk result (λ list. map view_trees list.items ≡ cut is_comma (view_trees trees.entry)) }
+    ensures { IfOk result (λ list. map view_trees list.items ≡ slice_split is_comma (view_trees trees.entry)) }
 {
     let mut list = Vec::new(alloc);
     let pieces = trees.split(

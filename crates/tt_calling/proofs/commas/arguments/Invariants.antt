@@ -2,7 +2,8 @@
 use Rattle.std.proofs.Common.{◌≡◌, ◌++◌, [], map, cond}
 use Rattle.tt.specs.Pieces.{left_in, is_done}
 use Rattle.tt.specs.Siblings.{list_of}
-use Rattle.tt_calling.specs.Commas.{is_comma, cut}
+use Rattle.std.specs.List.{slice_split}
+use Rattle.tt_calling.specs.Commas.{is_comma}
 use Rattle.tt_calling.specs.ViewTrees.{view_trees}
 use Rattle.tt_calling.proofs.commas.arguments.Given as goal
 
@@ -10,4 +11,4 @@ abbrev pub invariant-loop-piece : goal.invariant-loop-piece
 invariant-loop-piece l =
     (goal.iterator-loop-piece).can_next l.piece-iterator
     × (goal.iterator-loop-piece).is_finite l.piece-iterator
-    × (map view_trees l.list.items ++ cond (is_done l.piece-iterator) [] (cut is_comma (list_of (left_in l.piece-iterator))) ≡ cut is_comma (view_trees l.fn.trees))
+    × (map view_trees l.list.items ++ cond (is_done l.piece-iterator) [] (slice_split is_comma (list_of (left_in l.piece-iterator))) ≡ slice_split is_comma (view_trees l.fn.trees))
