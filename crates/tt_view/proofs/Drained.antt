@@ -1,5 +1,5 @@
 -- What an iterator gives whose state shows what is left.
-use Rattle.std.proofs.Common.{◌≡◌, List, [], ◌∷◌, refl, ap, sym, ◌∙◌}
+use Rattle.std.proofs.Common.{◌≡◌, List, [], ◌∷◌, ap, sym, ◌∙◌}
 use Rattle.std.specs.Iterator.{Drains, YieldsFirst}
 
 -- All calls together give what was left.

@@ -5,6 +5,7 @@ pub mod FlatPlaces
 pub mod Frames
 pub mod LeafAt
 pub mod NewIds
+pub mod NewParts
 pub mod Places
 pub mod Parts
 pub mod Reading

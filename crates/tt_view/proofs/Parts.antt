@@ -3,8 +3,8 @@ use Rattle.std.proofs.Common.{◌≡◌, ℕ, ◌+◌, ◌-◌, ◌<◌, ◌≤�
 use Rattle.tt_base.specs.declared.token_tree.TokenTree.{TokenTree}
 use Rattle.tt_base.specs.declared.token_tree.TokenTree.TheVariants as token
 use Rattle.tt_base.specs.Forest.{Forest, end, leaf, node, size, header, join}
-use Rattle.std.specs.Prelude.{false, min, ◌^◌}
-use Rattle.tt_base.specs.Moves.{first_token, after_token, after_tree, step_after}
+use Rattle.std.specs.Prelude.{false}
+use Rattle.tt_base.specs.Moves.{first_token, after_token, after_tree}
 use Rattle.tt_view.specs.Cuts.{HoldsTrees}
 use Rattle.tt_base.specs.Siblings.{children_of, is_end}
 use Rattle.tt_base.specs.Token.{count_below}

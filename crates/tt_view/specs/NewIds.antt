@@ -1,6 +1,5 @@
 -- Ids that were answered for the entries of a table, found again by part.
-use Rattle.std.specs.Prelude.{◌≡◌, Bool, List, [], ◌∷◌, map, Option, Some, None, unwrap_or, if◌then◌else◌}
-use Rattle.tt_base.specs.declared.delimiter.Delimiter.{Delimiter}
+use Rattle.std.specs.Prelude.{List, [], ◌∷◌, Option, Some, None, unwrap_or, if◌then◌else◌}
 use Rattle.tt_base.specs.declared.span.ErasedFileAstId.{ErasedFileAstId}
 use Rattle.tt_base.specs.declared.span.Span.{Span}
 use Rattle.tt_base.specs.declared.span.SpanPart.{SpanPart}

@@ -60,6 +60,7 @@ impl TopSubtree {
     /// An invisible delimiter with those spans, and nothing inside.
     pub fn empty(alloc: Global, span: DelimSpan) -> Result<TopSubtree, TtFault>
         ensures ok { IfOk result (λ tree. tree ≡ under (delimiter Invisible span.open_span span.close) end) }
+        ensures limits { IfOk result (λ tree. IsWithinLimits tree) }
         ensures err { IfErr result (λ fault. fault ≡ Memory) }
     {
         let mut tokens = Vec::new(alloc);
@@ -78,6 +79,7 @@ impl TopSubtree {
         leaves: [Leaf; N],
     ) -> Result<TopSubtree, TtFault>
         ensures ok { IfOk result (λ tree. tree ≡ under (delimiter Invisible span span) (leaf_trees leaves.entry)) }
+        ensures limits { IfOk result (λ tree. IsWithinLimits tree) }
         ensures err { IfErr result (IsTreeFault (under (delimiter Invisible span span) (leaf_trees leaves.entry))) }
     {
         let leaves = Vec::from_array(alloc, leaves)?;
@@ -115,6 +117,7 @@ impl TopSubtree {
     pub fn from_tokens(alloc: Global, tokens: &[TokenTree]) -> Result<TopSubtree, TtFault>
         ensures ok { IfOk result (λ tree. tokens.now ≡ flat_root tree) }
         ensures counts { IfOk result (λ tree. size tree.children ≤ most_tokens) }
+        ensures limits { IfOk result (λ tree. IsWithinLimits tree) }
         ensures err { IfErr result (IsPackFault tokens.now) }
     {
         let packed = Packed::of_list(alloc, tokens)?;
@@ -128,6 +131,7 @@ impl TopSubtree {
         trees: TokenTreesView<'_>,
     ) -> Result<TopSubtree, TtFault>
         ensures ok { IfOk result (λ tree. tree ≡ under delimiter (trees_of trees.entry)) }
+        ensures limits { IfOk result (λ tree. IsWithinLimits tree) }
         ensures err { IfErr result (IsTreeFault (under delimiter (trees_of trees.entry))) }
     {
         let Ok(len) = u32::try_from(trees.len()) else {
@@ -143,6 +147,7 @@ impl TopSubtree {
     /// One subtree, as a tree of its own.
     pub fn from_subtree(alloc: Global, subtree: SubtreeView<'_>) -> Result<TopSubtree, TtFault>
         ensures ok { IfOk result (λ tree. tree ≡ root_of subtree.entry) }
+        ensures limits { IfOk result (λ tree. IsWithinLimits tree) }
         ensures err { IfErr result (IsTreeFault (root_of subtree.entry)) }
     {
         let delimiter = subtree.top_subtree().delimiter;

@@ -1,7 +1,7 @@
 //! New ids for all spans of a tree.
 ghost use Rattle.std.specs.Prelude.{◌≡◌, ◌<◌, ◌≤◌, ◌⊎◌, ◌∷◌, List, map, length, IfOk, IfErr, OnOk, OnErr};
 ghost use Rattle.indexmap.specs.IndexMap.{get};
-ghost use Rattle.tt_base.specs.declared.fault.TtFault.TheVariants.{Memory};
+ghost use Rattle.tt_base.specs.declared.fault.TtFault.TheVariants.{Memory, TooManyBytes};
 ghost use Rattle.tt_base.specs.declared.span.ErasedFileAstId.{ErasedFileAstId as Id};
 ghost use Rattle.tt_base.specs.declared.span.SpanPart.{SpanPart as Part};
 ghost use Rattle.tt_base.specs.declared.token_tree.TokenTree.TheVariants as token;
@@ -9,7 +9,7 @@ ghost use Rattle.tt_base.specs.Asked.{AsksAll};
 ghost use Rattle.tt_base.specs.Edits.{with_id, respanned_leaf};
 ghost use Rattle.tt_base.specs.Forest.{flat};
 ghost use Rattle.tt_tables.specs.AstIds.{with_id_at, ids_changed};
-ghost use Rattle.tt_tables.specs.Stored.{root_parts};
+ghost use Rattle.tt_tables.specs.Stored.{root_parts, IsWithinLimits};
 ghost use Rattle.tt_tables.specs.Uses.{same_part};
 ghost use Rattle.tt_view.specs.NewIds.{AnswersIds, id_for, span_with, respanned_token};
 ghost use Rattle.tt_view.specs.TreeFault.{IsTreeFault};
@@ -154,7 +154,8 @@ fn new_list(
 impl TopSubtree {
     /// Changes the ids of all spans. The callback is asked once for the id of each entry of the table of span parts, in
     /// order, so for those of the top's open and close span last. A span takes the id that was answered for its entry.
-    /// The tree is then stored anew. Where it would be too large then, or memory is refused, it stays as it was.
+    /// The tree is then stored anew. Where that would take too many bytes, or memory is refused, it stays as it was. It has
+    /// no more span parts than before, and the symbols that it had, so nothing else can be too many.
     pub fn change_every_ast_id<F: FnMut(ErasedFileAstId) -> ErasedFileAstId>(
         &mut self,
         alloc: Global,
@@ -162,9 +163,13 @@ impl TopSubtree {
     ) -> Result<(), TtFault>
         requires { F.IsAlwaysCallable callback }
         ensures ok { OnOk result ((ids : List Id) × AnswersIds (λ p x y q. F.step p x y q) callback self.old ids × (self.new ≡ ids_changed ids self.old)) }
+        ensures limits { OnOk result (IsWithinLimits self.new) }
         ensures err { OnErr result (self.new ≡ self.old) }
         ensures fault { IfErr result (λ fault. (fault ≡ Memory) ⊎ ((ids : List Id) × AnswersIds (λ p x y q. F.step p x y q) callback self.old ids × IsTreeFault (ids_changed ids self.old) fault)) }
+        ensures limit { IfErr result (λ fault. (fault ≡ Memory) ⊎ (fault ≡ TooManyBytes)) }
     {
+        // Their contract says that no count of the tree is too large.
+        let _bytes = self.packed.bytes();
         let ids = ask_all(alloc, self.packed.parts(), callback)?;
         self.packed = self.with_ids(alloc, &ids)?;
         Ok(())
@@ -174,6 +179,7 @@ impl TopSubtree {
     fn with_ids(&self, alloc: Global, ids: &[ErasedFileAstId]) -> Result<Packed, TtFault>
         requires { length ids.now ≡ length (root_parts self.now) }
         ensures ok { IfOk result (λ packed. packed ≡ ids_changed ids.now self.now) }
+        ensures limits { IfOk result (λ packed. IsWithinLimits packed) }
         ensures err { IfErr result (IsTreeFault (ids_changed ids.now self.now)) }
     {
         let parts = self.packed.parts();

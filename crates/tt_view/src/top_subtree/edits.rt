@@ -2,6 +2,7 @@
 ghost use Rattle.std.specs.Prelude.{◌≡◌, IfOk, IfErr, OnOk, OnErr};
 ghost use Rattle.tt_base.specs.Edits.{HasLeafAt, leaf_set};
 ghost use Rattle.tt_base.specs.Forest.{flat, flat_root};
+ghost use Rattle.tt_tables.specs.Stored.{IsWithinLimits};
 ghost use Rattle.tt_view.specs.TreeFault.{IsSetFault};
 ghost use Rattle.tt_view.specs.Views.{trees_of};
 
@@ -29,6 +30,7 @@ impl TopSubtree {
     pub fn set_token(&mut self, alloc: Global, idx: usize, leaf: Leaf) -> Result<(), Refused<Leaf>>
         ensures there { OnOk result (HasLeafAt (flat_root self.old) idx) }
         ensures ok { OnOk result (self.new ≡ leaf_set idx leaf self.old) }
+        ensures limits { OnOk result (IsWithinLimits self.new) }
         ensures err { OnErr result (self.new ≡ self.old) }
         ensures fault { IfErr result (λ refused. IsSetFault self.old idx leaf refused.fault) }
         ensures leaf { IfErr result (λ refused. refused.value ≡ leaf) }
@@ -45,6 +47,7 @@ impl TopSubtree {
     // The tree with the leaf at that place, stored once more.
     fn with_leaf(&self, alloc: Global, idx: usize, leaf: &Leaf) -> Result<Packed, TtFault>
         ensures ok { IfOk result (λ packed. HasLeafAt (flat_root self.now) idx × (packed ≡ leaf_set idx leaf.now self.now)) }
+        ensures limits { IfOk result (λ packed. IsWithinLimits packed) }
         ensures err { IfErr result (IsSetFault self.now idx leaf.now) }
     {
         // Their contract says that no count of the tree is too large.

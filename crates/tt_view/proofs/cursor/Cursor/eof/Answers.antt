@@ -1,6 +1,5 @@
 use Rattle.std.proofs.Common.{rules, vec_len, ◌≡◌, ◌==◌, true, false, length, ap, sym, ◌∙◌}
 use Rattle.std.proofs.lemmas.List.{length-reverse}
-use Rattle.tt_view.specs.Views.{trees_of}
 use Rattle.tt_base.specs.Walk.{events_ahead, is_over}
 use Rattle.tt_view.specs.Frames.{events_left, frames_of}
 use Rattle.tt_view.proofs.Places.{ahead_is, over_none, over_some}

@@ -1,7 +1,6 @@
 use Rattle.std.proofs.Common.{rules, ◌≡◌, ap, sym, ◌∙◌}
 use Rattle.tt_base.specs.Forest.{size}
 use Rattle.tt_view.specs.Innermost.{is_end_of}
-use Rattle.tt_view.specs.Views.{trees_of}
 use Rattle.tt_base.specs.Walk.{events_ahead, is_at_close}
 use Rattle.tt_view.specs.Frames.{events_left, frames_of}
 use Rattle.tt_view.proofs.Places.{ahead_is, close_is}

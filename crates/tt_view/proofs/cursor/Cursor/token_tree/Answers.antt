@@ -1,7 +1,5 @@
-use Rattle.std.proofs.Common.{rules, ◌≡◌, Some, None, false, ap, sym, ◌∙◌}
-use Rattle.tt_base.specs.Forest.{end}
+use Rattle.std.proofs.Common.{rules, ◌≡◌, false, ap, sym, ◌∙◌}
 use Rattle.tt_base.specs.Moves.{first_token}
-use Rattle.tt_view.specs.Views.{trees_of}
 use Rattle.tt_base.specs.Walk.{events_ahead, is_at_close, token_at}
 use Rattle.tt_view.specs.Frames.{events_left}
 use Rattle.tt_view.proofs.Places.{ahead_is, token_ahead}

@@ -1,9 +1,9 @@
 use Rattle.std.proofs.Common.{◌≡◌, Err, inr, ap, ◌∙◌, rules}
 use Rattle.tt_tables.specs.AstIds.{ids_changed}
-use Rattle.tt_tables.specs.Stored.{root_parts, packed}
-use Rattle.tt_view.specs.NewIds.{AnswersIds}
+use Rattle.tt_tables.specs.Stored.{root_parts, packed, IsWithinLimits}
 use Rattle.tt_view.specs.TreeFault.{IsTreeFault}
 use Rattle.tt_view.proofs.NewIds.{answers_ids}
+use Rattle.tt_view.proofs.NewParts.{ids_fault}
 use Rattle.tt_view.proofs.top_subtree.TopSubtree.change_every_ast_id.Goals as goal
 
 pub with_ids-requires : goal.with_ids-requires
@@ -20,6 +20,13 @@ returns-in_err-self-inside-clause-fault g c =
     let why : IsTreeFault (ids_changed c.deref.result.now c.args.self.now) c.in_err-self-inside.field-0.0 = search rules in
     let is : c.from_residual-in_err-self-inside.result ≡ Err c.in_err-self-inside.field-0.0 = search rules in
     rw is (inr (c.deref.result.now, told, why))
+
+pub returns-in_err-self-inside-clause-limit : goal.returns-in_err-self-inside-clause-limit
+returns-in_err-self-inside-clause-limit g c =
+    let why : IsTreeFault (ids_changed c.deref.result.now c.args.self.now) c.in_err-self-inside.field-0.0 = search rules in
+    let limits : IsWithinLimits c.args.self.now = search rules in
+    let is : c.from_residual-in_err-self-inside.result ≡ Err c.in_err-self-inside.field-0.0 = search rules in
+    rw is (ids_fault c.deref.result.now c.args.self.now _ limits why)
 
 pub returns-clause-ok : goal.returns-clause-ok
 unfolding packed

@@ -1,10 +1,10 @@
-use Rattle.std.proofs.Common.{◌≡◌, ◌<◌, ◌≤◌, Some, Err, set, length, ap, sym, ◌∙◌, arith, rules, vec_len}
+use Rattle.std.proofs.Common.{◌≡◌, ◌≤◌, Some, Err, set, length, ap, sym, ◌∙◌, arith, rules, vec_len}
 use Rattle.std.specs.List.{slice_get}
 use Rattle.std.proofs.lemmas.Option.{slice_get_within}
 use Rattle.tt_base.specs.declared.fault.TtFault.TheVariants.{Memory}
 use Rattle.tt_base.specs.declared.token_tree.TokenTree.TheVariants as token
-use Rattle.tt_base.specs.Edits.{HasLeafAt, leaf_set}
-use Rattle.tt_base.specs.Forest.{flat, flat_root, only, size}
+use Rattle.tt_base.specs.Edits.{HasLeafAt}
+use Rattle.tt_base.specs.Forest.{flat, flat_root, size}
 use Rattle.tt_base.specs.Unflat.{flat_root-injective}
 use Rattle.tt_tables.specs.PackFault.{IsPackFault}
 use Rattle.tt_view.specs.TreeFault.{IsSetFault}

@@ -1,6 +1,5 @@
-use Rattle.std.proofs.Common.{◌≡◌, ◌++◌, ◌∷◌, List, [], map, length, ap, sym, subst, refl, ◌∙◌, append_assoc, append-nil, of_calls, rules}
+use Rattle.std.proofs.Common.{◌≡◌, ◌++◌, ◌∷◌, [], map, length, ap, sym, subst, refl, ◌∙◌, append_assoc, append-nil, of_calls, rules}
 use Rattle.tt_base.specs.Asked.{AsksAll}
-use Rattle.tt_base.specs.declared.span.SpanPart.{SpanPart}
 use Rattle.tt_view.proofs.NewIds.{no_parts}
 use Rattle.tt_view.proofs.top_subtree.ast_ids.ask_all.Goals as goal
 
