@@ -1,12 +1,11 @@
 -- The kinds of the open subtrees stand at the places of their headers.
-use Rattle.std.proofs.Common.{◌≡◌, ℕ, zero, suc, ◌<◌, ◌≤◌, List, [], ◌∷◌, ◌++◌, length, get_or, map, Bool, Option, Some, None, MatchBool, MatchOption, is_some, refl, ap, ap₂, sym, subst, ◌∙◌, arith, append_assoc, append-nil}
+use Rattle.std.proofs.Common.{◌≡◌, ℕ, zero, suc, ◌<◌, ◌≤◌, List, [], ◌∷◌, ◌++◌, length, get_or, map, Option, refl, ap, ap₂, sym, ◌∙◌, arith, append_assoc, append-nil}
 use Rattle.std.specs.Prelude.{reverse}
 use Rattle.std.proofs.lemmas.List.{map-append, reverse-append}
 use Rattle.tt_base.specs.declared.delimiter.Delimiter.{Delimiter}
-use Rattle.tt_base.specs.declared.delimiter.DelimiterKind.{DelimiterKind}
 use Rattle.tt_base.specs.declared.delimiter.DelimiterKind.TheVariants.{Invisible}
 use Rattle.tt_base.specs.declared.token_tree.TokenTree.{TokenTree}
-use Rattle.tt_base.specs.Building.{Stack, lowest, above, open_kinds, tokens_held, BuilderState, IsAbove}
+use Rattle.tt_base.specs.Building.{Stack, lowest, above, open_kinds, tokens_held, BuilderState}
 use Rattle.tt_base.specs.Forest.{flat}
 use Rattle.tt.specs.declared.builder.standing.Standing.{Standing}
 use Rattle.tt.specs.BuilderFields.{written, places, open_header, kind_of, kind_at, kinds_at, IsStateOf}
@@ -52,11 +51,3 @@ pub kinds_open : (tokens : List TokenTree) (headers : List ℕ) (mark : Option �
     → IsStateOf tokens headers mark points taken s → kinds_at tokens headers ≡ open_kinds s.stack
 kinds_open tokens headers mark points taken s is =
     ap₂ kinds_at (is.list ∙ sym (append-nil (written s.top s.stack))) is.open_places ∙ kinds_written s.top s.stack []
-
--- The kinds of the open subtrees tell whether one is open.
-pub open_told : (kinds rest : List DelimiterKind) (stack : Stack) (r : Option DelimiterKind) (b : Bool) → kinds ≡ open_kinds stack
-    → MatchOption r ((kinds ≡ []) × (rest ≡ [])) (λ kind. kinds ≡ kind ∷ rest) → b ≡ is_some r → MatchBool b (IsAbove stack) (IsAbove stack → ⊥)
-open_told kinds rest (lowest trees) (Some kind) b are first is = absurd (cc (are, first))
-open_told kinds rest (lowest trees) None b are none is = subst (λ x. MatchBool x ⊥ (⊥ → ⊥)) (sym is) (λ x. x)
-open_told kinds rest (above outer kind span trees) (Some k) b are first is = subst (λ x. MatchBool x (Unit {0}) (Unit {0} → ⊥)) (sym is) tt
-open_told kinds rest (above outer kind span trees) None b are none is = absurd (cc (are, none.0))

@@ -1,15 +1,14 @@
 -- What came out, and the tree that is stored for it.
-use Rattle.std.proofs.Common.{◌≡◌, ◌≤◌, ◌<◌, ◌⊎◌, inl, inr, List, [], ◌∷◌, Some, None, Result, Ok, Err, IfOk, refl, ap, sym, ◌∙◌, subst, arith}
+use Rattle.std.proofs.Common.{◌≡◌, ◌≤◌, ◌<◌, ◌⊎◌, inl, inr, List, ◌∷◌, Some, None, Result, Ok, Err, IfOk, refl, ap, sym, ◌∙◌, subst, arith}
 use Rattle.tt_base.specs.declared.delimiter.Subtree.{Subtree}
 use Rattle.tt_base.specs.declared.fault.TtFault.{TtFault}
 use Rattle.tt_base.specs.declared.fault.TtFault.TheVariants.{Memory, NotOneSubtree, NoSuchPlace, NotALeaf, SuffixTooLong, BadScan, TooManyTokens, TooManySpanParts, TooManySymbols, TooManyBytes, PointsSpent}
 use Rattle.tt_base.specs.declared.token_tree.TokenTree.{TokenTree}
 use Rattle.tt_base.specs.declared.token_tree.TokenTree.TheVariants as token
-use Rattle.tt_base.specs.Forest.{Forest, Root, end, leaf, node, only, size, header, flat, flat_root, IsOneSubtree}
+use Rattle.tt_base.specs.Forest.{Forest, Root, end, leaf, node, only, size, flat, flat_root, IsOneSubtree}
 use Rattle.tt_base.specs.OneRoot.{one_root}
 use Rattle.tt_base.specs.Unflat.{flat-injective}
 use Rattle.tt_view.specs.PackFault.{IsTreeWith, IsPackFault}
-use Rattle.tt_view.specs.TreeFault.{IsTreeFault}
 use Rattle.tt_view.proofs.LeafAt.{flat-only}
 use Rattle.tt.specs.declared.transform.TransformTtAction.{TransformTtAction}
 use Rattle.tt.specs.Rewrites.{Rewrites, IsResultFault}

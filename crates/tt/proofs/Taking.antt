@@ -1,7 +1,7 @@
 -- The next token of a rewriting, and its end.
-use Rattle.std.proofs.Common.{◌≡◌, Bool, List, [], ◌∷◌, ◌++◌, map, length, Some, None, refl, ap, sym, subst, ◌∙◌, arith, length-append}
+use Rattle.std.proofs.Common.{◌≡◌, Bool, List, [], ◌∷◌, map, length, Some, None, refl, ap, sym, subst, ◌∙◌, arith, length-append}
 use Rattle.tt_base.specs.declared.token_tree.TokenTree.{TokenTree}
-use Rattle.tt_base.specs.Forest.{Forest, end, leaf, node, size, header}
+use Rattle.tt_base.specs.Forest.{Forest, end, leaf, node, header}
 use Rattle.tt_base.specs.Moves.{first_token}
 use Rattle.tt_base.specs.Siblings.{children_of}
 use Rattle.tt_view.specs.Iters.{IsFirstElement}

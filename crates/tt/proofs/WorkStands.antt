@@ -1,20 +1,14 @@
 -- How a rewriting on its way stands in the lists of the code.
-use Rattle.std.proofs.Common.{◌≡◌, ℕ, zero, suc, ◌+◌, ◌-◌, ◌<◌, ◌≤◌, ◌⊎◌, inl, inr, Bool, true, false, List, [], ◌∷◌, ◌++◌, length, map, set, get_or, sum_by, Some, None, refl, ap, ap₂, sym, ◌∙◌, subst, arith, length-append, append_assoc, append-nil}
+use Rattle.std.proofs.Common.{◌≡◌, ℕ, ◌-◌, ◌<◌, Bool, true, false, List, [], ◌∷◌, ◌++◌, length, map, set, get_or, Some, refl, ap, ap₂, sym, ◌∙◌, subst, arith, length-append, append-nil}
 use Rattle.std.proofs.Math.Seq.{set-append_seam, get_or-append_seam}
 use Rattle.std.proofs.lemmas.List.{map-append}
-use Rattle.std.proofs.lemmas.List.Sums.{sum_by_push}
 use Rattle.tt_base.specs.declared.delimiter.Delimiter.{Delimiter}
 use Rattle.tt_base.specs.declared.token_tree.TokenTree.{TokenTree}
-use Rattle.tt_base.specs.declared.token_tree.TokenTree.TheVariants as token
-use Rattle.tt_base.specs.Forest.{Forest, Root, end, leaf, node, only, size, header, flat, join}
-use Rattle.tt_base.specs.Unflat.{join-end, flat-join, length-flat}
+use Rattle.tt_base.specs.Forest.{Forest, end, node, size, header, flat}
+use Rattle.tt_base.specs.Unflat.{length-flat}
 use Rattle.tt_base.specs.Moves.{first_token, after_tree}
-use Rattle.tt_base.specs.OneRoot.{one_root}
-use Rattle.tt_base.specs.Rewriting.{Action, keep, replace, rewrite, shown}
-use Rattle.tt_base.specs.Siblings.{children_of}
-use Rattle.tt_base.proofs.Joins.{size-join, join-assoc}
 use Rattle.tt.specs.declared.transform.Frame.{Frame}
-use Rattle.tt.specs.Work.{Work, lowest, above, given, rest_of, with_rest, taken, kept, done, finish_with, finish, to_show, written, places_of, rests_of, to_come, IsTaken, IsOfOne, IsTooLarge, ComesTooLarge, IsListOf, place_of, behind, Stands, ComesToSame, counted}
+use Rattle.tt.specs.Work.{Work, lowest, above, given, rest_of, taken, written, places_of, rests_of, IsTaken, IsListOf, place_of, behind, Stands, ComesToSame, counted}
 use Rattle.tt.proofs.Working.{closed_same, comes_too_large, large_above, large_given, large_same, large_taken, one_given, one_taken, places_given, rests_given, rests_with, taken_of_one, written_given, written_rest}
 
 -- Trees come out.

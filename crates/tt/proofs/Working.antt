@@ -1,7 +1,5 @@
 -- How an action moves a rewriting on.
-use Rattle.std.proofs.Common.{◌≡◌, ℕ, zero, suc, ◌+◌, ◌-◌, ◌<◌, ◌≤◌, ◌⊎◌, inl, inr, Bool, true, false, List, [], ◌∷◌, ◌++◌, length, map, set, get_or, sum_by, Some, None, refl, ap, ap₂, sym, ◌∙◌, subst, arith, length-append, append_assoc, append-nil}
-use Rattle.std.proofs.Math.Seq.{set-append_seam, get_or-append_seam}
-use Rattle.std.proofs.lemmas.List.{map-append}
+use Rattle.std.proofs.Common.{◌≡◌, ℕ, suc, ◌+◌, ◌<◌, ◌≤◌, inl, inr, List, [], ◌∷◌, ◌++◌, length, sum_by, Some, refl, ap, ap₂, sym, ◌∙◌, subst, arith, length-append, append_assoc}
 use Rattle.std.proofs.lemmas.List.Sums.{sum_by_push}
 use Rattle.tt_base.specs.declared.delimiter.Delimiter.{Delimiter}
 use Rattle.tt_base.specs.declared.token_tree.TokenTree.{TokenTree}
@@ -13,8 +11,7 @@ use Rattle.tt_base.specs.OneRoot.{one_root}
 use Rattle.tt_base.specs.Rewriting.{Action, keep, replace, rewrite, shown}
 use Rattle.tt_base.specs.Siblings.{children_of}
 use Rattle.tt_base.proofs.Joins.{size-join, join-assoc}
-use Rattle.tt.specs.declared.transform.Frame.{Frame}
-use Rattle.tt.specs.Work.{Work, lowest, above, given, rest_of, with_rest, taken, kept, done, finish_with, finish, to_show, written, places_of, rests_of, to_come, IsTaken, IsOfOne, IsTooLarge, ComesTooLarge, IsListOf, place_of, behind, Stands, ComesToSame, counted}
+use Rattle.tt.specs.Work.{Work, lowest, above, given, rest_of, with_rest, taken, kept, done, finish_with, finish, to_show, written, places_of, rests_of, to_come, IsTaken, IsOfOne, IsTooLarge, ComesTooLarge, ComesToSame}
 
 -- ---- what comes out
 

@@ -1,11 +1,12 @@
 //! Building a token tree by opening and closing subtrees.
-ghost use Rattle.std.specs.Prelude.{◌≡◌, ◌⊎◌, ◌^◌, ◌-◌, ◌+◌, ◌<◌, List, length, suc, IfOk, IfErr, OnOk, OnErr, IsOk, Some, is_some};
+ghost use Rattle.std.specs.Prelude.{◌≡◌, ◌⊎◌, ◌^◌, ◌-◌, ◌+◌, ◌<◌, List, length, suc, IfOk, IfErr, OnOk, OnErr, IsOk, MatchBool, Some, is_some};
 ghost use Rattle.std.specs.Iterator.{Drains, IsFinite, YieldsThen};
 ghost use Rattle.tt_base.specs.Building.{empty_builder, opened, pushed, extended, alone, closed, removed, open_kinds, point_taken, noted, restored, built, built_skipping, tokens_held, most_held, HasRoom, IsOpen, IsGrowthFault};
 ghost use Rattle.tt_base.specs.Forest.{size};
 ghost use Rattle.tt_base.specs.Siblings.{leaves as leaf_trees};
 ghost use Rattle.tt_base.specs.declared.fault.TtFault.TheVariants.{Memory, TooManyTokens, PointsSpent};
 ghost use Rattle.tt_base.specs.declared.leaf.Leaf.{Leaf};
+ghost use Rattle.tt_view.specs.Stored.{IsWithinLimits};
 ghost use Rattle.tt_view.specs.TreeFault.{IsTreeFault};
 ghost use Rattle.tt_view.specs.Views.{trees_of};
 ghost use Rattle.tt.specs.BuilderFields.{HasState};
@@ -128,7 +129,7 @@ impl TopSubtreeBuilder {
     }
 
     /// Closes the innermost open subtree, and marks it. The points that were taken while it was open go.
-    /// `expected_delimiters` tells whether a subtree is open.
+    /// `is_open` tells whether a subtree is open.
     pub fn close(&mut self, close_span: Span) -> Result<(), TtFault>
         requires { IsOpen self.old }
         ensures ok { IsOk result }
@@ -267,10 +268,18 @@ impl TopSubtreeBuilder {
         }
     }
 
+    /// Whether a subtree is open, the top left aside.
+    pub fn is_open(&self) -> bool
+        ensures { MatchBool result (IsOpen self.now) (IsOpen self.now → ⊥) }
+    {
+        !self.headers.is_empty()
+    }
+
     /// The tree, where no subtree is open. A refusal hands the builder back.
     pub fn build(mut self) -> Result<TopSubtree, Refused<TopSubtreeBuilder>>
         requires { IsOpen self → ⊥ }
         ensures ok { IfOk result (λ tree. tree ≡ built self) }
+        ensures limits { IfOk result (λ tree. IsWithinLimits tree) }
         ensures fault { IfErr result (λ refused. IsTreeFault (built self) refused.fault) }
         ensures value { IfErr result (λ refused. refused.value ≡ self) }
     {
@@ -284,6 +293,7 @@ impl TopSubtreeBuilder {
     pub fn build_skip_top_subtree(self) -> Result<TopSubtree, Refused<TopSubtreeBuilder>>
         requires { IsOpen self → ⊥ }
         ensures ok { IfOk result (λ tree. tree ≡ built_skipping self) }
+        ensures limits { IfOk result (λ tree. IsWithinLimits tree) }
         ensures fault { IfErr result (λ refused. IsTreeFault (built_skipping self) refused.fault) }
         ensures value { IfErr result (λ refused. refused.value ≡ self) }
     {

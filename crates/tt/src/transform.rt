@@ -4,6 +4,7 @@ ghost use Rattle.std.specs.Fn.{CalledAt};
 ghost use Rattle.tt_base.specs.declared.fault.TtFault.TheVariants.{Memory};
 ghost use Rattle.tt_base.specs.Forest.{Forest, end, only, flat, flat_root};
 ghost use Rattle.tt_base.specs.Rewriting.{replace};
+ghost use Rattle.tt_view.specs.Stored.{IsWithinLimits};
 ghost use Rattle.tt.specs.Rewrites.{action_of, Rewrites, IsResultFault, IsRewriteFault};
 
 mod work;
@@ -14,7 +15,7 @@ use tt_view::{TokenTreesView, TopSubtree};
 use work::rewritten_list;
 
 /// What becomes of a token.
-#[derive(Clone, Copy)]
+#[derive(Clone, Copy, Debug)]
 pub enum TransformTtAction<'a> {
     /// It stays. What a header holds is asked for next.
     Keep,
@@ -42,6 +43,7 @@ pub fn transform_tt<'b, F: FnMut(&TokenTree) -> TransformTtAction<'b>>(
 ) -> Result<(), TtFault>
     requires { F.IsAlwaysCallable callback }
     ensures ok { OnOk result (Rewrites (CalledAt F.FnMut) callback (only tree.old) (only tree.new)) }
+    ensures limits { OnOk result (IsWithinLimits tree.new) }
     ensures err { OnErr result (tree.new ≡ tree.old) }
     ensures fault { IfErr result (IsRewriteFault (CalledAt F.FnMut) callback tree.old) }
 {
@@ -57,6 +59,7 @@ fn rewritten<'b, F: FnMut(&TokenTree) -> TransformTtAction<'b>>(
 ) -> Result<TopSubtree, TtFault>
     requires { F.IsAlwaysCallable callback }
     ensures ok { IfOk result (λ new. Rewrites (CalledAt F.FnMut) callback (only tree.now) (only new)) }
+    ensures limits { IfOk result (λ new. IsWithinLimits new) }
     ensures fault { IfErr result (IsRewriteFault (CalledAt F.FnMut) callback tree.now) }
 {
     match rewritten_list(alloc, tree.view(), callback)? {
@@ -68,6 +71,7 @@ fn rewritten<'b, F: FnMut(&TokenTree) -> TransformTtAction<'b>>(
 // The tree of what came out, if that is one subtree.
 fn stored(alloc: Global, list: Vec<TokenTree>) -> Result<TopSubtree, TtFault>
     ensures ok { IfOk result (λ tree. list.items ≡ flat_root tree) }
+    ensures limits { IfOk result (λ tree. IsWithinLimits tree) }
     ensures fault { IfErr result (λ fault. (trees : Forest) → list.items ≡ flat trees → (fault ≡ Memory) ⊎ IsResultFault trees fault) }
 {
     match list.split_first() {

@@ -9,6 +9,7 @@ ghost use Rattle.tt_base.specs.declared.fault.TtFault.TheVariants.{Memory, TooMa
 ghost use Rattle.tt_base.specs.declared.leaf.Leaf.{Leaf};
 ghost use Rattle.tt_base.specs.declared.token_tree.TokenTree.TheVariants as token;
 ghost use Rattle.tt_view.specs.PackFault.{IsPackFault};
+ghost use Rattle.tt_view.specs.Stored.{IsWithinLimits};
 ghost use Rattle.tt_view.specs.Views.{trees_of};
 ghost use Rattle.tt.specs.BuilderFields.{closed_token, counted, counted_token, invisible_token, kind_of, kind_at, token_alone, is_one_node};
 
@@ -81,6 +82,7 @@ pub(crate) fn pack_list(alloc: Global, tokens: &mut Vec<TokenTree>) -> Result<To
     requires few { length tokens.old.items ≤ 4294967296 }
     ensures list { tokens.new.items ≡ counted 0 tokens.old.items }
     ensures ok { IfOk result (λ tree. counted (length tokens.old.items - 1) tokens.old.items ≡ flat_root tree) }
+    ensures limits { IfOk result (λ tree. IsWithinLimits tree) }
     ensures err { IfErr result (IsPackFault (counted (length tokens.old.items - 1) tokens.old.items)) }
 {
     let len = (tokens.len() - 1) as u32;

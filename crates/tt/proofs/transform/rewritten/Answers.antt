@@ -1,6 +1,6 @@
 use Rattle.std.proofs.Common.{◌≡◌, subst}
 use Rattle.std.specs.Fn.{CalledAt}
-use Rattle.tt_base.specs.Forest.{Forest, only, flat, flat_root}
+use Rattle.tt_base.specs.Forest.{Forest, only, flat}
 use Rattle.tt_view.specs.SubtreeViews.{root_of}
 use Rattle.tt.specs.Rewrites.{Rewrites}
 use Rattle.tt.proofs.Results.{stored_result}

@@ -1,7 +1,7 @@
-use Rattle.std.proofs.Common.{◌≡◌, ◌<◌, ◌^◌, ◌∷◌, Err, inr, ap, ◌∙◌, length, arith, rules}
+use Rattle.std.proofs.Common.{◌≡◌, ◌<◌, ◌∷◌, Err, rules}
 use Rattle.tt_base.specs.declared.token_tree.TokenTree.TheVariants as token
 use Rattle.tt_view.specs.PackFault.{IsPackFault}
-use Rattle.tt.proofs.Results.{no_header, result_fault}
+use Rattle.tt.proofs.Results.{result_fault}
 use Rattle.tt.proofs.transform.stored.Goals as goal
 
 pub returns-in_err-from_serialized-in-Some-Subtree-default-clause-fault : goal.returns-in_err-from_serialized-in-Some-Subtree-default-clause-fault

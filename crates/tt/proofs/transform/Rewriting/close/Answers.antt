@@ -1,5 +1,4 @@
-use Rattle.std.proofs.Common.{◌≡◌, ◌++◌, ◌∷◌, [], ◌-◌, ◌<◌, true, false, length, ap, sym, subst, ◌∙◌, arith, rules}
-use Rattle.tt.specs.Work.{IsEnded}
+use Rattle.std.proofs.Common.{◌≡◌, ◌-◌, ◌<◌, true, false, length, arith, rules}
 use Rattle.tt.proofs.WorkStands.{closing, closed_fits, closed_large, closed_off, header_within}
 use Rattle.tt.proofs.transform.Rewriting.close.Goals as goal
 

@@ -4,7 +4,7 @@ use Rattle.tt_base.specs.Moves.{first_token, after_tree}
 use Rattle.tt_base.specs.Siblings.{children_of}
 use Rattle.tt_view.specs.Iters.{rest_of as trees_left, IsFirstElement}
 use Rattle.tt_view.specs.Views.{trees_of}
-use Rattle.tt.specs.Work.{Stands, IsNextOf}
+use Rattle.tt.specs.Work.{Stands}
 use Rattle.tt.proofs.Taking.{element_first, none_left, all_read}
 use Rattle.tt.proofs.Working.{one_taken, same_then}
 use Rattle.tt.proofs.WorkStands.{stands_taken}

@@ -1,5 +1,5 @@
 use Rattle.std.proofs.Common.{length}
-use Rattle.tt.specs.Work.{Work, StandsFor, StaysSame}
+use Rattle.tt.specs.Work.{StaysSame}
 use Rattle.tt.proofs.transform.Rewriting.next.Given as goal
 
 -- Whatever the work was, what is there now comes to the same.

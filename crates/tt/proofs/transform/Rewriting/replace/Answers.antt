@@ -1,4 +1,4 @@
-use Rattle.std.proofs.Common.{◌≡◌, ◌++◌, true, false, rules}
+use Rattle.std.proofs.Common.{◌≡◌, ◌++◌, rules}
 use Rattle.tt_base.specs.Forest.{flat}
 use Rattle.tt_view.specs.Views.{trees_of}
 use Rattle.tt.proofs.WorkStands.{stands_given}

@@ -6,7 +6,7 @@ use Rattle.tt_view.specs.SubtreeViews.{root_of}
 use Rattle.tt_view.specs.Views.{trees_of}
 use Rattle.tt.specs.Rewrites.{action_of}
 use Rattle.tt.specs.Work.{lowest, taken, done, IsTooLarge, IsListOf, place_of, StandsFor, IsNextOf}
-use Rattle.tt.proofs.OnTheWay.{sets_out, goes_further, less_left, arrives}
+use Rattle.tt.proofs.OnTheWay.{goes_further, less_left, arrives}
 use Rattle.tt.proofs.transform.work.rewritten_list.Goals as goal
 
 pub loop-token-smaller : goal.loop-token-smaller
