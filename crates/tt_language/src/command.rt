@@ -76,6 +76,13 @@ pub enum Command {
     Equal(Slot, Slot),
 }
 
+// What follows the first word, read as the values of a command.
+macro_rules! read {
+    ($alloc:expr, $rest:expr; $make:expr) => {
+        Ok(Part::read($alloc, $rest)?.map($make))
+    };
+}
+
 impl Command {
     ghost use Rattle.tt_language.specs.Command.{CommandFits, IsNoCommand, StandsFor, spell};
 
@@ -102,58 +109,34 @@ impl Command {
             return Ok(None);
         };
         match verb {
-            Verb::Item => Ok(Part::read(alloc, rest)?.map(Command::Item)),
-            Verb::Clear => Ok(Part::read(alloc, rest)?.map(|()| Command::Clear)),
-            Verb::List => Ok(Part::read(alloc, rest)?.map(|(slot, ())| Command::List(slot))),
-            Verb::New => Ok(Part::read(alloc, rest)?.map(|(kind, (open_span, (close, ())))| {
-                Command::New(Delimiter {
-                    open_span,
-                    close,
-                    kind,
-                })
-            })),
-            Verb::Open => Ok(Part::read(alloc, rest)?.map(|(kind, (span, ()))| Command::Open(
-                kind, span,
-            ))),
-            Verb::Push => Ok(Part::read(alloc, rest)?.map(Command::Push)),
-            Verb::Close => Ok(Part::read(alloc, rest)?.map(|(span, ())| Command::Close(span))),
-            Verb::Append => Ok(Part::read(alloc, rest)?.map(|(slot, ())| Command::Append(slot))),
-            Verb::Alone => Ok(Part::read(alloc, rest)?.map(|(slot, ())| Command::Alone(slot))),
-            Verb::Unwrap => Ok(Part::read(alloc, rest)?.map(|()| Command::Unwrap)),
-            Verb::Point => Ok(Part::read(alloc, rest)?.map(|()| Command::Point)),
-            Verb::Restore => Ok(Part::read(alloc, rest)?.map(|(number, ())| Command::Restore(
-                number,
-            ))),
-            Verb::Expected => Ok(Part::read(alloc, rest)?.map(|()| Command::Expected)),
-            Verb::Build => Ok(Part::read(alloc, rest)?.map(|(slot, ())| Command::Build(slot))),
-            Verb::Skip => Ok(Part::read(alloc, rest)?.map(|(slot, ())| Command::Skip(slot))),
-            Verb::Copy => Ok(Part::read(alloc, rest)?.map(|(to, (from, ()))| Command::Copy(
-                to, from,
-            ))),
-            Verb::Kind => Ok(Part::read(alloc, rest)?.map(|(slot, (kind, ()))| Command::Kind(
-                slot, kind,
-            ))),
-            Verb::Spans => {
-                Ok(Part::read(alloc, rest)?.map(|(slot, (open, (close, ())))| Command::Spans(
-                    slot, open, close,
-                )))
-            }
-            Verb::Set => Ok(Part::read(alloc, rest)?.map(|(slot, (place, leaf))| Command::Set(
-                slot, place, leaf,
-            ))),
-            Verb::Ids => Ok(Part::read(alloc, rest)?.map(|(slot, ids)| Command::Ids(slot, ids))),
-            Verb::Rewrite => Ok(Part::read(alloc, rest)?.map(|(slot, actions)| Command::Rewrite(
-                slot, actions,
-            ))),
-            Verb::View(view) => Ok(Part::read(alloc, rest)?.map(|(slot, ())| Command::View(
-                view, slot,
-            ))),
-            Verb::Split => Ok(Part::read(alloc, rest)?.map(|(slot, char)| Command::Split(
-                slot, char,
-            ))),
-            Verb::Equal => Ok(Part::read(alloc, rest)?.map(|(left, (right, ()))| Command::Equal(
-                left, right,
-            ))),
+            Verb::Item => read!(alloc, rest; Command::Item),
+            Verb::Clear => read!(alloc, rest; |()| Command::Clear),
+            Verb::List => read!(alloc, rest; |(slot, ())| Command::List(slot)),
+            Verb::New => read!(alloc, rest; |(kind, (open_span, (close, ())))| {
+                Command::New(Delimiter { open_span, close, kind })
+            }),
+            Verb::Open => read!(alloc, rest; |(kind, (span, ()))| Command::Open(kind, span)),
+            Verb::Push => read!(alloc, rest; Command::Push),
+            Verb::Close => read!(alloc, rest; |(span, ())| Command::Close(span)),
+            Verb::Append => read!(alloc, rest; |(slot, ())| Command::Append(slot)),
+            Verb::Alone => read!(alloc, rest; |(slot, ())| Command::Alone(slot)),
+            Verb::Unwrap => read!(alloc, rest; |()| Command::Unwrap),
+            Verb::Point => read!(alloc, rest; |()| Command::Point),
+            Verb::Restore => read!(alloc, rest; |(number, ())| Command::Restore(number)),
+            Verb::Expected => read!(alloc, rest; |()| Command::Expected),
+            Verb::Build => read!(alloc, rest; |(slot, ())| Command::Build(slot)),
+            Verb::Skip => read!(alloc, rest; |(slot, ())| Command::Skip(slot)),
+            Verb::Copy => read!(alloc, rest; |(to, (from, ()))| Command::Copy(to, from)),
+            Verb::Kind => read!(alloc, rest; |(slot, (kind, ()))| Command::Kind(slot, kind)),
+            Verb::Spans =>
+                read!(alloc, rest; |(slot, (open, (close, ())))| Command::Spans(slot, open, close)),
+            Verb::Set =>
+                read!(alloc, rest; |(slot, (place, leaf))| Command::Set(slot, place, leaf)),
+            Verb::Ids => read!(alloc, rest; |(slot, ids)| Command::Ids(slot, ids)),
+            Verb::Rewrite => read!(alloc, rest; |(slot, actions)| Command::Rewrite(slot, actions)),
+            Verb::View(view) => read!(alloc, rest; |(slot, ())| Command::View(view, slot)),
+            Verb::Split => read!(alloc, rest; |(slot, char)| Command::Split(slot, char)),
+            Verb::Equal => read!(alloc, rest; |(left, (right, ()))| Command::Equal(left, right)),
         }
     }
 }

@@ -1,5 +1,5 @@
 -- Steps that take a tree out of its slot and put another one back.
-use Rattle.std.proofs.Common.{◌≡◌, ◌⊎◌, inl, inr, ℕ, List, Option, Some, None, set, get_or, refl, ap, sym, ◌∙◌, subst}
+use Rattle.std.proofs.Common.{◌≡◌, inl, inr, ℕ, List, Some, None, set, ap, sym, ◌∙◌, subst}
 use Rattle.std.proofs.lemmas.List.{set-set, set-get_or}
 use Rattle.tt.specs.Forest.{Root}
 use Rattle.tt.specs.Stored.{IsWithinLimits}

@@ -1,7 +1,7 @@
 -- What a command on the builder answers, and the state that it leaves.
-use Rattle.std.specs.Prelude.{◌≡◌, ◌⊎◌, ◌<◌, ◌+◌, ◌-◌, ◌^◌, ℕ, Bool, List, [], ◌∷◌, ◌++◌, Option, None, Some, codes, decimal, if◌then◌else◌, is_some}
+use Rattle.std.specs.Prelude.{◌≡◌, ◌⊎◌, ◌<◌, ◌+◌, ◌-◌, ◌^◌, ℕ, List, ◌∷◌, ◌++◌, Option, None, Some, codes, decimal, if◌then◌else◌, is_some}
 use Rattle.std.specs.List.{flat_map}
-use Rattle.tt.specs.Building.{BuilderState, Stack, lowest, above, HasRoom, most_held, tokens_held, open_kinds, closed, extended, built, built_skipping, noted, point_taken, restored}
+use Rattle.tt.specs.Building.{BuilderState, Stack, lowest, above, HasRoom, most_held, tokens_held, open_kinds, closed, extended, noted, point_taken, restored}
 use Rattle.tt.specs.Forest.{Forest, Root, size}
 use Rattle.tt.specs.Stored.{IsWithinLimits}
 use Rattle.tt.specs.TreeFault.{IsTreeFault}

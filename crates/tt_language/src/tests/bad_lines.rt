@@ -3,7 +3,7 @@ use crate::Command;
 use std::test::Fail;
 
 // Lines that are no command, each for one rule of `docs/LANGUAGE.md`.
-const BAD_LINES: [&[u8]; 118] = [
+const BAD_LINES: [&[u8]; 134] = [
     // No command.
     b"",
     b" ",
@@ -19,15 +19,31 @@ const BAD_LINES: [&[u8]; 118] = [
     b"pretty 16",
     // Trees that are changed.
     b"kind 0",
+    b"kind 16 paren",
+    b"kind 0 round",
+    b"kind 0 paren ",
     b"spans 0 0:0@0..1#0",
+    b"spans 0 0:0@0..1#0 0:0@1..0#0",
+    b"spans 0 0:0@0..1#0 0:0@3..4#0 0:0@4..5#0",
     b"set 0 0",
     b"set 0 -1 punct alone 0:0@0..1#0 ;",
+    b"set 0 4294967296 punct alone 0:0@0..1#0 ;",
+    b"set 0 0 sub paren 0:0@0..1#0 0:0@3..4#0 0",
+    b"ids",
     b"ids 0 ",
     b"ids 0 01",
+    b"ids 0 1  2",
+    b"ids 0 4294967296",
     b"rewrite",
+    b"rewrite 0 ",
     b"rewrite 0 put",
+    b"rewrite 0 put:",
     b"rewrite 0 put:16",
+    b"rewrite 0 put:01",
+    b"rewrite 0 put: 1",
     b"rewrite 0 Keep",
+    b"rewrite 0 keep  remove",
+    b"rewrite 0 keep ",
     b" list 0",
     // Slots.
     b"list ",

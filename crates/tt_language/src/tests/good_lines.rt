@@ -1,5 +1,5 @@
 //! Lines, each with the command that it stands for.
-use crate::{Command, Slot, View};
+use crate::{Action, Command, Many, Slot, View};
 use std::alloc::Global;
 use std::process::Abort;
 use std::test::Fail;
@@ -106,6 +106,56 @@ fn stand_for_commands_of_the_builder(rt: HostRuntime) -> Result<(), Fail> {
         assert_eq!(rt; found, Some(command), "{line}");
     }
     Ok(())
+}
+
+// The line stands for that command.
+fn stands_for(rt: &impl Abort, alloc: Global, line: &str, command: Command) -> Result<(), Fail> {
+    let found = Command::parse(alloc, line.as_bytes())?;
+    assert_eq!(rt; found, Some(command), "{line}");
+    Ok(())
+}
+
+// Values that end a line.
+fn many<T: Copy>(alloc: Global, values: &[T]) -> Result<Many<T>, Fail> {
+    let items = Vec::from_slice(alloc, values)?;
+    Ok(Many { items })
+}
+
+#[test]
+fn stand_for_commands_that_change_trees(rt: HostRuntime) -> Result<(), Fail> {
+    let alloc = rt.alloc();
+    let zero = Slot::new(0).ok_or("0")?;
+    let last = Slot::new(15).ok_or("15")?;
+    let kind = Command::Kind(last, DelimiterKind::Bracket);
+    stands_for(&rt, alloc, "kind 15 bracket", kind)?;
+    let spans = Command::Spans(zero, small_span(), large_span());
+    let line = "spans 0 1:2@3..3#4 4294967295:4294967295@4294967295..4294967295#4294967295";
+    stands_for(&rt, alloc, line, spans)?;
+    let comma = Punct {
+        char: ',',
+        spacing: Spacing::Joint,
+        span: small_span(),
+    };
+    let set = Command::Set(zero, u32::MAX, Leaf::Punct(comma));
+    let line = "set 0 4294967295 punct joint 1:2@3..3#4 ,";
+    stands_for(&rt, alloc, line, set)?;
+    let rows: [(&str, &[u32]); 2] = [
+        ("ids 15", &[]),
+        ("ids 15 4294967295 0 7", &[u32::MAX, 0, 7]),
+    ];
+    for (line, ids) in rows {
+        stands_for(&rt, alloc, line, Command::Ids(last, many(alloc, ids)?))?;
+    }
+    let actions = [
+        Action::Keep,
+        Action::Put(last),
+        Action::Remove,
+        Action::Put(zero),
+    ];
+    let rewrite = Command::Rewrite(zero, many(alloc, &actions)?);
+    stands_for(&rt, alloc, "rewrite 0 keep put:15 remove put:0", rewrite)?;
+    let rewrite = Command::Rewrite(last, many(alloc, &[])?);
+    stands_for(&rt, alloc, "rewrite 15", rewrite)
 }
 
 // A header with the largest numbers.

@@ -1,6 +1,5 @@
 //! What the commands on the builder do.
-ghost use Rattle.std.specs.Prelude.{◌≡◌, IfOk, MatchBool, string_bytes};
-ghost use Rattle.tt.specs.Building.{IsOpen};
+ghost use Rattle.std.specs.Prelude.{◌≡◌, IfOk, string_bytes};
 ghost use Rattle.tt_run.specs.Building.{expected_text, point_line};
 ghost use Rattle.tt_run.specs.Machine.{Step};
 
@@ -27,13 +26,6 @@ fn point_text(alloc: Global, number: u64) -> Result<String, AllocError>
     ensures { IfOk result (λ text. string_bytes text ≡ point_line number) }
 {
     format!(in alloc; "point {number}\n")
-}
-
-// Whether a subtree is open.
-fn has_open(builder: &TopSubtreeBuilder) -> bool
-    ensures { MatchBool result (IsOpen builder.now) (IsOpen builder.now → ⊥) }
-{
-    builder.expected_delimiters().next().is_some()
 }
 
 impl Machine {
@@ -76,7 +68,7 @@ impl Machine {
         let Some(mut builder) = self.builder.take() else {
             return Answer::no_builder();
         };
-        if !has_open(&builder) {
+        if !builder.is_open() {
             self.builder = Some(builder);
             return Answer::none_open();
         }
@@ -164,14 +156,12 @@ impl Machine {
         let Some(builder) = self.builder.take() else {
             return Answer::no_builder();
         };
-        if has_open(&builder) {
+        if builder.is_open() {
             self.builder = Some(builder);
             return Answer::still_open();
         }
         match builder.build() {
             Ok(tree) => {
-                // its contract says that the tree is within the limits
-                let _stored = tree.packed_bytes();
                 self.slots[slot.index()] = Some(tree);
                 Answer::ok()
             }
@@ -188,13 +178,12 @@ impl Machine {
         let Some(builder) = self.builder.take() else {
             return Answer::no_builder();
         };
-        if has_open(&builder) {
+        if builder.is_open() {
             self.builder = Some(builder);
             return Answer::still_open();
         }
         match builder.build_skip_top_subtree() {
             Ok(tree) => {
-                let _stored = tree.packed_bytes();
                 self.slots[slot.index()] = Some(tree);
                 Answer::ok()
             }

@@ -58,8 +58,6 @@ impl Machine {
             self.put(slot, tree);
             return Answer::fault(refused.fault);
         }
-        // its contract says that the tree is within the limits
-        let _stored = tree.packed_bytes();
         self.put(slot, tree);
         Answer::ok()
     }
@@ -90,8 +88,6 @@ impl Machine {
             self.put(slot, tree);
             return Answer::fault(fault);
         }
-        // its contract says that the tree is within the limits
-        let _stored = tree.packed_bytes();
         self.put(slot, tree);
         Answer::ok()
     }

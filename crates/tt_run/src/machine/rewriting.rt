@@ -3,6 +3,7 @@ ghost use Rattle.std.specs.Prelude.{◌≡◌, ◌⊎◌, Some, drop, IfErr, OnO
 ghost use Rattle.std.specs.Option.{option_copied};
 ghost use Rattle.tt.specs.OneRoot.{one_root};
 ghost use Rattle.tt.specs.Rewrites.{action_of, IsResultFault};
+ghost use Rattle.tt.specs.Stored.{IsWithinLimits};
 ghost use Rattle.tt_base.specs.declared.fault.TtFault.TheVariants.{Memory};
 ghost use Rattle.tt_run.specs.Editing.{put_refusal, first_refusal, action_in, next_action, rewritten_by};
 ghost use Rattle.tt_run.specs.Machine.{Step};
@@ -27,8 +28,6 @@ impl Machine {
             self.put(slot, tree);
             return Answer::fault(fault);
         }
-        // its contract says that the tree is within the limits
-        let _stored = tree.packed_bytes();
         self.put(slot, tree);
         Answer::ok()
     }
@@ -78,6 +77,7 @@ impl Machine {
     // Rewrites a tree by the actions, behind which all is kept.
     fn rewrite_tree(&self, tree: &mut TopSubtree, actions: &[Action]) -> Result<(), TtFault>
         ensures ok { OnOk result (one_root (rewritten_by self.now actions.now tree.old) ≡ Some tree.new) }
+        ensures limits { OnOk result (IsWithinLimits tree.new) }
         ensures err { OnErr result (tree.new ≡ tree.old) }
         ensures fault { IfErr result (λ fault. (fault ≡ Memory) ⊎ IsResultFault (rewritten_by self.now actions.now tree.old) fault) }
     {

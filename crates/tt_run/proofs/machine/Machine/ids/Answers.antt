@@ -28,4 +28,4 @@ returns c =
     is ∙ ap (λ list. ids_changed (ids_of list) c.in-Some.tree) c.as_slice-rest.ensures in
     inl (subst (λ found. ChangesIds c.args.self.now c.args.slot c.args.ids found c.ok.result c.put-2.new.self) (sym at)
     (stored _ _ c.args.self.now c.take.new.self c.put-2.new.self c.args.slot c.change_every_ast_id-changed.new.self c.ok.result
-    c.take.ensures.state tree c.packed_bytes-stored.ensures.limits c.put-2.ensures c.ok.ensures))
+    c.take.ensures.state tree c.in_default-changed.ensures.limits c.put-2.ensures c.ok.ensures))

@@ -33,4 +33,4 @@ returns c =
     let gives : one_root (rewritten_by c.take.new.self c.args.actions c.in-Some.tree) ≡ Some c.rewrite_tree.new.tree =
     ap (λ l. one_root (rewritten_by c.take.new.self l c.in-Some.tree)) (sym c.as_slice-2.ensures) ∙ c.in_default-rewrite_tree.ensures.ok in
     inl (rewrite_stored c.args.self.now c.take.new.self c.put-2.new.self c.args.slot c.args.actions c.in-Some.tree c.rewrite_tree.new.tree c.ok.result
-    at c.take.ensures.state none gives c.packed_bytes-stored.ensures.limits c.put-2.ensures c.ok.ensures)
+    at c.take.ensures.state none gives c.in_default-rewrite_tree.ensures.limits c.put-2.ensures c.ok.ensures)

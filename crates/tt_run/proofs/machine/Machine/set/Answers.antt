@@ -1,6 +1,7 @@
 use Rattle.std.proofs.Common.{◌≡◌, Some, sym, ◌∙◌, subst, inl, rules}
 use Rattle.tt.specs.Edits.{HasLeafAt, leaf_set}
 use Rattle.tt.specs.Forest.{flat_root}
+use Rattle.tt.specs.Stored.{IsWithinLimits}
 use Rattle.tt.specs.TreeFault.{IsSetFault}
 use Rattle.tt_run.specs.Editing.{SetsLeaf}
 use Rattle.tt_run.specs.State.{tree_in}
@@ -21,6 +22,7 @@ returns c =
     let at : tree_in c.args.self.now c.args.slot ≡ Some c.in-Some.tree = sym c.take.ensures.tree ∙ c.in-Some.is in
     let has : HasLeafAt (flat_root c.in-Some.tree) c.args.place = search rules in
     let is : c.set_token.new.self ≡ leaf_set c.args.place c.args.leaf c.in-Some.tree = search rules in
+    let limits : IsWithinLimits c.set_token.new.self = search rules in
     inl (subst (λ found. SetsLeaf c.args.self.now c.args.slot c.args.place c.args.leaf found c.ok.result c.put-2.new.self) (sym at)
     (stored _ _ c.args.self.now c.take.new.self c.put-2.new.self c.args.slot c.set_token.new.self c.ok.result
-    c.take.ensures.state (has, is) c.packed_bytes-stored.ensures.limits c.put-2.ensures c.ok.ensures))
+    c.take.ensures.state (has, is) limits c.put-2.ensures c.ok.ensures))
