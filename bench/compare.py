@@ -20,7 +20,7 @@ from typing import NamedTuple
 
 import items
 
-MODES = "pack build flat flat_whole skip siblings siblings_whole walk show equal fold clone drop"
+MODES = "pack build rewrite flat flat_whole skip siblings siblings_whole walk show equal fold clone drop"
 # In these modes two programs that read the same tree print the same sum.
 SUMS_AGREE = {"flat", "skip", "siblings", "siblings_whole", "walk", "show", "equal"}
 CRATE = Path(__file__).resolve().parent.parent / "crates" / "tt_bench"

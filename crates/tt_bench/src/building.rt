@@ -1,7 +1,4 @@
 //! The calls of the builder that make a tree again.
-ghost use Rattle.std.specs.Prelude.{MatchBool};
-ghost use Rattle.tt.specs.Building.{IsOpen};
-
 use crate::error::BenchError;
 use std::alloc::Global;
 use tt::{Delimiter, DelimiterKind, Leaf, Span, TokenTree, TopSubtree, TopSubtreeBuilder, TtFault};
@@ -72,13 +69,6 @@ fn close_ended(
     Ok(())
 }
 
-// Whether a subtree is open.
-fn has_open(builder: &TopSubtreeBuilder) -> bool
-    ensures { MatchBool result (IsOpen builder.now) (IsOpen builder.now → ⊥) }
-{
-    builder.expected_delimiters().next().is_some()
-}
-
 /// The tree that the calls build.
 pub fn build(alloc: Global, top: Delimiter, calls: Vec<Call>) -> Result<TopSubtree, BenchError> {
     let mut builder = TopSubtreeBuilder::new(alloc, top)?;
@@ -87,13 +77,13 @@ pub fn build(alloc: Global, top: Delimiter, calls: Vec<Call>) -> Result<TopSubtr
             Call::Open(kind, span) => builder.open(kind, span)?,
             Call::Push(leaf) => builder.push(leaf).map_err(TtFault::from)?,
             Call::Close(span) => {
-                if has_open(&builder) {
+                if builder.is_open() {
                     builder.close(span)?;
                 }
             }
         }
     }
-    if has_open(&builder) {
+    if builder.is_open() {
         return Err(BenchError::Fault(TtFault::NotOneSubtree));
     }
     Ok(builder.build().map_err(TtFault::from)?)

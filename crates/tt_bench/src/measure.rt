@@ -12,7 +12,7 @@ use std::alloc::Global;
 use std::fmt;
 use std::hash::{DefaultHasher, FoldHasher, Hash, Hasher};
 use std::time::{CpuClock, Duration};
-use tt::{TokenTree, TopSubtree, TtFault};
+use tt::{TokenTree, TopSubtree, TransformTtAction, TtFault, transform_tt};
 
 /// What was measured. Its text is one line: nanoseconds, sum, bytes, parts, symbols.
 #[derive(Clone, Copy, Debug, PartialEq, Eq)]
@@ -72,6 +72,7 @@ fn measure_rounds<R: CpuClock>(
     match job.mode {
         Mode::Pack => pack(watch, alloc, list, job.rounds),
         Mode::Build => build(watch, alloc, list, job.rounds),
+        Mode::Rewrite => rewrite(watch, alloc, twins, job.rounds),
         Mode::Walk(way) => walk(watch, alloc, twins, way, job.rounds),
         Mode::Print(text) => print(watch, alloc, twins, text, job.rounds),
         Mode::Equal => equal(watch, twins, job.rounds),
@@ -114,6 +115,22 @@ fn build<R: CpuClock>(
         watch.stop()?;
         drop(tree);
     }
+    Ok(0)
+}
+
+// Each round rewrites the same copy of a tree, and keeps all that it holds.
+fn rewrite<R: CpuClock>(
+    watch: &mut Stopwatch<R>,
+    alloc: Global,
+    twins: &Twins,
+    rounds: u32,
+) -> Result<u64, BenchError> {
+    let mut copy = twins.at(0).clone(alloc)?;
+    watch.start()?;
+    for _ in 0..rounds {
+        transform_tt(alloc, &mut copy, |_| TransformTtAction::Keep)?;
+    }
+    watch.stop()?;
     Ok(0)
 }
 

@@ -11,6 +11,8 @@ pub enum Mode {
     Pack,
     /// Building a tree by opening and closing its subtrees.
     Build,
+    /// Rewriting a tree by a callback that keeps each token.
+    Rewrite,
     /// Reading a tree.
     Walk(Walk),
     /// Printing a tree.
@@ -34,6 +36,7 @@ impl FromStr for Mode {
         match name {
             "pack" => Ok(Mode::Pack),
             "build" => Ok(Mode::Build),
+            "rewrite" => Ok(Mode::Rewrite),
             "flat" => Ok(Mode::Walk(Walk::Flat)),
             "flat_whole" => Ok(Mode::Walk(Walk::FlatWhole)),
             "skip" => Ok(Mode::Walk(Walk::Skip)),

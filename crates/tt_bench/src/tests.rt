@@ -20,6 +20,7 @@ fn measures_by_each_mode(rt: HostRuntime) -> Result<(), Fail> {
     let sums = [
         ("pack", 0),
         ("build", 0),
+        ("rewrite", 0),
         ("flat", 15),
         ("flat_whole", 15),
         ("skip", 5),

@@ -1,22 +1,12 @@
 //! The builder: restore points, and trees that are built in several ways.
-ghost use Rattle.std.specs.Prelude.{MatchBool};
-ghost use Rattle.tt.specs.Building.{IsOpen};
-
-use crate::tokens::{ident, parentheses, punct, span, under};
+use crate::tokens::{ident, parentheses, punct, span, span_with, stored_ids, under};
 use std::alloc::Global;
 use std::process::Abort;
 use std::test::Fail;
 use tt::{
-    Delimiter, DelimiterKind, Leaf, Spacing, SubtreeBuilderRestorePoint, TokenTree, TopSubtree,
-    TopSubtreeBuilder,
+    Delimiter, DelimiterKind, Ident, Leaf, Spacing, SubtreeBuilderRestorePoint, TokenTree,
+    TopSubtree, TopSubtreeBuilder,
 };
-
-// Whether a subtree is open.
-fn has_open(builder: &TopSubtreeBuilder) -> bool
-    ensures { MatchBool result (IsOpen builder.now) (IsOpen builder.now → ⊥) }
-{
-    builder.expected_delimiters().next().is_some()
-}
 
 fn invisible(alloc: Global) -> Result<TopSubtreeBuilder, Fail> {
     Ok(TopSubtreeBuilder::new(alloc, Delimiter::invisible_spanned(span(0)))?)
@@ -29,28 +19,31 @@ fn leaf(token: TokenTree) -> Result<Leaf, Fail> {
     }
 }
 
-fn push(builder: &mut TopSubtreeBuilder, token: TokenTree) -> Result<(), Fail> {
+/// Appends a leaf.
+pub(crate) fn push(builder: &mut TopSubtreeBuilder, token: TokenTree) -> Result<(), Fail> {
     builder.push(leaf(token)?)?;
     Ok(())
 }
 
-fn close(builder: &mut TopSubtreeBuilder, at: u32) -> Result<(), Fail> {
-    if !has_open(builder) {
+/// Closes the subtree opened last, at that offset.
+pub(crate) fn close(builder: &mut TopSubtreeBuilder, at: u32) -> Result<(), Fail> {
+    if !builder.is_open() {
         return Err(Fail::new("none open"));
     }
     builder.close(span(at))?;
     Ok(())
 }
 
-fn build(builder: TopSubtreeBuilder) -> Result<TopSubtree, Fail> {
-    if has_open(&builder) {
+/// The tree of a builder that has no open subtree.
+pub(crate) fn build(builder: TopSubtreeBuilder) -> Result<TopSubtree, Fail> {
+    if builder.is_open() {
         return Err(Fail::new("still open"));
     }
     Ok(builder.build()?)
 }
 
 fn build_skip(builder: TopSubtreeBuilder) -> Result<TopSubtree, Fail> {
-    if has_open(&builder) {
+    if builder.is_open() {
         return Err(Fail::new("still open"));
     }
     Ok(builder.build_skip_top_subtree()?)
@@ -133,5 +126,31 @@ fn trees_that_are_built(rt: HostRuntime) -> Result<(), Fail> {
     let top = Delimiter::invisible_spanned(span(0));
     let again = TopSubtree::from_token_trees(alloc, top, alone.token_trees())?;
     assert!(rt; again == alone);
+    Ok(())
+}
+
+// Parentheses with the ids 1 and 3 over an ident with the id 2, below an invisible top with the id 0.
+fn with_ids(alloc: Global) -> Result<TopSubtreeBuilder, Fail> {
+    let mut builder = invisible(alloc)?;
+    builder.open(DelimiterKind::Parenthesis, span_with(1))?;
+    builder.push(Ident::new(alloc, "a", span_with(2))?.into())?;
+    if builder.is_open() {
+        builder.close(span_with(3))?;
+    }
+    Ok(builder)
+}
+
+#[test]
+fn tables_of_built_trees(rt: HostRuntime) -> Result<(), Fail> {
+    let alloc = rt.alloc();
+    // a header's two parts stand in front of those of what it holds
+    let whole = build(with_ids(alloc)?)?;
+    assert_eq!(rt;
+        stored_ids(alloc, &whole)?.as_slice(),
+        [1, 3, 2, 0, 0].as_slice()
+    );
+    // and those of the top behind all others
+    let only = build_skip(with_ids(alloc)?)?;
+    assert_eq!(rt; stored_ids(alloc, &only)?.as_slice(), [2, 1, 3].as_slice());
     Ok(())
 }

@@ -6,6 +6,8 @@ mod builder;
 #[cfg(test)]
 mod cursor;
 #[cfg(test)]
+mod edits;
+#[cfg(test)]
 mod expectations;
 #[cfg(test)]
 mod texts;

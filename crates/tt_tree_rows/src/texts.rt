@@ -7,8 +7,8 @@ use std::process::Abort;
 use std::test::Fail;
 use tt::{
     Delimiter, DelimiterKind, Ident, Leaf, LitKind, LiteralScan, Punct, Spacing, Span, SpanPart,
-    Subtree, TextRange, TextSize, TokenTree, TokenTreesView, TopSubtree, TtFault, debug_text,
-    display_text, pretty, token_to_literal,
+    Subtree, TextRange, TextSize, TokenTree, TokenTreesView, TopSubtree, TopSubtreeBuilder,
+    TransformTtAction, TtFault, debug_text, display_text, pretty, token_to_literal,
 };
 
 // The text, and as many letters as are more than a suffix may have.
@@ -195,17 +195,42 @@ fn lines_of_tokens(rt: HostRuntime) -> Result<(), Fail> {
     Ok(())
 }
 
+// The Debug text of a builder says what it is.
+fn is_told_as_a_builder(rt: &impl Abort, alloc: Global) -> Result<(), Fail> {
+    let builder = TopSubtreeBuilder::new(alloc, Delimiter::invisible_spanned(span(0)))?;
+    let text = format!(in alloc; "{builder:?}")?;
+    assert!(rt; text.as_str().starts_with("TopSubtreeBuilder"));
+    Ok(())
+}
+
+// The Debug texts of actions say which they are, and the trees that they put: here a raw ident.
+fn tell_their_trees(rt: &impl Abort, alloc: Global, trees: TokenTreesView<'_>) -> Result<(), Fail> {
+    let rows = [
+        (TransformTtAction::Keep, "Keep"),
+        (TransformTtAction::remove(), "ReplaceWith()"),
+        (
+            TransformTtAction::ReplaceWith(trees),
+            "ReplaceWith(IDENT   r#a 0:0@1..4#0)",
+        ),
+    ];
+    for (action, expected) in rows {
+        assert_eq!(rt; format!(in alloc; "{action:?}")?.as_str(), expected);
+    }
+    Ok(())
+}
+
 #[test]
-fn a_raw_ident_below_a_top(rt: HostRuntime) -> Result<(), Fail> {
+fn debug_texts(rt: HostRuntime) -> Result<(), Fail> {
     let alloc = rt.alloc();
     let tree = under(alloc, &[ident(alloc, "r#a", 1, 4)?])?;
     let lines = debug_text(alloc, tree.as_token_trees())?;
     assert!(rt; lines.as_str().ends_with("\n  IDENT   r#a 0:0@1..4#0"));
-    // Of an iterator and an element no more is fixed than that they say what they are.
+    // Of an iterator, an element and a builder no more is fixed than that they say what they are.
     let mut siblings = tree.iter();
     let text = format!(in alloc; "{siblings:?}")?;
     assert!(rt; text.as_str().starts_with("TtIter"));
     let text = format!(in alloc; "{:?}", siblings.next())?;
     assert!(rt; text.as_str().starts_with("Some(Leaf"));
-    Ok(())
+    is_told_as_a_builder(&rt, alloc)?;
+    tell_their_trees(&rt, alloc, tree.token_trees())
 }

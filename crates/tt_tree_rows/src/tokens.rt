@@ -2,14 +2,21 @@
 use std::alloc::Global;
 use std::test::Fail;
 use tt::{
-    Delimiter, DelimiterKind, Ident, Leaf, Punct, Spacing, Span, SpanPart, Subtree, TextRange,
-    TextSize, TokenTree, TopSubtree,
+    Delimiter, DelimiterKind, ErasedFileAstId, Ident, Leaf, Punct, Spacing, Span, SpanPart,
+    Subtree, TextRange, TextSize, TokenTree, TopSubtree,
 };
 
 /// The empty span at that offset.
 pub(crate) fn span(start: u32) -> Span {
     let range = TextRange::empty(TextSize::new(start));
     SpanPart::from_span(&Punct::default().span).recombine(range)
+}
+
+/// An empty span with that id.
+pub(crate) fn span_with(id: u32) -> Span {
+    let mut span = span(0);
+    span.anchor.ast_id = ErasedFileAstId(id);
+    span
 }
 
 /// A punct at offset 0.
@@ -28,14 +35,19 @@ pub(crate) fn ident(alloc: Global, text: &str, start: u32) -> Result<TokenTree, 
     Ok(Leaf::from(Ident::new(alloc, text, span(start))?).into())
 }
 
-/// The header of parentheses that open and close at those offsets and hold so many tokens.
-pub(crate) fn parentheses(open: u32, close: u32, len: u32) -> TokenTree {
+/// The header of a subtree of that kind, which opens and closes at those offsets and holds so many tokens.
+pub(crate) fn header(kind: DelimiterKind, open: u32, close: u32, len: u32) -> TokenTree {
     let delimiter = Delimiter {
         open_span: span(open),
         close: span(close),
-        kind: DelimiterKind::Parenthesis,
+        kind,
     };
     Subtree { delimiter, len }.into()
+}
+
+/// The header of parentheses that open and close at those offsets and hold so many tokens.
+pub(crate) fn parentheses(open: u32, close: u32, len: u32) -> TokenTree {
+    header(DelimiterKind::Parenthesis, open, close, len)
 }
 
 /// The tree of these tokens under an invisible delimiter.
@@ -47,4 +59,13 @@ pub(crate) fn under(alloc: Global, below: &[TokenTree]) -> Result<TopSubtree, Fa
         tokens.push(token.clone()?)?;
     }
     Ok(TopSubtree::from_serialized(alloc, tokens)?)
+}
+
+/// The ids of the stored span parts.
+pub(crate) fn stored_ids(alloc: Global, tree: &TopSubtree) -> Result<Vec<u32>, Fail> {
+    let mut found = Vec::new(alloc);
+    for part in tree.span_part_table() {
+        found.push(part.anchor.ast_id.0)?;
+    }
+    Ok(found)
 }
