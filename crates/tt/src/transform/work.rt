@@ -45,16 +45,16 @@ fn parts<'t>(element: TtElement<'t>) -> (TokenTree, TokenTreesView<'t>)
 }
 
 impl<'t> Rewriting<'t> {
-    // Before the first token of the tree.
-    fn new(alloc: Global, tree: SubtreeView<'t>) -> Rewriting<'t>
-        ensures { StandsFor result (lowest end (only (root_of tree.entry))) }
+    // Before the first token of the tree. There is room for as many tokens as it has.
+    fn new(alloc: Global, tree: SubtreeView<'t>) -> Result<Rewriting<'t>, AllocError>
+        ensures { IfOk result (λ work. StandsFor work (lowest end (only (root_of tree.entry)))) }
     {
-        Rewriting {
-            list: Vec::new(alloc),
+        Ok(Rewriting {
+            list: Vec::with_capacity(alloc, tree.as_token_trees().len())?,
             frames: Vec::new(alloc),
             rest: tree.as_token_trees(),
             fits: true,
-        }
+        })
     }
 
     // Takes the next token, with the trees below it. Subtrees that are read to their end are closed.
@@ -143,7 +143,7 @@ pub(super) fn rewritten_list<'b, F: FnMut(&TokenTree) -> TransformTtAction<'b>>(
     requires { F.IsAlwaysCallable callback }
     ensures { IfOk result (λ list. (result : Forest) × Rewrites (CalledAt F.FnMut) callback (only (root_of tree.entry)) result × MatchOption list (IsTooLarge result) (λ list. list.items ≡ flat result)) }
 {
-    let mut work = Rewriting::new(alloc, tree);
+    let mut work = Rewriting::new(alloc, tree)?;
     while let Some((token, below)) = work.next() {
         let action = callback(&token);
         work.obey(token, below, action)?;
