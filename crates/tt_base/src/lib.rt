@@ -13,7 +13,6 @@ mod literal;
 mod literal_text;
 mod punct;
 mod scan;
-mod shared;
 mod span;
 mod symbol;
 mod text;
@@ -35,6 +34,3 @@ pub use symbol::Symbol;
 pub use text_range::{TextRange, TextSize};
 pub use token_tree::TokenTree;
 pub use whole::is_one_subtree;
-
-#[cfg(test)]
-mod tests;

@@ -5,15 +5,12 @@ ghost use Rattle.std.specs.Cmp.Rules.{comparing, hashing};
 ghost use Rattle.std.specs.Hash as fed;
 
 use crate::fault::TtFault;
-use crate::shared::Shared;
 use crate::text::Text;
 use std::alloc::{AllocError, Global};
 use std::fmt;
 use std::hash::{Hash, Hasher};
 use std::marker::Model;
-
-#[cfg(test)]
-mod tests;
+use tt_shared::Shared;
 
 /// A name, or the text of a literal. Symbols are equal where their texts are. A clone shares the text:
 /// it takes no memory and cannot fail. A contract sees the text's bytes.
@@ -24,7 +21,7 @@ pub struct Symbol {
 
 impl Model for Symbol {
     ghost use Rattle.std.specs.Prelude.{ℕ, List};
-    ghost use Rattle.tt_base.specs.Shared.{shared_value};
+    ghost use Rattle.tt_shared.specs.Shared.{shared_value};
     ghost use Rattle.tt_base.specs.Text.{text_bytes};
 
     ghost Value = { List ℕ };

@@ -6,9 +6,6 @@ use crate::levels::Levels;
 use crate::token_tree::TokenTree;
 use std::alloc::{AllocError, Global};
 
-#[cfg(test)]
-mod tests;
-
 /// Whether the list is the flat list of exactly one subtree, found in one pass.
 ///
 /// It keeps a number for each open subtree that goes on behind the one open in it, and so asks for no memory while there

@@ -8,7 +8,7 @@ use tt::TtFault;
 pub enum BenchError {
     /// The arguments ask for nothing that there is.
     #[error("usage: tt_bench MODE ROUNDS [apart] < ITEMS\n\
-        MODE: pack build flat flat_whole skip siblings siblings_whole walk show display pretty debug equal fold sip clone drop")]
+        MODE: pack build rewrite flat flat_whole skip siblings siblings_whole walk show display pretty debug equal fold sip clone drop")]
     Usage,
     /// That line, counted from 1, is no `item` line.
     #[error("line {0} is no item")]

@@ -26,9 +26,6 @@ use std::process::ExitCode;
 use std::rt::Env;
 use std::time::CpuClock;
 
-#[cfg(test)]
-mod tests;
-
 fn main(rt: HostRuntime) -> ExitCode {
     match run(&rt) {
         Ok(()) => ExitCode::SUCCESS,

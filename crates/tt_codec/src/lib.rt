@@ -24,6 +24,3 @@ pub use entry::{Entry, HeaderEntry, LeafEntry};
 pub use entry_read::{Visitor, visit_token};
 pub use reference::{MOST_SYMBOLS, Reference};
 pub use span::{MOST_PARTS, SpanNumbers};
-
-#[cfg(test)]
-mod tests;

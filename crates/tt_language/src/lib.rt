@@ -11,6 +11,3 @@ pub use command::{Action, Command, View};
 pub use many::Many;
 pub use slot::Slot;
 pub use spelling::{Spelled, kind_name};
-
-#[cfg(test)]
-mod tests;

@@ -8,7 +8,7 @@ use std::marker::Model;
 /// Values in order, as many as a line has. A contract sees the list.
 #[derive(Drop)]
 pub struct Many<T> {
-    pub(crate) items: Vec<T>,
+    items: Vec<T>,
 }
 
 impl<T> Model for Many<T> {
@@ -18,6 +18,13 @@ impl<T> Model for Many<T> {
 }
 
 impl<T> Many<T> {
+    /// These values, in order.
+    pub fn new(items: Vec<T>) -> Many<T>
+        ensures { result ≡ items.items }
+    {
+        Many { items }
+    }
+
     pub fn as_slice(&self) -> &[T]
         ensures { result.now ≡ self.now }
     {

@@ -6,9 +6,12 @@ use Rattle.tt_base.specs.Literal.{symbol_of, span_of}
 use Rattle.tt_base.specs.Span.{part_of}
 use Rattle.tt_tables.specs.TableOrder.{index_in}
 use Rattle.tt_pack.specs.declared.uses.TokenUses.{TokenUses}
+use Rattle.tt_pack.specs.declared.uses.Uses.{Uses}
 use Rattle.std.specs.List.{AllZip}
 use Rattle.tt_tables.specs.Tables.{Tables, tables_from}
-use Rattle.tt_tables.specs.Uses.{same_part}
+use Rattle.tt_tables.specs.Uses.{same_part, part_uses, symbol_uses}
+use Rattle.tt_base.specs.Forest.{IsWhole}
+use Rattle.tt_pack.specs.Counted.{counted}
 use Rattle.tt_pack.specs.declared.tables.ListTables.{ListTables}
 use Rattle.tt_base.specs.declared.leaf.Leaf.TheVariants as leaf
 use Rattle.tt_base.specs.declared.token_tree.TokenTree.TheVariants as token
@@ -28,6 +31,12 @@ module _ (IsPart : ℕ → SpanPart → Type 0) (IsSymbol : ℕ → List ℕ →
   AreUses (token.Leaf (leaf.Punct it)) uses = IsPart uses.part (part_of it.span)
   AreUses (token.Leaf (leaf.Ident it)) uses = IsPart uses.part (part_of it.span) × IsSymbol uses.other it.sym
   AreUses (token.Subtree it) uses = IsPart uses.part (part_of it.delimiter.open_span) × IsPart uses.other (part_of it.delimiter.close)
+
+-- the tokens are a whole list, and what they use is counted
+pub record IsCountOf (uses : Uses) (tokens : List TokenTree) : Type 0 where
+  pub whole : IsWhole tokens
+  pub parts : uses.parts.entries ≡ counted same_part (part_uses tokens)
+  pub symbols : uses.symbols.entries ≡ counted bytes_eq (symbol_uses tokens)
 
 -- the parts and the symbols
 abbrev pub tables_of : ListTables → Tables

@@ -1,5 +1,5 @@
 //! The two tables of a list of tokens, and tokens in numbers under them.
-ghost use Rattle.std.specs.Prelude.{◌≡◌, ◌+◌, ◌<◌, ◌≤◌, ◌^◌, Some, length, slice_get, IfOk, IfErr};
+ghost use Rattle.std.specs.Prelude.{◌≡◌, ◌+◌, ◌<◌, ◌≤◌, Some, length, slice_get, IfOk, IfErr};
 ghost use Rattle.tt_base.specs.Forest.{IsWhole};
 ghost use Rattle.tt_tables.specs.Stored.{most_parts, most_symbols};
 ghost use Rattle.tt_tables.specs.Tables.{Knows, part_table, symbol_table};
@@ -9,14 +9,7 @@ use crate::table::Table;
 use crate::uses::{TokenUses, Uses};
 use std::alloc::Global;
 use tt_base::{Leaf, SpanPart, Subtree, Symbol, TokenTree, TtFault};
-use tt_codec::{Entry, HeaderEntry, LeafEntry, MOST_PARTS, MOST_SYMBOLS, SpanNumbers};
-
-// Up to so many parts stand by first use: an index of theirs has four bits.
-const SHORT_PARTS: usize = 15;
-// Up to so many symbols: a reference to one takes one byte.
-const SHORT_SYMBOLS: usize = 63;
-// The most parts below the top, whose own two need an index each.
-const MOST_PARTS_BELOW: usize = MOST_PARTS - 2;
+use tt_codec::{Entry, HeaderEntry, LeafEntry, SpanNumbers};
 
 /// The tables of a list of tokens, and what each token uses.
 #[derive(Drop)]
@@ -42,8 +35,7 @@ impl ListTables {
     ghost use Rattle.tt_pack.specs.TablesOf.{tables_of, HasUses, UsesTables};
 
     /// The tables of the tokens, where these are a whole list, their indices can be written and the parts leave room for
-    /// the top's two.
-    /// More than 15 parts or 63 symbols go by falling number of uses, ties by first use (docs/FORMATS.md).
+    /// the top's two (docs/FORMATS.md).
     pub(crate) fn of_tokens(alloc: Global, below: &[TokenTree]) -> Result<ListTables, TtFault>
         ensures whole { IfOk result (λ tables. IsWhole below.now) }
         ensures parts { IfOk result (λ tables. (tables.parts.values.items ≡ part_table below.now) × HasFewParts below.now) }
@@ -51,23 +43,12 @@ impl ListTables {
         ensures uses { IfOk result (λ tables. UsesTables tables below.now) }
         ensures err { IfErr result (IsTableFault below.now) }
     {
-        let Uses {
-            parts,
-            symbols,
-            tokens,
-        } = Uses::of_tokens(alloc, below)?;
-        if parts.len() > MOST_PARTS_BELOW {
-            return Err(TtFault::TooManySpanParts);
-        }
-        if symbols.len() > MOST_SYMBOLS {
-            return Err(TtFault::TooManySymbols);
-        }
-        let parts = Table::of_counts(alloc, &parts, SHORT_PARTS)?;
-        let symbols = Table::of_counts(alloc, &symbols, SHORT_SYMBOLS)?;
+        let uses = Uses::of_tokens(alloc, below)?;
+        let (parts, symbols) = uses.tables(alloc)?;
         Ok(ListTables {
             parts,
             symbols,
-            uses: tokens,
+            uses: uses.tokens,
         })
     }
 

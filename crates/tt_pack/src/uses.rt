@@ -1,17 +1,29 @@
 //! What a list of tokens uses: its different parts and symbols, how often each is used, and which of them each token uses.
-ghost use Rattle.std.specs.Prelude.{◌≡◌, fold, IfOk, IfErr, OnOk, bytes_eq};
+ghost use Rattle.std.specs.Prelude.{◌≡◌, ℕ, List, [], ◌∷◌, ◌++◌, fold, IfOk, IfErr, OnOk, bytes_eq};
 ghost use Rattle.std.specs.List.{AllZip};
 ghost use Rattle.indexmap.specs.IndexMap.{keys};
+ghost use Rattle.tt_base.specs.declared.span.SpanPart.{SpanPart};
+ghost use Rattle.tt_base.specs.declared.token_tree.TokenTree.{TokenTree};
 ghost use Rattle.tt_base.specs.Forest.{IsWhole};
+ghost use Rattle.tt_tables.specs.Tables.{part_table, symbol_table};
 ghost use Rattle.tt_tables.specs.Uses.{same_part, token_parts, token_symbols, part_uses, symbol_uses};
 ghost use Rattle.tt_pack.specs.Counted.{count_use, counted, HasRoomFor};
-ghost use Rattle.tt_pack.specs.TablesOf.{StandsAt, AreUses};
-ghost use Rattle.tt_pack.specs.Packed.{IsCountFault};
+ghost use Rattle.tt_pack.specs.TablesOf.{StandsAt, HasNewIndexAt, AreUses, IsCountOf};
+ghost use Rattle.tt_pack.specs.Packed.{HasFewParts, HasFewSymbols, IsCountFault, IsTableFault};
 
 use crate::counts::{count_near, count_use};
+use crate::table::Table;
 use indexmap::IndexMap;
 use std::alloc::{AllocError, Global};
 use tt_base::{Leaf, Levels, SpanPart, Symbol, TokenTree, TtFault};
+use tt_codec::{MOST_PARTS, MOST_SYMBOLS};
+
+// Up to so many parts stand by first use: an index of theirs has four bits.
+const SHORT_PARTS: usize = 15;
+// Up to so many symbols: a reference to one takes one byte.
+const SHORT_SYMBOLS: usize = 63;
+// The most parts below the top, whose own two need an index each.
+const MOST_PARTS_BELOW: usize = MOST_PARTS - 2;
 
 /// What a token uses, by indices in the order of first uses.
 #[derive(Debug, Clone, Copy, PartialEq)]
@@ -69,34 +81,85 @@ fn count_token(
 }
 
 impl Uses {
-    /// Counts what the tokens use, and sees in the same pass that they are a whole list.
-    pub(crate) fn of_tokens(alloc: Global, tokens: &[TokenTree]) -> Result<Uses, TtFault>
-        ensures whole { IfOk result (λ uses. IsWhole tokens.now) }
-        ensures parts { IfOk result (λ uses. uses.parts.entries ≡ counted same_part (part_uses tokens.now)) }
-        ensures symbols { IfOk result (λ uses. uses.symbols.entries ≡ counted bytes_eq (symbol_uses tokens.now)) }
-        ensures tokens { IfOk result (λ uses. AllZip (AreUses (StandsAt (keys uses.parts)) (StandsAt (keys uses.symbols))) tokens.now uses.tokens.items) }
+    // Nothing is used, and there is room for what so many tokens use.
+    fn new(alloc: Global, tokens: usize) -> Result<Uses, AllocError>
+        ensures parts { IfOk result (λ uses. uses.parts.entries ≡ []) }
+        ensures symbols { IfOk result (λ uses. uses.symbols.entries ≡ []) }
+        ensures tokens { IfOk result (λ uses. uses.tokens.items ≡ []) }
+    {
+        Ok(Uses {
+            parts: IndexMap::new(alloc),
+            symbols: IndexMap::new(alloc),
+            tokens: Vec::with_capacity(alloc, tokens)?,
+        })
+    }
+
+    // Counts what one more token uses, and keeps where it stands. `before` is the part of the token before.
+    fn count(&mut self, before: u32, token: &TokenTree) -> Result<TokenUses, AllocError>
+        requires parts { HasRoomFor 2 self.old.parts.entries }
+        requires symbols { HasRoomFor 1 self.old.symbols.entries }
+        ensures parts { OnOk result (self.new.parts.entries ≡ fold (count_use same_part) self.old.parts.entries (token_parts token.now)) }
+        ensures symbols { OnOk result (self.new.symbols.entries ≡ fold (count_use bytes_eq) self.old.symbols.entries (token_symbols token.now)) }
+        ensures uses { IfOk result (AreUses (StandsAt (keys self.new.parts)) (StandsAt (keys self.new.symbols)) token.now) }
+        ensures tokens { IfOk result (λ uses. self.new.tokens.items ≡ self.old.tokens.items ++ uses ∷ []) }
+    {
+        let uses = count_token(&mut self.parts, &mut self.symbols, before, token)?;
+        self.tokens.push(uses)?;
+        Ok(uses)
+    }
+
+    // Counts what the tokens use, and sees in the same pass that they are a whole list. Nothing is used before.
+    fn count_list(&mut self, alloc: Global, tokens: &[TokenTree]) -> Result<(), TtFault>
+        requires parts { self.old.parts.entries ≡ [] }
+        requires symbols { self.old.symbols.entries ≡ [] }
+        requires tokens { self.old.tokens.items ≡ [] }
+        ensures count { OnOk result (IsCountOf self.new tokens.now) }
+        ensures tokens { OnOk result (AllZip (AreUses (StandsAt (keys self.new.parts)) (StandsAt (keys self.new.symbols))) tokens.now self.new.tokens.items) }
         ensures err { IfErr result (IsCountFault tokens.now) }
     {
-        let mut parts = IndexMap::new(alloc);
-        let mut symbols = IndexMap::new(alloc);
-        let mut uses = Vec::with_capacity(alloc, tokens.len())?;
-        let mut before = 0;
         let mut levels = Levels::new(alloc, tokens.len());
+        let mut before = 0;
         for token in tokens {
             if !levels.take(token)? {
                 return Err(TtFault::NotOneSubtree);
             }
-            let found = count_token(&mut parts, &mut symbols, before, token)?;
+            let found = self.count(before, token)?;
             before = found.part;
-            uses.push(found)?;
         }
         if !levels.is_done() {
             return Err(TtFault::NotOneSubtree);
         }
-        Ok(Uses {
-            parts,
-            symbols,
-            tokens: uses,
-        })
+        Ok(())
+    }
+
+    /// What the tokens use, if they are a whole list.
+    pub(crate) fn of_tokens(alloc: Global, tokens: &[TokenTree]) -> Result<Uses, TtFault>
+        ensures count { IfOk result (λ uses. IsCountOf uses tokens.now) }
+        ensures tokens { IfOk result (λ uses. AllZip (AreUses (StandsAt (keys uses.parts)) (StandsAt (keys uses.symbols))) tokens.now uses.tokens.items) }
+        ensures err { IfErr result (IsCountFault tokens.now) }
+    {
+        let mut uses = Uses::new(alloc, tokens.len())?;
+        uses.count_list(alloc, tokens)?;
+        Ok(uses)
+    }
+
+    /// The two tables of what a list uses, where their indices can be written and the parts leave room for the top's two.
+    /// More than 15 parts or 63 symbols go by falling number of uses, ties by first use (docs/FORMATS.md).
+    pub(crate) fn tables(&self, alloc: Global) -> Result<(Table<SpanPart>, Table<Symbol>), TtFault>
+        ensures parts { IfOk result (λ tables. (below : List TokenTree) → IsCountOf self.now below → (tables.0.values.items ≡ part_table below) × HasFewParts below) }
+        ensures symbols { IfOk result (λ tables. (below : List TokenTree) → IsCountOf self.now below → (tables.1.values.items ≡ symbol_table below) × HasFewSymbols below) }
+        ensures new_parts { IfOk result (λ tables. (below : List TokenTree) → IsCountOf self.now below → (i : ℕ) (x : SpanPart) → StandsAt (keys self.now.parts) i x → HasNewIndexAt same_part tables.0.values.items tables.0.new_indices.items i x) }
+        ensures new_symbols { IfOk result (λ tables. (below : List TokenTree) → IsCountOf self.now below → (i : ℕ) (x : List ℕ) → StandsAt (keys self.now.symbols) i x → HasNewIndexAt bytes_eq tables.1.values.items tables.1.new_indices.items i x) }
+        ensures err { IfErr result (λ fault. (below : List TokenTree) → IsCountOf self.now below → IsTableFault below fault) }
+    {
+        if self.parts.len() > MOST_PARTS_BELOW {
+            return Err(TtFault::TooManySpanParts);
+        }
+        if self.symbols.len() > MOST_SYMBOLS {
+            return Err(TtFault::TooManySymbols);
+        }
+        let parts = Table::of_counts(alloc, &self.parts, SHORT_PARTS)?;
+        let symbols = Table::of_counts(alloc, &self.symbols, SHORT_SYMBOLS)?;
+        Ok((parts, symbols))
     }
 }

@@ -3,6 +3,7 @@ ghost use Rattle.std.specs.Prelude.{◌≤◌, ◌<◌, ◌-◌};
 
 use crate::lists::{braces, header, ident, is_read, punct, stored, top};
 use std::alloc::Global;
+use std::process::Abort;
 use std::test::Fail;
 use tt_base::{DelimiterKind, TokenTree};
 use tt_pack::{Packed, Reader};
@@ -54,21 +55,29 @@ fn nested(alloc: Global, count: u32) -> Result<Vec<TokenTree>, Fail>
     Ok(tokens)
 }
 
-#[test]
-fn one_token_after_another(rt: HostRuntime) -> Result<(), Fail> {
-    let alloc = rt.alloc();
-    let tokens = braces(alloc)?;
-    let tree = stored(alloc, tokens.as_slice())?;
-    let mut reader = Reader::start(&tree);
+// The reader gives that token, and is at that offset after so many steps.
+fn goes_on(
+    rt: &impl Abort,
+    reader: &mut Reader<'_>,
+    token: &TokenTree,
+    place: (usize, u64),
+) -> Result<(), Fail> {
+    let (offset, steps) = place;
+    let found = reader.advance().ok_or("no token")?;
+    assert_eq!(rt; found, *token);
+    assert_eq!(rt; reader.offset(), offset);
+    assert_eq!(rt; reader.steps(), steps);
+    Ok(())
+}
+
+// The tokens of the braces are read one after another.
+fn goes_through(rt: &impl Abort, tree: &Packed, tokens: &[TokenTree]) -> Result<(), Fail> {
+    let mut reader = Reader::start(tree);
     assert_eq!(rt; reader.offset(), 0);
     assert_eq!(rt; reader.steps(), 0);
-    let offsets: [usize; 3] = [33, 38, 43];
-    let mut steps = 0u64;
-    for (token, offset) in tokens.iter().zip(offsets.iter()) {
-        steps = steps.saturating_add(1);
-        assert_eq!(rt; reader.advance().ok_or("no token")?, *token);
-        assert_eq!(rt; reader.offset(), *offset);
-        assert_eq!(rt; reader.steps(), steps);
+    let places: [(usize, u64); 3] = [(33, 1), (38, 2), (43, 3)];
+    for (token, place) in tokens.iter().zip(places.iter()) {
+        goes_on(rt, &mut reader, token, *place)?;
     }
     assert!(rt; reader.advance().is_none());
     assert_eq!(rt; reader.offset(), 43);
@@ -77,24 +86,42 @@ fn one_token_after_another(rt: HostRuntime) -> Result<(), Fail> {
 }
 
 #[test]
-fn all_that_a_header_holds(rt: HostRuntime) -> Result<(), Fail> {
+fn one_token_after_another(rt: HostRuntime) -> Result<(), Fail> {
     let alloc = rt.alloc();
-    let tree = Packed::pack(alloc, braces(alloc)?)?;
-    let mut reader = Reader::start(&tree);
-    let (found, mut below) = reader.advance_skip().ok_or("no token")?;
+    let tokens = braces(alloc)?;
+    let tree = stored(alloc, tokens.as_slice())?;
+    goes_through(&rt, &tree, tokens.as_slice())
+}
+
+// The reader passes the braces in one step, and so comes to the end. The answer reads what they hold.
+fn passes<'a>(rt: &impl Abort, reader: &mut Reader<'a>) -> Result<Reader<'a>, Fail> {
     let brace = header(DelimiterKind::Brace, (0, 0, 1), (0, 5, 6), 2)?;
+    let (found, below) = reader.advance_skip().ok_or("no token")?;
     assert_eq!(rt; found, brace);
     assert_eq!(rt; reader.offset(), 43);
     assert_eq!(rt; reader.steps(), 1);
+    Ok(below)
+}
+
+// The reader stays at the end.
+fn stays(rt: &impl Abort, reader: &mut Reader<'_>) {
     assert!(rt; reader.advance().is_none());
     assert!(rt; reader.advance_skip().is_none());
     assert_eq!(rt; reader.offset(), 43);
     assert_eq!(rt; reader.steps(), 1);
+}
+
+#[test]
+fn all_that_a_header_holds(rt: HostRuntime) -> Result<(), Fail> {
+    let alloc = rt.alloc();
+    let name = ident(alloc, "a", (0, 2, 3))?;
+    let tree = Packed::pack(alloc, braces(alloc)?)?;
+    let mut reader = Reader::start(&tree);
+    let mut below = passes(&rt, &mut reader)?;
+    stays(&rt, &mut reader);
     assert_eq!(rt; below.offset(), 33);
     assert_eq!(rt; below.steps(), 1);
-    let name = ident(alloc, "a", (0, 2, 3))?;
-    assert_eq!(rt; below.advance().ok_or("no token")?, name);
-    Ok(())
+    goes_on(&rt, &mut below, &name, (38, 2))
 }
 
 #[test]
@@ -106,27 +133,48 @@ fn a_long_list(rt: HostRuntime) -> Result<(), Fail> {
     is_read(&rt, &tree, tokens.as_slice())
 }
 
+// Parentheses over parentheses over eight leaves, as the ten tokens of that group.
+fn push_group(alloc: Global, tokens: &mut Vec<TokenTree>, group: u32) -> Result<(), Fail>
+    requires { group < 200 }
+{
+    tokens.push(parentheses(group * 10, 9)?)?;
+    tokens.push(parentheses(group * 10 + 1, 8)?)?;
+    for index in 2..10u32 {
+        tokens.push(leaf(alloc, group * 10 + index)?)?;
+    }
+    Ok(())
+}
+
+// A top over 200 groups.
+fn groups(alloc: Global) -> Result<Vec<TokenTree>, Fail> {
+    let mut tokens = vec![in alloc; top(2000)?]?;
+    for group in 0..200u32 {
+        push_group(alloc, &mut tokens, group)?;
+    }
+    Ok(tokens)
+}
+
+// The reader passes that group in one step, and inside of it the first token takes one more.
+fn skips(rt: &impl Abort, reader: &mut Reader<'_>, group: u32) -> Result<(), Fail>
+    requires { group < 200 }
+{
+    assert_eq!(rt; reader.steps(), group as u64 + 1);
+    let (found, mut below) = reader.advance_skip().ok_or("no sibling")?;
+    assert_eq!(rt; found, parentheses(group * 10, 9)?);
+    let inner = below.advance().ok_or("nothing below")?;
+    assert_eq!(rt; inner, parentheses(group * 10 + 1, 8)?);
+    assert_eq!(rt; below.steps(), group as u64 + 3);
+    Ok(())
+}
+
 #[test]
 fn siblings_are_skipped(rt: HostRuntime) -> Result<(), Fail> {
     let alloc = rt.alloc();
-    let mut tokens = vec![in alloc; top(2000)?]?;
-    for group in 0..200u32 {
-        tokens.push(parentheses(group * 10, 9)?)?;
-        tokens.push(parentheses(group * 10 + 1, 8)?)?;
-        for index in 2..10u32 {
-            tokens.push(leaf(alloc, group * 10 + index)?)?;
-        }
-    }
-    let tree = stored(alloc, tokens.as_slice())?;
+    let tree = Packed::pack(alloc, groups(alloc)?)?;
     let mut reader = Reader::start(&tree);
     assert_eq!(rt; reader.advance().ok_or("no top")?, top(2000)?);
     for group in 0..200u32 {
-        assert_eq!(rt; reader.steps(), group as u64 + 1);
-        let (found, mut below) = reader.advance_skip().ok_or("no sibling")?;
-        assert_eq!(rt; found, parentheses(group * 10, 9)?);
-        let inner = below.advance().ok_or("nothing below")?;
-        assert_eq!(rt; inner, parentheses(group * 10 + 1, 8)?);
-        assert_eq!(rt; below.steps(), group as u64 + 3);
+        skips(&rt, &mut reader, group)?;
     }
     assert!(rt; reader.advance_skip().is_none());
     assert_eq!(rt; reader.steps(), 201);

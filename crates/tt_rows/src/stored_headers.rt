@@ -9,26 +9,39 @@ use tt_base::{DelimiterKind, TokenTree};
 // How many bytes the header of a top takes.
 const TOP_BYTES: usize = 33;
 
-// A top over these tokens takes so many bytes, and is read back.
-fn takes(rt: &impl Abort, alloc: Global, below: Vec<TokenTree>, bytes: usize) -> Result<(), Fail> {
-    let len = u32::try_from(below.len())?;
-    let mut tokens = vec![in alloc; top(len)?]?;
+// These tokens behind a header.
+fn behind(alloc: Global, header: TokenTree, below: Vec<TokenTree>) -> Result<Vec<TokenTree>, Fail> {
+    let mut tokens = vec![in alloc; header]?;
     for token in below {
         tokens.push(token)?;
     }
-    let tree = stored(alloc, tokens.as_slice())?;
+    Ok(tokens)
+}
+
+// The tree of these tokens takes so many bytes, and is read back.
+fn is_stored(
+    rt: &impl Abort,
+    alloc: Global,
+    tokens: &[TokenTree],
+    bytes: usize,
+) -> Result<(), Fail> {
+    let tree = stored(alloc, tokens)?;
     assert_eq!(rt; tree.bytes().len(), bytes);
-    is_read(rt, &tree, tokens.as_slice())
+    is_read(rt, &tree, tokens)
+}
+
+// A top over these tokens takes so many bytes, and is read back.
+fn takes(rt: &impl Abort, alloc: Global, below: Vec<TokenTree>, bytes: usize) -> Result<(), Fail> {
+    let len = u32::try_from(below.len())?;
+    let tokens = behind(alloc, top(len)?, below)?;
+    is_stored(rt, alloc, tokens.as_slice(), bytes)
 }
 
 // Parentheses over these leaves, which follow them, take so many bytes with the leaves and the top.
 fn hold(rt: &impl Abort, alloc: Global, leaves: Vec<TokenTree>, bytes: usize) -> Result<(), Fail> {
     let len = u32::try_from(leaves.len())?;
-    let mut below = vec![in alloc; header(DelimiterKind::Parenthesis, (0, 0, 1), (0, 1, 2), len)?]?;
-    for leaf in leaves {
-        below.push(leaf)?;
-    }
-    takes(rt, alloc, below, bytes)
+    let open = header(DelimiterKind::Parenthesis, (0, 0, 1), (0, 1, 2), len)?;
+    takes(rt, alloc, behind(alloc, open, leaves)?, bytes)
 }
 
 // So many puncts of 5 bytes behind so many of 17, and then so many numbers of 6.

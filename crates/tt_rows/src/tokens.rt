@@ -1,6 +1,7 @@
 //! The bytes of a leaf under given tables.
 use crate::tables::{Tables, span};
 use std::alloc::Global;
+use std::process::Abort;
 use std::test::Fail;
 use tt_base::{Ident, Leaf, LitKind, Literal, Punct, Spacing, TokenTree, TtFault};
 
@@ -65,6 +66,20 @@ fn a_raw_ident(rt: HostRuntime) -> Result<(), Fail> {
     tables.give(&rt, alloc, &token, 0, b"\x82\x01\x00\x00\x01")
 }
 
+// A literal of that text, kind and suffix, up to that offset, has these bytes where its text is the only symbol.
+fn is_written(
+    rt: &impl Abort,
+    alloc: Global,
+    row: (&str, LitKind, &str, u32),
+    bytes: &[u8],
+) -> Result<(), Fail> {
+    let (text, kind, suffix, end) = row;
+    let token = literal(alloc, text, kind, suffix, end)?;
+    let whole = format!(in alloc; "{text}{suffix}")?;
+    let tables = Tables::new(alloc, 1, &[whole.as_str()])?;
+    tables.give(rt, alloc, &token, 0, bytes)
+}
+
 #[test]
 fn literals(rt: HostRuntime) -> Result<(), Fail> {
     let alloc = rt.alloc();
@@ -93,11 +108,16 @@ fn literals(rt: HostRuntime) -> Result<(), Fail> {
         ),
     ];
     for (text, kind, suffix, end, bytes) in cases {
-        let whole = format!(in alloc; "{text}{suffix}")?;
-        let tables = Tables::new(alloc, 1, &[whole.as_str()])?;
-        let token = literal(alloc, text, kind, suffix, end)?;
-        tables.give(&rt, alloc, &token, 0, bytes)?;
+        is_written(&rt, alloc, (text, kind, suffix, end), bytes)?;
     }
+    Ok(())
+}
+
+// A literal with that suffix is refused.
+fn is_too_long(rt: &impl Abort, alloc: Global, suffix: &str) -> Result<(), Fail> {
+    let span = span((0, 0, 257)).ok_or("no span")?;
+    let refused = Literal::new(alloc, "1", span, LitKind::Integer, suffix);
+    assert_eq!(rt; refused.err(), Some(TtFault::SuffixTooLong));
     Ok(())
 }
 
@@ -105,27 +125,27 @@ fn literals(rt: HostRuntime) -> Result<(), Fail> {
 fn long_suffixes(rt: HostRuntime) -> Result<(), Fail> {
     let alloc = rt.alloc();
     let suffix = letters(alloc, 255)?;
-    let whole = format!(in alloc; "1{suffix}")?;
-    let tables = Tables::new(alloc, 1, &[whole.as_str()])?;
-    let token = literal(alloc, "1", LitKind::Integer, suffix.as_str(), 256)?;
+    let row = ("1", LitKind::Integer, suffix.as_str(), 256);
     let bytes = b"\x00\x40\x00\x00\x00\x10\x00\x00\x17\xff\x00";
-    tables.give(&rt, alloc, &token, 0, bytes)?;
+    is_written(&rt, alloc, row, bytes)?;
     let suffix = letters(alloc, 256)?;
-    let span = span((0, 0, 257)).ok_or("no span")?;
-    let refused = Literal::new(alloc, "1", span, LitKind::Integer, suffix.as_str());
-    assert_eq!(rt; refused.err(), Some(TtFault::SuffixTooLong));
+    is_too_long(&rt, alloc, suffix.as_str())
+}
+
+// Whether tables of one part and one symbol have what the token uses.
+fn is_known(rt: &impl Abort, alloc: Global, token: &TokenTree, known: bool) -> Result<(), Fail> {
+    let tables = Tables::new(alloc, 1, &["type"])?;
+    assert_eq!(rt; tables.know(alloc, token)?, known);
     Ok(())
 }
 
 #[test]
 fn what_a_leaf_lacks(rt: HostRuntime) -> Result<(), Fail> {
     let alloc = rt.alloc();
-    let tables = Tables::new(alloc, 1, &["type"])?;
-    assert!(rt; tables.know(alloc, &punct(';', Spacing::Alone, 0)?)?);
-    assert!(rt; !tables.know(alloc, &punct(';', Spacing::Alone, 1)?)?);
-    assert!(rt; tables.know(alloc, &ident(alloc, "type", 4)?)?);
-    assert!(rt; !tables.know(alloc, &ident(alloc, "typed", 5)?)?);
+    is_known(&rt, alloc, &punct(';', Spacing::Alone, 0)?, true)?;
+    is_known(&rt, alloc, &punct(';', Spacing::Alone, 1)?, false)?;
+    is_known(&rt, alloc, &ident(alloc, "type", 4)?, true)?;
+    is_known(&rt, alloc, &ident(alloc, "typed", 5)?, false)?;
     let number = literal(alloc, "1", LitKind::Integer, "u8", 3)?;
-    assert!(rt; !tables.know(alloc, &number)?);
-    Ok(())
+    is_known(&rt, alloc, &number, false)
 }

@@ -19,9 +19,26 @@ fn files(alloc: Global, parts: &[SpanPart]) -> Result<Vec<u32>, Fail> {
     Ok(found)
 }
 
-// The list is refused as one that is not one subtree, and is handed back.
-fn is_refused(rt: &impl Abort, alloc: Global, tokens: Vec<TokenTree>) -> Result<(), Fail> {
-    let copy = tokens.clone()?;
+// Headers with those counts, and those puncts behind them: a semicolon from 0 to 1, a comma from 1 to 2.
+fn headers_and_puncts(alloc: Global, counts: &[u32], puncts: &str) -> Result<Vec<TokenTree>, Fail> {
+    let mut tokens = Vec::new(alloc);
+    for count in counts {
+        tokens.push(top(*count)?)?;
+    }
+    for char in puncts.chars() {
+        let spot = match char {
+            ',' => (0, 1, 2),
+            _ => (0, 0, 1),
+        };
+        tokens.push(punct(char, spot)?)?;
+    }
+    Ok(tokens)
+}
+
+// The list of these headers and puncts is refused as one that is not one subtree, and is handed back.
+fn is_refused(rt: &impl Abort, alloc: Global, counts: &[u32], puncts: &str) -> Result<(), Fail> {
+    let copy = headers_and_puncts(alloc, counts, puncts)?;
+    let tokens = headers_and_puncts(alloc, counts, puncts)?;
     let Err(refused) = TopSubtree::from_serialized(alloc, tokens) else {
         return Err(Fail::new("the list is accepted"));
     };
@@ -48,23 +65,44 @@ fn hashes_of(tree: &TopSubtree, seed: u64) -> (u64, u64) {
     (sip, fold)
 }
 
-// A top of parts 20 and 21 over a punct of each of these parts has this table.
-fn has_table(rt: &impl Abort, alloc: Global, parts: &[u32], table: &[u32]) -> Result<(), Fail> {
-    let mut tokens = Vec::new(alloc);
+// A top of parts 20 and 21 over a punct of each of these parts.
+fn over_parts(alloc: Global, parts: &[u32]) -> Result<Vec<TokenTree>, Fail> {
     let len = u32::try_from(parts.len())?;
+    let mut tokens = Vec::new(alloc);
     tokens.push(header(DelimiterKind::Invisible, (20, 0, 0), (21, 0, 0), len)?)?;
     for part in parts {
         tokens.push(punct(';', (*part, 0, 1))?)?;
     }
+    Ok(tokens)
+}
+
+// The tree of these tokens has a table of the parts of these files.
+fn has_files(
+    rt: &impl Abort,
+    alloc: Global,
+    tokens: Vec<TokenTree>,
+    table: &[u32],
+) -> Result<(), Fail> {
     let tree = TopSubtree::from_serialized(alloc, tokens)?;
     let found = files(alloc, tree.span_part_table())?;
     assert_eq!(rt; found.as_slice(), table);
     Ok(())
 }
 
+// A top of parts 20 and 21 over a punct of each of these parts has this table.
+fn has_table(rt: &impl Abort, alloc: Global, parts: &[u32], table: &[u32]) -> Result<(), Fail> {
+    has_files(rt, alloc, over_parts(alloc, parts)?, table)
+}
+
 // The name s0, s1 and so on, of that number.
 fn name(alloc: Global, number: u32) -> Result<String, Fail> {
     Ok(format!(in alloc; "s{number}")?)
+}
+
+// The ident with that name.
+fn named(alloc: Global, number: u32) -> Result<TokenTree, Fail> {
+    let text = name(alloc, number)?;
+    ident(alloc, text.as_str(), (0, 0, 1))
 }
 
 // A top over so many idents, the names from s0 on, and a second of the last one.
@@ -73,38 +111,35 @@ fn last_name_twice(alloc: Global, count: u32) -> Result<TopSubtree, Fail> {
     let len = count.checked_add(1).ok_or("too many names")?;
     let mut tokens = vec![in alloc; top(len)?]?;
     for number in 0..len {
-        let text = name(alloc, number.min(last))?;
-        tokens.push(ident(alloc, text.as_str(), (0, 0, 1))?)?;
+        tokens.push(named(alloc, number.min(last))?)?;
     }
     Ok(TopSubtree::from_serialized(alloc, tokens)?)
 }
 
-// The symbols are that name, and then the others of so many, in their order.
-fn are_names(
-    rt: &impl Abort,
-    alloc: Global,
-    symbols: &[Symbol],
-    first: u32,
-    count: u32,
-) -> Result<(), Fail> {
+// That name, and then the others of so many, in their order.
+fn names_behind(alloc: Global, first: u32, count: u32) -> Result<Vec<String>, Fail> {
     let mut table = vec![in alloc; name(alloc, first)?]?;
     for number in 0..count {
         if number != first {
             table.push(name(alloc, number)?)?;
         }
     }
+    Ok(table)
+}
+
+// The symbols have these names.
+fn are_names(rt: &impl Abort, symbols: &[Symbol], table: &[String]) {
     assert_eq!(rt; symbols.len(), table.len());
     for (symbol, text) in symbols.iter().zip(table.iter()) {
         assert_eq!(rt; symbol.as_str(), text.as_str());
     }
-    Ok(())
 }
 
 // The braces, where the semicolon has another context.
 fn braces_of_another_context(alloc: Global) -> Result<Vec<TokenTree>, Fail> {
-    let mut tokens = braces(alloc)?;
     let mut span = span((0, 3, 4)).ok_or("no span")?;
     span.ctx = SyntaxContext(1);
+    let mut tokens = braces(alloc)?;
     let _semicolon = tokens.pop();
     let other = Punct {
         char: ';',
@@ -133,11 +168,11 @@ fn a_top_over_nothing(rt: HostRuntime) -> Result<(), Fail> {
 #[test]
 fn a_brace_over_two_leaves(rt: HostRuntime) -> Result<(), Fail> {
     let alloc = rt.alloc();
+    let part = SpanPart::from_span(&span((0, 0, 0)).ok_or("no span")?);
     let tree = TopSubtree::from_serialized(alloc, braces(alloc)?)?;
     let bytes =
         b"\x44\x40\x00\x00\x01\x00\x00\x00\x00\x00\x00\x00\x0d\x48\xc0\x02\x00\x01\x00\x00\x00\x00\x00\x00\x00\x02\x00\x00\x00\x0a\x00\x00\x00\x42\x00\x01\x00\x00\x41\x80\x01\x00\x76";
     assert_eq!(rt; tree.packed_bytes(), bytes.as_slice());
-    let part = SpanPart::from_span(&span((0, 0, 0)).ok_or("no span")?);
     assert_eq!(rt; tree.span_part_table(), [part, part, part].as_slice());
     let symbols = tree.symbol_table();
     assert_eq!(rt; symbols.len(), 1);
@@ -162,26 +197,29 @@ fn tables_of_parts(rt: HostRuntime) -> Result<(), Fail> {
         &[15, 0, 1, 2, 3, 4, 5, 6, 7, 8, 9, 10, 11, 12, 13, 14, 20, 21],
     )?;
     let alone = header(DelimiterKind::Parenthesis, (7, 0, 1), (3, 1, 2), 0)?;
-    let tree = TopSubtree::from_serialized(alloc, vec![in alloc; top(1)?, alone]?)?;
-    let found = files(alloc, tree.span_part_table())?;
-    assert_eq!(rt; found.as_slice(), [7, 3, 0, 0].as_slice());
+    has_files(&rt, alloc, vec![in alloc; top(1)?, alone]?, &[7, 3, 0, 0])
+}
+
+// How many names, which stands first, how many tokens, and the bytes of the top, the spans and the references.
+fn has_symbols(rt: &impl Abort, alloc: Global, row: (u32, u32, usize, usize)) -> Result<(), Fail> {
+    let (count, first, len, bytes) = row;
+    let tree = last_name_twice(alloc, count)?;
+    let table = names_behind(alloc, first, count)?;
+    are_names(rt, tree.symbol_table(), table.as_slice());
+    assert_eq!(rt; tree.as_token_trees().len(), len);
+    assert_eq!(rt; tree.packed_bytes().len(), bytes);
     Ok(())
 }
 
 #[test]
 fn tables_of_symbols(rt: HostRuntime) -> Result<(), Fail> {
-    let alloc = rt.alloc();
-    // How many names, which stands first, how many tokens, and the bytes of the top, the spans and the references.
     let rows: [(u32, u32, usize, usize); 3] = [
         (63, 0, 65, 33 + 64 * 4 + 64),
         (64, 63, 66, 33 + 65 * 4 + 65),
         (65, 64, 67, 33 + 66 * 4 + 67),
     ];
-    for (count, first, len, bytes) in rows {
-        let tree = last_name_twice(alloc, count)?;
-        are_names(&rt, alloc, tree.symbol_table(), first, count)?;
-        assert_eq!(rt; tree.as_token_trees().len(), len);
-        assert_eq!(rt; tree.packed_bytes().len(), bytes);
+    for row in rows {
+        has_symbols(&rt, rt.alloc(), row)?;
     }
     Ok(())
 }
@@ -189,26 +227,23 @@ fn tables_of_symbols(rt: HostRuntime) -> Result<(), Fail> {
 #[test]
 fn lists_that_are_not_one_subtree(rt: HostRuntime) -> Result<(), Fail> {
     let alloc = rt.alloc();
-    is_refused(&rt, alloc, Vec::new(alloc))?;
-    let leaf = punct(';', (0, 0, 1))?;
-    let other = punct(',', (0, 1, 2))?;
-    is_refused(&rt, alloc, vec![in alloc; leaf.clone()?]?)?;
-    is_refused(&rt, alloc, vec![in alloc; top(2)?, top(2)?, leaf.clone()?]?)?;
-    is_refused(&rt, alloc, vec![in alloc; top(1)?, leaf.clone()?, other]?)?;
-    is_refused(&rt, alloc, vec![in alloc; top(0)?, top(0)?]?)?;
-    is_refused(&rt, alloc, vec![in alloc; top(4294967295)?, leaf]?)?;
-    Ok(())
+    is_refused(&rt, alloc, &[], "")?;
+    is_refused(&rt, alloc, &[], ";")?;
+    is_refused(&rt, alloc, &[2, 2], ";")?;
+    is_refused(&rt, alloc, &[1], ";,")?;
+    is_refused(&rt, alloc, &[0, 0], "")?;
+    is_refused(&rt, alloc, &[4294967295], ";")
 }
 
-#[test]
-fn equal_trees(rt: HostRuntime) -> Result<(), Fail> {
-    let alloc = rt.alloc();
-    let tokens = braces(alloc)?;
-    let again = TopSubtree::from_serialized(alloc, braces(alloc)?)?;
-    let tree = TopSubtree::from_serialized(alloc, tokens)?;
-    assert!(rt; tree == again);
+// The tree of the braces.
+fn braces_tree(alloc: Global) -> Result<TopSubtree, Fail> {
+    Ok(TopSubtree::from_serialized(alloc, braces(alloc)?)?)
+}
+
+// A copy of the tree is equal to it, and stored alike.
+fn is_copied(rt: &impl Abort, alloc: Global, tree: &TopSubtree) -> Result<(), Fail> {
     let copy = tree.clone(alloc)?;
-    assert!(rt; copy == tree);
+    assert!(rt; copy == *tree);
     assert_eq!(rt; copy.packed_bytes(), tree.packed_bytes());
     assert_eq!(rt; copy.span_part_table(), tree.span_part_table());
     assert_eq!(rt; copy.symbol_table(), tree.symbol_table());
@@ -216,20 +251,34 @@ fn equal_trees(rt: HostRuntime) -> Result<(), Fail> {
     Ok(())
 }
 
+#[test]
+fn equal_trees(rt: HostRuntime) -> Result<(), Fail> {
+    let alloc = rt.alloc();
+    let tree = braces_tree(alloc)?;
+    let again = braces_tree(alloc)?;
+    assert!(rt; tree == again);
+    is_copied(&rt, alloc, &tree)
+}
+
+// The first two trees are equal and hash alike, and the other one is told apart from them.
+fn hash_by_value(rt: &impl Abort, tree: &TopSubtree, again: &TopSubtree, other: &TopSubtree) {
+    assert!(rt; tree == again && tree != other);
+    for seed in SEEDS {
+        let (sip, fold) = hashes_of(tree, seed);
+        let (sip_again, fold_again) = hashes_of(again, seed);
+        assert!(rt; sip == sip_again && fold == fold_again);
+        let (other_sip, other_fold) = hashes_of(other, seed);
+        assert!(rt; sip != other_sip && fold != other_fold);
+    }
+}
+
 // The blocks of the second tree's symbols are others than those of the first one's.
 #[test]
 fn hashes_from_seeds(rt: HostRuntime) -> Result<(), Fail> {
     let alloc = rt.alloc();
-    let tree = TopSubtree::from_serialized(alloc, braces(alloc)?)?;
-    let again = TopSubtree::from_serialized(alloc, braces(alloc)?)?;
+    let tree = braces_tree(alloc)?;
+    let again = braces_tree(alloc)?;
     let other = TopSubtree::from_serialized(alloc, braces_of_another_context(alloc)?)?;
-    assert!(rt; tree == again && tree != other);
-    for seed in SEEDS {
-        let (sip, fold) = hashes_of(&tree, seed);
-        let (sip_again, fold_again) = hashes_of(&again, seed);
-        assert!(rt; sip == sip_again && fold == fold_again);
-        let (other_sip, other_fold) = hashes_of(&other, seed);
-        assert!(rt; sip != other_sip && fold != other_fold);
-    }
+    hash_by_value(&rt, &tree, &again, &other);
     Ok(())
 }

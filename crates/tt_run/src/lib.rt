@@ -23,6 +23,3 @@ pub use noted::Noted;
 pub use outcome::{End, RunFault};
 pub use session::run;
 pub use tt_language::{Command, Slot, View};
-
-#[cfg(test)]
-mod tests;

@@ -8,7 +8,7 @@ use std::test::Fail;
 use tt::{
     Delimiter, DelimiterKind, Ident, Leaf, LitKind, LiteralScan, Punct, Spacing, Span, SpanPart,
     Subtree, TextRange, TextSize, TokenTree, TokenTreesView, TopSubtree, TopSubtreeBuilder,
-    TransformTtAction, TtFault, debug_text, display_text, pretty, token_to_literal,
+    TransformTtAction, TtFault, TtIter, debug_text, display_text, pretty, token_to_literal,
 };
 
 // The text, and as many letters as are more than a suffix may have.
@@ -41,80 +41,59 @@ fn is_read_as(
 fn literals_from_scans(rt: HostRuntime) -> Result<(), Fail> {
     let alloc = rt.alloc();
     let number = Some((LiteralScan::Int, 1));
-    is_read_as(&rt, alloc, "1u8", number, LitKind::Integer, ("1", "u8"))?;
-    is_read_as(&rt, alloc, "1_", number, LitKind::Integer, ("1", ""))?;
-    let byte = LiteralScan::Byte { terminated: true };
-    is_read_as(
-        &rt,
-        alloc,
-        "b'x'",
-        Some((byte, 4)),
-        LitKind::Byte,
-        ("x", ""),
-    )?;
-    let string = LiteralScan::Str { terminated: false };
-    is_read_as(
-        &rt,
-        alloc,
-        "\"ab",
-        Some((string, 3)),
-        LitKind::Str,
-        ("ab", ""),
-    )?;
+    let byte = Some((LiteralScan::Byte { terminated: true }, 4));
+    let string = Some((LiteralScan::Str { terminated: false }, 3));
     let raw = Some((LiteralScan::RawStr { n_hashes: Some(1) }, 6));
-    is_read_as(&rt, alloc, "r#\"a\"#", raw, LitKind::StrRaw(1), ("a", ""))?;
-    let raw = Some((LiteralScan::RawCStr { n_hashes: Some(2) }, 9));
-    is_read_as(
-        &rt,
-        alloc,
-        "cr##\"a\"##",
-        raw,
-        LitKind::CStrRaw(2),
-        ("a", ""),
-    )?;
+    let raw_c = Some((LiteralScan::RawCStr { n_hashes: Some(2) }, 9));
     let char = Some((LiteralScan::Char { terminated: true }, 3));
-    is_read_as(&rt, alloc, "'a'u8", char, LitKind::Err(()), ("'a'u8", ""))?;
-    is_read_as(&rt, alloc, "x", None, LitKind::Err(()), ("x", ""))?;
+    let rows: [(&str, Option<(LiteralScan, u32)>, LitKind, &str, &str); 8] = [
+        ("1u8", number, LitKind::Integer, "1", "u8"),
+        ("1_", number, LitKind::Integer, "1", ""),
+        ("b'x'", byte, LitKind::Byte, "x", ""),
+        ("\"ab", string, LitKind::Str, "ab", ""),
+        ("r#\"a\"#", raw, LitKind::StrRaw(1), "a", ""),
+        ("cr##\"a\"##", raw_c, LitKind::CStrRaw(2), "a", ""),
+        ("'a'u8", char, LitKind::Err(()), "'a'u8", ""),
+        ("x", None, LitKind::Err(()), "x", ""),
+    ];
+    for (text, scan, kind, value, suffix) in rows {
+        is_read_as(&rt, alloc, text, scan, kind, (value, suffix))?;
+    }
     let long = with_long_suffix(alloc, "'a'")?;
     let text = long.as_str();
     is_read_as(&rt, alloc, text, char, LitKind::Err(()), (text, ""))
 }
 
+// The text is no literal by a scan up to that place.
+fn is_refused(
+    rt: &impl Abort,
+    alloc: Global,
+    text: &str,
+    scan: (LiteralScan, u32),
+    fault: TtFault,
+) {
+    let made = token_to_literal(alloc, text, span(0), Some(scan));
+    assert_eq!(rt; made, Err(fault), "{text}");
+}
+
 #[test]
 fn scans_that_are_refused(rt: HostRuntime) -> Result<(), Fail> {
     let alloc = rt.alloc();
-    let long_number = with_long_suffix(alloc, "1")?;
-    let refused = [
-        ("1", LiteralScan::Int, 2, TtFault::BadScan),
-        ("\u{e9}", LiteralScan::Int, 1, TtFault::BadScan),
-        (
-            "'",
-            LiteralScan::Char { terminated: true },
-            1,
-            TtFault::BadScan,
-        ),
-        (
-            "r\"",
-            LiteralScan::RawStr { n_hashes: None },
-            2,
-            TtFault::BadScan,
-        ),
-        (
-            long_number.as_str(),
-            LiteralScan::Int,
-            1,
-            TtFault::SuffixTooLong,
-        ),
-        (
-            long_number.as_str(),
-            LiteralScan::Int,
-            300,
-            TtFault::BadScan,
-        ),
+    let character = LiteralScan::Char { terminated: true };
+    let raw = LiteralScan::RawStr { n_hashes: None };
+    let rows = [
+        ("1", LiteralScan::Int, 2),
+        ("\u{e9}", LiteralScan::Int, 1),
+        ("'", character, 1),
+        ("r\"", raw, 2),
     ];
-    for (text, scan, place, fault) in refused {
-        let made = token_to_literal(alloc, text, span(0), Some((scan, place)));
-        assert_eq!(rt; made, Err(fault), "{text}");
+    for (text, scan, place) in rows {
+        is_refused(&rt, alloc, text, (scan, place), TtFault::BadScan);
+    }
+    let long = with_long_suffix(alloc, "1")?;
+    let text = long.as_str();
+    for (place, fault) in [(1, TtFault::SuffixTooLong), (300, TtFault::BadScan)] {
+        is_refused(&rt, alloc, text, (LiteralScan::Int, place), fault);
     }
     Ok(())
 }
@@ -158,20 +137,18 @@ fn print_as(
     Ok(())
 }
 
+// That token between the idents `a` and `b`.
+fn between(alloc: Global, token: TokenTree) -> Result<TopSubtree, Fail> {
+    let tokens = [ident(alloc, "a", 1, 2)?, token, ident(alloc, "b", 3, 4)?];
+    under(alloc, &tokens)
+}
+
 #[test]
 fn spaces_between_siblings(rt: HostRuntime) -> Result<(), Fail> {
     let alloc = rt.alloc();
-    let plus = punct('+', Spacing::JointHidden);
-    let sum = under(
-        alloc,
-        &[ident(alloc, "a", 1, 2)?, plus, ident(alloc, "b", 3, 4)?],
-    )?;
+    let sum = between(alloc, punct('+', Spacing::JointHidden))?;
     print_as(&rt, alloc, sum.token_trees(), "a +b", "a + b")?;
-    let nothing = header(DelimiterKind::Invisible, 0);
-    let gap = under(
-        alloc,
-        &[ident(alloc, "a", 1, 2)?, nothing, ident(alloc, "b", 3, 4)?],
-    )?;
+    let gap = between(alloc, header(DelimiterKind::Invisible, 0))?;
     print_as(&rt, alloc, gap.token_trees(), "a  b", "a  b")
 }
 
@@ -179,9 +156,8 @@ fn spaces_between_siblings(rt: HostRuntime) -> Result<(), Fail> {
 const LINES: &str =
     "SUBTREE () 0:0@0..1#0 0:0@3..4#0\n  IDENT   a 0:0@1..2#0\n  PUNCH   ; [alone] 0:0@2..3#0";
 
-#[test]
-fn lines_of_tokens(rt: HostRuntime) -> Result<(), Fail> {
-    let alloc = rt.alloc();
+// Parentheses over an ident and a punct.
+fn of_three_lines(alloc: Global) -> Result<TopSubtree, Fail> {
     let semicolon = Leaf::from(Punct {
         char: ';',
         spacing: Spacing::Alone,
@@ -189,10 +165,21 @@ fn lines_of_tokens(rt: HostRuntime) -> Result<(), Fail> {
     });
     let top = header(DelimiterKind::Parenthesis, 2);
     let tokens = vec![in alloc; top, ident(alloc, "a", 1, 2)?, semicolon.into()]?;
-    let tree = TopSubtree::from_serialized(alloc, tokens)?;
-    assert_eq!(rt; debug_text(alloc, tree.as_token_trees())?.as_str(), LINES);
-    assert_eq!(rt; format!(in alloc; "{tree:?}")?.as_str(), LINES);
+    Ok(TopSubtree::from_serialized(alloc, tokens)?)
+}
+
+// Debug writes these lines of a tree, with and without a stack of its own.
+fn has_lines(rt: &impl Abort, alloc: Global, tree: &TopSubtree, lines: &str) -> Result<(), Fail> {
+    assert_eq!(rt; debug_text(alloc, tree.as_token_trees())?.as_str(), lines);
+    assert_eq!(rt; format!(in alloc; "{tree:?}")?.as_str(), lines);
     Ok(())
+}
+
+#[test]
+fn lines_of_tokens(rt: HostRuntime) -> Result<(), Fail> {
+    let alloc = rt.alloc();
+    let tree = of_three_lines(alloc)?;
+    has_lines(&rt, alloc, &tree, LINES)
 }
 
 // The Debug text of a builder says what it is.
@@ -219,18 +206,34 @@ fn tell_their_trees(rt: &impl Abort, alloc: Global, trees: TokenTreesView<'_>) -
     Ok(())
 }
 
-#[test]
-fn debug_texts(rt: HostRuntime) -> Result<(), Fail> {
-    let alloc = rt.alloc();
-    let tree = under(alloc, &[ident(alloc, "r#a", 1, 4)?])?;
-    let lines = debug_text(alloc, tree.as_token_trees())?;
+// The last line of a tree says that it is a raw ident.
+fn ends_in_a_raw_ident(
+    rt: &impl Abort,
+    alloc: Global,
+    trees: TokenTreesView<'_>,
+) -> Result<(), Fail> {
+    let lines = debug_text(alloc, trees)?;
     assert!(rt; lines.as_str().ends_with("\n  IDENT   r#a 0:0@1..4#0"));
-    // Of an iterator, an element and a builder no more is fixed than that they say what they are.
-    let mut siblings = tree.iter();
+    Ok(())
+}
+
+// The Debug texts of an iterator over a leaf, and of what it gives, say what these are.
+fn are_told_as_siblings(rt: &impl Abort, alloc: Global, siblings: TtIter<'_>) -> Result<(), Fail> {
+    let mut siblings = siblings;
     let text = format!(in alloc; "{siblings:?}")?;
     assert!(rt; text.as_str().starts_with("TtIter"));
     let text = format!(in alloc; "{:?}", siblings.next())?;
     assert!(rt; text.as_str().starts_with("Some(Leaf"));
+    Ok(())
+}
+
+#[test]
+fn debug_texts(rt: HostRuntime) -> Result<(), Fail> {
+    let alloc = rt.alloc();
+    let tree = under(alloc, &[ident(alloc, "r#a", 1, 4)?])?;
+    ends_in_a_raw_ident(&rt, alloc, tree.as_token_trees())?;
+    // Of an iterator, an element and a builder no more is fixed than that they say what they are.
+    are_told_as_siblings(&rt, alloc, tree.iter())?;
     is_told_as_a_builder(&rt, alloc)?;
     tell_their_trees(&rt, alloc, tree.token_trees())
 }

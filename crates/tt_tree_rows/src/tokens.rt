@@ -1,5 +1,6 @@
 //! Tokens to make trees of.
 use std::alloc::Global;
+use std::process::Abort;
 use std::test::Fail;
 use tt::{
     Delimiter, DelimiterKind, ErasedFileAstId, Ident, Leaf, Punct, Spacing, Span, SpanPart,
@@ -19,20 +20,29 @@ pub(crate) fn span_with(id: u32) -> Span {
     span
 }
 
-/// A punct at offset 0.
-pub(crate) fn punct(char: char, spacing: Spacing) -> TokenTree {
+/// A punct at offset 0, as a leaf.
+pub(crate) fn punct_leaf(char: char, spacing: Spacing) -> Leaf {
     let span = span(0);
     Leaf::from(Punct {
         char,
         spacing,
         span,
     })
-    .into()
+}
+
+/// A punct at offset 0.
+pub(crate) fn punct(char: char, spacing: Spacing) -> TokenTree {
+    punct_leaf(char, spacing).into()
+}
+
+/// An ident at that offset, as a leaf.
+pub(crate) fn ident_leaf(alloc: Global, text: &str, start: u32) -> Result<Leaf, Fail> {
+    Ok(Leaf::from(Ident::new(alloc, text, span(start))?))
 }
 
 /// An ident at that offset.
 pub(crate) fn ident(alloc: Global, text: &str, start: u32) -> Result<TokenTree, Fail> {
-    Ok(Leaf::from(Ident::new(alloc, text, span(start))?).into())
+    Ok(ident_leaf(alloc, text, start)?.into())
 }
 
 /// The header of a subtree of that kind, which opens and closes at those offsets and holds so many tokens.
@@ -59,6 +69,18 @@ pub(crate) fn under(alloc: Global, below: &[TokenTree]) -> Result<TopSubtree, Fa
         tokens.push(token.clone()?)?;
     }
     Ok(TopSubtree::from_serialized(alloc, tokens)?)
+}
+
+/// The tree is that of these tokens under an invisible delimiter.
+pub(crate) fn is_under(
+    rt: &impl Abort,
+    alloc: Global,
+    tree: &TopSubtree,
+    below: &[TokenTree],
+) -> Result<(), Fail> {
+    let expected = under(alloc, below)?;
+    assert!(rt; *tree == expected);
+    Ok(())
 }
 
 /// The ids of the stored span parts.

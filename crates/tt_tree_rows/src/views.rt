@@ -1,9 +1,9 @@
 //! Views: pieces, the last span, leaves under a delimiter, and one step for each sibling.
-use crate::tokens::{ident, parentheses, punct, span, under};
+use crate::tokens::{ident, ident_leaf, is_under, parentheses, punct, punct_leaf, span, under};
 use std::alloc::Global;
 use std::process::Abort;
 use std::test::Fail;
-use tt::{DelimSpan, Leaf, Spacing, TokenTree, TokenTreesView, TopSubtree, TtElement};
+use tt::{DelimSpan, Leaf, Spacing, TokenTree, TokenTreesView, TopSubtree, TtElement, TtIter};
 
 // Whether the element is a comma.
 fn is_comma(element: TtElement<'_>) -> bool {
@@ -13,8 +13,8 @@ fn is_comma(element: TtElement<'_>) -> bool {
     }
 }
 
-// The pieces of idents and commas, cut at the commas, have these lengths. Any other character stands for an ident.
-fn has_pieces(rt: &impl Abort, alloc: Global, text: &str, lengths: &[usize]) -> Result<(), Fail> {
+// A comma for each comma of a text, and an ident for any other character.
+fn idents_and_commas(alloc: Global, text: &str) -> Result<Vec<TokenTree>, Fail> {
     let mut tokens = Vec::new(alloc);
     for char in text.chars() {
         let token = match char {
@@ -23,13 +23,35 @@ fn has_pieces(rt: &impl Abort, alloc: Global, text: &str, lengths: &[usize]) -> 
         };
         tokens.push(token)?;
     }
-    let tree = under(alloc, &tokens)?;
+    Ok(tokens)
+}
+
+// The lengths of the pieces of a view that is cut at the commas.
+fn piece_lengths(alloc: Global, trees: TokenTreesView<'_>) -> Result<Vec<usize>, Fail> {
     let mut found = Vec::new(alloc);
-    for piece in tree.token_trees().split(is_comma) {
+    for piece in trees.split(is_comma) {
         found.push(piece.len())?;
     }
+    Ok(found)
+}
+
+// The pieces of a view that is cut at the commas have these lengths.
+fn is_cut_into(
+    rt: &impl Abort,
+    alloc: Global,
+    trees: TokenTreesView<'_>,
+    lengths: &[usize],
+) -> Result<(), Fail> {
+    let found = piece_lengths(alloc, trees)?;
     assert_eq!(rt; found.as_slice(), lengths);
     Ok(())
+}
+
+// The pieces of idents and commas, cut at the commas, have these lengths.
+fn has_pieces(rt: &impl Abort, alloc: Global, text: &str, lengths: &[usize]) -> Result<(), Fail> {
+    let tokens = idents_and_commas(alloc, text)?;
+    let tree = under(alloc, &tokens)?;
+    is_cut_into(rt, alloc, tree.token_trees(), lengths)
 }
 
 #[test]
@@ -40,15 +62,33 @@ fn pieces(rt: HostRuntime) -> Result<(), Fail> {
     has_pieces(&rt, alloc, "", &[0])
 }
 
+// The last span below an invisible top over these tokens is the empty one at that offset.
+fn ends_at(rt: &impl Abort, alloc: Global, below: &[TokenTree], end: u32) -> Result<(), Fail> {
+    let tree = under(alloc, below)?;
+    assert_eq!(rt; tree.token_trees().last_span(), Some(span(end)));
+    Ok(())
+}
+
 #[test]
 fn last_spans(rt: HostRuntime) -> Result<(), Fail> {
     let alloc = rt.alloc();
-    let tree = under(alloc, &[parentheses(1, 9, 1), ident(alloc, "a", 5)?])?;
-    assert_eq!(rt; tree.token_trees().last_span(), Some(span(5)));
-    let tree = under(alloc, &[parentheses(1, 9, 0)])?;
-    assert_eq!(rt; tree.token_trees().last_span(), Some(span(9)));
+    let over_one = [parentheses(1, 9, 1), ident(alloc, "a", 5)?];
+    ends_at(&rt, alloc, &over_one, 5)?;
+    ends_at(&rt, alloc, &[parentheses(1, 9, 0)], 9)?;
     assert_eq!(rt; TokenTreesView::empty().last_span(), None);
     Ok(())
+}
+
+// A tree that is made of leaves alone.
+fn of_leaves(alloc: Global) -> Result<TopSubtree, Fail> {
+    let leaves = [ident_leaf(alloc, "a", 1)?, punct_leaf(',', Spacing::Alone)];
+    Ok(TopSubtree::invisible_from_leaves(alloc, span(0), leaves)?)
+}
+
+// The tokens of that tree.
+fn is_of_leaves(rt: &impl Abort, alloc: Global, tree: &TopSubtree) -> Result<(), Fail> {
+    let tokens = [ident(alloc, "a", 1)?, punct(',', Spacing::Alone)];
+    is_under(rt, alloc, tree, &tokens)
 }
 
 // What the makers give that take no list, beside the trees of lists.
@@ -56,31 +96,26 @@ fn last_spans(rt: HostRuntime) -> Result<(), Fail> {
 fn trees_without_a_list(rt: HostRuntime) -> Result<(), Fail> {
     let alloc = rt.alloc();
     let empty = TopSubtree::empty(alloc, DelimSpan::from_single(span(0)))?;
-    assert!(rt; empty == under(alloc, &[])?);
-    let a = ident(alloc, "a", 1)?;
-    let comma = punct(',', Spacing::Alone);
-    let tree = under(alloc, &[a.clone()?, comma.clone()?])?;
-    let (TokenTree::Leaf(a), TokenTree::Leaf(comma)) = (a, comma) else {
-        return Err(Fail::new("no leaves"));
-    };
-    let made = TopSubtree::invisible_from_leaves(alloc, span(0), [a, comma])?;
-    assert!(rt; made == tree);
-    Ok(())
+    is_under(&rt, alloc, &empty, &[])?;
+    is_of_leaves(&rt, alloc, &of_leaves(alloc)?)
 }
 
-#[test]
-fn one_step_a_sibling(rt: HostRuntime) -> Result<(), Fail> {
-    let alloc = rt.alloc();
+// So many parentheses over an ident and a punct.
+fn groups(alloc: Global, count: u32) -> Result<Vec<TokenTree>, Fail> {
     let mut tokens = Vec::new(alloc);
-    for _ in 0..200u32 {
+    for _ in 0..count {
         tokens.push(parentheses(0, 3, 2))?;
         tokens.push(ident(alloc, "a", 1)?)?;
         tokens.push(punct(';', Spacing::Alone))?;
     }
-    let tree = under(alloc, &tokens)?;
-    let mut siblings = tree.iter();
+    Ok(tokens)
+}
+
+// The siblings are so many subtrees of two tokens, of which each is passed by one step.
+fn are_groups(rt: &impl Abort, siblings: TtIter<'_>, count: u64) -> Result<(), Fail> {
+    let mut siblings = siblings;
     let start = siblings.steps();
-    for passed in 0..200u64 {
+    for passed in 0..count {
         assert_eq!(rt; siblings.steps().wrapping_sub(start), passed);
         let Some(TtElement::Subtree(subtree, _)) = siblings.next() else {
             return Err(Fail::new("no subtree"));
@@ -88,6 +123,14 @@ fn one_step_a_sibling(rt: HostRuntime) -> Result<(), Fail> {
         assert_eq!(rt; subtree.count(), 2);
     }
     assert!(rt; siblings.next().is_none());
-    assert_eq!(rt; siblings.steps().wrapping_sub(start), 200);
+    assert_eq!(rt; siblings.steps().wrapping_sub(start), count);
     Ok(())
+}
+
+#[test]
+fn one_step_a_sibling(rt: HostRuntime) -> Result<(), Fail> {
+    let alloc = rt.alloc();
+    let tokens = groups(alloc, 200)?;
+    let tree = under(alloc, &tokens)?;
+    are_groups(&rt, tree.iter(), 200)
 }

@@ -71,7 +71,7 @@ impl<W: Word + Drop> Part for Many<W> {
             items.push(word)?;
             rest = more;
         }
-        Ok(Some(Many { items }))
+        Ok(Some(Many::new(items)))
     }
 }
 

@@ -1,4 +1,4 @@
-use Rattle.std.proofs.Common.{◌≡◌, ◌+◌, ◌≤◌, ◌++◌, length, ap, ◌∙◌, arith}
+use Rattle.std.proofs.Common.{◌+◌, ◌≤◌, ◌++◌, length, ap, ◌∙◌, arith}
 use Rattle.tt_codec.specs.Overwriting.{overwritten}
 use Rattle.tt_codec.specs.SpanNumbers.{word}
 use Rattle.tt_codec.proofs.Overwriting.{overwritten_twice}

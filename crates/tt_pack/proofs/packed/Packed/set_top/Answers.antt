@@ -1,11 +1,6 @@
-use Rattle.std.proofs.Common.{rules, vec_len, ◌≡◌, ◌+◌, ◌-◌, ◌<◌, ◌≤◌, ◌++◌, ◌∷◌, [], length, take, drop, set, true, ap, ap₂, subst, ◌∙◌, arith}
+use Rattle.std.proofs.Common.{rules, vec_len, ◌≡◌, ◌+◌, ◌-◌, ◌++◌, length, take, drop, set, true, ap, ap₂, subst, ◌∙◌, arith}
 use Rattle.std.proofs.Math.Seq.{take-append_seam}
-use Rattle.tt_base.specs.Fits.{TokenInRange}
-use Rattle.tt_base.specs.Forest.{size, header, flat}
-use Rattle.tt_base.specs.Span.{part_of}
-use Rattle.tt_codec.specs.Header.{format_4, top_entry}
-use Rattle.tt_tables.specs.Stored.{bytes_below}
-use Rattle.tt_tables.specs.Tables.{part_table}
+use Rattle.tt_codec.specs.Header.{format_4}
 use Rattle.tt_tables.specs.Meaning.{IsStored}
 use Rattle.tt_tables.proofs.StoredAlike.{length-root_parts, meaning_is}
 use Rattle.tt_tables.proofs.TopSet.{len_is, bytes_count, parts_count, top_set}

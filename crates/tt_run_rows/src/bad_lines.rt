@@ -1,0 +1,182 @@
+//! Lines that are no command.
+use std::test::Fail;
+use tt_language::Command;
+
+// Lines that are no command, each for one rule of `docs/LANGUAGE.md`: a text for each topic, a line feed between rows.
+const BAD_LINES: [&[u8]; 11] = [
+    // No command.
+    b"\n\
+      \x20\n\
+      item\n\
+      item \n\
+      list\n\
+      Item ident plain 0:0@0..1#0 a\n\
+      LIST 0\n\
+      lists 0\n\
+      clear \n\
+      clear 0\n\
+      clears\n\
+      pretty 16\n\
+      \x20list 0",
+    // Trees that are changed.
+    b"kind 0\n\
+      kind 16 paren\n\
+      kind 0 round\n\
+      kind 0 paren \n\
+      spans 0 0:0@0..1#0\n\
+      spans 0 0:0@0..1#0 0:0@1..0#0\n\
+      spans 0 0:0@0..1#0 0:0@3..4#0 0:0@4..5#0\n\
+      set 0 0\n\
+      set 0 -1 punct alone 0:0@0..1#0 ;\n\
+      set 0 4294967296 punct alone 0:0@0..1#0 ;\n\
+      set 0 0 sub paren 0:0@0..1#0 0:0@3..4#0 0\n\
+      ids\n\
+      ids 0 \n\
+      ids 0 01\n\
+      ids 0 1  2\n\
+      ids 0 4294967296\n\
+      rewrite\n\
+      rewrite 0 \n\
+      rewrite 0 put\n\
+      rewrite 0 put:\n\
+      rewrite 0 put:16\n\
+      rewrite 0 put:01\n\
+      rewrite 0 put: 1\n\
+      rewrite 0 Keep\n\
+      rewrite 0 keep  remove\n\
+      rewrite 0 keep ",
+    // Slots.
+    b"list \n\
+      list 16\n\
+      list 00\n\
+      list 07\n\
+      list +1\n\
+      list -1\n\
+      list 1a\n\
+      list  1\n\
+      list 1 \n\
+      list 1\r\n\
+      list 1 2\n\
+      show 99999999999999999999\n\
+      equal 1\n\
+      equal 1  2\n\
+      equal 1 2 \n\
+      equal 1 2 3\n\
+      equal 16 0\n\
+      equal 0 16\n\
+      copy 0\n\
+      copy 0 16\n\
+      copy 0 1 2\n\
+      flat\n\
+      siblings 0 0\n\
+      bytes 16\n\
+      parts 0 \n\
+      symbols\n\
+      split 0\n\
+      split 0 \n\
+      split 0 ;;\n\
+      split 16 ;",
+    // Commands of the builder.
+    b"new paren 0:0@0..0#0\n\
+      new round 0:0@0..0#0 0:0@0..0#0\n\
+      new paren 0:0@0..0#0 0:0@0..0#0 0\n\
+      open paren\n\
+      open paren 0:0@1..0#0\n\
+      push sub paren 0:0@0..1#0 0:0@3..4#0 2\n\
+      push\n\
+      close\n\
+      close \n\
+      append 16\n\
+      alone\n\
+      unwrap \n\
+      point 0\n\
+      restore\n\
+      restore 18446744073709551616\n\
+      restore 99999999999999999999\n\
+      restore 100000000000000000000\n\
+      restore 00\n\
+      restore +1\n\
+      expected 0\n\
+      build 16\n\
+      skip 0 1",
+    // Spans.
+    b"item ident plain 0:0@1..0#0 a\n\
+      item ident plain 00:0@0..1#0 a\n\
+      item ident plain 0:01@0..1#0 a\n\
+      item ident plain 0:0@+0..1#0 a\n\
+      item ident plain 4294967296:0@0..1#0 a\n\
+      item ident plain 0:0@0..4294967296#0 a\n\
+      item ident plain 0:0@0.1#0 a\n\
+      item ident plain 0:0@0...1#0 a\n\
+      item ident plain 0:0@0..1 a\n\
+      item ident plain 0:0@0..1# a\n\
+      item ident plain 0@0..1#0 a",
+    // Heads.
+    b"item sub round 0:0@0..1#0 0:0@3..4#0 2\n\
+      item sub Paren 0:0@0..1#0 0:0@3..4#0 2\n\
+      item sub paren 0:0@0..1#0 0:0@3..4#0\n\
+      item sub paren 0:0@0..1#0 0:0@3..4#0 4294967296\n\
+      item sub paren 0:0@0..1#0 0:0@3..4#0 2 \n\
+      item sub paren 0:0@0..1#0  0:0@3..4#0 2",
+    // Puncts.
+    b"item punct alone 0:0@0..1#0\n\
+      item punct alone 0:0@0..1#0 \n\
+      item punct alone 0:0@0..1#0 ;;\n\
+      item punct single 0:0@0..1#0 ;",
+    // Idents.
+    b"item ident plain 0:0@0..1#0\n\
+      item ident r# 0:0@0..1#0 a",
+    // Literals.
+    b"item lit int 0 0:0@0..1#0\n\
+      item lit int 1 0:0@0..1#0 \xc3\xa9\n\
+      item lit int 3 0:0@0..1#0 \xc3\xa9\n\
+      item lit int 256 0:0@0..1#0 \xc3\xa9\n\
+      item lit int 01 0:0@0..1#0 1u\n\
+      item lit rstr 0 0:0@0..1#0 a\n\
+      item lit rstr: 0 0:0@0..1#0 a\n\
+      item lit rbstr:256 0 0:0@0..1#0 a\n\
+      item lit str:1 0 0:0@0..1#0 a",
+    // One space parts words, and nothing else does.
+    b"show\t0\n\
+      show 0\r\n\
+      show  0\n\
+      show \n\
+      item punct alone 0:0@0..1#0 ;\r\n\
+      item ident Raw 0:0@0..1#0 a",
+    // UTF-8.
+    b"\xff\n\
+      show \xff\n\
+      item ident plain 0:0@0..1#0 \xff\n\
+      item punct alone 0:0@0..1#0 \xff\n\
+      item lit str 0 0:0@0..1#0 a\xc3",
+];
+
+const ROWS: u32 = 134;
+
+#[test]
+fn stand_for_nothing(rt: HostRuntime) -> Result<(), Fail> {
+    let mut rows = 0_u32;
+    for text in BAD_LINES {
+        for bad in text.split(|byte| *byte == b'\n') {
+            assert_eq!(rt; Command::parse(rt.alloc(), bad)?, None, "{bad:?}");
+            rows = rows.saturating_add(1);
+        }
+    }
+    assert_eq!(rt; rows, ROWS);
+    Ok(())
+}
+
+// A line feed ends a line, in a text too.
+#[test]
+fn a_line_feed_is_in_no_command(rt: HostRuntime) -> Result<(), Fail> {
+    let texts: [&[u8]; 4] = [
+        b"item ident plain 0:0@0..1#0 a\nb",
+        b"item punct alone 0:0@0..1#0 \n",
+        b"show 0\n",
+        b"\nshow 0",
+    ];
+    for text in texts {
+        assert_eq!(rt; Command::parse(rt.alloc(), text)?, None, "{text:?}");
+    }
+    Ok(())
+}

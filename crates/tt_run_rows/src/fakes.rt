@@ -1,0 +1,109 @@
+//! A reader and a writer that fail where they are told to.
+use std::alloc::Global;
+use std::io::{Error, ErrorKind, Read, Result, Write};
+
+/// A reader that gives one byte a read, and fails at one of its reads.
+#[derive(Drop)]
+pub struct FakeReader<'a> {
+    rest: &'a [u8],
+    reads: u64,
+    fails_at: Option<u64>,
+    kind: ErrorKind,
+}
+
+impl<'a> FakeReader<'a> {
+    /// A reader that does not fail.
+    pub fn new(text: &'a [u8]) -> FakeReader<'a> {
+        FakeReader {
+            rest: text,
+            reads: 0,
+            fails_at: None,
+            kind: ErrorKind::Other,
+        }
+    }
+
+    /// A reader whose read of this number, from 1 on, gives an error.
+    pub fn failing(text: &'a [u8], at: u64, kind: ErrorKind) -> FakeReader<'a> {
+        FakeReader {
+            rest: text,
+            reads: 0,
+            fails_at: Some(at),
+            kind,
+        }
+    }
+}
+
+impl Read for FakeReader<'_> {
+    fn read(&mut self, buf: &mut [u8]) -> Result<usize> {
+        self.reads = self.reads.saturating_add(1);
+        if self.fails_at == Some(self.reads) {
+            return Err(Error::new(self.kind, "a fake failure"));
+        }
+        if let Some((first, rest)) = self.rest.split_first() {
+            if let Some(place) = buf.first_mut() {
+                *place = *first;
+                self.rest = rest;
+                return Ok(1);
+            }
+        }
+        Ok(0)
+    }
+}
+
+/// At which call, from 1 on, a `FakeWriter` fails, and how.
+#[derive(Clone, Copy, Debug, PartialEq, Eq)]
+pub enum WriteFailure {
+    Never,
+    Error(u64),
+    NoByte(u64),
+    Flush(u64),
+}
+
+/// A writer that takes three bytes a write.
+#[derive(Drop)]
+pub struct FakeWriter {
+    taken: Vec<u8>,
+    writes: u64,
+    flushes: u64,
+    failure: WriteFailure,
+}
+
+impl FakeWriter {
+    /// A writer that took nothing yet, and fails so.
+    pub fn new(alloc: Global, failure: WriteFailure) -> FakeWriter {
+        FakeWriter {
+            taken: Vec::new(alloc),
+            writes: 0,
+            flushes: 0,
+            failure,
+        }
+    }
+
+    /// What was taken.
+    pub fn into_taken(self) -> Vec<u8> {
+        self.taken
+    }
+}
+
+impl Write for FakeWriter {
+    fn write(&mut self, buf: &[u8]) -> Result<usize> {
+        self.writes = self.writes.saturating_add(1);
+        if self.failure == WriteFailure::Error(self.writes) {
+            return Err(Error::new(ErrorKind::Interrupted, "a fake failure"));
+        }
+        if self.failure == WriteFailure::NoByte(self.writes) {
+            return Ok(0);
+        }
+        let n = buf.len().min(3);
+        self.taken.extend_from_slice(&buf[..n])?;
+        Ok(n)
+    }
+
+    fn flush(&mut self) -> Result<()> {
+        self.flushes = self.flushes.saturating_add(1);
+        if self.failure == WriteFailure::Flush(self.flushes) {
+            return Err(Error::new(ErrorKind::Other, "a fake failure"));
+        }
+        Ok(())
+    }
+}

@@ -1,0 +1,241 @@
+//! Headers in each format, and at its limits.
+ghost use Rattle.std.specs.Prelude.{◌<◌, ◌^◌};
+ghost use Rattle.tt_codec.specs.Header.{HeaderFits};
+
+use crate::written::{is_read, is_written};
+use std::alloc::Global;
+use std::process::Abort;
+use std::test::Fail;
+use tt_base::DelimiterKind;
+use tt_codec::{BackBuf, Entry, HeaderEntry, SpanNumbers};
+
+// The part, the start and the length of a span.
+type Spot = (u8, u32, u32);
+
+// The span of these numbers.
+fn numbers(spot: Spot) -> SpanNumbers
+    ensures { result.part < 2 ^ 28 }
+{
+    SpanNumbers {
+        part: spot.0 as u32,
+        start: spot.1,
+        length: spot.2,
+    }
+}
+
+// A header that opens and closes there, and holds so many tokens in so many bytes.
+fn header(kind: DelimiterKind, opening: Spot, closing: Spot, children: (u32, u32)) -> HeaderEntry
+    ensures { HeaderFits result }
+{
+    HeaderEntry {
+        opening: numbers(opening),
+        closing: numbers(closing),
+        kind,
+        len: children.0,
+        child_bytes: children.1,
+    }
+}
+
+// Parentheses with so many tokens in so many bytes between them.
+fn are_parentheses(
+    rt: &impl Abort,
+    alloc: Global,
+    opening: Spot,
+    closing: Spot,
+    children: (u32, u32),
+    bytes: &[u8],
+) -> Result<(), Fail> {
+    let header = header(DelimiterKind::Parenthesis, opening, closing, children);
+    is_written(rt, alloc, Entry::Header(header), bytes)
+}
+
+#[test]
+fn delimiters_of_one_length(rt: HostRuntime) -> Result<(), Fail> {
+    let alloc = rt.alloc();
+    let cases: [(Spot, Spot, &[u8]); 10] = [
+        ((0, 0, 1), (0, 1, 1), b"\x40\x00\x00\x00\x00\x00\x00"),
+        ((0, 0, 1), (0, 255, 1), b"\xc0\x3f\x00\x00\x00\x00\x00"),
+        ((0, 0, 1), (0, 256, 1), b"\x00\x00\x00\x00\x20\x00\x00"),
+        ((0, 0, 1), (0, 300, 1), b"\x00\x0b\x00\x00\x20\x00\x00"),
+        ((0, 0, 1), (0, 2047, 1), b"\xc0\x3f\x00\x00\xe0\x00\x00"),
+        (
+            (0, 0, 1),
+            (0, 2048, 1),
+            b"\x40\x00\x00\x00\x05\x40\x00\x00\x04\x00\x00\x00\x00\x00\x00\x00\x00",
+        ),
+        ((0, 0, 2), (0, 7, 2), b"\x80\x00\x00\x00\xe1\x00\x00"),
+        (
+            (0, 0, 2),
+            (0, 8, 2),
+            b"\x80\x00\x00\x00\x02\x08\x00\x00\x00",
+        ),
+        (
+            (0, 0, 2),
+            (0, 255, 2),
+            b"\x80\x00\x00\x00\x02\xff\x00\x00\x00",
+        ),
+        (
+            (0, 0, 2),
+            (0, 256, 2),
+            b"\x80\x00\x00\x00\x05\x80\x00\x80\x00\x00\x00\x00\x00\x00\x00\x00\x00",
+        ),
+    ];
+    for (opening, closing, bytes) in cases {
+        are_parentheses(&rt, alloc, opening, closing, (0, 0), bytes)?;
+    }
+    Ok(())
+}
+
+// The first two rows have two lengths, and a close before the open.
+#[test]
+fn other_delimiters_and_parts(rt: HostRuntime) -> Result<(), Fail> {
+    let alloc = rt.alloc();
+    let cases: [(Spot, Spot, &[u8]); 6] = [
+        (
+            (0, 0, 1),
+            (0, 1, 2),
+            b"\x40\x00\x00\x00\x05\x80\x80\x00\x00\x00\x00\x00\x00\x00\x00\x00\x00",
+        ),
+        (
+            (0, 5, 1),
+            (0, 0, 1),
+            b"\x40\x80\x02\x00\x05\x40\x00\x00\x00\x00\x00\x00\x00\x00\x00\x00\x00",
+        ),
+        (
+            (0, 10, 1),
+            (1, 20, 1),
+            b"\x40\x00\x05\x00\x22\x0a\x00\x00\x00",
+        ),
+        (
+            (0, 0, 1),
+            (127, 1, 1),
+            b"\x40\x00\x00\x00\xe2\x01\x00\x0f\x00",
+        ),
+        (
+            (0, 0, 1),
+            (128, 1, 1),
+            b"\x40\x00\x00\x00\x05\x40\xc0\x00\x00\x10\x00\x00\x00\x00\x00\x00\x00\x00\x00\x00\x00",
+        ),
+        (
+            (200, 0, 1),
+            (200, 1, 1),
+            b"\x60\x40\x00\x00\x18\x00\x00\x00\x00\x00\x00",
+        ),
+    ];
+    for (opening, closing, bytes) in cases {
+        are_parentheses(&rt, alloc, opening, closing, (0, 0), bytes)?;
+    }
+    Ok(())
+}
+
+// The length of both delimiters and the distance of the two stand first: they fit the first format, the second or the third.
+#[test]
+fn tokens_in_three_formats_and_past_them(rt: HostRuntime) -> Result<(), Fail> {
+    let alloc = rt.alloc();
+    let cases: [((u32, u32), (u32, u32), &[u8]); 13] = [
+        ((1, 1), (51, 255), b"\x40\x00\x00\x00\x00\x33\xff"),
+        ((1, 1), (52, 260), b"\x40\x00\x00\x00\x02\x01\x34\x40\x10"),
+        ((1, 1), (0, 256), b"\x40\x00\x00\x00\x02\x01\x00\x00\x10"),
+        ((1, 1), (255, 0), b"\x40\x00\x00\x00\x00\xff\x00"),
+        (
+            (1, 1),
+            (256, 0),
+            b"\x40\x00\x00\x00\x05\x40\x80\x00\x00\x00\x01\x00\x00\x00\x00\x00\x00",
+        ),
+        ((2, 7), (255, 0), b"\x80\x00\x00\x00\xe1\xff\x00"),
+        (
+            (2, 7),
+            (256, 0),
+            b"\x80\x00\x00\x00\x05\x80\x80\x03\x00\x00\x01\x00\x00\x00\x00\x00\x00",
+        ),
+        ((2, 7), (0, 255), b"\x80\x00\x00\x00\xe1\x00\xff"),
+        ((2, 7), (0, 256), b"\x80\x00\x00\x00\x02\x07\x00\x00\x10"),
+        ((2, 8), (255, 0), b"\x80\x00\x00\x00\x02\x08\xff\x00\x00"),
+        (
+            (2, 8),
+            (256, 0),
+            b"\x80\x00\x00\x00\x05\x80\x00\x04\x00\x00\x01\x00\x00\x00\x00\x00\x00",
+        ),
+        ((2, 8), (0, 4095), b"\x80\x00\x00\x00\x02\x08\x00\xf0\xff"),
+        (
+            (2, 8),
+            (0, 4096),
+            b"\x80\x00\x00\x00\x05\x80\x00\x04\x00\x00\x00\x00\x00\x00\x10\x00\x00",
+        ),
+    ];
+    for ((length, distance), children, bytes) in cases {
+        let closing = (0, distance, length);
+        are_parentheses(&rt, alloc, (0, 0, length), closing, children, bytes)?;
+    }
+    Ok(())
+}
+
+#[test]
+fn kinds(rt: HostRuntime) -> Result<(), Fail> {
+    let alloc = rt.alloc();
+    let cases: [(DelimiterKind, Spot, Spot, (u32, u32), &[u8]); 3] = [
+        (
+            DelimiterKind::Brace,
+            (0, 5, 4),
+            (0, 5, 4),
+            (1, 5),
+            b"\x00\x81\x02\x00\x09\x01\x05",
+        ),
+        (
+            DelimiterKind::Bracket,
+            (0, 0, 1),
+            (0, 1, 1),
+            (0, 0),
+            b"\x40\x00\x00\x00\x10\x00\x00",
+        ),
+        (
+            DelimiterKind::Invisible,
+            (0, 0, 1),
+            (0, 2047, 1),
+            (0, 0),
+            b"\xc0\x3f\x00\x00\xf8\x00\x00",
+        ),
+    ];
+    for (kind, opening, closing, children, bytes) in cases {
+        let header = header(kind, opening, closing, children);
+        is_written(&rt, alloc, Entry::Header(header), bytes)?;
+    }
+    Ok(())
+}
+
+// All numbers but the opening at the limit of their format, which is the third and the fourth.
+#[test]
+fn largest_numbers(rt: HostRuntime) -> Result<(), Fail> {
+    let alloc = rt.alloc();
+    let cases: [(Spot, Spot, (u32, u32), &[u8]); 2] = [
+        (
+            (3, 1, 5),
+            (127, 256, 5),
+            (255, 4095),
+            b"\x4c\x81\x00\x00\xfa\xff\xff\xff\xff",
+        ),
+        (
+            (0, 0, 1),
+            (0, 4294967295, 0),
+            (4294967295, 4294967295),
+            b"\x40\x00\x00\x00\x1d\x00\xc0\xff\xff\x01\x00\xfe\xff\x00\x00\x00\x00\xff\xff\xff\xff\xff\xff\xff\xff",
+        ),
+    ];
+    for (opening, closing, children, bytes) in cases {
+        let header = header(DelimiterKind::Invisible, opening, closing, children);
+        is_written(&rt, alloc, Entry::Header(header), bytes)?;
+    }
+    Ok(())
+}
+
+#[test]
+fn in_full(rt: HostRuntime) -> Result<(), Fail> {
+    let header = header(DelimiterKind::Parenthesis, (0, 0, 1), (1, 3, 1), (2, 10));
+    let bytes =
+        b"\x40\x40\x00\x00\x01\x00\x00\x00\x00\x00\x00\x00\x05\x44\xc0\x01\x00\x01\x00\x00\x00\x00\x00\x00\x00\x02\x00\x00\x00\x0a\x00\x00\x00";
+    let mut written = BackBuf::with_capacity(rt.alloc(), bytes.len())?;
+    header.write_in_full(&mut written, true)?;
+    let written = written.into_vec();
+    assert_eq!(rt; written.as_slice(), bytes.as_slice());
+    is_read(&rt, Entry::Header(header), written.as_slice())
+}

@@ -1,0 +1,249 @@
+//! What tokens say of themselves, beside the formats and the texts that are documented.
+ghost use Rattle.std.specs.Prelude.{◌≤◌};
+
+use std::alloc::Global;
+use std::process::Abort;
+use std::test::Fail;
+use tt_base::{
+    DelimSpan, Delimiter, DelimiterKind, ErasedFileAstId, FileId, Ident, IdentIsRaw, Leaf, Lit,
+    LitKind, Literal, Punct, Refused, Spacing, Span, SpanAnchor, SpanPart, Subtree, Symbol,
+    SyntaxContext, TextRange, TextSize, TokenTree, TtFault,
+};
+
+fn range(start: u32, end: u32) -> TextRange
+    requires { start ≤ end }
+{
+    TextRange::new(TextSize::new(start), TextSize::new(end))
+}
+
+// A span of file 1, item 2 and context 3.
+fn span(start: u32, end: u32) -> Span
+    requires { start ≤ end }
+{
+    Span {
+        range: range(start, end),
+        anchor: SpanAnchor {
+            file_id: FileId(1),
+            ast_id: ErasedFileAstId(2),
+        },
+        ctx: SyntaxContext(3),
+    }
+}
+
+#[test]
+fn sizes_and_ranges(rt: HostRuntime) {
+    let largest = TextSize::from(u32::MAX);
+    let one = TextSize::new(1);
+    assert!(rt; u32::from(one) == 1);
+    assert!(rt; one.checked_add(one) == Some(TextSize::new(2)));
+    assert!(rt; largest.checked_add(one) == None);
+    assert!(rt; one.checked_sub(one) == Some(TextSize::new(0)));
+    assert!(rt; one.checked_sub(largest) == None);
+    assert!(rt; one < largest);
+    assert!(rt; TextRange::at(one, one) == Some(range(1, 2)));
+    assert!(rt; TextRange::at(one, largest) == None);
+    assert!(rt; range(1, 4).len().raw() == 3);
+    assert!(rt; TextRange::empty(one).is_empty());
+    assert!(rt; !range(1, 4).is_empty());
+    assert!(rt; range(1, 4).start().raw() == 1 && range(1, 4).end().raw() == 4);
+}
+
+#[test]
+fn spans_and_delimiters(rt: HostRuntime) {
+    let part = SpanPart::from_span(&span(0, 1));
+    assert_eq!(rt; part.recombine(range(5, 9)), span(5, 9));
+    let pair = DelimSpan::from_pair(span(0, 1), span(8, 9));
+    let delimiter = Delimiter::invisible_delim_spanned(pair);
+    assert_eq!(rt; delimiter.delim_span(), pair);
+    assert_eq!(rt; delimiter.kind, DelimiterKind::Invisible);
+    assert_eq!(rt;
+        Delimiter::invisible_spanned(span(2, 3)).delim_span(),
+        DelimSpan::from_single(span(2, 3))
+    );
+    let subtree = Subtree { delimiter, len: 7 };
+    assert_eq!(rt; (subtree.usize_len(), subtree.count()), (7, 7));
+    assert_eq!(rt; TokenTree::from(subtree).first_span(), span(0, 1));
+}
+
+// The numbers that the formats give to kinds.
+#[test]
+fn numbers_of_kinds(rt: HostRuntime) {
+    assert_eq!(rt; DelimiterKind::Parenthesis as u8, 0);
+    assert_eq!(rt; DelimiterKind::Brace as u8, 1);
+    assert_eq!(rt; DelimiterKind::Bracket as u8, 2);
+    assert_eq!(rt; DelimiterKind::Invisible as u8, 3);
+    assert_eq!(rt; Spacing::Alone as u8, 0);
+    assert_eq!(rt; Spacing::Joint as u8, 1);
+    assert_eq!(rt; Spacing::JointHidden as u8, 2);
+    assert_eq!(rt; IdentIsRaw::No as u8, 0);
+    assert_eq!(rt; IdentIsRaw::Yes as u8, 1);
+}
+
+#[test]
+fn faults(rt: HostRuntime) -> Result<(), Fail> {
+    let texts = [
+        (TtFault::Memory, "out of memory"),
+        (TtFault::NotOneSubtree, "not one subtree"),
+        (TtFault::NoSuchPlace, "no such place"),
+        (TtFault::NotALeaf, "not a leaf"),
+        (TtFault::SuffixTooLong, "suffix too long"),
+        (TtFault::BadScan, "bad scan"),
+        (TtFault::TooManyTokens, "too many tokens"),
+        (TtFault::TooManySpanParts, "too many span parts"),
+        (TtFault::TooManySymbols, "too many symbols"),
+        (TtFault::TooManyBytes, "too many bytes"),
+        (TtFault::PointsSpent, "points spent"),
+    ];
+    let mut number = 0u8;
+    for (fault, text) in texts {
+        number = number.saturating_add(1);
+        assert_eq!(rt; fault.number(), number);
+        assert_eq!(rt; fault.to_string(rt.alloc())?.as_str(), text);
+    }
+    let refused = Refused {
+        fault: TtFault::NotALeaf,
+        value: 5u8,
+    };
+    assert_eq!(rt; (refused.fault, refused.value), (TtFault::NotALeaf, 5));
+    Ok(())
+}
+
+#[test]
+fn idents_and_puncts(rt: HostRuntime) -> Result<(), Fail> {
+    let cases = [
+        ("a", IdentIsRaw::No, "a"),
+        ("r#type", IdentIsRaw::Yes, "type"),
+        ("r#r#a", IdentIsRaw::Yes, "r#a"),
+        ("r", IdentIsRaw::No, "r"),
+        ("", IdentIsRaw::No, ""),
+    ];
+    for (written, is_raw, name) in cases {
+        let ident = Ident::new(rt.alloc(), written, span(0, 6))?;
+        assert_eq!(rt; ident.is_raw, is_raw);
+        assert_eq!(rt; ident.sym.as_str(), name);
+        assert_eq!(rt; ident.to_string(rt.alloc())?.as_str(), written);
+        assert_eq!(rt; *Leaf::from(ident).span(), span(0, 6));
+    }
+    assert!(rt; IdentIsRaw::Yes.yes());
+    assert!(rt; IdentIsRaw::No.no());
+    let none = Punct::default();
+    assert_eq!(rt; (none.char, none.spacing), ('\0', Spacing::Alone));
+    assert_eq!(rt; none.span.range, range(0, 0));
+    let arrow = Leaf::from(Punct {
+        char: '\u{2192}',
+        spacing: Spacing::Joint,
+        span: span(0, 1),
+    });
+    assert_eq!(rt; arrow.to_string(rt.alloc())?.as_str(), "\u{2192}");
+    Ok(())
+}
+
+// A literal `a` of that kind has that text, where nothing follows it.
+fn has_text(rt: &impl Abort, alloc: Global, kind: LitKind, text: &str) -> Result<(), Fail> {
+    let literal = Literal::new_no_suffix(alloc, "a", span(0, 1), kind)?;
+    assert_eq!(rt; literal.kind(), kind);
+    let shown = literal.to_string(alloc)?;
+    assert_eq!(rt; shown.as_str(), text);
+    Ok(())
+}
+
+// One with the suffix `u8` has that text before it.
+fn has_text_before_suffix(
+    rt: &impl Abort,
+    alloc: Global,
+    kind: LitKind,
+    text: &str,
+) -> Result<(), Fail> {
+    let leaf = Leaf::from(Literal::new(alloc, "a", span(0, 1), kind, "u8")?);
+    let shown = leaf.to_string(alloc)?;
+    assert_eq!(rt; shown.as_str().strip_suffix("u8"), Some(text));
+    Ok(())
+}
+
+#[test]
+fn texts_of_literals(rt: HostRuntime) -> Result<(), Fail> {
+    let cases = [
+        (LitKind::Byte, "b'a'"),
+        (LitKind::Char, "'a'"),
+        (LitKind::Integer, "a"),
+        (LitKind::Float, "a"),
+        (LitKind::Str, "\"a\""),
+        (LitKind::StrRaw(0), "r\"a\""),
+        (LitKind::StrRaw(1), "r#\"a\"#"),
+        (LitKind::StrRaw(2), "r##\"a\"##"),
+        (LitKind::ByteStr, "b\"a\""),
+        (LitKind::ByteStrRaw(0), "br\"a\""),
+        (LitKind::CStr, "c\"a\""),
+        (LitKind::CStrRaw(1), "cr#\"a\"#"),
+        (LitKind::Err(()), "a"),
+    ];
+    for (kind, text) in cases {
+        has_text(&rt, rt.alloc(), kind, text)?;
+        has_text_before_suffix(&rt, rt.alloc(), kind, text)?;
+    }
+    Ok(())
+}
+
+// A suffix may begin at that byte from the end of `1é`, or not.
+fn is_suffix(rt: &impl Abort, alloc: Global, suffix_len: u8, fits: bool) -> Result<(), Fail> {
+    let symbol = Symbol::new(alloc, "1\u{e9}")?;
+    let made = Literal::from_parts(symbol, span(0, 3), LitKind::Integer, suffix_len);
+    assert_eq!(rt; made.is_some(), fits, "{suffix_len}");
+    Ok(())
+}
+
+#[test]
+fn parts_of_literals(rt: HostRuntime) -> Result<(), Fail> {
+    let literal = Literal::new(rt.alloc(), "1", span(0, 3), LitKind::Integer, "u8")?;
+    assert!(rt; literal.text_and_suffix() == ("1", "u8"));
+    assert!(rt; literal.text() == "1" && literal.suffix() == "u8");
+    assert!(rt; literal.symbol().as_str() == "1u8" && literal.suffix_len() == 2);
+    let moved = literal.clone()?.with_span(span(4, 7));
+    assert!(rt; *moved.span() == span(4, 7) && moved != literal);
+    Ok(())
+}
+
+#[test]
+fn suffixes(rt: HostRuntime) -> Result<(), Fail> {
+    // `é` has two bytes: a suffix may begin before it or after it.
+    for (suffix_len, fits) in [(0, true), (1, false), (2, true), (3, true), (4, false)] {
+        is_suffix(&rt, rt.alloc(), suffix_len, fits)?;
+    }
+    let mut suffix = String::new(rt.alloc());
+    for _ in 0..255 {
+        suffix.push('a')?;
+    }
+    let longest = Literal::new(
+        rt.alloc(),
+        "1",
+        span(0, 1),
+        LitKind::Integer,
+        suffix.as_str(),
+    )?;
+    assert_eq!(rt; longest.suffix_len(), 255);
+    suffix.push('a')?;
+    let refused = Literal::new(
+        rt.alloc(),
+        "1",
+        span(0, 1),
+        LitKind::Integer,
+        suffix.as_str(),
+    );
+    assert_eq!(rt; refused, Err(TtFault::SuffixTooLong));
+    Ok(())
+}
+
+#[test]
+fn clones_are_equal(rt: HostRuntime) -> Result<(), Fail> {
+    let symbol = Symbol::new(rt.alloc(), "a")?;
+    let lit = Lit {
+        kind: LitKind::Str,
+        symbol: symbol.clone()?,
+        suffix: Some(symbol),
+    };
+    assert!(rt; lit.clone()? == lit);
+    let token = TokenTree::from(Leaf::from(Ident::new(rt.alloc(), "r#a", span(0, 1))?));
+    assert!(rt; token.clone()? == token);
+    assert_eq!(rt; token.first_span(), span(0, 1));
+    Ok(())
+}
