@@ -6,9 +6,12 @@ use Rattle.tt_base.specs.Literal.{symbol_of, span_of}
 use Rattle.tt_base.specs.Span.{part_of}
 use Rattle.tt_tables.specs.TableOrder.{index_in}
 use Rattle.tt_pack.specs.declared.uses.TokenUses.{TokenUses}
+use Rattle.tt_pack.specs.declared.table.Table.{Table}
 use Rattle.tt_pack.specs.declared.uses.Uses.{Uses}
+use Rattle.tt_pack.specs.Packed.{HasFewParts, HasFewSymbols}
+use Rattle.indexmap.specs.IndexMap.{keys}
 use Rattle.std.specs.List.{AllZip}
-use Rattle.tt_tables.specs.Tables.{Tables, tables_from}
+use Rattle.tt_tables.specs.Tables.{Tables, tables_from, part_table, symbol_table}
 use Rattle.tt_tables.specs.Uses.{same_part, part_uses, symbol_uses}
 use Rattle.tt_base.specs.Forest.{IsWhole}
 use Rattle.tt_pack.specs.Counted.{counted}
@@ -37,6 +40,15 @@ pub record IsCountOf (uses : Uses) (tokens : List TokenTree) : Type 0 where
   pub whole : IsWhole tokens
   pub parts : uses.parts.entries ≡ counted same_part (part_uses tokens)
   pub symbols : uses.symbols.entries ≡ counted bytes_eq (symbol_uses tokens)
+
+-- the two tables of the tokens, whose uses are counted: they can be written, and tell where what is used went
+pub record AreTables (uses : Uses) (tokens : List TokenTree) (parts : Table SpanPart) (symbols : Table (List ℕ)) : Type 0 where
+  pub all_parts : parts.values.items ≡ part_table tokens
+  pub few_parts : HasFewParts tokens
+  pub new_parts : (i : ℕ) (x : SpanPart) → StandsAt (keys uses.parts) i x → HasNewIndexAt same_part parts.values.items parts.new_indices.items i x
+  pub all_symbols : symbols.values.items ≡ symbol_table tokens
+  pub few_symbols : HasFewSymbols tokens
+  pub new_symbols : (i : ℕ) (x : List ℕ) → StandsAt (keys uses.symbols) i x → HasNewIndexAt bytes_eq symbols.values.items symbols.new_indices.items i x
 
 -- the parts and the symbols
 abbrev pub tables_of : ListTables → Tables

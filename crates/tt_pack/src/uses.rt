@@ -1,15 +1,12 @@
 //! What a list of tokens uses: its different parts and symbols, how often each is used, and which of them each token uses.
-ghost use Rattle.std.specs.Prelude.{◌≡◌, ℕ, List, [], ◌∷◌, ◌++◌, fold, IfOk, IfErr, OnOk, bytes_eq};
+ghost use Rattle.std.specs.Prelude.{◌≡◌, List, [], ◌∷◌, ◌++◌, fold, IfOk, IfErr, OnOk, bytes_eq};
 ghost use Rattle.std.specs.List.{AllZip};
 ghost use Rattle.indexmap.specs.IndexMap.{keys};
-ghost use Rattle.tt_base.specs.declared.span.SpanPart.{SpanPart};
 ghost use Rattle.tt_base.specs.declared.token_tree.TokenTree.{TokenTree};
-ghost use Rattle.tt_base.specs.Forest.{IsWhole};
-ghost use Rattle.tt_tables.specs.Tables.{part_table, symbol_table};
-ghost use Rattle.tt_tables.specs.Uses.{same_part, token_parts, token_symbols, part_uses, symbol_uses};
-ghost use Rattle.tt_pack.specs.Counted.{count_use, counted, HasRoomFor};
-ghost use Rattle.tt_pack.specs.TablesOf.{StandsAt, HasNewIndexAt, AreUses, IsCountOf};
-ghost use Rattle.tt_pack.specs.Packed.{HasFewParts, HasFewSymbols, IsCountFault, IsTableFault};
+ghost use Rattle.tt_tables.specs.Uses.{same_part, token_parts, token_symbols};
+ghost use Rattle.tt_pack.specs.Counted.{count_use, HasRoomFor};
+ghost use Rattle.tt_pack.specs.TablesOf.{StandsAt, AreUses, AreTables, IsCountOf};
+ghost use Rattle.tt_pack.specs.Packed.{IsCountFault, IsTableFault};
 
 use crate::counts::{count_near, count_use};
 use crate::table::Table;
@@ -146,11 +143,8 @@ impl Uses {
     /// The two tables of what a list uses, where their indices can be written and the parts leave room for the top's two.
     /// More than 15 parts or 63 symbols go by falling number of uses, ties by first use (docs/FORMATS.md).
     pub(crate) fn tables(&self, alloc: Global) -> Result<(Table<SpanPart>, Table<Symbol>), TtFault>
-        ensures parts { IfOk result (λ tables. (below : List TokenTree) → IsCountOf self.now below → (tables.0.values.items ≡ part_table below) × HasFewParts below) }
-        ensures symbols { IfOk result (λ tables. (below : List TokenTree) → IsCountOf self.now below → (tables.1.values.items ≡ symbol_table below) × HasFewSymbols below) }
-        ensures new_parts { IfOk result (λ tables. (below : List TokenTree) → IsCountOf self.now below → (i : ℕ) (x : SpanPart) → StandsAt (keys self.now.parts) i x → HasNewIndexAt same_part tables.0.values.items tables.0.new_indices.items i x) }
-        ensures new_symbols { IfOk result (λ tables. (below : List TokenTree) → IsCountOf self.now below → (i : ℕ) (x : List ℕ) → StandsAt (keys self.now.symbols) i x → HasNewIndexAt bytes_eq tables.1.values.items tables.1.new_indices.items i x) }
-        ensures err { IfErr result (λ fault. (below : List TokenTree) → IsCountOf self.now below → IsTableFault below fault) }
+        ensures tables { IfOk result (λ tables. (tokens : List TokenTree) → IsCountOf self.now tokens → AreTables self.now tokens tables.0 tables.1) }
+        ensures err { IfErr result (λ fault. (tokens : List TokenTree) → IsCountOf self.now tokens → IsTableFault tokens fault) }
     {
         if self.parts.len() > MOST_PARTS_BELOW {
             return Err(TtFault::TooManySpanParts);

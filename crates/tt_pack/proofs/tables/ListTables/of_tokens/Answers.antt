@@ -11,25 +11,24 @@ returns-in_err-parts-clause-err c =
 
 pub invariant_of-result : goal.invariant_of-result
 invariant_of-result c =
-    let parts = c.in_ok-parts.ensures.parts c.args.below.now c.in_ok-uses.ensures.count in
-    let symbols = c.in_ok-parts.ensures.symbols c.args.below.now c.in_ok-uses.ensures.count in
+    let are = c.in_ok-parts.ensures.tables c.args.below.now c.in_ok-uses.ensures.count in
     record {
-      few_parts = subst (λ values. length values + 2 ≤ most_parts) (sym parts.0) parts.1;
-      few_symbols = subst (λ values. length values ≤ most_symbols) (sym symbols.0) symbols.1;
+      few_parts = subst (λ values. length values + 2 ≤ most_parts) (sym are.all_parts) are.few_parts;
+      few_symbols = subst (λ values. length values ≤ most_symbols) (sym are.all_symbols) are.few_symbols;
     }
 
 pub returns-clause-whole : goal.returns-clause-whole
 returns-clause-whole c = c.in_ok-uses.ensures.count.whole
 
 pub returns-clause-parts : goal.returns-clause-parts
-returns-clause-parts c = c.in_ok-parts.ensures.parts c.args.below.now c.in_ok-uses.ensures.count
+returns-clause-parts c =
+    let are = c.in_ok-parts.ensures.tables c.args.below.now c.in_ok-uses.ensures.count in (are.all_parts, are.few_parts)
 
 pub returns-clause-symbols : goal.returns-clause-symbols
-returns-clause-symbols c = c.in_ok-parts.ensures.symbols c.args.below.now c.in_ok-uses.ensures.count
+returns-clause-symbols c =
+    let are = c.in_ok-parts.ensures.tables c.args.below.now c.in_ok-uses.ensures.count in (are.all_symbols, are.few_symbols)
 
 pub returns-clause-uses : goal.returns-clause-uses
 returns-clause-uses c =
-    paired_map _ _ c.args.below.now c.in_ok-uses.uses.tokens.items
-    (λ it uses. uses_map _ _ _ _ it uses (c.in_ok-parts.ensures.new_parts c.args.below.now c.in_ok-uses.ensures.count)
-    (c.in_ok-parts.ensures.new_symbols c.args.below.now c.in_ok-uses.ensures.count))
-    c.in_ok-uses.ensures.tokens
+    let are = c.in_ok-parts.ensures.tables c.args.below.now c.in_ok-uses.ensures.count in
+    paired_map _ _ c.args.below.now c.in_ok-uses.uses.tokens.items (λ it uses. uses_map _ _ _ _ it uses are.new_parts are.new_symbols) c.in_ok-uses.ensures.tokens
