@@ -9,6 +9,7 @@ pub mod HashInputs
 pub mod Indents
 pub mod Joins
 pub mod LeafSets
+pub mod LeafTexts
 pub mod Literals
 pub mod Moves
 pub mod Pointwise
