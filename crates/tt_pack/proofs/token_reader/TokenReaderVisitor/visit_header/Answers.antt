@@ -1,0 +1,9 @@
+use Rattle.std.proofs.Common.{rules}
+use Rattle.tt_pack.proofs.token_reader.TokenReaderVisitor.visit_header.Goals as goal
+
+-- explicit: the search that stands for an answer ends late where there is none
+pub returns-in-Some : goal.returns-in-Some
+returns-in-Some c = search rules
+
+pub returns-in_default : goal.returns-in_default
+returns-in_default c = search rules
