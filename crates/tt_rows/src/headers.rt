@@ -4,47 +4,52 @@ use crate::tables::{Spot, Tables};
 use std::test::Fail;
 use tt_base::DelimiterKind;
 
+// A span of one character, and one of two.
+const SHORT: Spot = (0, 0, 1);
+
+const LONG: Spot = (0, 0, 2);
+
+// Where empty parentheses open and close, and their bytes.
+const AROUND_NOTHING: [(Spot, Spot, &[u8]); 12] = [
+    (SHORT, (0, 1, 2), b"\x40\x00\x00\x00\x00\x00\x00"),
+    (SHORT, (0, 300, 301), b"\x00\x0b\x00\x00\x20\x00\x00"),
+    (SHORT, (0, 2047, 2048), b"\xc0\x3f\x00\x00\xe0\x00\x00"),
+    (
+        SHORT,
+        (0, 2048, 2049),
+        b"\x40\x00\x00\x00\x05\x40\x00\x00\x04\x00\x00\x00\x00\x00\x00\x00\x00",
+    ),
+    (
+        (0, 5, 6),
+        SHORT,
+        b"\x40\x80\x02\x00\x05\x40\x00\x00\x00\x00\x00\x00\x00\x00\x00\x00\x00",
+    ),
+    (LONG, (0, 7, 9), b"\x80\x00\x00\x00\xe1\x00\x00"),
+    (LONG, (0, 8, 10), b"\x80\x00\x00\x00\x02\x08\x00\x00\x00"),
+    (LONG, (0, 255, 257), b"\x80\x00\x00\x00\x02\xff\x00\x00\x00"),
+    (
+        LONG,
+        (0, 256, 258),
+        b"\x80\x00\x00\x00\x05\x80\x00\x80\x00\x00\x00\x00\x00\x00\x00\x00\x00",
+    ),
+    (
+        (0, 10, 11),
+        (1, 20, 21),
+        b"\x40\x00\x05\x00\x22\x0a\x00\x00\x00",
+    ),
+    (SHORT, (127, 1, 2), b"\x40\x00\x00\x00\xe2\x01\x00\x0f\x00"),
+    (
+        SHORT,
+        (128, 1, 2),
+        b"\x40\x00\x00\x00\x05\x40\xc0\x00\x00\x10\x00\x00\x00\x00\x00\x00\x00\x00\x00\x00\x00",
+    ),
+];
+
 #[test]
 fn parentheses_around_nothing(rt: HostRuntime) -> Result<(), Fail> {
     let alloc = rt.alloc();
     let tables = Tables::new(alloc, 129, &[])?;
-    let long = (0, 0, 2);
-    let short = (0, 0, 1);
-    let cases: [(Spot, Spot, &[u8]); 12] = [
-        (short, (0, 1, 2), b"\x40\x00\x00\x00\x00\x00\x00"),
-        (short, (0, 300, 301), b"\x00\x0b\x00\x00\x20\x00\x00"),
-        (short, (0, 2047, 2048), b"\xc0\x3f\x00\x00\xe0\x00\x00"),
-        (
-            short,
-            (0, 2048, 2049),
-            b"\x40\x00\x00\x00\x05\x40\x00\x00\x04\x00\x00\x00\x00\x00\x00\x00\x00",
-        ),
-        (
-            (0, 5, 6),
-            short,
-            b"\x40\x80\x02\x00\x05\x40\x00\x00\x00\x00\x00\x00\x00\x00\x00\x00\x00",
-        ),
-        (long, (0, 7, 9), b"\x80\x00\x00\x00\xe1\x00\x00"),
-        (long, (0, 8, 10), b"\x80\x00\x00\x00\x02\x08\x00\x00\x00"),
-        (long, (0, 255, 257), b"\x80\x00\x00\x00\x02\xff\x00\x00\x00"),
-        (
-            long,
-            (0, 256, 258),
-            b"\x80\x00\x00\x00\x05\x80\x00\x80\x00\x00\x00\x00\x00\x00\x00\x00\x00",
-        ),
-        (
-            (0, 10, 11),
-            (1, 20, 21),
-            b"\x40\x00\x05\x00\x22\x0a\x00\x00\x00",
-        ),
-        (short, (127, 1, 2), b"\x40\x00\x00\x00\xe2\x01\x00\x0f\x00"),
-        (
-            short,
-            (128, 1, 2),
-            b"\x40\x00\x00\x00\x05\x40\xc0\x00\x00\x10\x00\x00\x00\x00\x00\x00\x00\x00\x00\x00\x00",
-        ),
-    ];
-    for (opening, closing, bytes) in cases {
+    for (opening, closing, bytes) in AROUND_NOTHING {
         let token = header(DelimiterKind::Parenthesis, opening, closing, 0)?;
         tables.give(&rt, alloc, &token, 0, bytes)?;
     }
