@@ -1,74 +1,76 @@
--- A point is looked for from the newest.
-use Rattle.std.proofs.Common.{◌≡◌, ℕ, ◌<◌, List, [], ◌∷◌, ◌++◌, Bool, true, false, cond, nat_eq, Some, None, refl, ap, ◌∙◌, arith}
-use Rattle.std.proofs.lemmas.Bool.{eq-eqb, eqb-true}
+-- A point is looked for by its number; numbers rise.
+use Rattle.std.proofs.Common.{◌≡◌, ℕ, zero, suc, ◌<◌, ◌≤◌, List, [], ◌∷◌, length, get_or, Bool, true, false, cond, nat_eq, Some, None, ltb, ltb-true, ltb-false, refl, ap, sym, ◌∙◌, arith}
+use Rattle.std.proofs.lemmas.Bool.{eqb-true}
 use Rattle.std.specs.List.{AllByRecursion}
+use Rattle.std.specs.List.Sorted.{IsNonDecreasingBy, IsPartitionPoint}
 use Rattle.tt.specs.declared.builder.standing.Standing.{Standing}
 use Rattle.tt.specs.BuilderFields.{kept_under, IsEarlier, AreInOrder}
+use Rattle.tt.proofs.Filters.{at_place}
+use Rattle.tt.proofs.Growing.{all_weaker}
 
--- The last and those before it.
-last_in_order : (xs : List Standing) (x : Standing) → AreInOrder (xs ++ x ∷ []) → AreInOrder xs × AllByRecursion (λ y. y.number < x.number) xs
-last_in_order [] x order = (tt, tt)
-last_in_order (y ∷ xs) x order =
-    let before = last_in_order xs x order.1 in
-    let (others, last) = split y xs x order.0 in
-    ((others, before.0), (last, before.1))
-  where
-    split : (y : Standing) (xs : List Standing) (x : Standing) → AllByRecursion (IsEarlier y) (xs ++ x ∷ []) → AllByRecursion (IsEarlier y) xs × (y.number < x.number)
-    split y [] x all = (tt, all.0.number)
-    split y (z ∷ xs) x all = let rest = split y xs x all.1 in ((all.0, rest.0), rest.1)
-
--- All numbers are lower.
-none_under : (number : ℕ) (xs : List Standing) → AllByRecursion (λ y. y.number < number) xs → kept_under number xs ≡ None
-none_under number [] all = refl
-none_under number (x ∷ xs) all =
-    ap (λ b. cond b (Some x) (kept_under number xs)) (other (nat_eq x.number number) refl) ∙ none_under number xs all.1
+-- All numbers are higher.
+none_over : (number : ℕ) (xs : List Standing) → AllByRecursion (λ y. number < y.number) xs → kept_under number xs ≡ None
+none_over number [] all = refl
+none_over number (x ∷ xs) all =
+    ap (λ b. cond b (Some x) (kept_under number xs)) (other (nat_eq x.number number) refl) ∙ none_over number xs all.1
   where
     other : (b : Bool) → nat_eq x.number number ≡ b → nat_eq x.number number ≡ false
     other true e = absurd (omega (arith, eqb-true x.number number e, all.0))
     other false e = e
 
--- The last one, behind others.
-kept_last : (number : ℕ) (xs : List Standing) (x : Standing) → kept_under number xs ≡ None → kept_under number (xs ++ x ∷ []) ≡ cond (nat_eq x.number number) (Some x) None
-kept_last number [] x none = refl
-kept_last number (y ∷ xs) x none = by_test (nat_eq y.number number) refl none (kept_last number xs x)
-  where
-    by_test : (b : Bool) → nat_eq y.number number ≡ b → cond b (Some y) (kept_under number xs) ≡ None
-        → (kept_under number xs ≡ None → kept_under number (xs ++ x ∷ []) ≡ cond (nat_eq x.number number) (Some x) None)
-        → cond (nat_eq y.number number) (Some y) (kept_under number (xs ++ x ∷ [])) ≡ cond (nat_eq x.number number) (Some x) None
-    by_test true e none more = cc none
-    by_test false e none more = ap (λ b. cond b (Some y) (kept_under number (xs ++ x ∷ []))) e ∙ more none
+-- Numbers rise.
+pub numbers_rise : (xs : List Standing) → AreInOrder xs → IsNonDecreasingBy (λ y. y.number) xs
+numbers_rise [] order i j d le within = absurd (omega (arith, within))
+numbers_rise (x ∷ xs) order zero zero d le within = omega arith
+numbers_rise (x ∷ xs) order zero (suc j) d le within = omega (arith, (at_place (IsEarlier x) xs j d (omega (arith, within)) order.0).number)
+numbers_rise (x ∷ xs) order (suc i) zero d le within = absurd (omega (arith, le))
+numbers_rise (x ∷ xs) order (suc i) (suc j) d le within = numbers_rise xs order.1 i j d (omega (arith, le)) (omega (arith, within))
 
--- One that is not last stands before it.
-kept_before : (number : ℕ) (xs : List Standing) (x : Standing) → nat_eq x.number number ≡ false → kept_under number (xs ++ x ∷ []) ≡ kept_under number xs
-kept_before number [] x e = ap (λ b. cond b (Some x) None) e
-kept_before number (y ∷ xs) x e = ap (λ o. cond (nat_eq y.number number) (Some y) o) (kept_before number xs x e)
-
--- The last is found.
-pub found_last : (number : ℕ) (all xs : List Standing) (x : Standing) → AreInOrder all → all ≡ xs ++ x ∷ [] → x.number ≡ number → kept_under number all ≡ Some x
-found_last number all xs x order cut e =
-    let before = last_in_order xs x (rw cut at order) in
-    ap (kept_under number) cut ∙ kept_last number xs x (none_under number xs (rw e at before.1)) ∙ ap (λ b. cond b (Some x) None) (eq-eqb x.number number e)
-
--- A lower one is last: none is found.
-pub none_found : (number : ℕ) (all xs : List Standing) (x : Standing) → AreInOrder all → all ≡ xs ++ x ∷ [] → x.number < number → kept_under number all ≡ None
-none_found number all xs x order cut low =
-    let before = last_in_order xs x (rw cut at order) in
-    ap (kept_under number) cut ∙ kept_before number xs x (other (nat_eq x.number number) refl) ∙ none_under number xs (lower xs before.1)
+-- The first whose number is not lower is the point, or there is none.
+found_first : (number : ℕ) (xs : List Standing) (i : ℕ) (d : Standing) → AreInOrder xs → ((k : ℕ) → k < i → (get_or xs k d).number < number) → i < length xs
+    → number ≤ (get_or xs i d).number → kept_under number xs ≡ cond (nat_eq (get_or xs i d).number number) (Some (get_or xs i d)) None
+found_first number [] i d order lower within first = absurd (omega (arith, within))
+found_first number (x ∷ xs) zero d order lower within first =
+    ap (λ others. cond (nat_eq x.number number) (Some x) others)
+    (none_over number xs (all_weaker (IsEarlier x) (λ y. number < y.number) xs (λ y earlier. omega (arith, earlier.number, first)) order.0))
+found_first number (x ∷ xs) (suc i) d order lower within first =
+    ap (λ b. cond b (Some x) (kept_under number xs)) (other (nat_eq x.number number) refl)
+    ∙ found_first number xs i d order.1 (λ k below. lower (suc k) (omega (arith, below))) (omega (arith, within)) first
   where
     other : (b : Bool) → nat_eq x.number number ≡ b → nat_eq x.number number ≡ false
-    other true e = absurd (omega (arith, eqb-true x.number number e, low))
+    other true e = absurd (omega (arith, eqb-true x.number number e, lower 0 (omega arith)))
     other false e = e
 
-    lower : (ys : List Standing) → AllByRecursion (λ y. y.number < x.number) ys → AllByRecursion (λ y. y.number < number) ys
-    lower [] all = tt
-    lower (y ∷ ys) all = (omega (arith, all.0, low), lower ys all.1)
-
--- One further back.
-pub further : (number : ℕ) (all xs : List Standing) (x : Standing) → AreInOrder all → all ≡ xs ++ x ∷ [] → (x.number ≡ number → ⊥)
-    → (kept_under number all ≡ kept_under number xs) × AreInOrder xs
-further number all xs x order cut differ =
-    (ap (kept_under number) cut ∙ kept_before number xs x (other (nat_eq x.number number) refl), (last_in_order xs x (rw cut at order)).0)
+-- All are lower, and there is none.
+none_first : (number : ℕ) (xs : List Standing) (d : Standing) → ((k : ℕ) → k < length xs → (get_or xs k d).number < number) → kept_under number xs ≡ None
+none_first number [] d lower = refl
+none_first number (x ∷ xs) d lower =
+    ap (λ b. cond b (Some x) (kept_under number xs)) (other (nat_eq x.number number) refl) ∙ none_first number xs d (λ k below. lower (suc k) (omega (arith, below)))
   where
     other : (b : Bool) → nat_eq x.number number ≡ b → nat_eq x.number number ≡ false
-    other true e = absurd (differ (eqb-true x.number number e))
+    other true e = absurd (omega (arith, eqb-true x.number number e, lower 0 (omega arith)))
     other false e = e
+
+-- All before a place are lower, and none from there on is.
+pub record IsFirstNotLower (number : ℕ) (xs : List Standing) (place : ℕ) : Type 0 where
+  pub before : (k : ℕ) (d : Standing) → k < place → (get_or xs k d).number < number
+  pub behind : (k : ℕ) (d : Standing) → place ≤ k → k < length xs → number ≤ (get_or xs k d).number
+
+-- So it is where a search by halves ends.
+pub at_partition_point : (number : ℕ) (xs : List Standing) (place : ℕ) → IsPartitionPoint (λ y. ltb y.number number ≡ true) (λ y. ltb y.number number ≡ false) xs place
+    → IsFirstNotLower number xs place
+at_partition_point number xs place point = record {
+  before = λ k d below. ltb-true _ _ (point.0 k d (omega arith) below);
+  behind = λ k d from within. ltb-false _ _ (point.1 k d from within);
+}
+
+-- The one at that place is the point, if its number is the one.
+pub kept_there : (number : ℕ) (xs : List Standing) (place : ℕ) (x : Standing) → AreInOrder xs → IsFirstNotLower number xs place → place < length xs → x ≡ get_or xs place x
+    → kept_under number xs ≡ cond (nat_eq x.number number) (Some x) None
+kept_there number xs place x order first within is =
+    found_first number xs place x order (λ k below. first.before k x below) within (first.behind place x (omega arith) within)
+    ∙ ap (λ y. cond (nat_eq y.number number) (Some y) None) (sym is)
+
+-- Where all stand before that place there is no such point.
+pub none_there : (number : ℕ) (xs : List Standing) (place : ℕ) → IsFirstNotLower number xs place → length xs ≤ place → kept_under number xs ≡ None
+none_there number xs place first past = none_first number xs (record { number = 0; tokens = 0; depth = 0 }) (λ k within. first.before k _ (omega (arith, past, within)))

@@ -217,7 +217,7 @@ impl TopSubtreeBuilder {
         ensures state { OnOk result (self.new ≡ point_taken self.old) }
         ensures number { OnOk result (self.old.taken < 2 ^ 64 - 1) }
         ensures err { OnErr result (self.new ≡ self.old) }
-        ensures fault { IfErr result (λ fault. (fault ≡ Memory) ⊎ ((fault ≡ PointsSpent) × (self.old.taken ≡ 2 ^ 64 - 1))) }
+        ensures fault { IfErr result (λ fault. ((fault ≡ Memory) × (self.old.taken < 2 ^ 64 - 1)) ⊎ ((fault ≡ PointsSpent) × (self.old.taken ≡ 2 ^ 64 - 1))) }
     {
         let number = self.taken;
         if number == u64::MAX {

@@ -8,9 +8,13 @@ use Rattle.tt_base.specs.declared.levels.Levels.{Levels}
 abbrev pub open_levels : Levels → List ℕ
 open_levels levels = levels.left ∷ reverse levels.outer.items
 
+-- the same tokens make up both levels
+abbrev pub IsSameQuestion : List ℕ → List ℕ → Type 0
+IsSameQuestion old new = (tokens : List TokenTree) → AreLevels tokens old ↔ AreLevels tokens new
+
 -- the same tokens make up both levels, or no token can follow
 abbrev pub GoesBack : List ℕ → List ℕ → Bool → Type 0
-GoesBack old new true = (tokens : List TokenTree) → AreLevels tokens old ↔ AreLevels tokens new
+GoesBack old new true = IsSameQuestion old new
 GoesBack old new false = (token : TokenTree) (tokens : List TokenTree) → AreLevels (token ∷ tokens) old → ⊥
 
 -- behind a header, tokens make up the new levels exactly if they make up those below it and then the rest of the old ones

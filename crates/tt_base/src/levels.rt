@@ -1,5 +1,5 @@
 //! The subtrees that are open at a token of a flat list.
-ghost use Rattle.std.specs.Prelude.{◌≡◌, ◌<◌, ◌∷◌, ◌↔◌, [], IsTrue, IfOk, OnOk};
+ghost use Rattle.std.specs.Prelude.{◌≡◌, ◌<◌, ◌∷◌, ◌↔◌, [], IsTrue, IfOk, OnOk, OnErr};
 ghost use Rattle.std.specs.Bool.{OnTrue};
 ghost use Rattle.std.specs.List.{All};
 ghost use Rattle.tt_base.specs.Forest.{AreLevels};
@@ -19,7 +19,7 @@ pub struct Levels {
 }
 
 impl Levels {
-    ghost use Rattle.tt_base.specs.Levels.{open_levels, GoesBack, Opens, TakesToken};
+    ghost use Rattle.tt_base.specs.Levels.{open_levels, GoesBack, IsSameQuestion, Opens, TakesToken};
 
     /// One level of so many tokens.
     pub fn new(alloc: Global, len: usize) -> Levels
@@ -49,7 +49,8 @@ impl Levels {
     // Opens a subtree with so many tokens below its header, which is the next token.
     fn open(&mut self, below: usize) -> Result<(), AllocError>
         requires { below < self.old.left }
-        ensures { OnOk result (Opens (open_levels self.old) below (open_levels self.new)) }
+        ensures ok { OnOk result (Opens (open_levels self.old) below (open_levels self.new)) }
+        ensures err { OnErr result (open_levels self.new ≡ open_levels self.old) }
     {
         let after = self.left - 1 - below;
         if after == 0 {
@@ -61,9 +62,11 @@ impl Levels {
         Ok(())
     }
 
-    /// Takes the next token, and answers whether it fits.
+    /// Takes the next token, and answers whether it fits. Where memory is refused, the token is not taken, and may be
+    /// offered again.
     pub fn take(&mut self, token: &TokenTree) -> Result<bool, AllocError>
-        ensures { IfOk result (TakesToken (open_levels self.old) token.now (open_levels self.new)) }
+        ensures ok { IfOk result (TakesToken (open_levels self.old) token.now (open_levels self.new)) }
+        ensures err { OnErr result (IsSameQuestion (open_levels self.old) (open_levels self.new)) }
     {
         if !self.go_back() {
             return Ok(false);

@@ -42,9 +42,9 @@ module _ {F : Type 0} (step : F → TtElement → Bool → F → Type 0) where
     pub all : list_of (rest_of s.rest) ≡ map tree_of asked ++ tree_of separator ∷ list_of (rest_of t.rest)
     pub more : t.done ≡ false
 
-  -- one call of `next`: nothing once the last piece was given, and else the next piece, whose trees were asked
+  -- one call of `next`: nothing once the last piece was given, and then nothing is asked; else the next piece, whose trees were asked
   abbrev pub GivesPiece : Split F → Option TokenTreesView → Split F → Type 0
-  GivesPiece s None t = (s.done ≡ true) × (t.done ≡ true)
+  GivesPiece s None t = (s.done ≡ true) × (t.done ≡ true) × (t.is_separator ≡ s.is_separator)
   GivesPiece s (Some piece) t =
       (s.done ≡ false) × ((asked : List TtElement) × (map tree_of asked ≡ list_of (trees_of piece)) × AllByRecursion IsCounted asked × (IsLast s asked t ⊎ IsBefore s asked t))
 

@@ -1,6 +1,6 @@
 //! The trees of a list one by one.
 ghost use Rattle.std.specs.Prelude.{◌≡◌, IfSome, MatchOption, Some, None, false, option_map};
-ghost use Rattle.tt_base.specs.Forest.{Forest, end, join, flat};
+ghost use Rattle.tt_base.specs.Forest.{Forest, end, join, flat, IsWhole};
 ghost use Rattle.tt_base.specs.Walk.{events_ahead, tokens_of, flat_left};
 ghost use Rattle.tt_base.specs.Token.{first_span as token_span};
 ghost use Rattle.tt_base.specs.Moves.{first_token, after_tree, step_after};
@@ -154,9 +154,11 @@ impl<'a> TtIter<'a> {
     }
 
     /// Goes to the cursor's place: what is left are all tokens ahead of it, those behind the subtrees that it is in too.
+    /// These are whole trees, wherever the cursor stands.
     pub fn flat_advance_to(&mut self, cursor: &Cursor<'a>)
         ensures left { flat (rest_of self.new) ≡ flat_left cursor.now }
         ensures tokens { flat (rest_of self.new) ≡ tokens_of (events_ahead cursor.now) }
+        ensures whole { IsWhole (flat_left cursor.now) }
     {
         self.inner = cursor.flat_rest();
     }

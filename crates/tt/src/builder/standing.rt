@@ -66,20 +66,17 @@ pub(crate) fn drop_later(points: &mut Vec<Standing>, tokens: usize)
     points.truncate(0);
 }
 
-/// The point of that number. Numbers rise, so it goes from the newest and stops at the first that is lower.
+/// The point of that number. Numbers rise, so each look leaves half of the points.
 pub(crate) fn find(points: &[Standing], number: u64) -> Option<Standing>
     requires { AreInOrder points.now }
     ensures { result ≡ kept_under number points.now }
 {
-    let mut rest = points;
-    while let Some((point, others)) = rest.split_last() {
-        if point.number == number {
-            return Some(*point);
-        }
-        if point.number < number {
-            return None;
-        }
-        rest = others;
+    let lower = points.partition_point(|point| point.number < number);
+    let Some(point) = points.get(lower) else {
+        return None;
+    };
+    if point.number != number {
+        return None;
     }
-    None
+    Some(*point)
 }

@@ -12,13 +12,13 @@ loop-token-init c =
 
 pub returns-then-not-branch : goal.returns-then-not-branch
 returns-then-not-branch c =
-    let takes = rw c.if-not-branch.true at c.in_ok-take.ensures in
+    let takes = rw c.if-not-branch.true at c.in_ok-take.ensures.ok in
     let stops = walk_stops c.args.tokens.now c.loop-token.token-index c.token-item.result (open_levels c.loop-token.levels) (open_levels c.take.new.self) (search rules) c.token-item.is c.loop-token.invariant takes in
     (λ impossible. cc impossible, λ whole. absurd (stops whole))
 
 pub loop-token-preserved : goal.loop-token-preserved
 loop-token-preserved c =
-    let takes = rw c.if-not-branch.false at c.in_ok-take.ensures in
+    let takes = rw c.if-not-branch.false at c.in_ok-take.ensures.ok in
     walk_on c.args.tokens.now c.loop-token.token-index c.token-item.result (open_levels c.loop-token.levels) (open_levels c.take.new.self) (search rules) c.token-item.is c.loop-token.invariant takes
 
 pub returns : goal.returns

@@ -1,22 +1,29 @@
-use Rattle.std.proofs.Common.{◌≡◌, ◌++◌, ◌∷◌, [], rules, sym, ◌∙◌}
-use Rattle.tt.proofs.Finding.{found_last, none_found, further}
+use Rattle.std.proofs.Common.{rules, ◌≡◌, ◌∙◌, ◌<◌, ◌≤◌, length, get_or, ltb, sym}
+use Rattle.std.proofs.lemmas.List.Sorted.{IsPartitionPoint-from_clause, IsPartitionedBy-ltb}
+use Rattle.tt.proofs.Finding.{numbers_rise, at_partition_point, kept_there, none_there}
 use Rattle.tt.proofs.builder.standing.find.Goals as goal
+
+pub returns-in_default : goal.returns-in_default
+returns-in_default c =
+    let parted = IsPartitionedBy-ltb (λ y. y.number) _ c.args.number (numbers_rise _ c.requires) in
+    let point = IsPartitionPoint-from_clause (λ y. ltb y.number c.args.number) _ _ c.partition_point-lower.ensures.partitioned parted (λ a r q k. search rules) in
+    let past : length c.args.points.now ≤ c.partition_point-lower.result = search rules in
+    sym (none_there _ _ _ (at_partition_point _ _ _ point) past)
 
 pub returns-then-point-number : goal.returns-then-point-number
 returns-then-point-number c =
-    let at = c.loop-point.invariant in
-    let cut : c.loop-point.rest.now ≡ c.in-Some.others.now ++ c.in-Some.point.now ∷ [] = search rules in
-    sym (at.0 ∙ found_last c.args.number c.loop-point.rest.now c.in-Some.others.now c.in-Some.point.now at.1 cut c.if-point-number.true)
+    let parted = IsPartitionedBy-ltb (λ y. y.number) _ c.args.number (numbers_rise _ c.requires) in
+    let point = IsPartitionPoint-from_clause (λ y. ltb y.number c.args.number) _ _ c.partition_point-lower.ensures.partitioned parted (λ a r q k. search rules) in
+    let within : c.partition_point-lower.result < length c.args.points.now = search rules in
+    let is : c.in-Some.point.now ≡ get_or c.args.points.now c.partition_point-lower.result c.in-Some.point.now = search rules in
+    let found = kept_there _ _ _ _ c.requires (at_partition_point _ _ _ point) within is in
+    search (rules, found)
 
-pub returns-then-point-number-2 : goal.returns-then-point-number-2
-returns-then-point-number-2 c =
-    let at = c.loop-point.invariant in
-    let cut : c.loop-point.rest.now ≡ c.in-Some.others.now ++ c.in-Some.point.now ∷ [] = search rules in
-    sym (at.0 ∙ none_found c.args.number c.loop-point.rest.now c.in-Some.others.now c.in-Some.point.now at.1 cut c.if-point-number-2.true)
-
-pub loop-point-preserved : goal.loop-point-preserved
-loop-point-preserved c =
-    let at = c.loop-point.invariant in
-    let cut : c.loop-point.rest.now ≡ c.in-Some.others.now ++ c.in-Some.point.now ∷ [] = search rules in
-    let more = further c.args.number c.loop-point.rest.now c.in-Some.others.now c.in-Some.point.now at.1 cut c.if-point-number.false in
-    (at.0 ∙ more.0, more.1)
+pub returns : goal.returns
+returns c =
+    let parted = IsPartitionedBy-ltb (λ y. y.number) _ c.args.number (numbers_rise _ c.requires) in
+    let point = IsPartitionPoint-from_clause (λ y. ltb y.number c.args.number) _ _ c.partition_point-lower.ensures.partitioned parted (λ a r q k. search rules) in
+    let within : c.partition_point-lower.result < length c.args.points.now = search rules in
+    let is : c.in-Some.point.now ≡ get_or c.args.points.now c.partition_point-lower.result c.in-Some.point.now = search rules in
+    let found = kept_there _ _ _ _ c.requires (at_partition_point _ _ _ point) within is in
+    search (rules, found)

@@ -38,7 +38,7 @@ loop-token-preserved c = record {
       c.loop-token-test.true c.token-item.is c.loop-token.invariant.symbols c.in_ok-found.ensures.symbols;
   whole =
       walk_on c.args.tokens.now c.loop-token.token-index c.token-item.result (open_levels c.loop-token.levels) (open_levels c.take.new.self)
-      c.loop-token-test.true c.token-item.is c.loop-token.invariant.whole (rw c.if-not-branch.false at c.in_ok-take.ensures);
+      c.loop-token-test.true c.token-item.is c.loop-token.invariant.whole (rw c.if-not-branch.false at c.in_ok-take.ensures.ok);
   uses =
       subst (AllZip (AreUses (StandsAt (keys c.count.new.self.parts)) (StandsAt (keys c.count.new.self.symbols))) (take (c.loop-token.token-index + 1) c.args.tokens.now))
       (sym c.in_ok-found.ensures.tokens)
@@ -58,7 +58,7 @@ loop-token-init c =
 
 pub returns-then-not-branch-clause-err : goal.returns-then-not-branch-clause-err
 returns-then-not-branch-clause-err c =
-    let takes = rw c.if-not-branch.true at c.in_ok-take.ensures in
+    let takes = rw c.if-not-branch.true at c.in_ok-take.ensures.ok in
     inr (refl, walk_stops c.args.tokens.now c.loop-token.token-index c.token-item.result (open_levels c.loop-token.levels) (open_levels c.take.new.self) (search rules) c.token-item.is c.loop-token.invariant.whole takes)
 
 pub returns-then-not-is_done-clause-err : goal.returns-then-not-is_done-clause-err
