@@ -2,7 +2,7 @@
 use Rattle.std.proofs.Common.{◌≡◌, ℕ, [], codes, refl, is_some, Bool, true, false}
 use Rattle.tt_base.specs.declared.delimiter.DelimiterKind.TheVariants.{Parenthesis, Brace, Bracket, Invisible}
 use Rattle.tt_base.specs.declared.leaf.Leaf.{Leaf}
-use Rattle.tt_base.specs.declared.punct.Spacing.TheVariants.{Alone, Joint}
+use Rattle.tt_base.specs.declared.punct.Spacing.TheVariants.{Alone, Joint, JointHidden}
 use Rattle.tt_base.specs.Token.{delimiter}
 use Rattle.tt_base.specs.Forest.{end, leaf, node}
 use Rattle.tt_base.proofs.Samples.{span, punct, ident, subtree}
@@ -96,6 +96,14 @@ skipped = refl
 not_skipped : (built_skipping (pushed b (closed (span 1 1) (pushed a (opened Bracket (span 0 1) start))))).delimiter.kind ≡ Invisible
 unfolding start a b
 not_skipped = refl
+
+-- one that is joint hidden does too, and an ident stays
+hidden_plus_alone : alone (leaf (punct 43 JointHidden) end) ≡ leaf (punct 43 Alone) end
+hidden_plus_alone = refl
+
+ident_alone : alone (leaf a end) ≡ leaf a end
+unfolding a
+ident_alone = refl
 
 -- the last token of a list of trees, and no other, becomes alone
 only_the_last : alone (leaf (punct 43 Joint) (leaf (punct 43 Joint) end)) ≡ leaf (punct 43 Joint) (leaf (punct 43 Alone) end)

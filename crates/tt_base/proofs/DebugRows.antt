@@ -1,5 +1,5 @@
 -- What Debug writes of small tokens and trees, as `docs/FORMATS.md` has it.
-use Rattle.std.proofs.Common.{◌≡◌, ◌++◌, ◌∷◌, codes, refl}
+use Rattle.std.proofs.Common.{◌≡◌, ◌++◌, ◌∷◌, [], map, codes, refl}
 use Rattle.std.specs.Fmt.{digits}
 use Rattle.tt_base.specs.declared.delimiter.DelimiterKind.TheVariants.{Parenthesis}
 use Rattle.tt_base.specs.declared.ident.IdentIsRaw.TheVariants.{No, Yes}
@@ -43,3 +43,10 @@ two_hashes = refl
 
 no_kind : kind_text (lit.Err tt) ≡ codes "Err(())"
 no_kind = refl
+
+all_kinds : map kind_text
+    (lit.Byte ∷ lit.Char ∷ lit.Integer ∷ lit.Float ∷ lit.Str ∷ lit.StrRaw 0 ∷ lit.ByteStr ∷ lit.ByteStrRaw 1 ∷ lit.CStr ∷ lit.CStrRaw 255 ∷ lit.Err tt ∷ [])
+    ≡ codes "Byte" ∷ codes "Char" ∷ codes "Integer" ∷ codes "Float" ∷ codes "Str" ∷ codes "StrRaw(0)" ∷ codes "ByteStr" ∷ codes "ByteStrRaw(1)" ∷ codes "CStr"
+    ∷ codes "CStrRaw(255)" ∷ codes "Err(())" ∷ []
+unfolding digits
+all_kinds = refl

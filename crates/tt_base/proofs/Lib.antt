@@ -2,6 +2,7 @@ mod BuildingRows
 pub mod CutLists
 mod DebugRows
 mod EditRows
+mod ElementRows
 pub mod EndPieces
 pub mod Equality
 pub mod Gluing

@@ -22,6 +22,21 @@ byte = refl
 open_string : parts_told (codes "\"ab") (Some (scan.Str false, 3)) ≡ record { kind = lit.Str; value = codes "ab"; suffix = [] }
 open_string = refl
 
+c_string : parts_told (codes "c\"a\"") (Some (scan.CStr true, 4)) ≡ record { kind = lit.CStr; value = codes "a"; suffix = [] }
+c_string = refl
+
+byte_string : parts_told (codes "b\"a\"") (Some (scan.ByteStr true, 4)) ≡ record { kind = lit.ByteStr; value = codes "a"; suffix = [] }
+byte_string = refl
+
+raw_byte_string : parts_told (codes "br#\"a\"#") (Some (scan.RawByteStr (Some 1), 7)) ≡ record { kind = lit.ByteStrRaw 1; value = codes "a"; suffix = [] }
+raw_byte_string = refl
+
+character : parts_told (codes "'a'") (Some (scan.Char true, 3)) ≡ record { kind = lit.Char; value = codes "a"; suffix = [] }
+character = refl
+
+float : parts_told (codes "1.0f32") (Some (scan.Float, 3)) ≡ record { kind = lit.Float; value = codes "1.0"; suffix = codes "f32" }
+float = refl
+
 underscore : parts_told (codes "1_") (Some (scan.Int, 1)) ≡ record { kind = lit.Integer; value = codes "1"; suffix = [] }
 underscore = refl
 
