@@ -154,7 +154,7 @@ const BAD_LINES: [&[u8]; 11] = [
       item lit str 0 0:0@0..1#0 a\xc3",
 ];
 
-const ROWS: u32 = 134;
+const ROWS: u32 = 137;
 
 #[test]
 fn stand_for_nothing(rt: HostRuntime) -> Result<(), Fail> {
