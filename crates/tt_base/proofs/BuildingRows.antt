@@ -1,6 +1,6 @@
 -- What the calls of a builder make of its state, on small examples.
-use Rattle.std.proofs.Common.{◌≡◌, ℕ, [], codes, refl, is_some, Bool, true, false}
-use Rattle.tt_base.specs.declared.delimiter.DelimiterKind.TheVariants.{Parenthesis, Brace, Bracket, Invisible}
+use Rattle.std.proofs.Common.{◌≡◌, ℕ, [], codes, refl, None, is_some, Bool, true, false}
+use Rattle.tt_base.specs.declared.delimiter.DelimiterKind.TheVariants.{Parenthesis, Brace, Bracket, Invisible, InvisibleOpaque}
 use Rattle.tt_base.specs.declared.leaf.Leaf.{Leaf}
 use Rattle.tt_base.specs.declared.punct.Spacing.TheVariants.{Alone, Joint, JointHidden}
 use Rattle.tt_base.specs.Token.{delimiter}
@@ -130,6 +130,18 @@ mark_stays = refl
 point_clears_the_mark : (removed (point_taken (closed (span 1 1) (opened Invisible (span 0 1) start)))).stack ≡ lowest (subtree Invisible end)
 unfolding start
 point_clears_the_mark = refl
+
+-- an opaque one stays too, and its mark goes
+opaque_closed : BuilderState
+opaque_closed = closed (span 1 1) (pushed a (opened InvisibleOpaque (span 0 1) start))
+
+opaque_is_marked : is_some opaque_closed.mark ≡ true
+unfolding opaque_closed start a
+opaque_is_marked = refl
+
+opaque_stays : removed opaque_closed ≡ record opaque_closed { mark = None }
+unfolding opaque_closed start a
+opaque_stays = refl
 
 -- a visible node stays
 parenthesis_stays : (removed (closed (span 1 1) (opened Parenthesis (span 0 1) start))).stack ≡ lowest (subtree Parenthesis end)

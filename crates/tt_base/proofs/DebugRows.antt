@@ -1,7 +1,7 @@
 -- What Debug writes of small tokens and trees, as `docs/FORMATS.md` has it.
 use Rattle.std.proofs.Common.{◌≡◌, ◌++◌, ◌∷◌, [], map, codes, refl}
 use Rattle.std.specs.Fmt.{digits}
-use Rattle.tt_base.specs.declared.delimiter.DelimiterKind.TheVariants.{Parenthesis}
+use Rattle.tt_base.specs.declared.delimiter.DelimiterKind.TheVariants.{Parenthesis, InvisibleOpaque}
 use Rattle.tt_base.specs.declared.ident.IdentIsRaw.TheVariants.{No, Yes}
 use Rattle.tt_base.specs.declared.leaf.Leaf.TheVariants as leaf
 use Rattle.tt_base.specs.declared.literal.LitKind.TheVariants as lit
@@ -17,6 +17,10 @@ first_run : debug (node (delimiter Parenthesis (span 0 1) (span 3 1))
     ≡ codes "SUBTREE () 0:0@0..1#0 0:0@3..4#0" ++ 10 ∷ codes "  IDENT   a 0:0@1..2#0" ++ 10 ∷ codes "  PUNCH   ; [alone] 0:0@2..3#0"
 unfolding debug leaf_line header_line digits lib.Utf8.encode
 first_run = refl
+
+opaque : debug (node (delimiter InvisibleOpaque (span 0 1) (span 1 1)) end end) ≡ codes "SUBTREE $$ 0:0@0..1#0 0:0@1..2#0"
+unfolding debug header_line digits
+opaque = refl
 
 nothing : debug end ≡ codes ""
 unfolding debug

@@ -1,12 +1,13 @@
 -- What the definitions compute on small trees, as the rows of `docs/FORMATS.md` have it.
 use Rattle.std.proofs.Common.{◌≡◌, [], ◌∷◌, codes, refl, lit<, lit≤, not-le_of_lt}
-use Rattle.tt_base.specs.declared.delimiter.DelimiterKind.TheVariants.{Parenthesis, Brace, Invisible}
+use Rattle.tt_base.specs.declared.delimiter.DelimiterKind.TheVariants.{Parenthesis, Brace, Invisible, InvisibleOpaque}
 use Rattle.tt_base.specs.declared.literal.LitKind.TheVariants as lit
 use Rattle.tt_base.specs.declared.punct.Spacing.TheVariants.{Alone, Joint, JointHidden}
 use Rattle.tt_base.specs.declared.token_tree.TokenTree.TheVariants as token
 use Rattle.tt_base.specs.Token.{delimiter}
 use Rattle.tt_base.specs.Forest.{Forest, end, leaf, node, flat, header}
 use Rattle.tt_base.specs.LeafText.{leaf_text}
+use Rattle.tt_base.specs.OneRoot.{stripped}
 use Rattle.tt_base.specs.TreeText.{display, pretty}
 use Rattle.tt_base.proofs.Samples.{span, punct, ident, literal, subtree}
 
@@ -39,6 +40,21 @@ joint_plus_pretty = refl
 two_spaces_pretty : pretty (a (node (delimiter Invisible (span 0 0) (span 0 0)) end (b end))) ≡ codes "a  b"
 unfolding pretty
 two_spaces_pretty = refl
+
+two_spaces_of_opaque : display (a (node (delimiter InvisibleOpaque (span 0 0) (span 0 0)) end (b end))) ≡ codes "a  b"
+unfolding display
+two_spaces_of_opaque = refl
+
+two_spaces_of_opaque_pretty : pretty (a (node (delimiter InvisibleOpaque (span 0 0) (span 0 0)) end (b end))) ≡ codes "a  b"
+unfolding pretty
+two_spaces_of_opaque_pretty = refl
+
+-- an invisible subtree is stripped of its delimiter, an opaque one is not
+invisible_stripped : stripped (subtree Invisible (a end)) ≡ a end
+invisible_stripped = refl
+
+opaque_not_stripped : stripped (subtree InvisibleOpaque (a end)) ≡ subtree InvisibleOpaque (a end)
+opaque_not_stripped = refl
 
 two_spaces : display (a (node (delimiter Invisible (span 0 0) (span 0 0)) end (b end))) ≡ codes "a  b"
 unfolding display

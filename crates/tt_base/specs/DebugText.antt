@@ -2,7 +2,7 @@
 use Rattle.std.specs.Prelude.{ℕ, zero, suc, Bool, true, false, List, [], ◌∷◌, ◌++◌, codes, decimal, if◌then◌else◌}
 use Rattle.tt_base.specs.declared.delimiter.Delimiter.{Delimiter}
 use Rattle.tt_base.specs.declared.delimiter.DelimiterKind.{DelimiterKind}
-use Rattle.tt_base.specs.declared.delimiter.DelimiterKind.TheVariants.{Parenthesis, Brace, Bracket, Invisible}
+use Rattle.tt_base.specs.declared.delimiter.DelimiterKind.TheVariants.{Parenthesis, Brace, Bracket, Invisible, InvisibleOpaque}
 use Rattle.tt_base.specs.declared.leaf.Leaf.{Leaf}
 use Rattle.tt_base.specs.declared.leaf.Leaf.TheVariants as leaf
 use Rattle.tt_base.specs.declared.literal.LitKind.{LitKind}
@@ -38,6 +38,7 @@ ends_text Parenthesis = codes "()"
 ends_text Brace = codes "{}"
 ends_text Bracket = codes "[]"
 ends_text Invisible = codes "$$"
+ends_text InvisibleOpaque = codes "$$"
 
 -- a spacing: a punct that is joint hidden is told as joint
 abbrev pub spacing_text : Spacing → List ℕ

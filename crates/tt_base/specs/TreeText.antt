@@ -1,7 +1,7 @@
 -- What Display and `pretty` write of trees, as bytes.
 use Rattle.std.specs.Prelude.{ℕ, Bool, true, false, List, [], ◌++◌, codes, if◌then◌else◌}
 use Rattle.tt_base.specs.declared.delimiter.DelimiterKind.{DelimiterKind}
-use Rattle.tt_base.specs.declared.delimiter.DelimiterKind.TheVariants.{Parenthesis, Brace, Bracket, Invisible}
+use Rattle.tt_base.specs.declared.delimiter.DelimiterKind.TheVariants.{Parenthesis, Brace, Bracket, Invisible, InvisibleOpaque}
 use Rattle.tt_base.specs.declared.leaf.Leaf.{Leaf}
 use Rattle.tt_base.specs.declared.leaf.Leaf.TheVariants as leaf
 use Rattle.tt_base.specs.declared.punct.Spacing.{Spacing}
@@ -15,6 +15,7 @@ opening_text Parenthesis = codes "("
 opening_text Brace = codes "{"
 opening_text Bracket = codes "["
 opening_text Invisible = []
+opening_text InvisibleOpaque = []
 
 -- what closes it
 abbrev pub closing_text : DelimiterKind → List ℕ
@@ -22,6 +23,7 @@ closing_text Parenthesis = codes ")"
 closing_text Brace = codes "}"
 closing_text Bracket = codes "]"
 closing_text Invisible = []
+closing_text InvisibleOpaque = []
 
 -- one space, or nothing
 abbrev pub space_if : Bool → List ℕ

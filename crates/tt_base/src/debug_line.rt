@@ -84,6 +84,7 @@ fn both_ends(kind: DelimiterKind) -> &'static str
         DelimiterKind::Brace => "{}",
         DelimiterKind::Bracket => "[]",
         DelimiterKind::Invisible => "$$",
+        DelimiterKind::InvisibleOpaque => "$$",
     }
 }
 

@@ -11,6 +11,8 @@ pub enum DelimiterKind {
     Bracket = 2,
     /// Nothing is printed for it.
     Invisible = 3,
+    /// Nothing is printed for it either, but it is never taken away.
+    InvisibleOpaque = 4,
 }
 
 /// The spans of an opening and a closing delimiter.

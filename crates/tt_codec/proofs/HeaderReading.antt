@@ -3,11 +3,11 @@ use Rattle.std.proofs.Common.{◌≡◌, ℕ, ◌+◌, ◌*◌, ◌/◌, ◌%◌
 use Rattle.std.specs.Int.{to_le_bytes}
 use Rattle.std.proofs.lemmas.Bool.{and_parts, eqb-true, leb-true, ltb-false}
 use Rattle.tt_base.specs.declared.delimiter.DelimiterKind.{DelimiterKind}
-use Rattle.tt_base.specs.declared.delimiter.DelimiterKind.TheVariants.{Parenthesis, Brace, Bracket, Invisible}
+use Rattle.tt_base.specs.declared.delimiter.DelimiterKind.TheVariants.{Parenthesis, Brace, Bracket, Invisible, InvisibleOpaque}
 use Rattle.tt_codec.specs.declared.entry.Entry.{Entry}
 use Rattle.tt_codec.specs.declared.entry.Entry.TheVariants.{Header as of_header}
 use Rattle.tt_codec.specs.Kinds.{delimiter_number, delimiter_kind_from}
-use Rattle.tt_codec.specs.Header.{start_behind, HeaderFits, distance, is_within, is_small, has_format_1, has_format_2, has_format_3, format_1, format_2, format_3, format_4, header_bytes, format_1_at, format_2_at, format_3_at, format_4_at}
+use Rattle.tt_codec.specs.Header.{start_behind, HeaderFits, distance, is_within, is_short, is_small, has_format_1, has_format_2, has_format_3, format_1, format_2, format_3, format_4, header_bytes, format_1_at, format_2_at, format_3_at, format_4_at}
 use Rattle.tt_codec.specs.Entry.{as_entry, entry_behind_span, entry_at}
 use Rattle.tt_codec.specs.Leaf.{plain_at}
 use Rattle.tt_codec.specs.declared.entry.HeaderEntry.{HeaderEntry}
@@ -43,6 +43,7 @@ kind_again Parenthesis = refl
 kind_again Brace = refl
 kind_again Bracket = refl
 kind_again Invisible = refl
+kind_again InvisibleOpaque = refl
 
 -- what is read behind a kind
 kind_then : {Y : Type 0} (number : ℕ) (kind : DelimiterKind) (next : DelimiterKind → Option Y) → number ≡ delimiter_number kind
@@ -62,12 +63,6 @@ start_behind_is start distance close e fits = by_test (nat_lt (start + distance)
 close_then : {Y : Type 0} (start distance close : ℕ) (next : ℕ → Option Y) → start + distance ≡ close → close < 2 ^ 32
     → (start_behind start distance >>= next) ≡ next close
 close_then start distance close next e fits = ap (λ r. r >>= next) (start_behind_is start distance close e fits)
-
-kind_bound : (kind : DelimiterKind) → delimiter_number kind < 4
-kind_bound Parenthesis = omega arith
-kind_bound Brace = omega arith
-kind_bound Bracket = omega arith
-kind_bound Invisible = omega arith
 
 -- a header with these numbers is read as `it`
 header_is : (it : HeaderEntry) (part start length part' start' length' child_bytes : ℕ) (rest : List ℕ)
@@ -102,19 +97,32 @@ within it most e =
     let (a, b) = and_parts (nat_le it.opening.start it.closing.start) (nat_le (distance it) most) e in
     (leb-true _ _ a, leb-true _ _ b)
 
-one_part : (it : HeaderEntry) → is_small it ≡ true → it.opening.part ≡ it.closing.part
-one_part it e =
+short_kind : (it : HeaderEntry) → is_short it ≡ true → delimiter_number it.kind ≤ 3
+short_kind it e =
+    let (len, kind) = and_parts (nat_le it.len 255) (nat_le (delimiter_number it.kind) 3) e in
+    leb-true _ _ kind
+
+small_facts : (it : HeaderEntry) → is_small it ≡ true → (it.opening.part ≡ it.closing.part) × (delimiter_number it.kind ≤ 3)
+small_facts it e =
     let (front, child_bytes) = and_parts _ (nat_le it.child_bytes 255) e in
-    let (part, len) = and_parts (it.opening.part == it.closing.part) (nat_le it.len 255) front in
-    eqb-true _ _ part
+    let (short, part) = and_parts (is_short it) (it.opening.part == it.closing.part) front in
+    (eqb-true _ _ part, short_kind it short)
 
 pub format_1_facts : (it : HeaderEntry) → has_format_1 it ≡ true
     → (it.opening.part ≡ it.closing.part) × (it.opening.length ≡ 1) × (it.closing.length ≡ 1) × (it.opening.start ≤ it.closing.start) × (distance it ≤ 2047)
+    × (delimiter_number it.kind ≤ 3)
 format_1_facts it e =
     let (front, near) = and_parts _ (is_within it 2047) e in
     let (small, closing) = and_parts _ (it.closing.length == 1) front in
     let (part, opening) = and_parts (is_small it) (it.opening.length == 1) small in
-    (one_part it part, eqb-true _ _ opening, eqb-true _ _ closing, (within it 2047 near).0, (within it 2047 near).1)
+    (
+      (small_facts it part).0,
+      eqb-true _ _ opening,
+      eqb-true _ _ closing,
+      (within it 2047 near).0,
+      (within it 2047 near).1,
+      (small_facts it part).1,
+    )
 
 -- The first format is read again.
 pub format_1_again : (it : HeaderEntry) (rest : List ℕ) → HeaderFits it → has_format_1 it ≡ true → entry_at (format_1 it ++ rest) ≡ token_read (of_header it) rest
@@ -130,6 +138,7 @@ format_1_again it rest fits e =
     at = record { part = it.opening.part; start = it.opening.start; length = distance it % 256 }
 
     facts : (it.opening.part ≡ it.closing.part) × (it.opening.length ≡ 1) × (it.closing.length ≡ 1) × (it.opening.start ≤ it.closing.start) × (distance it ≤ 2047)
+        × (delimiter_number it.kind ≤ 3)
     facts = format_1_facts it e
 
     short : distance it % 256 < 2 ^ 32
@@ -151,17 +160,18 @@ format_1_again it rest fits e =
     high_bits = omega arith
 
     kind_bits : high % 4 ≡ number
-    kind_bits = omega (arith, kind_bound it.kind)
+    kind_bits = omega (arith, facts.5)
 
     start_again : it.opening.start + (distance it % 256 + high / 4 * 256) ≡ it.closing.start
-    start_again = omega (arith, kind_bound it.kind, facts.3)
+    start_again = omega (arith, facts.3, facts.5)
 
 format_2_facts : (it : HeaderEntry) → has_format_2 it ≡ true
     → (it.opening.part ≡ it.closing.part) × (it.opening.length ≡ it.closing.length) × (it.opening.start ≤ it.closing.start) × (distance it ≤ 7)
+    × (delimiter_number it.kind ≤ 3)
 format_2_facts it e =
     let (front, near) = and_parts _ (is_within it 7) e in
     let (small, lengths) = and_parts (is_small it) (it.opening.length == it.closing.length) front in
-    (one_part it small, eqb-true _ _ lengths, (within it 7 near).0, (within it 7 near).1)
+    ((small_facts it small).0, eqb-true _ _ lengths, (within it 7 near).0, (within it 7 near).1, (small_facts it small).1)
 
 -- The second format is read again.
 pub format_2_again : (it : HeaderEntry) (rest : List ℕ) → HeaderFits it → has_format_2 it ≡ true → entry_at (format_2 it ++ rest) ≡ token_read (of_header it) rest
@@ -174,6 +184,7 @@ format_2_again it rest fits e =
     ∙ header_is it _ _ _ _ _ _ _ rest refl refl refl facts.0 refl facts.1 refl
   where
     facts : (it.opening.part ≡ it.closing.part) × (it.opening.length ≡ it.closing.length) × (it.opening.start ≤ it.closing.start) × (distance it ≤ 7)
+        × (delimiter_number it.kind ≤ 3)
     facts = format_2_facts it e
 
     number : ℕ
@@ -192,19 +203,20 @@ format_2_again it rest fits e =
     high_bits = omega arith
 
     kind_bits : high % 4 ≡ number
-    kind_bits = omega (arith, kind_bound it.kind)
+    kind_bits = omega (arith, facts.4)
 
     start_again : it.opening.start + high / 4 ≡ it.closing.start
-    start_again = omega (arith, kind_bound it.kind, facts.2)
+    start_again = omega (arith, facts.2, facts.4)
 
 format_3_facts : (it : HeaderEntry) → has_format_3 it ≡ true
     → (it.child_bytes ≤ 4095) × (it.opening.length ≡ it.closing.length) × (it.opening.start ≤ it.closing.start) × (it.closing.part ≤ 127)
+    × (delimiter_number it.kind ≤ 3)
 format_3_facts it e =
     let (front, part) = and_parts _ (nat_le it.closing.part 127) e in
     let (small, near) = and_parts _ (is_within it 255) front in
     let (few, lengths) = and_parts _ (it.opening.length == it.closing.length) small in
-    let (len, child_bytes) = and_parts (nat_le it.len 255) (nat_le it.child_bytes 4095) few in
-    (leb-true _ _ child_bytes, eqb-true _ _ lengths, (within it 255 near).0, leb-true _ _ part)
+    let (short, child_bytes) = and_parts (is_short it) (nat_le it.child_bytes 4095) few in
+    (leb-true _ _ child_bytes, eqb-true _ _ lengths, (within it 255 near).0, leb-true _ _ part, short_kind it short)
 
 -- The third format is read again.
 pub format_3_again : (it : HeaderEntry) (rest : List ℕ) → HeaderFits it → has_format_3 it ≡ true → entry_at (format_3 it ++ rest) ≡ token_read (of_header it) rest
@@ -218,6 +230,7 @@ format_3_again it rest fits e =
     ∙ header_is it _ _ _ _ _ _ _ rest refl refl refl part_again refl facts.1 bytes_again
   where
     facts : (it.child_bytes ≤ 4095) × (it.opening.length ≡ it.closing.length) × (it.opening.start ≤ it.closing.start) × (it.closing.part ≤ 127)
+        × (delimiter_number it.kind ≤ 3)
     facts = format_3_facts it e
 
     number : ℕ
@@ -256,10 +269,10 @@ format_3_again it rest fits e =
     both_bound = omega (arith, facts.0, facts.3)
 
     kind_bits : high % 4 ≡ number
-    kind_bits = omega (arith, kind_bound it.kind)
+    kind_bits = omega (arith, facts.4)
 
     part_again : high / 4 + both % 16 * 8 ≡ it.closing.part
-    part_again = omega (arith, kind_bound it.kind, facts.3)
+    part_again = omega (arith, facts.3, facts.4)
 
     start_again : it.opening.start + distance it ≡ it.closing.start
     start_again = omega (arith, facts.2)

@@ -1,7 +1,7 @@
 -- What the definitions of headers compute, beside bytes that were worked out by hand.
 use Rattle.std.proofs.Common.{◌≡◌, ℕ, codes, refl}
 use Rattle.tt_base.specs.declared.delimiter.DelimiterKind.{DelimiterKind}
-use Rattle.tt_base.specs.declared.delimiter.DelimiterKind.TheVariants.{Parenthesis, Brace}
+use Rattle.tt_base.specs.declared.delimiter.DelimiterKind.TheVariants.{Parenthesis, Brace, InvisibleOpaque}
 use Rattle.tt_codec.specs.declared.entry.HeaderEntry.{HeaderEntry}
 use Rattle.tt_codec.specs.Header.{header_bytes}
 use Rattle.tt_codec.specs.declared.span.SpanNumbers.{SpanNumbers}
@@ -40,6 +40,11 @@ other_parts = (refl, refl, refl)
 closed_before : header_bytes (empty (at 0 5 1) (at 0 0 1)) ≡ hex (codes "40 80 02 00 05 40 00 00 00 00 00 00 00 00 00 00 00")
 unfolding header_bytes span_bytes
 closed_before = refl
+
+-- an opaque one has no shorter format
+opaque : header_bytes (round InvisibleOpaque (at 0 0 1) (at 0 1 1) 0 0) ≡ hex (codes "40 00 00 00 25 40 80 00 00 00 00 00 00 00 00 00 00")
+unfolding header_bytes span_bytes
+opaque = refl
 
 many_bytes : (header_bytes (round Parenthesis (at 0 0 1) (at 0 1 1) 51 255) ≡ hex (codes "40 00 00 00 00 33 ff"))
     × (header_bytes (round Parenthesis (at 0 0 1) (at 0 1 1) 52 260) ≡ hex (codes "40 00 00 00 02 01 34 40 10"))

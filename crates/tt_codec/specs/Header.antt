@@ -18,9 +18,13 @@ distance it = it.closing.start - it.opening.start
 abbrev pub is_within : HeaderEntry → ℕ → Bool
 is_within it most = nat_le it.opening.start it.closing.start && nat_le (distance it) most
 
--- both delimiters are of one part, and what is between them can be counted in one byte each
+-- what the first three formats ask for: a count of one byte, and a kind of two bits
+abbrev pub is_short : HeaderEntry → Bool
+is_short it = nat_le it.len 255 && nat_le (delimiter_number it.kind) 3
+
+-- short, with both delimiters of one part, and one byte for the number of bytes
 abbrev pub is_small : HeaderEntry → Bool
-is_small it = it.opening.part == it.closing.part && nat_le it.len 255 && nat_le it.child_bytes 255
+is_small it = is_short it && it.opening.part == it.closing.part && nat_le it.child_bytes 255
 
 -- small, with delimiters of length 1, whose distance has 11 bits
 abbrev pub has_format_1 : HeaderEntry → Bool
@@ -30,10 +34,10 @@ has_format_1 it = is_small it && it.opening.length == 1 && it.closing.length == 
 abbrev pub has_format_2 : HeaderEntry → Bool
 has_format_2 it = is_small it && it.opening.length == it.closing.length && is_within it 7
 
--- delimiters of one length, with 8 bits for the count, 12 for the bytes, 8 for the distance and 7 for the close's part
+-- short, with delimiters of one length, 12 bits for the bytes, 8 for the distance and 7 for the close's part
 abbrev pub has_format_3 : HeaderEntry → Bool
 has_format_3 it =
-    nat_le it.len 255 && nat_le it.child_bytes 4095 && it.opening.length == it.closing.length && is_within it 255 && nat_le it.closing.part 127
+    is_short it && nat_le it.child_bytes 4095 && it.opening.length == it.closing.length && is_within it 255 && nat_le it.closing.part 127
 
 -- the 8 low bits of the distance stand in the span where its length would, the others behind the kind
 abbrev pub format_1 : HeaderEntry → List ℕ

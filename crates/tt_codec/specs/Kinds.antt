@@ -1,6 +1,6 @@
 -- The numbers of kinds, and the kinds of numbers.
 use Rattle.std.specs.Prelude.{ℕ, ◌==◌, if◌then◌else◌, Option, Some, None}
-use Rattle.tt_base.specs.declared.delimiter.DelimiterKind.TheVariants.{Parenthesis, Brace, Bracket, Invisible}
+use Rattle.tt_base.specs.declared.delimiter.DelimiterKind.TheVariants.{Parenthesis, Brace, Bracket, Invisible, InvisibleOpaque}
 use Rattle.tt_base.specs.declared.delimiter.DelimiterKind.{DelimiterKind}
 use Rattle.tt_base.specs.declared.ident.IdentIsRaw.TheVariants.{No, Yes}
 use Rattle.tt_base.specs.declared.ident.IdentIsRaw.{IdentIsRaw}
@@ -15,12 +15,14 @@ delimiter_number Parenthesis = 0
 delimiter_number Brace = 1
 delimiter_number Bracket = 2
 delimiter_number Invisible = 3
+delimiter_number InvisibleOpaque = 4
 
 -- the kind of delimiter of a number
 abbrev pub delimiter_kind_from : ℕ → Option DelimiterKind
 delimiter_kind_from number =
     if number == 0 then Some Parenthesis else if number == 1 then Some Brace
-    else if number == 2 then Some Bracket else if number == 3 then Some Invisible else None
+    else if number == 2 then Some Bracket else if number == 3 then Some Invisible
+    else if number == 4 then Some InvisibleOpaque else None
 
 -- the number of a spacing
 abbrev pub spacing_number : Spacing → ℕ

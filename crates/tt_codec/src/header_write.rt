@@ -4,13 +4,13 @@ ghost use Rattle.tt_base.specs.declared.fault.TtFault.TheVariants.{Memory};
 ghost use Rattle.tt_base.specs.declared.token_tree.TokenTree.TheVariants as token;
 ghost use Rattle.tt_base.specs.Fits.{TokenInRange};
 ghost use Rattle.tt_codec.specs.Kinds.{delimiter_number};
-ghost use Rattle.tt_codec.specs.Header.{HeaderFits, is_within, is_small, has_format_1, has_format_2, has_format_3, format_1, format_2, format_3, format_4, header_bytes, top_entry};
+ghost use Rattle.tt_codec.specs.Header.{HeaderFits, is_within, is_short, is_small, has_format_1, has_format_2, has_format_3, format_1, format_2, format_3, format_4, header_bytes, top_entry};
 
 use crate::back_buf::BackBuf;
 use crate::entry::HeaderEntry;
 use crate::form::{
     FORM_BITS, FORMAT_1, FORMAT_2, FORMAT_3, FORMAT_4, HIGH_AT, HIGH_BITS, HIGH_MASK,
-    LOW_DISTANCE_BITS, PART_BITS, PLAIN,
+    KIND_MASK, LOW_DISTANCE_BITS, PART_BITS, PLAIN,
 };
 use crate::kinds::delimiter_number;
 use crate::span::SpanNumbers;
@@ -32,10 +32,10 @@ const FORMAT_3_PART: u32 = (1 << (HIGH_BITS + PART_BITS)) - 1;
 // The byte behind the open span: the form, the kind, and what the form has its high bits for.
 pub(crate) fn control(form: u8, kind: DelimiterKind, high: u8) -> u8
     requires form { form < 8 }
-    requires high { high < 8 }
+    requires high { delimiter_number kind + high * 4 < 32 }
     ensures { result ≡ form + delimiter_number kind * 8 + high * 32 }
 {
-    form | delimiter_number(kind) << FORM_BITS | high << HIGH_AT
+    form + (delimiter_number(kind) << FORM_BITS) + (high << HIGH_AT)
 }
 
 impl HeaderEntry {
@@ -62,12 +62,19 @@ impl HeaderEntry {
         self.opening.start <= self.closing.start && self.closing.start - self.opening.start <= most
     }
 
-    // Whether both delimiters are of one part, and what is between them is small.
+    // Whether its count takes one byte, and its kind two bits.
+    fn is_short(self) -> bool
+        ensures { result ≡ is_short self }
+    {
+        self.len <= MOST_IN_BYTE && delimiter_number(self.kind) <= KIND_MASK
+    }
+
+    // Whether it is short, both delimiters are of one part, and the number of bytes is small.
     fn is_small(self) -> bool
         ensures { result ≡ is_small self }
     {
-        self.opening.part == self.closing.part
-            && self.len <= MOST_IN_BYTE
+        self.is_short()
+            && self.opening.part == self.closing.part
             && self.child_bytes <= MOST_IN_BYTE
     }
 
@@ -94,7 +101,7 @@ impl HeaderEntry {
     fn has_format_3(self) -> bool
         ensures { result ≡ has_format_3 self }
     {
-        self.len <= MOST_IN_BYTE
+        self.is_short()
             && self.child_bytes <= FORMAT_3_BYTES
             && self.opening.length == self.closing.length
             && self.is_within(MOST_IN_BYTE)

@@ -7,7 +7,7 @@ use tt_base::{DelimiterKind, IdentIsRaw, LitKind, Spacing};
 /// The number of a kind of delimiter.
 pub(crate) fn delimiter_number(kind: DelimiterKind) -> u8
     ensures value { result ≡ delimiter_number kind }
-    ensures bound { result < 4 }
+    ensures bound { result < 5 }
 {
     kind as u8
 }
@@ -22,6 +22,7 @@ pub(crate) fn delimiter_kind_from(number: u8) -> Option<DelimiterKind>
         1 => Some(DelimiterKind::Brace),
         2 => Some(DelimiterKind::Bracket),
         3 => Some(DelimiterKind::Invisible),
+        4 => Some(DelimiterKind::InvisibleOpaque),
         _ => None,
     }
 }

@@ -1,7 +1,7 @@
 -- How the parts of a line are spelled: kinds and tokens.
 use Rattle.std.specs.Prelude.{ℕ, ◌<◌, List, ◌++◌, codes, decimal, encode_utf8, IsUtf8}
 use Rattle.tt_base.specs.declared.delimiter.DelimiterKind.{DelimiterKind}
-use Rattle.tt_base.specs.declared.delimiter.DelimiterKind.TheVariants.{Parenthesis, Brace, Bracket, Invisible}
+use Rattle.tt_base.specs.declared.delimiter.DelimiterKind.TheVariants.{Parenthesis, Brace, Bracket, Invisible, InvisibleOpaque}
 use Rattle.tt_base.specs.declared.delimiter.Subtree.{Subtree}
 use Rattle.tt_base.specs.declared.ident.Ident.{Ident}
 use Rattle.tt_base.specs.declared.ident.IdentIsRaw.{IdentIsRaw}
@@ -30,6 +30,7 @@ kind_word Parenthesis = codes "paren"
 kind_word Brace = codes "brace"
 kind_word Bracket = codes "bracket"
 kind_word Invisible = codes "invisible"
+kind_word InvisibleOpaque = codes "opaque"
 
 -- SPACING
 abbrev pub spacing_word : Spacing → List ℕ

@@ -129,6 +129,7 @@ pub fn kind_name(kind: DelimiterKind) -> &'static str
         DelimiterKind::Brace => "brace",
         DelimiterKind::Bracket => "bracket",
         DelimiterKind::Invisible => "invisible",
+        DelimiterKind::InvisibleOpaque => "opaque",
     }
 }
 

@@ -165,6 +165,36 @@ fn a_top_over_nothing(rt: HostRuntime) -> Result<(), Fail> {
     Ok(())
 }
 
+// The tree takes a kind, and is then another with these bytes.
+fn is_set(
+    rt: &impl Abort,
+    alloc: Global,
+    tree: &mut TopSubtree,
+    kind: DelimiterKind,
+    bytes: &[u8],
+) -> Result<(), Fail> {
+    let before = tree.clone(alloc)?;
+    tree.set_top_subtree_delimiter_kind(kind);
+    assert!(rt; *tree != before);
+    assert_eq!(rt; tree.packed_bytes(), bytes);
+    Ok(())
+}
+
+#[test]
+fn an_opaque_top_and_back(rt: HostRuntime) -> Result<(), Fail> {
+    let alloc = rt.alloc();
+    let place = span((0, 0, 0)).ok_or("no span")?;
+    let mut tree = TopSubtree::empty(alloc, DelimSpan::from_single(place))?;
+    let opaque =
+        b"\x00\x40\x00\x00\x01\x00\x00\x00\x00\x00\x00\x00\x25\x04\x40\x00\x00\x01\x00\x00\x00\x00\x00\x00\x00\x00\x00\x00\x00\x00\x00\x00\x00";
+    let invisible =
+        b"\x00\x40\x00\x00\x01\x00\x00\x00\x00\x00\x00\x00\x1d\x04\x40\x00\x00\x01\x00\x00\x00\x00\x00\x00\x00\x00\x00\x00\x00\x00\x00\x00\x00";
+    let kind = DelimiterKind::InvisibleOpaque;
+    is_set(&rt, alloc, &mut tree, kind, opaque.as_slice())?;
+    let kind = DelimiterKind::Invisible;
+    is_set(&rt, alloc, &mut tree, kind, invisible.as_slice())
+}
+
 #[test]
 fn a_brace_over_two_leaves(rt: HostRuntime) -> Result<(), Fail> {
     let alloc = rt.alloc();

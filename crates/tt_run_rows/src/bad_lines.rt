@@ -22,6 +22,9 @@ const BAD_LINES: [&[u8]; 11] = [
     b"kind 0\n\
       kind 16 paren\n\
       kind 0 round\n\
+      kind 0 Opaque\n\
+      kind 0 opaque \n\
+      kind 0 invisibleopaque\n\
       kind 0 paren \n\
       spans 0 0:0@0..1#0\n\
       spans 0 0:0@0..1#0 0:0@1..0#0\n\
@@ -151,7 +154,7 @@ const BAD_LINES: [&[u8]; 11] = [
       item lit str 0 0:0@0..1#0 a\xc3",
 ];
 
-const ROWS: u32 = 134;
+const ROWS: u32 = 137;
 
 #[test]
 fn stand_for_nothing(rt: HostRuntime) -> Result<(), Fail> {

@@ -125,6 +125,8 @@ fn stand_for_commands_that_change_trees(rt: HostRuntime) -> Result<(), Fail> {
     let last = Slot::new(15).ok_or("15")?;
     let kind = Command::Kind(last, DelimiterKind::Bracket);
     stands_for(&rt, alloc, "kind 15 bracket", kind)?;
+    let kind = Command::Kind(last, DelimiterKind::InvisibleOpaque);
+    stands_for(&rt, alloc, "kind 15 opaque", kind)?;
     let spans = Command::Spans(zero, small_span(), large_span());
     let line = "spans 0 1:2@3..3#4 4294967295:4294967295@4294967295..4294967295#4294967295";
     stands_for(&rt, alloc, line, spans)?;
@@ -192,6 +194,12 @@ fn stand_for_heads(rt: HostRuntime) -> Result<(), Fail> {
         (
             "item sub invisible 1:2@3..3#4 1:2@3..3#4 1",
             DelimiterKind::Invisible,
+            small_span(),
+            1,
+        ),
+        (
+            "item sub opaque 1:2@3..3#4 1:2@3..3#4 1",
+            DelimiterKind::InvisibleOpaque,
             small_span(),
             1,
         ),

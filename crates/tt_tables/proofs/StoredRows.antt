@@ -1,11 +1,12 @@
 -- What is stored for two small trees, beside bytes that were worked out by hand.
 use Rattle.std.proofs.Common.{◌≡◌, [], ◌∷◌, codes, refl}
-use Rattle.tt_base.specs.declared.delimiter.DelimiterKind.TheVariants.{Brace, Invisible}
+use Rattle.tt_base.specs.declared.delimiter.DelimiterKind.TheVariants.{Brace, Invisible, InvisibleOpaque}
 use Rattle.tt_base.specs.declared.ident.IdentIsRaw.TheVariants.{No}
 use Rattle.tt_base.specs.declared.leaf.Leaf.{Leaf}
 use Rattle.tt_base.specs.declared.leaf.Leaf.TheVariants as leaf_of
 use Rattle.tt_base.specs.declared.punct.Spacing.TheVariants.{Alone}
 use Rattle.tt_base.specs.declared.span.SpanPart.{SpanPart}
+use Rattle.tt_base.specs.Edits.{with_kind}
 use Rattle.tt_base.specs.Token.{delimiter}
 use Rattle.tt_base.specs.Forest.{end, leaf, Root}
 use Rattle.tt_base.specs.Span.{part_of}
@@ -31,6 +32,16 @@ of_empty : packed empty
     }
 unfolding packed bytes table span_bytes empty
 of_empty = refl
+
+-- its kind set to opaque, and back
+of_opaque : (packed (with_kind InvisibleOpaque empty)).bytes
+    ≡ hex (codes "00 40 00 00 01 00 00 00 00 00 00 00 25 04 40 00 00 01 00 00 00 00 00 00 00 00 00 00 00 00 00 00 00")
+unfolding packed bytes table span_bytes empty
+of_opaque = refl
+
+set_back : with_kind Invisible (with_kind InvisibleOpaque empty) ≡ empty
+unfolding empty
+set_back = refl
 
 abbrev a : Leaf
 a = leaf_of.Ident (record { sym = codes "a"; span = span 2 1; is_raw = No })

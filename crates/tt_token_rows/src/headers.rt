@@ -173,7 +173,7 @@ fn tokens_in_three_formats_and_past_them(rt: HostRuntime) -> Result<(), Fail> {
 #[test]
 fn kinds(rt: HostRuntime) -> Result<(), Fail> {
     let alloc = rt.alloc();
-    let cases: [(DelimiterKind, Spot, Spot, (u32, u32), &[u8]); 3] = [
+    let cases: [(DelimiterKind, Spot, Spot, (u32, u32), &[u8]); 4] = [
         (
             DelimiterKind::Brace,
             (0, 5, 4),
@@ -194,6 +194,13 @@ fn kinds(rt: HostRuntime) -> Result<(), Fail> {
             (0, 2047, 1),
             (0, 0),
             b"\xc0\x3f\x00\x00\xf8\x00\x00",
+        ),
+        (
+            DelimiterKind::InvisibleOpaque,
+            (0, 0, 1),
+            (0, 1, 1),
+            (0, 0),
+            b"\x40\x00\x00\x00\x25\x40\x80\x00\x00\x00\x00\x00\x00\x00\x00\x00\x00",
         ),
     ];
     for (kind, opening, closing, children, bytes) in cases {

@@ -72,6 +72,7 @@ fn numbers_of_kinds(rt: HostRuntime) {
     assert_eq!(rt; DelimiterKind::Brace as u8, 1);
     assert_eq!(rt; DelimiterKind::Bracket as u8, 2);
     assert_eq!(rt; DelimiterKind::Invisible as u8, 3);
+    assert_eq!(rt; DelimiterKind::InvisibleOpaque as u8, 4);
     assert_eq!(rt; Spacing::Alone as u8, 0);
     assert_eq!(rt; Spacing::Joint as u8, 1);
     assert_eq!(rt; Spacing::JointHidden as u8, 2);

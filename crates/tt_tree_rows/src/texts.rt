@@ -149,7 +149,24 @@ fn spaces_between_siblings(rt: HostRuntime) -> Result<(), Fail> {
     let sum = between(alloc, punct('+', Spacing::JointHidden))?;
     print_as(&rt, alloc, sum.token_trees(), "a +b", "a + b")?;
     let gap = between(alloc, header(DelimiterKind::Invisible, 0))?;
+    print_as(&rt, alloc, gap.token_trees(), "a  b", "a  b")?;
+    let gap = between(alloc, header(DelimiterKind::InvisibleOpaque, 0))?;
     print_as(&rt, alloc, gap.token_trees(), "a  b", "a  b")
+}
+
+// The top alone, of that kind, over nothing.
+fn over_nothing(alloc: Global, kind: DelimiterKind) -> Result<TopSubtree, Fail> {
+    Ok(TopSubtree::from_serialized(alloc, vec![in alloc; header(kind, 0)]?)?)
+}
+
+#[test]
+fn lines_of_what_is_not_printed(rt: HostRuntime) -> Result<(), Fail> {
+    let alloc = rt.alloc();
+    let invisible = over_nothing(alloc, DelimiterKind::Invisible)?;
+    let opaque = over_nothing(alloc, DelimiterKind::InvisibleOpaque)?;
+    let line = "SUBTREE $$ 0:0@0..1#0 0:0@3..4#0";
+    has_lines(&rt, alloc, &invisible, line)?;
+    has_lines(&rt, alloc, &opaque, line)
 }
 
 // The lines that Debug writes of parentheses over an ident and a punct.

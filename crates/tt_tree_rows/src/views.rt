@@ -1,9 +1,14 @@
 //! Views: pieces, the last span, leaves under a delimiter, and one step for each sibling.
-use crate::tokens::{ident, ident_leaf, is_under, parentheses, punct, punct_leaf, span, under};
+use crate::tokens::{
+    header, ident, ident_leaf, is_under, parentheses, punct, punct_leaf, span, under,
+};
 use std::alloc::Global;
 use std::process::Abort;
 use std::test::Fail;
-use tt::{DelimSpan, Leaf, Spacing, TokenTree, TokenTreesView, TopSubtree, TtElement, TtIter};
+use tt::{
+    DelimSpan, DelimiterKind, Leaf, Spacing, TokenTree, TokenTreesView, TopSubtree, TtElement,
+    TtIter,
+};
 
 // Whether the element is a comma.
 fn is_comma(element: TtElement<'_>) -> bool {
@@ -52,6 +57,31 @@ fn has_pieces(rt: &impl Abort, alloc: Global, text: &str, lengths: &[usize]) -> 
     let tokens = idents_and_commas(alloc, text)?;
     let tree = under(alloc, &tokens)?;
     is_cut_into(rt, alloc, tree.token_trees(), lengths)
+}
+
+// The tree of a top of that kind over a comma.
+fn over_a_comma(alloc: Global, kind: DelimiterKind) -> Result<TopSubtree, Fail> {
+    let tokens = vec![in alloc; header(kind, 1, 2, 1), punct(',', Spacing::Alone)]?;
+    Ok(TopSubtree::from_serialized(alloc, tokens)?)
+}
+
+// So many tokens are left of the tree without an invisible top.
+fn strips_to(rt: &impl Abort, tree: &TopSubtree, len: usize) {
+    assert_eq!(rt; tree.view().strip_invisible().len(), len);
+    assert_eq!(rt; tree.as_token_trees().strip_invisible().len(), len);
+}
+
+// An invisible top gives way, and an opaque one does not; the two make different trees with different bytes.
+#[test]
+fn tops_that_are_not_printed(rt: HostRuntime) -> Result<(), Fail> {
+    let alloc = rt.alloc();
+    let invisible = over_a_comma(alloc, DelimiterKind::Invisible)?;
+    let opaque = over_a_comma(alloc, DelimiterKind::InvisibleOpaque)?;
+    assert!(rt; invisible != opaque);
+    assert!(rt; invisible.packed_bytes() != opaque.packed_bytes());
+    strips_to(&rt, &invisible, 1);
+    strips_to(&rt, &opaque, 2);
+    Ok(())
 }
 
 #[test]

@@ -77,8 +77,10 @@ impl<'a> SubtreeView<'a> {
         let (top, below) = self.parts();
         match top.delimiter.kind {
             DelimiterKind::Invisible => below,
-            DelimiterKind::Parenthesis | DelimiterKind::Brace | DelimiterKind::Bracket =>
-                self.whole,
+            DelimiterKind::Parenthesis
+            | DelimiterKind::Brace
+            | DelimiterKind::Bracket
+            | DelimiterKind::InvisibleOpaque => self.whole,
         }
     }
 }

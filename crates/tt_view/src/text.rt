@@ -55,7 +55,7 @@ pub fn opening(kind: DelimiterKind) -> &'static str
         DelimiterKind::Parenthesis => "(",
         DelimiterKind::Brace => "{",
         DelimiterKind::Bracket => "[",
-        DelimiterKind::Invisible => "",
+        DelimiterKind::Invisible | DelimiterKind::InvisibleOpaque => "",
     }
 }
 
@@ -67,6 +67,6 @@ pub fn closing(kind: DelimiterKind) -> &'static str
         DelimiterKind::Parenthesis => ")",
         DelimiterKind::Brace => "}",
         DelimiterKind::Bracket => "]",
-        DelimiterKind::Invisible => "",
+        DelimiterKind::Invisible | DelimiterKind::InvisibleOpaque => "",
     }
 }

@@ -16,7 +16,8 @@ impl Word for DelimiterKind {
             b"paren" => DelimiterKind::Parenthesis,
             b"brace" => DelimiterKind::Brace,
             b"bracket" => DelimiterKind::Bracket,
-            b"invisible" => DelimiterKind::Invisible
+            b"invisible" => DelimiterKind::Invisible,
+            b"opaque" => DelimiterKind::InvisibleOpaque
         )
     }
 
