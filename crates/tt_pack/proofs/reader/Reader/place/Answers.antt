@@ -1,6 +1,6 @@
 use Rattle.tt_pack.specs.ReaderOf.{tables_of, bytes_of, offset_of, ahead_of}
 use Rattle.tt_pack.proofs.Moves.{inside, outside_top}
-use Rattle.tt_pack.proofs.reader.Reader.offset.Goals as goal
+use Rattle.tt_pack.proofs.reader.Reader.place.Goals as goal
 
 pub returns-clause-inside : goal.returns-clause-inside
 returns-clause-inside c =
