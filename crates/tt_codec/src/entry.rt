@@ -1,7 +1,7 @@
 //! A token in numbers: a leaf or a header.
 ghost use Rattle.std.specs.Prelude.{◌≡◌, ◌≤◌, ◌+◌, ◌++◌};
 ghost use Rattle.tt_back_buf.specs.Bytes.{bytes_of, room_of};
-ghost use Rattle.tt_codec.specs.Entry.{EntryFits, entry_bytes};
+ghost use Rattle.tt_codec.specs.Entry.{EntryFits, entry_bytes, most_entry_bytes};
 
 use crate::span::SpanNumbers;
 use tt_back_buf::BackBuf;
@@ -43,7 +43,7 @@ impl Entry {
         requires fits { EntryFits self }
         requires room { 33 ≤ room_of into.old }
         ensures bytes { bytes_of into.new ≡ entry_bytes self ++ bytes_of into.old }
-        ensures room { room_of into.old ≤ room_of into.new + 33 }
+        ensures room { room_of into.old ≤ room_of into.new + most_entry_bytes self }
     {
         match self {
             Entry::Leaf(leaf) => leaf.write(into),

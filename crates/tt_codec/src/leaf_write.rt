@@ -2,7 +2,7 @@
 ghost use Rattle.std.specs.Prelude.{◌≡◌, ◌≤◌, ◌+◌, ◌<◌, ◌^◌, ◌++◌, false};
 ghost use Rattle.tt_back_buf.specs.Bytes.{bytes_of, room_of};
 ghost use Rattle.tt_codec.specs.Kinds.{raw_number};
-ghost use Rattle.tt_codec.specs.Leaf.{LeafEntryFits, long_form, literal_form, punct_bytes, leaf_bytes};
+ghost use Rattle.tt_codec.specs.Leaf.{LeafEntryFits, long_form, literal_form, punct_bytes, leaf_bytes, most_punct_bytes, most_leaf_bytes};
 ghost use Rattle.tt_codec.specs.Reference.{reference_bytes};
 ghost use Rattle.tt_codec.specs.SpanNumbers.{span_bytes};
 
@@ -51,7 +51,7 @@ fn write_punct(into: &mut BackBuf, char: char, spacing: Spacing, numbers: SpanNu
     requires fits { numbers.part < 2 ^ 28 }
     requires room { 17 ≤ room_of into.old }
     ensures bytes { bytes_of into.new ≡ punct_bytes char spacing numbers ++ bytes_of into.old }
-    ensures room { room_of into.old ≤ room_of into.new + 17 }
+    ensures room { room_of into.old ≤ room_of into.new + most_punct_bytes char }
 {
     if char.is_ascii() {
         into.put_byte((char as u8) << 1 | spacing_number(spacing) & 1);
@@ -111,7 +111,7 @@ impl LeafEntry {
         requires fits { LeafEntryFits self }
         requires room { 19 ≤ room_of into.old }
         ensures bytes { bytes_of into.new ≡ leaf_bytes self ++ bytes_of into.old }
-        ensures room { room_of into.old ≤ room_of into.new + 19 }
+        ensures room { room_of into.old ≤ room_of into.new + most_leaf_bytes self }
     {
         match self {
             LeafEntry::Punct(char, spacing, numbers) => write_punct(into, char, spacing, numbers),

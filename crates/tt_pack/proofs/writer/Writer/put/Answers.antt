@@ -2,10 +2,13 @@ use Rattle.std.proofs.Common.{◌≡◌, List, ◌++◌, ◌∷◌, [], drop, �
 use Rattle.tt_back_buf.specs.Bytes.{bytes_of}
 use Rattle.tt_base.specs.declared.token_tree.TokenTree.{TokenTree}
 use Rattle.tt_base.specs.Forest.{IsWhole}
+use Rattle.tt_codec.specs.Entry.{most_entry_bytes}
 use Rattle.tt_tables.specs.Tables.{Tables}
+use Rattle.tt_pack.specs.Room.{most_token_bytes}
 use Rattle.tt_pack.specs.TablesOf.{tables_of, HasUses}
 use Rattle.tt_pack.specs.Writing.{byte_count, child_bytes, first_child_bytes, IsWritten}
 use Rattle.tt_pack.proofs.Paired.{length-paired, paired_at}
+use Rattle.tt_pack.proofs.MostBytes.{most_more, most_in_numbers}
 use Rattle.tt_pack.proofs.Writing.{piece_at, one_more, too_many}
 use Rattle.tt_pack.proofs.writer.Writer.put.Goals as goal
 
@@ -46,3 +49,11 @@ returns-clause-ok c =
     subst (λ tokens. IsWritten tables tokens (bytes_of c.write.new.into) c.push.new.self.items) (sym here)
     (one_more tables it others _ _ _ _ _ _ _ (subst IsWhole here c.requires.whole) c.requires.written c.entry-entry.ensures.range child c.entry-entry.ensures.is refl
     c.write.ensures.bytes few counted)
+
+pub returns-clause-room : goal.returns-clause-room
+returns-clause-room c =
+    let it : TokenTree = c.index-tokens-index.result in
+    let more = most_more c.args.tokens.now c.args.index it c.requires.index c.index-tokens-index.is in
+    let numbers : most_entry_bytes c.entry-entry.result ≡ most_token_bytes it =
+    ap most_entry_bytes c.entry-entry.ensures.is ∙ most_in_numbers (tables_of c.args.self.now.tables.now) it c.child_bytes-child_bytes.result in
+    omega (arith, more, numbers, c.write.ensures.room, c.requires.room)
