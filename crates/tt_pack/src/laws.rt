@@ -15,6 +15,7 @@ use tt_base::{SpanPart, Symbol, TokenTree, TtFault};
 use tt_codec::{Reference, SpanNumbers};
 use tt_tables::Tables;
 
+// The most bytes of a reference, of a span, and of a token.
 const MOST_REFERENCE_BYTES: usize = 4;
 
 const MOST_SPAN_BYTES: usize = 12;
