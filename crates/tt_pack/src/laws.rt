@@ -15,11 +15,13 @@ use tt_base::{SpanPart, Symbol, TokenTree, TtFault};
 use tt_codec::{Reference, SpanNumbers};
 use tt_tables::Tables;
 
-// The most bytes of a reference, of a span, and of a token.
+// No reference takes more bytes.
 const MOST_REFERENCE_BYTES: usize = 4;
 
+// No span takes more bytes.
 const MOST_SPAN_BYTES: usize = 12;
 
+// No token takes more bytes.
 const MOST_TOKEN_BYTES: usize = 33;
 
 /// The bytes that name a symbol: its index in a table, and a tag bit.
