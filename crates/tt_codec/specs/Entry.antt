@@ -2,7 +2,7 @@
 use Rattle.std.specs.Borrow.{Bor}
 use Rattle.std.specs.Prelude.{List, ℕ, ◌/◌, ◌%◌, ◌==◌, if◌then◌else◌, Option, Some, ◌≡◌, ◌++◌, IsSomeAnd}
 use Rattle.tt_codec.specs.Header.{HeaderFits, header_bytes, format_1_at, format_2_at, format_3_at, format_4_at}
-use Rattle.tt_codec.specs.Leaf.{LeafEntryFits, leaf_bytes, plain_at, marked_at}
+use Rattle.tt_codec.specs.Leaf.{LeafEntryFits, leaf_bytes, most_leaf_bytes, plain_at, marked_at}
 use Rattle.tt_codec.specs.Read.{Read, ◌>>=◌, byte_at}
 use Rattle.tt_codec.specs.SpanNumbers.{span_at}
 use Rattle.tt_codec.specs.declared.entry.Entry.TheVariants.{Leaf as of_leaf, Header as of_header}
@@ -14,6 +14,11 @@ use Rattle.tt_codec.specs.declared.span.SpanNumbers.{SpanNumbers}
 abbrev pub entry_bytes : Entry → List ℕ
 entry_bytes (of_leaf it) = leaf_bytes it
 entry_bytes (of_header it) = header_bytes it
+
+-- the most bytes that a token takes
+abbrev pub most_entry_bytes : Entry → ℕ
+most_entry_bytes (of_leaf it) = most_leaf_bytes it
+most_entry_bytes (of_header it) = 33
 
 -- the numbers that a token can hold
 abbrev pub EntryFits : Entry → Type 0

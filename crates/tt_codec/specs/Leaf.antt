@@ -40,6 +40,16 @@ leaf_bytes (ident symbol raw numbers) = span_bytes false 2 numbers ++ reference_
 leaf_bytes (literal symbol kind suffix_len numbers) =
     span_bytes false 0 numbers ++ literal_form kind suffix_len ++ reference_bytes symbol 0
 
+-- the most bytes that a punct takes: 12 of its span, one more, and four of a character that is not ASCII
+abbrev pub most_punct_bytes : (char : ℕ) → ℕ
+most_punct_bytes char = if nat_lt char 128 then 13 else 17
+
+-- the most bytes that a leaf takes
+abbrev pub most_leaf_bytes : LeafEntry → ℕ
+most_leaf_bytes (punct char spacing numbers) = most_punct_bytes char
+most_leaf_bytes (ident symbol raw numbers) = 16
+most_leaf_bytes (literal symbol kind suffix_len numbers) = 19
+
 -- the numbers that a leaf can hold
 abbrev pub LeafEntryFits : LeafEntry → Type 0
 LeafEntryFits (punct char spacing numbers) = IsScalar char × SpanFits numbers

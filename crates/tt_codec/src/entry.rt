@@ -1,11 +1,11 @@
 //! A token in numbers: a leaf or a header.
-ghost use Rattle.std.specs.Prelude.{◌≡◌, ◌++◌, IfErr, OnOk};
-ghost use Rattle.tt_base.specs.declared.fault.TtFault.TheVariants.{Memory};
-ghost use Rattle.tt_codec.specs.Entry.{EntryFits, entry_bytes};
+ghost use Rattle.std.specs.Prelude.{◌≡◌, ◌≤◌, ◌+◌, ◌++◌};
+ghost use Rattle.tt_back_buf.specs.Bytes.{bytes_of, room_of};
+ghost use Rattle.tt_codec.specs.Entry.{EntryFits, entry_bytes, most_entry_bytes};
 
-use crate::back_buf::BackBuf;
 use crate::span::SpanNumbers;
-use tt_base::{DelimiterKind, IdentIsRaw, LitKind, Spacing, TtFault};
+use tt_back_buf::BackBuf;
+use tt_base::{DelimiterKind, IdentIsRaw, LitKind, Spacing};
 
 /// A leaf in numbers, as it is stored: its symbol is an index in a table, and where it stands comes last.
 #[derive(Debug, Clone, Copy, PartialEq)]
@@ -39,10 +39,11 @@ pub enum Entry {
 
 impl Entry {
     /// Puts the token's bytes before the others.
-    pub fn write(self, into: &mut BackBuf) -> Result<(), TtFault>
-        requires { EntryFits self }
-        ensures ok { OnOk result (into.new ≡ entry_bytes self ++ into.old) }
-        ensures err { IfErr result (λ fault. fault ≡ Memory) }
+    pub fn write(self, into: &mut BackBuf)
+        requires fits { EntryFits self }
+        requires room { 33 ≤ room_of into.old }
+        ensures bytes { bytes_of into.new ≡ entry_bytes self ++ bytes_of into.old }
+        ensures room { room_of into.old ≤ room_of into.new + most_entry_bytes self }
     {
         match self {
             Entry::Leaf(leaf) => leaf.write(into),

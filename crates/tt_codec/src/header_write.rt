@@ -1,12 +1,11 @@
 //! Headers, written in the first of four formats whose condition holds (docs/FORMATS.md, "Bytes of a header").
-ghost use Rattle.std.specs.Prelude.{◌≡◌, ◌<◌, ◌^◌, ◌+◌, ◌*◌, ◌++◌, IsTrue, IfErr, OnOk};
-ghost use Rattle.tt_base.specs.declared.fault.TtFault.TheVariants.{Memory};
+ghost use Rattle.std.specs.Prelude.{◌≡◌, ◌≤◌, ◌<◌, ◌^◌, ◌+◌, ◌*◌, ◌++◌, IsTrue};
+ghost use Rattle.tt_back_buf.specs.Bytes.{bytes_of, room_of};
 ghost use Rattle.tt_base.specs.declared.token_tree.TokenTree.TheVariants as token;
 ghost use Rattle.tt_base.specs.Fits.{TokenInRange};
 ghost use Rattle.tt_codec.specs.Kinds.{delimiter_number};
 ghost use Rattle.tt_codec.specs.Header.{HeaderFits, is_within, is_short, is_small, has_format_1, has_format_2, has_format_3, format_1, format_2, format_3, format_4, header_bytes, top_entry};
 
-use crate::back_buf::BackBuf;
 use crate::entry::HeaderEntry;
 use crate::form::{
     FORM_BITS, FORMAT_1, FORMAT_2, FORMAT_3, FORMAT_4, HIGH_AT, HIGH_BITS, HIGH_MASK,
@@ -14,7 +13,8 @@ use crate::form::{
 };
 use crate::kinds::delimiter_number;
 use crate::span::SpanNumbers;
-use tt_base::{DelimiterKind, Subtree, TtFault};
+use tt_back_buf::BackBuf;
+use tt_base::{DelimiterKind, Subtree};
 
 // The count, the bytes of a small header and the distance of the third format take a byte each.
 const MOST_IN_BYTE: u32 = u8::MAX as u32;
@@ -109,73 +109,78 @@ impl HeaderEntry {
     }
 
     // Puts the first format before the bytes.
-    fn write_format_1(self, into: &mut BackBuf) -> Result<(), TtFault>
+    fn write_format_1(self, into: &mut BackBuf)
         requires fits { HeaderFits self }
         requires format { IsTrue (has_format_1 self) }
-        ensures ok { OnOk result (into.new ≡ format_1 self ++ into.old) }
-        ensures err { IfErr result (λ fault. fault ≡ Memory) }
+        requires room { 15 ≤ room_of into.old }
+        ensures bytes { bytes_of into.new ≡ format_1 self ++ bytes_of into.old }
+        ensures room { room_of into.old ≤ room_of into.new + 15 }
     {
         let distance = self.closing.start - self.opening.start;
         let span = SpanNumbers {
             length: distance & LOW_DISTANCE_MASK,
             ..self.opening
         };
-        into.put_byte(self.child_bytes as u8)?;
-        into.put_byte(self.len as u8)?;
+        into.put_byte(self.child_bytes as u8);
+        into.put_byte(self.len as u8);
         let high = (distance >> LOW_DISTANCE_BITS) as u8;
-        into.put_byte(control(FORMAT_1, self.kind, high))?;
+        into.put_byte(control(FORMAT_1, self.kind, high));
         span.write(into, PLAIN, false)
     }
 
     // Puts the second format before the bytes.
-    fn write_format_2(self, into: &mut BackBuf) -> Result<(), TtFault>
+    fn write_format_2(self, into: &mut BackBuf)
         requires fits { HeaderFits self }
         requires format { IsTrue (has_format_2 self) }
-        ensures ok { OnOk result (into.new ≡ format_2 self ++ into.old) }
-        ensures err { IfErr result (λ fault. fault ≡ Memory) }
+        requires room { 15 ≤ room_of into.old }
+        ensures bytes { bytes_of into.new ≡ format_2 self ++ bytes_of into.old }
+        ensures room { room_of into.old ≤ room_of into.new + 15 }
     {
         let distance = (self.closing.start - self.opening.start) as u8;
-        into.put_byte(self.child_bytes as u8)?;
-        into.put_byte(self.len as u8)?;
-        into.put_byte(control(FORMAT_2, self.kind, distance))?;
+        into.put_byte(self.child_bytes as u8);
+        into.put_byte(self.len as u8);
+        into.put_byte(control(FORMAT_2, self.kind, distance));
         self.opening.write(into, PLAIN, false)
     }
 
     // Puts the third format before the bytes.
-    fn write_format_3(self, into: &mut BackBuf) -> Result<(), TtFault>
+    fn write_format_3(self, into: &mut BackBuf)
         requires fits { HeaderFits self }
         requires format { IsTrue (has_format_3 self) }
-        ensures ok { OnOk result (into.new ≡ format_3 self ++ into.old) }
-        ensures err { IfErr result (λ fault. fault ≡ Memory) }
+        requires room { 17 ≤ room_of into.old }
+        ensures bytes { bytes_of into.new ≡ format_3 self ++ bytes_of into.old }
+        ensures room { room_of into.old ≤ room_of into.new + 17 }
     {
         let distance = (self.closing.start - self.opening.start) as u8;
         let part = self.closing.part as u8;
-        into.put_half((part >> HIGH_BITS) as u16 | (self.child_bytes as u16) << PART_BITS)?;
-        into.put_byte(self.len as u8)?;
-        into.put_byte(distance)?;
-        into.put_byte(control(FORMAT_3, self.kind, part & HIGH_MASK))?;
+        into.put_half((part >> HIGH_BITS) as u16 | (self.child_bytes as u16) << PART_BITS);
+        into.put_byte(self.len as u8);
+        into.put_byte(distance);
+        into.put_byte(control(FORMAT_3, self.kind, part & HIGH_MASK));
         self.opening.write(into, PLAIN, false)
     }
 
     /// Puts the fourth format before the bytes, with both spans in three words where `heavy` demands them.
-    pub fn write_in_full(self, into: &mut BackBuf, heavy: bool) -> Result<(), TtFault>
-        requires { HeaderFits self }
-        ensures ok { OnOk result (into.new ≡ format_4 heavy self ++ into.old) }
-        ensures err { IfErr result (λ fault. fault ≡ Memory) }
+    pub fn write_in_full(self, into: &mut BackBuf, heavy: bool)
+        requires fits { HeaderFits self }
+        requires room { 33 ≤ room_of into.old }
+        ensures bytes { bytes_of into.new ≡ format_4 heavy self ++ bytes_of into.old }
+        ensures room { room_of into.old ≤ room_of into.new + 33 }
     {
-        into.put_word(self.child_bytes)?;
-        into.put_word(self.len)?;
-        self.closing.write(into, PLAIN, heavy)?;
-        into.put_byte(control(FORMAT_4, self.kind, 0))?;
+        into.put_word(self.child_bytes);
+        into.put_word(self.len);
+        self.closing.write(into, PLAIN, heavy);
+        into.put_byte(control(FORMAT_4, self.kind, 0));
         self.opening.write(into, PLAIN, heavy)
     }
 
     /// Puts the header's bytes before the others, in the first format that can say it.
     #[tactic(auto, unfolding(crate::specs::Header::header_bytes))]
-    pub(crate) fn write(self, into: &mut BackBuf) -> Result<(), TtFault>
-        requires { HeaderFits self }
-        ensures ok { OnOk result (into.new ≡ header_bytes self ++ into.old) }
-        ensures err { IfErr result (λ fault. fault ≡ Memory) }
+    pub(crate) fn write(self, into: &mut BackBuf)
+        requires fits { HeaderFits self }
+        requires room { 33 ≤ room_of into.old }
+        ensures bytes { bytes_of into.new ≡ header_bytes self ++ bytes_of into.old }
+        ensures room { room_of into.old ≤ room_of into.new + 33 }
     {
         if self.has_format_1() {
             return self.write_format_1(into);

@@ -3,7 +3,6 @@
 //! It knows nothing of tables or trees: parts and symbols are indices here.
 #![tactic(auto)]
 
-mod back_buf;
 mod encodable;
 mod entry;
 mod entry_read;
@@ -18,7 +17,6 @@ mod reference;
 mod span;
 mod words;
 
-pub use back_buf::BackBuf;
 pub use encodable::Encodable;
 pub use entry::{Entry, HeaderEntry, LeafEntry};
 pub use entry_read::{Visitor, visit_token};

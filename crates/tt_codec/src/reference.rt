@@ -1,12 +1,11 @@
 //! References to symbols, written and read (docs/FORMATS.md, "Bytes of a reference").
-ghost use Rattle.std.specs.Prelude.{◌≡◌, ◌<◌, ◌^◌, ◌++◌, IfErr, OnOk};
-ghost use Rattle.tt_base.specs.declared.fault.TtFault.TheVariants.{Memory};
+ghost use Rattle.std.specs.Prelude.{◌≡◌, ◌≤◌, ◌+◌, ◌<◌, ◌^◌, ◌++◌};
+ghost use Rattle.tt_back_buf.specs.Bytes.{bytes_of, room_of};
 ghost use Rattle.tt_codec.specs.Reference.{reference_bytes, after_one_byte, after_two_bytes, reference_at, ReferencesAgain};
 ghost use Rattle.tt_codec.specs.Read.{IsRead};
 
-use crate::back_buf::BackBuf;
 use crate::words::{split_byte, split_half};
-use tt_base::TtFault;
+use tt_back_buf::BackBuf;
 
 /// How many symbols there are at most: four bytes have room for 29 bits of an index.
 pub const MOST_SYMBOLS: usize = 1 << 29;
@@ -38,21 +37,22 @@ pub struct Reference {
 impl Reference {
     /// Puts the reference's bytes before the others.
     #[tactic(auto, unfolding(crate::specs::Reference::reference_bytes))]
-    pub fn write(self, into: &mut BackBuf) -> Result<(), TtFault>
+    pub fn write(self, into: &mut BackBuf)
         requires index { self.index < 2 ^ 29 }
         requires tag { self.tag < 2 }
-        ensures ok { OnOk result (into.new ≡ reference_bytes self.index self.tag ++ into.old) }
-        ensures err { IfErr result (λ fault. fault ≡ Memory) }
+        requires room { 4 ≤ room_of into.old }
+        ensures bytes { bytes_of into.new ≡ reference_bytes self.index self.tag ++ bytes_of into.old }
+        ensures room { room_of into.old ≤ room_of into.new + 4 }
     {
         if self.index < 1 << FIRST_BITS {
             return into.put_byte((self.tag | self.index << FIRST_AT) as u8);
         }
         let middle = self.index >> FIRST_BITS;
         if self.index < 1 << BOTH_BITS {
-            into.put_byte((middle << SECOND_AT) as u8)?;
+            into.put_byte((middle << SECOND_AT) as u8);
         } else {
-            into.put_half((self.index >> BOTH_BITS) as u16)?;
-            into.put_byte(((middle & SECOND_MASK) << SECOND_AT | 1) as u8)?;
+            into.put_half((self.index >> BOTH_BITS) as u16);
+            into.put_byte(((middle & SECOND_MASK) << SECOND_AT | 1) as u8);
         }
         into.put_byte((self.tag | 1 << MORE_AT | (self.index & FIRST_MASK) << FIRST_AT) as u8)
     }

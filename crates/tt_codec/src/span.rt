@@ -1,13 +1,13 @@
 //! The numbers of a span, written and read in one, two or three words (docs/FORMATS.md, "Bytes of a span").
-ghost use Rattle.std.specs.Prelude.{◌≡◌, ◌<◌, ◌^◌, ◌++◌, IsTrue, IfErr, OnOk};
-ghost use Rattle.tt_base.specs.declared.fault.TtFault.TheVariants.{Memory};
+ghost use Rattle.std.specs.Prelude.{◌≡◌, ◌≤◌, ◌+◌, ◌<◌, ◌^◌, ◌++◌, IsTrue};
+ghost use Rattle.tt_back_buf.specs.Bytes.{bytes_of, room_of};
 ghost use Rattle.tt_base.specs.Fits.{SpanInRange};
 ghost use Rattle.tt_codec.specs.SpanNumbers.{span_numbers, SpanFits, first_word, middle_word, rests, fits_one_word, fits_two_words, middle_span, heavy_span, span_bytes, word, part_rest, length_rest, start_rest, SpansAgain, spanned, from_rests, after_one_word, after_two_words, span_at};
 ghost use Rattle.tt_codec.specs.Read.{IsRead};
 
-use crate::back_buf::BackBuf;
 use crate::words::split_word;
-use tt_base::{Span, TtFault};
+use tt_back_buf::BackBuf;
+use tt_base::Span;
 
 /// How many parts there are at most: three words have room for 28 bits of an index.
 pub const MOST_PARTS: usize = 1 << 28;
@@ -147,13 +147,14 @@ impl SpanNumbers {
 
     // Puts two words before the bytes.
     #[inline(always)]
-    fn write_middle(self, into: &mut BackBuf, extra: u32) -> Result<(), TtFault>
+    fn write_middle(self, into: &mut BackBuf, extra: u32)
         requires extra { extra < 4 }
         requires fits { IsTrue (fits_two_words self) }
-        ensures ok { OnOk result (into.new ≡ middle_span extra self ++ into.old) }
-        ensures err { IfErr result (λ fault. fault ≡ Memory) }
+        requires room { 8 ≤ room_of into.old }
+        ensures bytes { bytes_of into.new ≡ middle_span extra self ++ bytes_of into.old }
+        ensures room { room_of into.old ≤ room_of into.new + 8 }
     {
-        into.put_word(self.middle_word())?;
+        into.put_word(self.middle_word());
         into.put_word(self.first_word(extra, 1))
     }
 
@@ -172,15 +173,16 @@ impl SpanNumbers {
 
     // Puts three words before the bytes.
     #[inline(never)]
-    fn write_heavy(self, into: &mut BackBuf, extra: u32) -> Result<(), TtFault>
+    fn write_heavy(self, into: &mut BackBuf, extra: u32)
         requires part { self.part < 2 ^ 28 }
         requires extra { extra < 4 }
-        ensures ok { OnOk result (into.new ≡ heavy_span extra self ++ into.old) }
-        ensures err { IfErr result (λ fault. fault ≡ Memory) }
+        requires room { 12 ≤ room_of into.old }
+        ensures bytes { bytes_of into.new ≡ heavy_span extra self ++ bytes_of into.old }
+        ensures room { room_of into.old ≤ room_of into.new + 12 }
     {
         let (first, second, third) = self.heavy_words(extra);
-        into.put_word(third)?;
-        into.put_word(second)?;
+        into.put_word(third);
+        into.put_word(second);
         into.put_word(first)
     }
 
@@ -188,11 +190,12 @@ impl SpanNumbers {
     /// Most spans take one word or two, so these are put in place, and three by a call.
     #[inline(always)]
     #[tactic(auto, unfolding(crate::specs::SpanNumbers::span_bytes))]
-    pub fn write(self, into: &mut BackBuf, extra: u32, heavy: bool) -> Result<(), TtFault>
+    pub fn write(self, into: &mut BackBuf, extra: u32, heavy: bool)
         requires part { self.part < 2 ^ 28 }
         requires extra { extra < 4 }
-        ensures ok { OnOk result (into.new ≡ span_bytes heavy extra self ++ into.old) }
-        ensures err { IfErr result (λ fault. fault ≡ Memory) }
+        requires room { 12 ≤ room_of into.old }
+        ensures bytes { bytes_of into.new ≡ span_bytes heavy extra self ++ bytes_of into.old }
+        ensures room { room_of into.old ≤ room_of into.new + 12 }
     {
         if heavy {
             return self.write_heavy(into, extra);

@@ -4,6 +4,7 @@ pub mod Decoded
 pub mod Different
 pub mod Joined
 pub mod Kept
+pub mod MostBytes
 pub mod Moves
 pub mod Paired
 pub mod RowOrder

@@ -2,6 +2,7 @@
 pub mod Counted
 pub mod Packed
 pub mod ReaderOf
+pub mod Room
 pub mod StoredIn
 pub mod TablesOf
 pub mod TokenAt

@@ -10,14 +10,18 @@ ghost use Rattle.tt_base.specs.declared.fault.TtFault.TheVariants.{Memory};
 ghost use Rattle.tt_tables.specs.Searches.{first_entries};
 
 use std::alloc::Global;
+use tt_back_buf::BackBuf;
 use tt_base::{SpanPart, Symbol, TokenTree, TtFault};
-use tt_codec::{BackBuf, Reference, SpanNumbers};
+use tt_codec::{Reference, SpanNumbers};
 use tt_tables::Tables;
 
+// No reference takes more bytes.
 const MOST_REFERENCE_BYTES: usize = 4;
 
+// No span takes more bytes.
 const MOST_SPAN_BYTES: usize = 12;
 
+// No token takes more bytes.
 const MOST_TOKEN_BYTES: usize = 33;
 
 /// The bytes that name a symbol: its index in a table, and a tag bit.
@@ -28,9 +32,9 @@ pub fn symbol_bytes(alloc: Global, index: u32, tag: u32) -> Result<Vec<u8>, TtFa
     ensures weight { IfOk result (λ bytes. length bytes.items ≡ weight index) }
     ensures err { IfErr result (λ fault. fault ≡ Memory) }
 {
-    let mut bytes = BackBuf::with_capacity(alloc, MOST_REFERENCE_BYTES)?;
-    Reference { index, tag }.write(&mut bytes)?;
-    Ok(bytes.into_vec())
+    let mut bytes = BackBuf::with_room(alloc, MOST_REFERENCE_BYTES)?;
+    Reference { index, tag }.write(&mut bytes);
+    Ok(bytes.into_vec()?)
 }
 
 /// The bytes of a span: the index of its part, its start and its length, with two extra bits.
@@ -49,14 +53,14 @@ pub fn span_bytes(
     ensures ok { IfOk result (λ bytes. bytes.items ≡ span_bytes heavy extra (numbers_at part start length)) }
     ensures err { IfErr result (λ fault. fault ≡ Memory) }
 {
-    let mut bytes = BackBuf::with_capacity(alloc, MOST_SPAN_BYTES)?;
+    let mut bytes = BackBuf::with_room(alloc, MOST_SPAN_BYTES)?;
     let numbers = SpanNumbers {
         part,
         start,
         length,
     };
-    numbers.write(&mut bytes, extra, heavy)?;
-    Ok(bytes.into_vec())
+    numbers.write(&mut bytes, extra, heavy);
+    Ok(bytes.into_vec()?)
 }
 
 /// The bytes of a token below the top, or `None` where the tables do not have a part or a symbol that it uses.
@@ -80,7 +84,7 @@ pub fn token_bytes(
     let Some(entry) = Tables::new(parts, symbols).entry(token, child_bytes) else {
         return Ok(None);
     };
-    let mut bytes = BackBuf::with_capacity(alloc, MOST_TOKEN_BYTES)?;
-    entry.write(&mut bytes)?;
-    Ok(Some(bytes.into_vec()))
+    let mut bytes = BackBuf::with_room(alloc, MOST_TOKEN_BYTES)?;
+    entry.write(&mut bytes);
+    Ok(Some(bytes.into_vec()?))
 }

@@ -6,6 +6,7 @@ pub mod laws;
 mod pack;
 mod packed;
 mod reader;
+mod room;
 mod table;
 mod tables;
 mod token_reader;

@@ -62,7 +62,7 @@ impl<'a> Reader<'a> {
     }
 
     /// How many bytes are passed: none, or the top header at least.
-    pub fn offset(&self) -> usize
+    pub fn place(&self) -> usize
         ensures value { result ≡ offset_of self.now }
         ensures inside { result ≤ length (bytes_of self.now) }
         ensures top { (result ≡ 0) ⊎ (top_bytes ≤ result) }

@@ -4,6 +4,7 @@ ghost use Rattle.tt_base.specs.Forest.{IsWhole};
 ghost use Rattle.tt_tables.specs.Stored.{most_parts, most_symbols};
 ghost use Rattle.tt_tables.specs.Tables.{Knows, part_table, symbol_table};
 ghost use Rattle.tt_pack.specs.Packed.{HasFewParts, HasFewSymbols, IsTableFault};
+ghost use Rattle.tt_pack.specs.Room.{HasRoomForAll};
 
 use crate::table::Table;
 use crate::uses::{TokenUses, Uses};
@@ -11,12 +12,13 @@ use std::alloc::Global;
 use tt_base::{Leaf, SpanPart, Subtree, Symbol, TokenTree, TtFault};
 use tt_codec::{Entry, HeaderEntry, LeafEntry, SpanNumbers};
 
-/// The tables of a list of tokens, and what each token uses.
+/// The tables of a list of tokens, what each token uses, and how many bytes all can take.
 #[derive(Drop)]
 pub(crate) struct ListTables {
     pub(crate) parts: Table<SpanPart>,
     pub(crate) symbols: Table<Symbol>,
     pub(crate) uses: Vec<TokenUses>,
+    pub(crate) room: usize,
     pub ghost few_parts: { length parts.values.items + 2 ≤ most_parts },
     pub ghost few_symbols: { length symbols.values.items ≤ most_symbols },
 }
@@ -41,6 +43,7 @@ impl ListTables {
         ensures parts { IfOk result (λ tables. (tables.parts.values.items ≡ part_table below.now) × HasFewParts below.now) }
         ensures symbols { IfOk result (λ tables. (tables.symbols.values.items ≡ symbol_table below.now) × HasFewSymbols below.now) }
         ensures uses { IfOk result (λ tables. UsesTables tables below.now) }
+        ensures room { IfOk result (λ tables. HasRoomForAll below.now tables.room) }
         ensures err { IfErr result (IsTableFault below.now) }
     {
         let uses = Uses::of_tokens(alloc, below)?;
@@ -49,6 +52,7 @@ impl ListTables {
             parts,
             symbols,
             uses: uses.tokens,
+            room: uses.room,
         })
     }
 

@@ -7,8 +7,10 @@ ghost use Rattle.tt_tables.specs.Uses.{same_part, token_parts, token_symbols};
 ghost use Rattle.tt_pack.specs.Counted.{count_use, HasRoomFor};
 ghost use Rattle.tt_pack.specs.TablesOf.{StandsAt, AreUses, AreTables, IsCountOf};
 ghost use Rattle.tt_pack.specs.Packed.{IsCountFault, IsTableFault};
+ghost use Rattle.tt_pack.specs.Room.{HasRoomForAll};
 
 use crate::counts::{count_near, count_use};
+use crate::room::most_bytes;
 use crate::table::Table;
 use indexmap::IndexMap;
 use std::alloc::{AllocError, Global};
@@ -31,12 +33,14 @@ pub(crate) struct TokenUses {
     pub(crate) other: u32,
 }
 
-/// The different parts and symbols of a list of tokens with their numbers of uses, and what each token uses.
+/// The different parts and symbols of a list of tokens with their numbers of uses, what each token uses, and how many
+/// bytes all can take.
 #[derive(Drop)]
 pub(crate) struct Uses {
     pub(crate) parts: IndexMap<SpanPart, usize>,
     pub(crate) symbols: IndexMap<Symbol, usize>,
     pub(crate) tokens: Vec<TokenUses>,
+    pub(crate) room: usize,
 }
 
 // Counts what a token uses. Tokens side by side mostly have one part, so a part is first looked for where that of the
@@ -88,6 +92,7 @@ impl Uses {
             parts: IndexMap::new(alloc),
             symbols: IndexMap::new(alloc),
             tokens: Vec::with_capacity(alloc, tokens)?,
+            room: 0,
         })
     }
 
@@ -105,27 +110,32 @@ impl Uses {
         Ok(uses)
     }
 
-    // Counts what the tokens use, and sees in the same pass that they are a whole list. Nothing is used before.
+    // Counts what the tokens use, and sees in the same pass that they are a whole list, and how many bytes they can take.
+    // Nothing is used before.
     fn count_list(&mut self, alloc: Global, tokens: &[TokenTree]) -> Result<(), TtFault>
         requires parts { self.old.parts.entries ≡ [] }
         requires symbols { self.old.symbols.entries ≡ [] }
         requires tokens { self.old.tokens.items ≡ [] }
         ensures count { OnOk result (IsCountOf self.new tokens.now) }
         ensures tokens { OnOk result (AllZip (AreUses (StandsAt (keys self.new.parts)) (StandsAt (keys self.new.symbols))) tokens.now self.new.tokens.items) }
+        ensures room { OnOk result (HasRoomForAll tokens.now self.new.room) }
         ensures err { IfErr result (IsCountFault tokens.now) }
     {
         let mut levels = Levels::new(alloc, tokens.len());
         let mut before = 0;
+        let mut room: usize = 0;
         for token in tokens {
             if !levels.take(token)? {
                 return Err(TtFault::NotOneSubtree);
             }
             let found = self.count(before, token)?;
             before = found.part;
+            room = room.saturating_add(most_bytes(token));
         }
         if !levels.is_done() {
             return Err(TtFault::NotOneSubtree);
         }
+        self.room = room;
         Ok(())
     }
 
@@ -133,6 +143,7 @@ impl Uses {
     pub(crate) fn of_tokens(alloc: Global, tokens: &[TokenTree]) -> Result<Uses, TtFault>
         ensures count { IfOk result (λ uses. IsCountOf uses tokens.now) }
         ensures tokens { IfOk result (λ uses. AllZip (AreUses (StandsAt (keys uses.parts)) (StandsAt (keys uses.symbols))) tokens.now uses.tokens.items) }
+        ensures room { IfOk result (λ uses. HasRoomForAll tokens.now uses.room) }
         ensures err { IfErr result (IsCountFault tokens.now) }
     {
         let mut uses = Uses::new(alloc, tokens.len())?;

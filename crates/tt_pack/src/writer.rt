@@ -1,21 +1,23 @@
 //! Writing a list of tokens, from the last to the first.
-ghost use Rattle.std.specs.Prelude.{◌≡◌, ◌⊎◌, ◌+◌, ◌<◌, ◌++◌, true, length, drop, IfOk, IfErr, OnOk, []};
+ghost use Rattle.std.specs.Prelude.{◌≡◌, ◌⊎◌, ◌+◌, ◌<◌, ◌≤◌, ◌^◌, ◌++◌, true, length, take, drop, IfOk, IfErr, OnOk, []};
 ghost use Rattle.std.specs.List.{AllByRecursion};
+ghost use Rattle.tt_back_buf.specs.Bytes.{bytes_of, room_of};
 ghost use Rattle.tt_base.specs.declared.fault.TtFault.TheVariants.{Memory, TooManyBytes};
 ghost use Rattle.tt_base.specs.Forest.{IsWhole};
 ghost use Rattle.tt_codec.specs.Header.{HeaderFits, format_4};
 ghost use Rattle.tt_tables.specs.Stored.{most_bytes};
 ghost use Rattle.tt_tables.specs.Tables.{Knows};
+ghost use Rattle.tt_pack.specs.Room.{HasRoomForAll, most_list_bytes};
 ghost use Rattle.tt_pack.specs.TablesOf.{tables_of, UsesTables};
 ghost use Rattle.tt_pack.specs.Writing.{byte_count, first_child_bytes, IsWritten};
 
+use crate::room::MOST_HEADER_BYTES;
 use crate::tables::ListTables;
 use std::alloc::Global;
+use tt_back_buf::BackBuf;
 use tt_base::{TokenTree, TtFault};
-use tt_codec::{BackBuf, HeaderEntry};
+use tt_codec::HeaderEntry;
 
-// Room for so many bytes a token is asked for at first. Most tokens take fewer.
-const ROOM_FOR_A_TOKEN: usize = 16;
 // The most bytes below the top.
 const MOST_BYTES: usize = 4294967295;
 
@@ -31,12 +33,13 @@ pub(crate) struct Writer<'a> {
 impl<'a> Writer<'a> {
     ghost use Rattle.tt_pack.specs.WriterOf.{HasWritten, HasWrittenUnder};
 
-    /// A writer that has written nothing, and has some room for so many tokens.
+    /// A writer that has written nothing, and has room for all tokens, of which there are so many, and a top.
     fn new(alloc: Global, tables: &'a ListTables, tokens: usize) -> Result<Writer<'a>, TtFault>
         ensures ok { IfOk result (λ writer. (writer.tables.now ≡ tables.now) × HasWritten writer []) }
+        ensures room { IfOk result (λ writer. (room_of writer.bytes < 2 ^ 63) × (tables.now.room + 33 ≤ room_of writer.bytes)) }
         ensures err { IfErr result (λ fault. fault ≡ Memory) }
     {
-        let bytes = BackBuf::with_capacity(alloc, tokens.saturating_mul(ROOM_FOR_A_TOKEN))?;
+        let bytes = BackBuf::with_room(alloc, tables.room.saturating_add(MOST_HEADER_BYTES))?;
         let mut sums = Vec::with_capacity(alloc, tokens.saturating_add(1))?;
         sums.push(0)?;
         Ok(Writer {
@@ -67,14 +70,16 @@ impl<'a> Writer<'a> {
         requires known { AllByRecursion (Knows (tables_of self.old.tables.now)) (drop index tokens.now) }
         requires uses { UsesTables self.old.tables.now tokens.now }
         requires written { HasWritten self.old (drop (index + 1) tokens.now) }
+        requires room { most_list_bytes (take (index + 1) tokens.now) + 33 ≤ room_of self.old.bytes }
         ensures tables { OnOk result (self.new.tables.now ≡ self.old.tables.now) }
         ensures ok { OnOk result (HasWritten self.new (drop index tokens.now)) }
+        ensures room { OnOk result (most_list_bytes (take index tokens.now) + 33 ≤ room_of self.new.bytes) }
         ensures err { IfErr result (λ fault. (fault ≡ Memory) ⊎ ((fault ≡ TooManyBytes) × (most_bytes < byte_count (tables_of self.old.tables.now) (drop index tokens.now)))) }
     {
         let child_bytes = self.child_bytes(tokens, index);
         let uses = self.tables.uses[index];
         let entry = self.tables.entry(&tokens[index], uses, child_bytes);
-        entry.write(&mut self.bytes)?;
+        entry.write(&mut self.bytes);
         if self.bytes.len() > MOST_BYTES {
             return Err(TtFault::TooManyBytes);
         }
@@ -84,18 +89,19 @@ impl<'a> Writer<'a> {
 
     /// All bytes, with a header before them that is written in full.
     pub(crate) fn finish(self, top: HeaderEntry) -> Result<Vec<u8>, TtFault>
-        requires { HeaderFits top }
-        ensures ok { IfOk result (λ bytes. bytes.items ≡ format_4 true top ++ self.entry.bytes) }
+        requires fits { HeaderFits top }
+        requires room { 33 ≤ room_of self.bytes }
+        ensures ok { IfOk result (λ bytes. bytes.items ≡ format_4 true top ++ bytes_of self.entry.bytes) }
         ensures err { IfErr result (λ fault. fault ≡ Memory) }
     {
         let Writer { mut bytes, .. } = self;
-        top.write_in_full(&mut bytes, true)?;
-        Ok(bytes.into_vec())
+        top.write_in_full(&mut bytes, true);
+        Ok(bytes.into_vec()?)
     }
 
     /// How many bytes are written.
     pub(crate) fn len(&self) -> usize
-        ensures { result ≡ length self.now.bytes }
+        ensures { result ≡ length (bytes_of self.now.bytes) }
     {
         self.bytes.len()
     }
@@ -109,7 +115,9 @@ impl<'a> Writer<'a> {
         requires whole { IsWhole tokens.now }
         requires known { AllByRecursion (Knows (tables_of tables.now)) tokens.now }
         requires uses { UsesTables tables.now tokens.now }
+        requires room { HasRoomForAll tokens.now tables.now.room }
         ensures ok { IfOk result (HasWrittenUnder tables.now tokens.now) }
+        ensures room { IfOk result (λ writer. 33 ≤ room_of writer.bytes) }
         ensures err { IfErr result (λ fault. (fault ≡ Memory) ⊎ ((fault ≡ TooManyBytes) × (most_bytes < byte_count (tables_of tables.now) tokens.now))) }
     {
         let mut writer = Writer::new(alloc, tables, tokens.len())?;

@@ -81,7 +81,7 @@ pub(crate) fn is_read(rt: &impl Abort, tree: &Packed, tokens: &[TokenTree]) -> R
         assert_eq!(rt; found, *token);
     }
     assert!(rt; reader.advance().is_none());
-    assert_eq!(rt; reader.offset(), tree.bytes().len());
+    assert_eq!(rt; reader.place(), tree.bytes().len());
     assert_eq!(rt; reader.steps(), tokens.len() as u64);
     Ok(())
 }

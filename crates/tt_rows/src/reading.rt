@@ -65,7 +65,7 @@ fn goes_on(
     let (offset, steps) = place;
     let found = reader.advance().ok_or("no token")?;
     assert_eq!(rt; found, *token);
-    assert_eq!(rt; reader.offset(), offset);
+    assert_eq!(rt; reader.place(), offset);
     assert_eq!(rt; reader.steps(), steps);
     Ok(())
 }
@@ -73,14 +73,14 @@ fn goes_on(
 // The tokens of the braces are read one after another.
 fn goes_through(rt: &impl Abort, tree: &Packed, tokens: &[TokenTree]) -> Result<(), Fail> {
     let mut reader = Reader::start(tree);
-    assert_eq!(rt; reader.offset(), 0);
+    assert_eq!(rt; reader.place(), 0);
     assert_eq!(rt; reader.steps(), 0);
     let places: [(usize, u64); 3] = [(33, 1), (38, 2), (43, 3)];
     for (token, place) in tokens.iter().zip(places.iter()) {
         goes_on(rt, &mut reader, token, *place)?;
     }
     assert!(rt; reader.advance().is_none());
-    assert_eq!(rt; reader.offset(), 43);
+    assert_eq!(rt; reader.place(), 43);
     assert_eq!(rt; reader.steps(), 3);
     Ok(())
 }
@@ -98,7 +98,7 @@ fn passes<'a>(rt: &impl Abort, reader: &mut Reader<'a>) -> Result<Reader<'a>, Fa
     let brace = header(DelimiterKind::Brace, (0, 0, 1), (0, 5, 6), 2)?;
     let (found, below) = reader.advance_skip().ok_or("no token")?;
     assert_eq!(rt; found, brace);
-    assert_eq!(rt; reader.offset(), 43);
+    assert_eq!(rt; reader.place(), 43);
     assert_eq!(rt; reader.steps(), 1);
     Ok(below)
 }
@@ -107,7 +107,7 @@ fn passes<'a>(rt: &impl Abort, reader: &mut Reader<'a>) -> Result<Reader<'a>, Fa
 fn stays(rt: &impl Abort, reader: &mut Reader<'_>) {
     assert!(rt; reader.advance().is_none());
     assert!(rt; reader.advance_skip().is_none());
-    assert_eq!(rt; reader.offset(), 43);
+    assert_eq!(rt; reader.place(), 43);
     assert_eq!(rt; reader.steps(), 1);
 }
 
@@ -119,7 +119,7 @@ fn all_that_a_header_holds(rt: HostRuntime) -> Result<(), Fail> {
     let mut reader = Reader::start(&tree);
     let mut below = passes(&rt, &mut reader)?;
     stays(&rt, &mut reader);
-    assert_eq!(rt; below.offset(), 33);
+    assert_eq!(rt; below.place(), 33);
     assert_eq!(rt; below.steps(), 1);
     goes_on(&rt, &mut below, &name, (38, 2))
 }
@@ -178,6 +178,6 @@ fn siblings_are_skipped(rt: HostRuntime) -> Result<(), Fail> {
     }
     assert!(rt; reader.advance_skip().is_none());
     assert_eq!(rt; reader.steps(), 201);
-    assert_eq!(rt; reader.offset(), tree.bytes().len());
+    assert_eq!(rt; reader.place(), tree.bytes().len());
     Ok(())
 }

@@ -6,8 +6,9 @@ use crate::written::{is_read, is_written};
 use std::alloc::Global;
 use std::process::Abort;
 use std::test::Fail;
+use tt_back_buf::BackBuf;
 use tt_base::DelimiterKind;
-use tt_codec::{BackBuf, Entry, HeaderEntry, SpanNumbers};
+use tt_codec::{Entry, HeaderEntry, SpanNumbers};
 
 // The part, the start and the length of a span.
 type Spot = (u8, u32, u32);
@@ -240,9 +241,9 @@ fn in_full(rt: HostRuntime) -> Result<(), Fail> {
     let header = header(DelimiterKind::Parenthesis, (0, 0, 1), (1, 3, 1), (2, 10));
     let bytes =
         b"\x40\x40\x00\x00\x01\x00\x00\x00\x00\x00\x00\x00\x05\x44\xc0\x01\x00\x01\x00\x00\x00\x00\x00\x00\x00\x02\x00\x00\x00\x0a\x00\x00\x00";
-    let mut written = BackBuf::with_capacity(rt.alloc(), bytes.len())?;
-    header.write_in_full(&mut written, true)?;
-    let written = written.into_vec();
+    let mut written = BackBuf::with_room(rt.alloc(), bytes.len())?;
+    header.write_in_full(&mut written, true);
+    let written = written.into_vec()?;
     assert_eq!(rt; written.as_slice(), bytes.as_slice());
     is_read(&rt, Entry::Header(header), written.as_slice())
 }

@@ -4,7 +4,11 @@ ghost use Rattle.tt_codec.specs.Entry.{EntryFits};
 use std::alloc::Global;
 use std::process::Abort;
 use std::test::Fail;
-use tt_codec::{BackBuf, Encodable, Entry};
+use tt_back_buf::BackBuf;
+use tt_codec::{Encodable, Entry};
+
+// No token takes more bytes.
+const MOST_TOKEN_BYTES: usize = 33;
 
 /// These bytes are written for the token, and it is read back from them.
 pub(crate) fn is_written(
@@ -15,9 +19,9 @@ pub(crate) fn is_written(
 ) -> Result<(), Fail>
     requires { EntryFits entry }
 {
-    let mut written = BackBuf::with_capacity(alloc, bytes.len())?;
-    entry.write(&mut written)?;
-    assert_eq!(rt; written.into_vec().as_slice(), bytes);
+    let mut written = BackBuf::with_room(alloc, MOST_TOKEN_BYTES)?;
+    entry.write(&mut written);
+    assert_eq!(rt; written.into_vec()?.as_slice(), bytes);
     is_read(rt, entry, bytes)
 }
 
@@ -28,6 +32,16 @@ pub(crate) fn is_read(rt: &impl Abort, entry: Entry, bytes: &[u8]) -> Result<(),
     };
     assert_eq!(rt; found, entry);
     assert!(rt; rest.is_empty());
+    Ok(())
+}
+
+#[test]
+fn the_last_byte_that_is_put_comes_first(rt: HostRuntime) -> Result<(), Fail> {
+    let mut buf = BackBuf::with_room(rt.alloc(), 3)?;
+    buf.put_byte(1);
+    buf.put_byte(2);
+    assert_eq!(rt; buf.len(), 2);
+    assert_eq!(rt; buf.into_vec()?.as_slice(), [2, 1].as_slice());
     Ok(())
 }
 

@@ -1,6 +1,7 @@
 use Rattle.std.proofs.Common.{◌≡◌, ◌<◌, ◌^◌, ◌++◌, ◌∷◌, [], length, vec_len, true, Err, append_assoc, sym, subst, ap, ap₂, ◌∙◌, arith, rules}
 use Rattle.std.specs.List.{AllByRecursion}
 use Rattle.tt_codec.specs.Header.{format_4, top_entry}
+use Rattle.tt_back_buf.specs.Bytes.{bytes_of}
 use Rattle.tt_base.specs.Span.{part_of}
 use Rattle.tt_tables.specs.Tables.{Knows, part_table, tables_for}
 use Rattle.tt_pack.specs.TablesOf.{tables_of}
@@ -30,10 +31,10 @@ returns-clause-ok c =
     let written : HasWrittenUnder tables below c.in_ok-writer.writer = search rules in
     let bound : c.args.top.len < 2 ^ 32 = search rules in
     let counted : vec_len tables.parts.values ≡ length tables.parts.values.items = search rules in
-    let entry : c.of_top-entry.result ≡ top_entry (length (part_table below)) c.args.top.delimiter c.args.top.len (length c.in_ok-writer.writer.bytes) =
+    let entry : c.of_top-entry.result ≡ top_entry (length (part_table below)) c.args.top.delimiter c.args.top.len (length (bytes_of c.in_ok-writer.writer.bytes)) =
     c.of_top-entry.ensures.value
     ∙ ap₂ (λ n m. top_entry n c.args.top.delimiter c.args.top.len m) (c.len.ensures ∙ counted ∙ ap length c.in_ok-tables.ensures.parts.0) c.len-2.ensures in
-    let all : c.in_ok-bytes.bytes.items ≡ format_4 true c.of_top-entry.result ++ c.in_ok-writer.writer.bytes = search rules in
+    let all : c.in_ok-bytes.bytes.items ≡ format_4 true c.of_top-entry.result ++ bytes_of c.in_ok-writer.writer.bytes = search rules in
     let kept : c.reserve_exact.new.self.items ≡ part_table below = c.reserve_exact.ensures.items ∙ c.in_ok-tables.ensures.parts.0 in
     let opened : c.push.new.self.items ≡ c.reserve_exact.new.self.items ++ part_of c.args.top.delimiter.open_span ∷ [] = search rules in
     let closed : c.push-2.new.self.items ≡ c.push.new.self.items ++ part_of c.args.top.delimiter.close ∷ [] = search rules in

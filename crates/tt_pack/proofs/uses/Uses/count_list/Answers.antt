@@ -13,7 +13,9 @@ use Rattle.tt_tables.proofs.TokenTables.{part_sound, text_sound}
 use Rattle.tt_pack.specs.Counted.{counted, HasRoomFor}
 use Rattle.tt_pack.specs.TablesOf.{StandsAt, AreUses}
 use Rattle.tt_pack.proofs.Counting.{room_counted, counted_token, few_parts, few_symbols}
+use Rattle.tt_pack.specs.Room.{HasRoomForAll}
 use Rattle.tt_pack.proofs.Kept.{kept_token}
+use Rattle.tt_pack.proofs.MostBytes.{room_more}
 use Rattle.tt_pack.proofs.uses.Uses.count_list.Goals as goal
 
 pub count-requires-clause-parts : goal.count-requires-clause-parts
@@ -44,6 +46,9 @@ loop-token-preserved c = record {
       (sym c.in_ok-found.ensures.tokens)
       (kept_token c.args.tokens.now c.loop-token.token-index c.token-item.result c.loop-token.self.tokens.items c.in_ok-found.found _ _ _ _
       c.loop-token-test.true c.token-item.is c.in_ok-found.ensures.parts c.in_ok-found.ensures.symbols c.loop-token.invariant.uses c.in_ok-found.ensures.uses);
+  room =
+      room_more c.args.tokens.now c.loop-token.token-index c.token-item.result c.loop-token.room _ _
+      c.loop-token-test.true c.token-item.is c.loop-token.invariant.room c.most_bytes.ensures c.saturating_add-room.ensures;
 }
 
 pub loop-token-init : goal.loop-token-init
@@ -54,6 +59,7 @@ loop-token-init c =
       symbols = search rules;
       whole = subst (λ levels. IsWhole c.args.tokens.now ↔ AreLevels c.args.tokens.now levels) (sym c.new-levels.ensures) (one.1, one.0);
       uses = search rules;
+      room = λ small. omega arith;
     }
 
 pub returns-then-not-branch-clause-err : goal.returns-then-not-branch-clause-err
@@ -75,3 +81,8 @@ returns-clause-count c =
       parts = subst (λ tokens. c.loop-token.self.parts.entries ≡ counted same_part (part_uses tokens)) all c.loop-token.invariant.parts;
       symbols = subst (λ tokens. c.loop-token.self.symbols.entries ≡ counted bytes_eq (symbol_uses tokens)) all c.loop-token.invariant.symbols;
     }
+
+pub returns-clause-room : goal.returns-clause-room
+returns-clause-room c =
+    let all = take_all c.loop-token.token-index c.args.tokens.now (search (rules, arith, c.loop-token-test.false)) in
+    subst (λ tokens. HasRoomForAll tokens c.loop-token.room) all c.loop-token.invariant.room

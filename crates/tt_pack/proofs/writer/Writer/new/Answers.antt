@@ -7,9 +7,9 @@ unfolding bytes
 returns-clause-ok c = (
   refl,
   record {
-    bytes = c.in_ok-bytes.ensures.ok;
+    bytes = c.in_ok-bytes.ensures.bytes;
     sums = search rules;
     range = tt;
-    few = omega (arith, ap length c.in_ok-bytes.ensures.ok);
+    few = omega (arith, ap length c.in_ok-bytes.ensures.bytes);
   },
 )

@@ -1,0 +1,2 @@
+pub mod RegionSteps
+pub mod Words

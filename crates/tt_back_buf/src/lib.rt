@@ -1,0 +1,7 @@
+//! Bytes that are written from the last to the first.
+#![tactic(auto)]
+
+mod back_buf;
+mod region;
+
+pub use back_buf::BackBuf;

@@ -1,0 +1,36 @@
+-- How the most bytes that tokens can take grow by one more token.
+use Rattle.std.proofs.Common.{◌≡◌, ℕ, ◌+◌, ◌-◌, ◌<◌, ◌≤◌, ◌^◌, List, [], ◌∷◌, ◌++◌, length, get_or, take, min, ap, sym, refl, ◌∙◌, arith}
+use Rattle.std.specs.List.{sum_by}
+use Rattle.std.proofs.lemmas.List.{take_more}
+use Rattle.std.proofs.lemmas.List.Sums.{sum_by-append}
+use Rattle.tt_base.specs.declared.leaf.Leaf.TheVariants as leaf
+use Rattle.tt_base.specs.declared.token_tree.TokenTree.{TokenTree}
+use Rattle.tt_base.specs.declared.token_tree.TokenTree.TheVariants as token
+use Rattle.tt_codec.specs.Entry.{most_entry_bytes}
+use Rattle.tt_tables.specs.Tables.{Tables, entry_of}
+use Rattle.tt_pack.specs.Room.{most_token_bytes, most_list_bytes, HasRoomForAll}
+
+-- One more token can take as much as it can alone.
+pub most_more : (tokens : List TokenTree) (i : ℕ) (it : TokenTree) → i < length tokens → it ≡ get_or tokens i it
+    → most_list_bytes (take (i + 1) tokens) ≡ most_list_bytes (take i tokens) + most_token_bytes it
+most_more tokens i it within here =
+    let more : take (i + 1) tokens ≡ take i tokens ++ it ∷ [] = take_more tokens i it within ∙ ap (λ d. take i tokens ++ d ∷ []) (sym here) in
+    let two : most_list_bytes (take i tokens ++ it ∷ []) ≡ most_list_bytes (take i tokens) + most_list_bytes (it ∷ []) = sum_by-append most_token_bytes (take i tokens) (it ∷ []) in
+    let one : most_list_bytes (it ∷ []) ≡ most_token_bytes it = omega arith in
+    ap most_list_bytes more ∙ two ∙ ap (λ n. most_list_bytes (take i tokens) + n) one
+
+-- The sum that stops at the largest number is room for one more token.
+pub room_more : (tokens : List TokenTree) (i : ℕ) (it : TokenTree) (size most size' : ℕ) → i < length tokens → it ≡ get_or tokens i it
+    → HasRoomForAll (take i tokens) size → most ≡ most_token_bytes it → size' ≡ min (size + most) (2 ^ 64 - 1) → HasRoomForAll (take (i + 1) tokens) size'
+room_more tokens i it size most size' within here room is sum small =
+    let more = most_more tokens i it within here in
+    let whole : size' ≡ size + most = omega (arith, sum, small) in
+    let before : most_list_bytes (take i tokens) ≤ size = room (omega (arith, whole, small)) in
+    omega (arith, more, whole, before, is)
+
+-- A token takes no more in numbers, whatever they are.
+pub most_in_numbers : (tables : Tables) (it : TokenTree) (child_bytes : ℕ) → most_entry_bytes (entry_of tables it child_bytes) ≡ most_token_bytes it
+most_in_numbers tables (token.Leaf (leaf.Literal it)) child_bytes = refl
+most_in_numbers tables (token.Leaf (leaf.Punct it)) child_bytes = refl
+most_in_numbers tables (token.Leaf (leaf.Ident it)) child_bytes = refl
+most_in_numbers tables (token.Subtree it) child_bytes = refl

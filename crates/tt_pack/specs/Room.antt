@@ -1,0 +1,22 @@
+-- The most bytes that tokens can take, for which room is asked before they are written.
+use Rattle.std.specs.Prelude.{ℕ, ◌<◌, ◌≤◌, ◌^◌, List}
+use Rattle.std.specs.List.{sum_by}
+use Rattle.tt_base.specs.declared.leaf.Leaf.TheVariants as leaf
+use Rattle.tt_base.specs.declared.token_tree.TokenTree.{TokenTree}
+use Rattle.tt_base.specs.declared.token_tree.TokenTree.TheVariants as token
+use Rattle.tt_codec.specs.Leaf.{most_punct_bytes}
+
+-- the most bytes that a token can take, whatever its tables are
+abbrev pub most_token_bytes : TokenTree → ℕ
+most_token_bytes (token.Leaf (leaf.Literal it)) = 19
+most_token_bytes (token.Leaf (leaf.Punct it)) = most_punct_bytes it.char
+most_token_bytes (token.Leaf (leaf.Ident it)) = 16
+most_token_bytes (token.Subtree it) = 33
+
+-- the most bytes that tokens can take
+abbrev pub most_list_bytes : List TokenTree → ℕ
+most_list_bytes tokens = sum_by most_token_bytes tokens
+
+-- the tokens have room in a block of this size, or no block is so large
+abbrev pub HasRoomForAll : List TokenTree → ℕ → Type 0
+HasRoomForAll tokens size = size < 2 ^ 63 → most_list_bytes tokens ≤ size
