@@ -114,8 +114,7 @@ pub format_1_facts : (it : HeaderEntry) → has_format_1 it ≡ true
 format_1_facts it e =
     let (front, near) = and_parts _ (is_within it 2047) e in
     let (small, closing) = and_parts _ (it.closing.length == 1) front in
-    let (part, opening) = and_parts (is_small it) (it.opening.length == 1) small in
-    (
+    let (part, opening) = and_parts (is_small it) (it.opening.length == 1) small in (
       (small_facts it part).0,
       eqb-true _ _ opening,
       eqb-true _ _ closing,

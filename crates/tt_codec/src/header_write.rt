@@ -8,8 +8,8 @@ ghost use Rattle.tt_codec.specs.Header.{HeaderFits, is_within, is_short, is_smal
 
 use crate::entry::HeaderEntry;
 use crate::form::{
-    FORM_BITS, FORMAT_1, FORMAT_2, FORMAT_3, FORMAT_4, HIGH_AT, HIGH_BITS, HIGH_MASK,
-    KIND_MASK, LOW_DISTANCE_BITS, PART_BITS, PLAIN,
+    FORM_BITS, FORMAT_1, FORMAT_2, FORMAT_3, FORMAT_4, HIGH_AT, HIGH_BITS, HIGH_MASK, KIND_MASK,
+    LOW_DISTANCE_BITS, PART_BITS, PLAIN,
 };
 use crate::kinds::delimiter_number;
 use crate::span::SpanNumbers;
