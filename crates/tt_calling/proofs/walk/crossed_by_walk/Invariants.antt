@@ -4,8 +4,8 @@ use Rattle.tt.specs.Views.{trees_of}
 use Rattle.tt.specs.Walk.{events_ahead}
 use Rattle.tt_calling.proofs.walk.crossed_by_walk.Given as goal
 
-abbrev pub invariant-loop : goal.invariant-loop
-invariant-loop l = l.cursor.origin ≡ trees_of l.fn.trees
+abbrev pub invariant-loop-cursor : goal.invariant-loop-cursor
+invariant-loop-cursor l = l.cursor.origin ≡ trees_of l.fn.trees
 
-abbrev pub decreases-loop : goal.decreases-loop
-decreases-loop l = length (events_ahead l.cursor)
+abbrev pub decreases-loop-cursor : goal.decreases-loop-cursor
+decreases-loop-cursor l = length (events_ahead l.cursor)
