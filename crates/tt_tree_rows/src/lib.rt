@@ -8,6 +8,8 @@ mod cursor;
 #[cfg(test)]
 mod edits;
 #[cfg(test)]
+mod elements;
+#[cfg(test)]
 mod expectations;
 #[cfg(test)]
 mod texts;

@@ -1,0 +1,141 @@
+//! Single elements: which expectation takes which, what is looked at and not passed, and what is stripped.
+use crate::tokens::{header, ident, ident_leaf, parentheses, punct, span, under};
+use std::alloc::Global;
+use std::process::Abort;
+use std::test::Fail;
+use tt::{DelimiterKind, Spacing, TokenTree, TokenTreesView, TopSubtree, TtElement, TtIter};
+
+// Whether the first sibling is taken for a dollar, a comma, one of `+` and `-`, and any punct.
+fn taken_as_punct(trees: TokenTreesView<'_>) -> [bool; 4] {
+    let (mut dollar, mut comma) = (trees.iter(), trees.iter());
+    let (mut sign, mut any) = (trees.iter(), trees.iter());
+    [
+        dollar.expect_dollar().is_ok(),
+        comma.expect_comma().is_ok(),
+        sign.expect_any_char(&['+', '-']).is_ok(),
+        any.expect_single_punct().is_ok(),
+    ]
+}
+
+// Whether it is taken for an ident, an ident or `_`, and a literal.
+fn taken_as_text(trees: TokenTreesView<'_>) -> [bool; 3] {
+    let (mut ident, mut underscore, mut literal) = (trees.iter(), trees.iter(), trees.iter());
+    [
+        ident.expect_ident().is_ok(),
+        underscore.expect_ident_or_underscore().is_ok(),
+        literal.expect_literal().is_ok(),
+    ]
+}
+
+// Whether it is taken for a leaf, and for a subtree.
+fn taken_as_tree(trees: TokenTreesView<'_>) -> [bool; 2] {
+    let (mut leaf, mut subtree) = (trees.iter(), trees.iter());
+    [leaf.expect_leaf().is_ok(), subtree.expect_subtree().is_ok()]
+}
+
+// The token is taken so.
+fn is_taken(
+    rt: &impl Abort,
+    alloc: Global,
+    token: TokenTree,
+    as_punct: [bool; 4],
+    as_text: [bool; 3],
+) -> Result<(), Fail> {
+    let tree = under(alloc, &[token])?;
+    assert_eq!(rt; taken_as_punct(tree.token_trees()), as_punct);
+    assert_eq!(rt; taken_as_text(tree.token_trees()), as_text);
+    Ok(())
+}
+
+#[test]
+fn puncts_taken(rt: HostRuntime) -> Result<(), Fail> {
+    let alloc = rt.alloc();
+    let rows = [
+        ('$', [true, false, false, true]),
+        ('#', [false, false, false, true]),
+        (',', [false, true, false, true]),
+        ('-', [false, false, true, true]),
+    ];
+    for (char, as_punct) in rows {
+        let token = punct(char, Spacing::Alone);
+        is_taken(&rt, alloc, token, as_punct, [false, false, false])?;
+    }
+    Ok(())
+}
+
+#[test]
+fn idents_taken(rt: HostRuntime) -> Result<(), Fail> {
+    let alloc = rt.alloc();
+    let rows = [
+        ("a", [true, true, false]),
+        ("_", [false, true, false]),
+        ("true", [true, true, true]),
+        ("false", [true, true, true]),
+    ];
+    for (text, as_text) in rows {
+        let token = ident(alloc, text, 0)?;
+        is_taken(&rt, alloc, token, [false, false, false, false], as_text)?;
+    }
+    Ok(())
+}
+
+#[test]
+fn trees_taken(rt: HostRuntime) -> Result<(), Fail> {
+    let alloc = rt.alloc();
+    let leaf = under(alloc, &[ident(alloc, "a", 0)?])?;
+    assert_eq!(rt; taken_as_tree(leaf.token_trees()), [true, false]);
+    let subtree = under(alloc, &[parentheses(0, 1, 0)])?;
+    assert_eq!(rt; taken_as_tree(subtree.token_trees()), [false, true]);
+    assert_eq!(rt; taken_as_tree(TokenTreesView::empty()), [false, false]);
+    Ok(())
+}
+
+// The siblings are the ident `a` at 1 and a punct; what is looked at is not passed, and a savepoint has what was left.
+fn are_looked_at(rt: &impl Abort, alloc: Global, siblings: TtIter<'_>) -> Result<(), Fail> {
+    let mut siblings = siblings;
+    assert_eq!(rt; siblings.next_span(), Some(span(1)));
+    let Some(TtElement::Leaf(first)) = siblings.peek() else {
+        return Err(Fail::new("no leaf"));
+    };
+    assert_eq!(rt; first, ident_leaf(alloc, "a", 1)?);
+    let start = siblings.savepoint();
+    let Some(passed) = siblings.next_as_view() else {
+        return Err(Fail::new("no tree"));
+    };
+    assert_eq!(rt; passed.len(), 1);
+    assert_eq!(rt; start.remaining().len(), 2);
+    assert_eq!(rt; siblings.remaining().len(), 1);
+    Ok(())
+}
+
+#[test]
+fn elements_looked_at(rt: HostRuntime) -> Result<(), Fail> {
+    let alloc = rt.alloc();
+    let tokens = [ident(alloc, "a", 1)?, punct(';', Spacing::Alone)];
+    let tree = under(alloc, &tokens)?;
+    are_looked_at(&rt, alloc, tree.iter())
+}
+
+// A tree of that kind over one ident.
+fn over_one(alloc: Global, kind: DelimiterKind) -> Result<TopSubtree, Fail> {
+    let tokens = vec![in alloc; header(kind, 0, 2, 1), ident(alloc, "a", 1)?]?;
+    Ok(TopSubtree::from_serialized(alloc, tokens)?)
+}
+
+#[test]
+fn roots_stripped(rt: HostRuntime) -> Result<(), Fail> {
+    let alloc = rt.alloc();
+    let rows = [
+        (DelimiterKind::Parenthesis, 2),
+        (DelimiterKind::Brace, 2),
+        (DelimiterKind::Bracket, 2),
+        (DelimiterKind::Invisible, 1),
+        (DelimiterKind::InvisibleOpaque, 2),
+    ];
+    for (kind, left) in rows {
+        let tree = over_one(alloc, kind)?;
+        assert_eq!(rt; tree.top_subtree().delimiter.kind, kind);
+        assert_eq!(rt; tree.view().strip_invisible().len(), left);
+    }
+    Ok(())
+}
