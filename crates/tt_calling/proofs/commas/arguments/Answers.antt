@@ -1,6 +1,5 @@
-use Rattle.std.proofs.Common.{rules, of_calls, ◌≡◌, [], ◌∷◌, ◌++◌, Some, map, ap, sym, ◌∙◌, append_assoc}
+use Rattle.std.proofs.Common.{rules, of_calls, ◌≡◌, [], ◌∷◌, ◌++◌, map, ap, sym, ◌∙◌, append_assoc}
 use Rattle.std.proofs.lemmas.List.{map-append}
-use Rattle.tt.specs.Pieces.{GivesPiece}
 use Rattle.tt_calling.specs.ViewTrees.{view_trees}
 use Rattle.tt_calling.proofs.Cuts.{one_piece, to_come}
 use Rattle.tt_calling.proofs.commas.arguments.Goals as goal
