@@ -69,4 +69,4 @@ module _ {F : Type 0} (step : F → TtElement → Bool → F → Type 0) (is_sep
 
   -- and where none is given, none is left
   pub none_given : (s t : Split F) → GivesPiece step s None t → left_pieces is_separator s ≡ []
-  none_given s t (done, done_after) = ap (λ b. cond b [] (slice_split is_separator (list_of (left_in s)))) done
+  none_given s t (done, done_after, same) = ap (λ b. cond b [] (slice_split is_separator (list_of (left_in s)))) done
