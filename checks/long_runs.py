@@ -9,6 +9,11 @@ import sys
 
 TOKENS = 200_000
 DEPTH = 10_000
+DEEPEST = 200_000
+# Debug writes as many spaces as all levels together.
+DEBUG_DEPTH = 1_000
+LEAVES = 100
+REPLACEMENT = 1_000
 SLOTS = 16
 LONG_TEXT = 70_000
 # A span of zeros.
@@ -104,8 +109,47 @@ def deep_nest(program):
     answers = iter(answers_of(program, commands))
     wants("builder", [next(answers) for _ in range(2 * DEPTH + 1)], ["ok"] * (2 * DEPTH + 1))
     wants("build to equal", [next(answers) for _ in range(4)], ["ok", "ok", "ok", "yes"])
-    heads = [f"sub paren {ZERO} {ZERO} {len_below}" for len_below in range(DEPTH - 1, -1, -1)]
-    wants("walk", until_end(answers), [f"sub invisible {ZERO} {ZERO} {DEPTH}"] + heads + ["close"] * (DEPTH + 1))
+    wants("walk", until_end(answers), [f"sub invisible {ZERO} {ZERO} {DEPTH}"] + nest(DEPTH) + ["close"] * (DEPTH + 1))
+
+
+def nest(depth):
+    """Parentheses in one another, without the word `item`."""
+    return [f"sub paren {ZERO} {ZERO} {len_below}" for len_below in range(depth - 1, -1, -1)]
+
+
+def deepest_nest(program):
+    """A nest as a list, through each command that shows a tree."""
+    heads = nest(DEEPEST)
+    commands = ["item " + head for head in heads]
+    commands += ["list 0", "copy 1 0", "equal 0 1", "flat 0", "siblings 0", "walk 0", "show 0", "pretty 0", "glue 0"]
+    answers = iter(answers_of(program, commands))
+    wants("items to equal", [next(answers) for _ in range(DEEPEST + 3)], ["ok"] * (DEEPEST + 2) + ["yes"])
+    wants("flat", until_end(answers), heads)
+    wants("siblings", until_end(answers), heads[1:])
+    wants("walk", until_end(answers), heads + ["close"] * DEEPEST)
+    wants("show", next(answers), "(" * DEEPEST + ")" * DEEPEST)
+    wants("pretty", next(answers), "(" * DEEPEST + ")" * DEEPEST)
+    wants("glue", next(answers), "glue x")
+
+
+def debug_of_a_nest(program):
+    """A line for each level, each further to the right."""
+    commands = ["item " + head for head in nest(DEBUG_DEPTH)] + ["list 0", "debug 0"]
+    answers = iter(answers_of(program, commands))
+    wants("items", [next(answers) for _ in range(DEBUG_DEPTH + 1)], ["ok"] * (DEBUG_DEPTH + 1))
+    wants("debug", until_end(answers), [f"{'  ' * level}SUBTREE () {ZERO} {ZERO}" for level in range(DEBUG_DEPTH)])
+
+
+def replaced_leaves(program):
+    """Each leaf of a tree replaced by many tokens."""
+    comma = f"punct alone {ZERO} ,"
+    plus = f"punct alone {ZERO} +"
+    put = [f"sub paren {ZERO} {ZERO} {REPLACEMENT - 1}"] + [plus] * (REPLACEMENT - 1)
+    commands = [f"item sub brace {ZERO} {ZERO} {LEAVES}"] + [f"item {comma}"] * LEAVES + ["list 0"]
+    commands += ["item " + token for token in put] + ["list 1", "rewrite 0 keep" + " put:1" * LEAVES, "flat 0"]
+    answers = iter(answers_of(program, commands))
+    wants("rewriting", [next(answers) for _ in commands[:-1]], ["ok"] * (len(commands) - 1))
+    wants("flat", until_end(answers), [f"sub brace {ZERO} {ZERO} {LEAVES * REPLACEMENT}"] + put * LEAVES)
 
 
 def long_line(program):
@@ -138,7 +182,7 @@ def all_slots(program):
 def main():
     """Makes the runs one after the other."""
     failed = False
-    for run in (long_list, deep_nest, long_line, all_slots):
+    for run in (long_list, deep_nest, deepest_nest, debug_of_a_nest, replaced_leaves, long_line, all_slots):
         try:
             run(sys.argv[1])
             print(f"ok {run.__name__}")

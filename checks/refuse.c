@@ -1,9 +1,13 @@
-// A library that is loaded in front of a program, and refuses one of its requests for memory: the one whose number, counted
-// from 1, stands in REFUSE. Where REFUSED names a file, a byte is written to it as soon as a request is refused.
+// A library that is loaded in front of a program, and refuses requests for memory. REFUSE has the number of the one that is
+// refused, counted from 1, or `all`. Where REFUSE_BETWEEN is set, only requests between the first line that the program
+// writes and the second are counted, and all others are served. Where REFUSED names a file, a byte is written to it for
+// each request that is refused.
 #include <errno.h>
 #include <fcntl.h>
 #include <stddef.h>
 #include <stdlib.h>
+#include <string.h>
+#include <sys/syscall.h>
 #include <unistd.h>
 
 // The C library's own makers of blocks.
@@ -15,23 +19,42 @@ extern void *__libc_memalign(size_t alignment, size_t size);
 // How many requests are still served before one is refused; below 0 none will be.
 static long long left = -1;
 
+static int refuses_all = 0;
+static int counts_between = 0;
+
+// How many lines the program has written.
+static int lines = 0;
+
 // Requests that were made before this ran are those of the loader, and are served.
 __attribute__((constructor)) static void start(void) {
-    const char *number = getenv("REFUSE");
-    left = number == NULL ? -1 : atoll(number);
+    const char *which = getenv("REFUSE");
+    counts_between = getenv("REFUSE_BETWEEN") != NULL;
+    refuses_all = which != NULL && strcmp(which, "all") == 0;
+    left = which == NULL || refuses_all ? -1 : atoll(which);
+}
+
+// Writes that this library makes go past its own `write`.
+static ssize_t written(int file, const void *bytes, size_t count) {
+    return syscall(SYS_write, file, bytes, count);
+}
+
+ssize_t write(int file, const void *bytes, size_t count) {
+    if (count > 0 && ((const char *)bytes)[count - 1] == '\n') lines++;
+    return written(file, bytes, count);
 }
 
 static void tell(void) {
     const char *path = getenv("REFUSED");
     int file = path == NULL ? -1 : open(path, O_WRONLY | O_CREAT | O_APPEND, 0644);
     if (file >= 0) {
-        if (write(file, "!", 1) != 1) _exit(3);
+        if (written(file, "!", 1) != 1) _exit(3);
         close(file);
     }
 }
 
 static int is_refused(void) {
-    if (left <= 0 || --left > 0) return 0;
+    if (counts_between && lines != 1) return 0;
+    if (!refuses_all && (left <= 0 || --left > 0)) return 0;
     tell();
     errno = ENOMEM;
     return 1;

@@ -29,6 +29,11 @@ counted_twice [] m n = refl
 counted_twice (token.Leaf it ∷ tokens) m n = refl
 counted_twice (token.Subtree s ∷ tokens) m n = refl
 
+-- The tokens below stay.
+pub below_counted : (tokens : List TokenTree) (n : ℕ) → drop 1 (counted n tokens) ≡ drop 1 tokens
+below_counted [] n = refl
+below_counted (t ∷ tokens) n = refl
+
 -- As many tokens are there as before.
 pub length-counted : (tokens : List TokenTree) (n : ℕ) → length (counted n tokens) ≡ length tokens
 length-counted [] n = refl

@@ -4,7 +4,13 @@ pub mod Closing
 pub mod Filters
 pub mod Finding
 pub mod Growing
+pub mod HeldCuts
+pub mod HeldGrown
+pub mod HeldRemoved
+pub mod HeldRestored
+pub mod HeldUses
 pub mod OnTheWay
+pub mod OneNode
 pub mod OpenKinds
 pub mod Pointing
 pub mod Removing

@@ -34,7 +34,7 @@ token_behind children rest h m d =
     ap (λ n. get_or (flat children ++ flat rest) (n + m) d) (sym (length-flat children)) ∙ get_or-append-add (flat children) (flat rest) m d
 
 -- A marked node has a token.
-mark_within : (k : ℕ) (trees : Forest) → IsNodeAt k trees → tokens_before k trees < size trees
+pub mark_within : (k : ℕ) (trees : Forest) → IsNodeAt k trees → tokens_before k trees < size trees
 mark_within k end is = absurd is
 mark_within zero (leaf it rest) is = absurd is
 mark_within zero (node e children rest) is = omega arith
@@ -42,7 +42,7 @@ mark_within (suc k) (leaf it rest) is = omega (arith, mark_within k rest is)
 mark_within (suc k) (node e children rest) is = omega (arith, mark_within k rest is)
 
 -- An invisible header is taken out: the children take the place of the node.
-header_out : (k : ℕ) (trees : Forest) (d : TokenTree) → IsNodeAt k trees → invisible_token (get_or (flat trees) (tokens_before k trees) d) ≡ true
+pub header_out : (k : ℕ) (trees : Forest) (d : TokenTree) → IsNodeAt k trees → invisible_token (get_or (flat trees) (tokens_before k trees) d) ≡ true
     → remove (flat trees) (tokens_before k trees) ≡ flat (unwrap k trees)
 header_out k end d is e = absurd is
 header_out zero (leaf it rest) d is e = absurd is
@@ -57,7 +57,7 @@ header_out (suc k) (node x children rest) d is e =
     ∙ remove_behind (flat children) (flat rest) (tokens_before k rest) ∙ ap (λ l. flat children ++ l) (header_out k rest d is there))
 
 -- Another header stays, and so do the trees.
-header_stays : (k : ℕ) (trees : Forest) (d : TokenTree) → IsNodeAt k trees → invisible_token (get_or (flat trees) (tokens_before k trees) d) ≡ false → unwrap k trees ≡ trees
+pub header_stays : (k : ℕ) (trees : Forest) (d : TokenTree) → IsNodeAt k trees → invisible_token (get_or (flat trees) (tokens_before k trees) d) ≡ false → unwrap k trees ≡ trees
 header_stays k end d is e = absurd is
 header_stays zero (leaf it rest) d is e = absurd is
 header_stays zero (node x children rest) d is e = ap (λ b. cond b (join children rest) (node x children rest)) e
@@ -97,7 +97,7 @@ unwrap_places (lowest trees) k = refl
 unwrap_places (above outer kind open_span trees) k = refl
 
 -- Nothing is unwrapped.
-unwrap_none : (stack : Stack) (k : ℕ) → unwrap k (innermost stack) ≡ innermost stack → unwrap_innermost k stack ≡ stack
+pub unwrap_none : (stack : Stack) (k : ℕ) → unwrap k (innermost stack) ≡ innermost stack → unwrap_innermost k stack ≡ stack
 unwrap_none (lowest trees) k e = ap lowest e
 unwrap_none (above outer kind open_span trees) k e = ap (above outer kind open_span) e
 
@@ -109,7 +109,7 @@ pub record Marked (tokens : List TokenTree) (place : ℕ) (s : BuilderState) : T
   pub is_node : IsNodeAt number (innermost s.stack)
 
 -- A place that is marked is that of a node.
-marked : (tokens : List TokenTree) (headers : List ℕ) (points : List Standing) (taken : ℕ) (s : BuilderState) (place : ℕ)
+pub marked : (tokens : List TokenTree) (headers : List ℕ) (points : List Standing) (taken : ℕ) (s : BuilderState) (place : ℕ)
     → IsStateOf tokens headers (Some place) points taken s → Marked tokens place s
 marked tokens headers points taken s place is = by_mark s.mark refl is.marked
   where
@@ -134,7 +134,7 @@ marked_within tokens headers points taken s place is =
     )
 
 -- the token at the mark
-marked_token : (tokens : List TokenTree) (headers : List ℕ) (points : List Standing) (taken : ℕ) (s : BuilderState) (place : ℕ) (d : TokenTree) (is : IsStateOf tokens headers (Some place) points taken s)
+pub marked_token : (tokens : List TokenTree) (headers : List ℕ) (points : List Standing) (taken : ℕ) (s : BuilderState) (place : ℕ) (d : TokenTree) (is : IsStateOf tokens headers (Some place) points taken s)
     → get_or tokens place d ≡ get_or (flat (innermost s.stack)) (tokens_before (marked tokens headers points taken s place is).number (innermost s.stack)) d
 marked_token tokens headers points taken s place d is =
     let m = marked tokens headers points taken s place is in

@@ -16,7 +16,7 @@ use Rattle.tt.proofs.Filters.{all_filter, order_filter, same_test, at_place}
 use Rattle.tt.proofs.Growing.{all_and_one, all_weaker}
 
 -- All headers of open subtrees stand among the tokens held.
-places_below : (stack : Stack) → AllByRecursion (λ place. place ≤ tokens_held stack) (places stack)
+pub places_below : (stack : Stack) → AllByRecursion (λ place. place ≤ tokens_held stack) (places stack)
 places_below (lowest trees) = tt
 places_below (above outer kind open_span trees) =
     all_and_one (λ place. place ≤ tokens_held outer + suc (size trees)) (places outer) (suc (tokens_held outer))
@@ -97,7 +97,7 @@ module _ (top : Delimiter) (tokens : List TokenTree) (headers : List ℕ) where
       by_test false e more = rw (tests ∙ e) more
 
   -- What is found among the points that are kept is what was noted.
-  found_point : (number : ℕ) (kept : List Standing) (points : List Point) (k : Standing) → AreNoted top tokens headers kept points → kept_under number kept ≡ Some k
+  pub found_point : (number : ℕ) (kept : List Standing) (points : List Point) (k : Standing) → AreNoted top tokens headers kept points → kept_under number kept ≡ Some k
       → (stack : Stack) × (noted number points ≡ Some stack) × IsNoted top tokens headers k (record { number = k.number; stack = stack })
   found_point number [] [] k are found = cc found
   found_point number [] (p ∷ points) k are found = absurd are

@@ -32,6 +32,7 @@ pub use Rattle.tt_view.specs.Stored
 pub use Rattle.tt_view.specs.TableOrder
 pub use Rattle.tt_view.specs.Tables
 pub use Rattle.tt_view.specs.Uses
+pub use Rattle.tt_view.specs.Counts
 pub use Rattle.tt_view.specs.Iters
 pub use Rattle.tt_view.specs.NewIds
 pub use Rattle.tt_view.specs.Pieces
@@ -39,6 +40,7 @@ pub use Rattle.tt_view.specs.SubtreeViews
 pub use Rattle.tt_view.specs.TreeFault
 pub use Rattle.tt_view.specs.Views
 pub mod BuilderFields
+pub mod HeldUses
 pub mod OneState
 pub mod Points
 pub mod Rewrites

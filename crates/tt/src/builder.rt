@@ -1,47 +1,48 @@
 //! Building a token tree by opening and closing subtrees.
-ghost use Rattle.std.specs.Prelude.{◌≡◌, ◌⊎◌, ◌^◌, ◌-◌, ◌+◌, ◌<◌, List, length, suc, IfOk, IfErr, OnOk, OnErr, IsOk, MatchBool, Some, is_some};
+ghost use Rattle.std.specs.Prelude.{◌≡◌, ◌⊎◌, ◌^◌, ◌-◌, ◌+◌, ◌<◌, List, length, suc, IfOk, IfErr, OnOk, OnErr, MatchBool, Some, is_some, bytes_eq};
 ghost use Rattle.std.specs.Iterator.{Drains, IsFinite, YieldsThen};
 ghost use Rattle.tt_base.specs.Building.{empty_builder, opened, pushed, extended, alone, closed, removed, open_kinds, point_taken, noted, restored, built, built_skipping, tokens_held, most_held, HasRoom, IsOpen, IsGrowthFault};
 ghost use Rattle.tt_base.specs.Forest.{size};
 ghost use Rattle.tt_base.specs.Siblings.{leaves as leaf_trees};
+ghost use Rattle.tt_base.specs.Span.{part_of};
 ghost use Rattle.tt_base.specs.declared.fault.TtFault.TheVariants.{Memory, TooManyTokens, PointsSpent};
 ghost use Rattle.tt_base.specs.declared.leaf.Leaf.{Leaf};
+ghost use Rattle.tt_tables.specs.Counts.{CountsUses};
+ghost use Rattle.tt_tables.specs.TableOrder.{uses_of};
+ghost use Rattle.tt_tables.specs.Uses.{same_part};
 ghost use Rattle.tt_view.specs.Stored.{IsWithinLimits};
 ghost use Rattle.tt_view.specs.TreeFault.{IsTreeFault};
 ghost use Rattle.tt_view.specs.Views.{trees_of};
-ghost use Rattle.tt.specs.BuilderFields.{HasState};
-ghost use Rattle.tt.specs.OneState.{HasState-prop};
+ghost use Rattle.tt.specs.HeldUses.{held_parts, held_symbols, distinct_parts, distinct_symbols};
 
 mod expected;
+mod held;
+mod leaves;
 mod standing;
+mod token_uses;
 mod tokens;
 
 pub use expected::ExpectedDelimiters;
+use held::Held;
+use leaves::{add_symbol, entries_of, symbol_index};
 pub use standing::SubtreeBuilderRestorePoint;
-use standing::{Standing, drop_deeper, drop_later, find};
-use std::alloc::Global;
+use std::alloc::{AllocError, Global};
 use std::marker::Model;
-use tokens::{
-    add_leaves, add_trees, add_trees_alone, close_header, copy_of, is_invisible, is_one_node,
-    make_room, pack_list, take_out,
-};
-use tt_base::{Delimiter, DelimiterKind, Leaf, Refused, Span, Subtree, TokenTree, TtFault};
-use tt_view::{TokenTreesView, TopSubtree};
+use tt_base::{Delimiter, DelimiterKind, Leaf, Refused, Span, SpanPart, Symbol, TtFault};
+use tt_counts::Counts;
+use tt_view::{TokenEntries, TokenTreesView, TopSubtree};
 
 /// Builds a token tree by opening and closing subtrees. A contract sees the levels, the mark and the points that stand.
 #[derive(Drop, Debug)]
 pub struct TopSubtreeBuilder {
-    // the top's header and the tokens held; the count and the close span of an open header are set when it is closed
-    tokens: Vec<TokenTree>,
-    // where the headers of the open subtrees stand, outermost first
-    headers: Vec<usize>,
-    // where the header of the subtree closed last stands
-    mark: Option<usize>,
-    // oldest first
-    points: Vec<Standing>,
-    taken: u64,
-    alloc: Global,
-    ghost state: { HasState tokens.items headers.items mark points.items taken } by { HasState-prop tokens.items headers.items mark points.items taken },
+    held: Held,
+    // how often parts and symbols are used in what is held
+    parts: Counts<SpanPart>,
+    symbols: Counts<Symbol>,
+    // where the values of each token held stand in both; what is not right is looked up where it is needed
+    entries: Vec<TokenEntries>,
+    ghost part_counts: { CountsUses same_part (held_parts held.stack) parts.numbers.entries },
+    ghost symbol_counts: { CountsUses bytes_eq (held_symbols held.stack) symbols.numbers.entries },
 }
 
 impl Model for TopSubtreeBuilder {
@@ -52,7 +53,28 @@ impl Model for TopSubtreeBuilder {
 
     ghost coded = { builder_code };
 
-    ghost view = { λ builder. builder.state.0 };
+    ghost view = { λ builder. builder.held };
+}
+
+// A header that is closed has another part.
+fn set_other(entries: &mut Vec<TokenEntries>, place: usize, index: usize) {
+    if let Some(found) = entries.get_mut(place) {
+        *found = entries_of(found.part as usize, Some(index));
+    }
+}
+
+// A header goes.
+fn take_entries(entries: &mut Vec<TokenEntries>, place: usize) {
+    if place < entries.len() {
+        let _ = entries.remove(place);
+    }
+}
+
+// The same entries.
+fn copy_of(alloc: Global, entries: &[TokenEntries]) -> Result<Vec<TokenEntries>, AllocError> {
+    let mut copy = Vec::new(alloc);
+    copy.extend_from_slice(entries)?;
+    Ok(copy)
 }
 
 impl TopSubtreeBuilder {
@@ -63,18 +85,11 @@ impl TopSubtreeBuilder {
         ensures ok { IfOk result (λ builder. builder ≡ empty_builder top) }
         ensures err { IfErr result (λ fault. fault ≡ Memory) }
     {
-        let mut tokens = Vec::new(alloc);
-        tokens.push(TokenTree::Subtree(Subtree {
-            delimiter: top,
-            len: 0,
-        }))?;
         Ok(TopSubtreeBuilder {
-            tokens,
-            headers: Vec::new(alloc),
-            mark: None,
-            points: Vec::new(alloc),
-            taken: 0,
-            alloc,
+            held: Held::new(alloc, top)?,
+            parts: Counts::new(alloc),
+            symbols: Counts::new(alloc),
+            entries: Vec::new(alloc),
         })
     }
 
@@ -85,22 +100,12 @@ impl TopSubtreeBuilder {
         ensures err { OnErr result (self.new ≡ self.old) }
         ensures fault { IfErr result (IsGrowthFault 1 self.old) }
     {
-        let place = self.tokens.len();
-        if place > u32::MAX as usize {
-            return Err(TtFault::TooManyTokens);
-        }
-        if !make_room(&mut self.tokens, &mut self.headers) {
-            return Err(TtFault::Memory);
-        }
-        let delimiter = Delimiter {
-            open_span,
-            close: open_span,
-            kind,
-        };
-        self.tokens
-            .push_reserved(TokenTree::Subtree(Subtree { delimiter, len: 0 }));
-        self.headers.push_reserved(place);
-        self.mark = None;
+        let part = SpanPart::from_span(&open_span);
+        let index = self.parts.index_near(&part)?;
+        self.entries.reserve(1)?;
+        self.held.open(kind, open_span)?;
+        self.parts.add_at(index);
+        let _ = self.entries.push(entries_of(index, None));
         Ok(())
     }
 
@@ -112,19 +117,29 @@ impl TopSubtreeBuilder {
         ensures leaf { IfErr result (λ refused. refused.value ≡ leaf) }
         ensures fault { IfErr result (λ refused. IsGrowthFault 1 self.old refused.fault) }
     {
-        if self.tokens.len() > u32::MAX as usize {
+        let part = SpanPart::from_span(leaf.span());
+        let Ok(index) = self.parts.index_near(&part) else {
             return Err(Refused {
-                fault: TtFault::TooManyTokens,
+                fault: TtFault::Memory,
                 value: leaf,
             });
-        }
-        if self.tokens.reserve(1).is_err() {
+        };
+        let Ok(symbol) = symbol_index(&mut self.symbols, &leaf) else {
+            return Err(Refused {
+                fault: TtFault::Memory,
+                value: leaf,
+            });
+        };
+        if self.entries.reserve(1).is_err() {
             return Err(Refused {
                 fault: TtFault::Memory,
                 value: leaf,
             });
         }
-        self.tokens.push_reserved(TokenTree::Leaf(leaf));
+        self.held.push(leaf)?;
+        self.parts.add_at(index);
+        add_symbol(&mut self.symbols, symbol);
+        let _ = self.entries.push(entries_of(index, symbol));
         Ok(())
     }
 
@@ -132,20 +147,21 @@ impl TopSubtreeBuilder {
     /// `is_open` tells whether a subtree is open.
     pub fn close(&mut self, close_span: Span) -> Result<(), TtFault>
         requires { IsOpen self.old }
-        ensures ok { IsOk result }
-        ensures state { self.new ≡ closed close_span self.old }
+        ensures ok { OnOk result (self.new ≡ closed close_span self.old) }
+        ensures err { OnErr result (self.new ≡ self.old) }
+        ensures fault { IfErr result (λ fault. fault ≡ Memory) }
     {
-        let Some(place) = self.headers.pop() else {
-            return Ok(());
-        };
-        close_header(&mut self.tokens, place, close_span);
-        drop_deeper(&mut self.points, self.headers.len());
-        self.mark = Some(place);
+        let part = SpanPart::from_span(&close_span);
+        let index = self.parts.index_near(&part)?;
+        let place = self.held.before_innermost();
+        self.held.close(close_span)?;
+        self.parts.add_at(index);
+        set_other(&mut self.entries, place, index);
         Ok(())
     }
 
-    /// Appends the leaves that an iterator gives; the mark stays. The iterator has to end. Where they are refused, those
-    /// that it gave are dropped.
+    /// Appends the leaves that an iterator gives; the mark stays. The iterator has to end, as its type tells: those of
+    /// vectors and arrays do. Where the leaves are refused, those that it gave are dropped.
     pub fn extend<I: Iterator<Item = Leaf> + Drop>(&mut self, leaves: I) -> Result<(), TtFault>
         requires can { I.can_next leaves }
         requires ends { IsFinite (I.remaining leaves) }
@@ -153,14 +169,12 @@ impl TopSubtreeBuilder {
         ensures err { OnErr result (self.new ≡ self.old) }
         ensures fault { IfErr result (λ fault. (fault ≡ Memory) ⊎ ((fault ≡ TooManyTokens) × ((given : List Leaf) × (next : Leaf) × (rest : I) × YieldsThen I.next_gives leaves given (Some next) rest × (most_held < tokens_held self.old.stack + suc (length given))))) }
     {
-        let len = self.tokens.len();
-        match add_leaves(&mut self.tokens, leaves) {
-            Ok(()) => Ok(()),
-            Err(fault) => {
-                self.tokens.truncate(len);
-                Err(fault)
-            }
-        }
+        self.held.extend(
+            &mut self.parts,
+            &mut self.symbols,
+            &mut self.entries,
+            leaves,
+        )
     }
 
     /// Appends trees; the mark stays.
@@ -170,14 +184,7 @@ impl TopSubtreeBuilder {
         ensures err { OnErr result (self.new ≡ self.old) }
         ensures fault { IfErr result (IsGrowthFault (size (trees_of trees.entry)) self.old) }
     {
-        let room = (u32::MAX as usize + 1).saturating_sub(self.tokens.len());
-        if trees.len() > room {
-            return Err(TtFault::TooManyTokens);
-        }
-        if !add_trees(&mut self.tokens, trees) {
-            return Err(TtFault::Memory);
-        }
-        Ok(())
+        self.held.extend_with_tt(&mut self.parts, &mut self.symbols, &mut self.entries, trees)
     }
 
     /// Appends trees, of which the last token becomes alone if it is a punct; the mark stays.
@@ -187,26 +194,19 @@ impl TopSubtreeBuilder {
         ensures err { OnErr result (self.new ≡ self.old) }
         ensures fault { IfErr result (IsGrowthFault (size (trees_of trees.entry)) self.old) }
     {
-        let room = (u32::MAX as usize + 1).saturating_sub(self.tokens.len());
-        if trees.len() > room {
-            return Err(TtFault::TooManyTokens);
-        }
-        if !add_trees_alone(&mut self.tokens, trees) {
-            return Err(TtFault::Memory);
-        }
-        Ok(())
+        self.held.extend_with_tt_alone(&mut self.parts, &mut self.symbols, &mut self.entries, trees)
     }
 
     /// If the marked subtree is invisible, its header goes and its children take its place; the mark goes in any case.
     pub fn remove_last_subtree_if_invisible(&mut self)
         ensures { self.new ≡ removed self.old }
     {
-        let Some(place) = self.mark else {
-            return;
-        };
-        self.mark = None;
-        if is_invisible(&self.tokens[place]) {
-            take_out(&mut self.tokens, place);
+        let place = self.held.before_mark();
+        let len = self.held.len();
+        self.held
+            .remove_last_subtree_if_invisible(&mut self.parts, &mut self.symbols);
+        if self.held.len() < len {
+            take_entries(&mut self.entries, place);
         }
     }
 
@@ -219,28 +219,14 @@ impl TopSubtreeBuilder {
         ensures err { OnErr result (self.new ≡ self.old) }
         ensures fault { IfErr result (λ fault. ((fault ≡ Memory) × (self.old.taken < 2 ^ 64 - 1)) ⊎ ((fault ≡ PointsSpent) × (self.old.taken ≡ 2 ^ 64 - 1))) }
     {
-        let number = self.taken;
-        if number == u64::MAX {
-            return Err(TtFault::PointsSpent);
-        }
-        if self.points.reserve(1).is_err() {
-            return Err(TtFault::Memory);
-        }
-        self.points.push_reserved(Standing {
-            number,
-            tokens: self.tokens.len(),
-            depth: self.headers.len(),
-        });
-        self.taken = number + 1;
-        self.mark = None;
-        Ok(SubtreeBuilderRestorePoint::from_number(number))
+        self.held.restore_point()
     }
 
     /// How many restore points were ever taken, which is the number of the next one.
     pub fn points_taken(&self) -> u64
         ensures { result ≡ self.now.taken }
     {
-        self.taken
+        self.held.points_taken()
     }
 
     /// Goes back to what was held when the point was taken, and clears the mark, if the point stands; answers whether it does.
@@ -248,48 +234,55 @@ impl TopSubtreeBuilder {
         ensures answer { result ≡ is_some (noted (number_of point) self.old.points) }
         ensures state { self.new ≡ restored (number_of point) self.old }
     {
-        let Some(kept) = find(&self.points, point.number()) else {
-            return false;
-        };
-        self.tokens.truncate(kept.tokens);
-        self.headers.truncate(kept.depth);
-        drop_later(&mut self.points, kept.tokens);
-        self.mark = None;
-        true
+        let stands = self.held.restore(&mut self.parts, &mut self.symbols, point);
+        self.entries.truncate(self.held.len());
+        stands
     }
 
     /// The kinds of the open subtrees, innermost first, without the top.
     pub fn expected_delimiters(&self) -> ExpectedDelimiters<'_>
         ensures { kinds_left result ≡ open_kinds self.now.stack }
     {
-        ExpectedDelimiters {
-            tokens: &self.tokens,
-            places: &self.headers,
-        }
+        self.held.expected_delimiters()
     }
 
     /// Whether a subtree is open, the top left aside.
     pub fn is_open(&self) -> bool
         ensures { MatchBool result (IsOpen self.now) (IsOpen self.now → ⊥) }
     {
-        !self.headers.is_empty()
+        self.held.is_open()
     }
 
-    /// The tree, where no subtree is open. A refusal hands the builder back.
-    pub fn build(mut self) -> Result<TopSubtree, Refused<TopSubtreeBuilder>>
+    /// The tree, where no subtree is open, of which `is_open` tells. A refusal hands the builder back.
+    pub fn build(self) -> Result<TopSubtree, Refused<TopSubtreeBuilder>>
         requires { IsOpen self → ⊥ }
         ensures ok { IfOk result (λ tree. tree ≡ built self) }
         ensures limits { IfOk result (λ tree. IsWithinLimits tree) }
         ensures fault { IfErr result (λ refused. IsTreeFault (built self) refused.fault) }
         ensures value { IfErr result (λ refused. refused.value ≡ self) }
     {
-        match pack_list(self.alloc, &mut self.tokens) {
+        let TopSubtreeBuilder {
+            mut held,
+            parts,
+            symbols,
+            entries,
+        } = self;
+        match held.build(&parts, &symbols, &entries) {
             Ok(tree) => Ok(tree),
-            Err(fault) => Err(Refused { fault, value: self }),
+            Err(fault) => {
+                let value = TopSubtreeBuilder {
+                    held,
+                    parts,
+                    symbols,
+                    entries,
+                };
+                Err(Refused { fault, value })
+            }
         }
     }
 
-    /// What it holds as a tree of its own, where that is exactly one subtree; else as `build`. No subtree is open.
+    /// What it holds as a tree of its own, where that is exactly one subtree; else as `build`. No subtree is open, of which
+    /// `is_open` tells.
     pub fn build_skip_top_subtree(self) -> Result<TopSubtree, Refused<TopSubtreeBuilder>>
         requires { IsOpen self → ⊥ }
         ensures ok { IfOk result (λ tree. tree ≡ built_skipping self) }
@@ -297,12 +290,23 @@ impl TopSubtreeBuilder {
         ensures fault { IfErr result (λ refused. IsTreeFault (built_skipping self) refused.fault) }
         ensures value { IfErr result (λ refused. refused.value ≡ self) }
     {
-        if !is_one_node(&self.tokens[1..]) {
-            return self.build();
-        }
-        match TopSubtree::from_tokens(self.alloc, &self.tokens[1..]) {
+        let TopSubtreeBuilder {
+            mut held,
+            mut parts,
+            symbols,
+            entries,
+        } = self;
+        match held.build_skip_top_subtree(&mut parts, &symbols, &entries) {
             Ok(tree) => Ok(tree),
-            Err(fault) => Err(Refused { fault, value: self }),
+            Err(fault) => {
+                let value = TopSubtreeBuilder {
+                    held,
+                    parts,
+                    symbols,
+                    entries,
+                };
+                Err(Refused { fault, value })
+            }
         }
     }
 
@@ -311,18 +315,37 @@ impl TopSubtreeBuilder {
         ensures ok { IfOk result (λ copy. copy ≡ self.now) }
         ensures err { IfErr result (λ fault. fault ≡ Memory) }
     {
-        let tokens = copy_of(self.alloc, &self.tokens)?;
-        let mut headers = Vec::new(self.alloc);
-        headers.extend_from_slice(&self.headers)?;
-        let mut points = Vec::new(self.alloc);
-        points.extend_from_slice(&self.points)?;
+        let held = self.held.clone()?;
+        let parts = self.parts.clone()?;
+        let symbols = self.symbols.clone()?;
+        let entries = copy_of(*self.entries.allocator(), &self.entries)?;
         Ok(TopSubtreeBuilder {
-            tokens,
-            headers,
-            mark: self.mark,
-            points,
-            taken: self.taken,
-            alloc: self.alloc,
+            held,
+            parts,
+            symbols,
+            entries,
         })
+    }
+
+    /// How often a span's part is used in the tokens held. The top and the close of an open subtree are not counted.
+    pub fn span_part_uses(&self, span: &Span) -> usize
+        ensures { result ≡ uses_of same_part (held_parts self.now.stack) (part_of span.now) }
+    {
+        self.parts.uses(&SpanPart::from_span(span))
+    }
+
+    /// How often a symbol is used in the tokens held.
+    pub fn symbol_uses(&self, symbol: &Symbol) -> usize
+        ensures { result ≡ uses_of bytes_eq (held_symbols self.now.stack) symbol.now }
+    {
+        self.symbols.uses(symbol)
+    }
+
+    /// How many different span parts and how many different symbols are used in the tokens held.
+    pub fn distinct_counts(&self) -> (usize, usize)
+        ensures parts { result.0 ≡ distinct_parts self.now.stack }
+        ensures symbols { result.1 ≡ distinct_symbols self.now.stack }
+    {
+        (self.parts.used(), self.symbols.used())
     }
 }

@@ -35,7 +35,8 @@ impl<'a> TransformTtAction<'a> {
 /// Asks the callback for each token in reading order, from the top on, and rewrites the tree by its answers. Each
 /// header is shown with its own count. What a replaced subtree holds is not asked for, and what takes a place is not
 /// either. The tree is then stored anew. Where the result is not one subtree (fault 2), or is too large, or memory is
-/// refused, the tree stays as it was; unless it is memory, the callback was asked in full.
+/// refused, the tree stays as it was; unless it is memory, the callback was asked in full. The callback may be called with any
+/// token, as one without a `requires` may.
 pub fn transform_tt<'b, F: FnMut(&TokenTree) -> TransformTtAction<'b>>(
     alloc: Global,
     tree: &mut TopSubtree,

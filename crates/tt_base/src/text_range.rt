@@ -72,6 +72,7 @@ pub struct TextRange {
 impl TextRange {
     ghost use Rattle.tt_base.specs.Span.{size_of, start_of, end_of};
 
+    /// The range from a place up to another, where `start <= end`. `at` takes a length, and needs no such test.
     pub fn new(start: TextSize, end: TextSize) -> Self
         requires { size_of start ≤ size_of end }
         ensures start { start_of result ≡ size_of start }

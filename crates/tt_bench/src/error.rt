@@ -2,13 +2,14 @@
 use std::io;
 use thiserror::Error;
 use tt::TtFault;
+use tt_mbe::RuleFault;
 
 /// Why nothing was timed.
 #[derive(Debug, Drop, Error)]
 pub enum BenchError {
     /// The arguments ask for nothing that there is.
     #[error("usage: tt_bench MODE ROUNDS [apart] < ITEMS\n\
-        MODE: pack build rewrite flat flat_whole skip siblings siblings_whole walk show display pretty debug equal fold sip clone drop")]
+        MODE: pack build rewrite expand flat flat_whole skip siblings siblings_whole walk show display pretty debug equal fold sip clone drop")]
     Usage,
     /// That line, counted from 1, is no `item` line.
     #[error("line {0} is no item")]
@@ -16,6 +17,12 @@ pub enum BenchError {
     /// The list is refused, or memory is.
     #[error("refused: {0}")]
     Fault(#[from] TtFault),
+    /// The tree is no pattern.
+    #[error("no rule: {0}")]
+    Rule(#[from] RuleFault),
+    /// The input is no instance of the pattern.
+    #[error("no match")]
+    NoMatch,
     /// A walk by siblings would need too much stack.
     #[error("too deep to walk by siblings")]
     TooDeep,

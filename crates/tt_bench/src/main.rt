@@ -1,4 +1,4 @@
-//! Times the calls of `tt` on one tree: `tt_bench MODE ROUNDS [apart] < ITEMS`.
+//! Times the calls of `tt`, and an expansion by `tt_mbe`, on one tree: `tt_bench MODE ROUNDS [apart] < ITEMS`.
 //!
 //! Standard input spells the tree's flat list, as `item` lines (docs/LANGUAGE.md). The line that is printed has the
 //! nanoseconds of all rounds, a sum to know the answer by, and how many bytes, span parts and symbols are stored.
@@ -6,6 +6,7 @@
 
 mod building;
 mod error;
+mod expansion;
 mod interner;
 mod items;
 mod job;

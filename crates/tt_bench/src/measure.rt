@@ -1,6 +1,7 @@
 //! One measurement, from a job to its line of numbers.
 use crate::building;
 use crate::error::BenchError;
+use crate::expansion::Expansion;
 use crate::items::items;
 use crate::job::Job;
 use crate::mode::Mode;
@@ -73,6 +74,7 @@ fn measure_rounds<R: CpuClock>(
         Mode::Pack => pack(watch, alloc, list, job.rounds),
         Mode::Build => build(watch, alloc, list, job.rounds),
         Mode::Rewrite => rewrite(watch, alloc, twins, job.rounds),
+        Mode::Expand => expand(watch, alloc, twins, job.rounds),
         Mode::Walk(way) => walk(watch, alloc, twins, way, job.rounds),
         Mode::Print(text) => print(watch, alloc, twins, text, job.rounds),
         Mode::Equal => equal(watch, twins, job.rounds),
@@ -132,6 +134,25 @@ fn rewrite<R: CpuClock>(
     }
     watch.stop()?;
     Ok(0)
+}
+
+// Each round expands the same input by the same rule. The sum is the number of tokens that come of it.
+fn expand<R: CpuClock>(
+    watch: &mut Stopwatch<R>,
+    alloc: Global,
+    twins: &Twins,
+    rounds: u32,
+) -> Result<u64, BenchError> {
+    let expansion = Expansion::new(alloc, twins.at(0))?;
+    let rule = expansion.rule(alloc)?;
+    let mut sum = 0;
+    for _ in 0..rounds {
+        watch.start()?;
+        let tree = expansion.expand(alloc, &rule)?;
+        watch.stop()?;
+        sum = tree.as_token_trees().len() as u64;
+    }
+    Ok(sum)
 }
 
 fn walk<R: CpuClock>(

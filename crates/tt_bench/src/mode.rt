@@ -13,6 +13,8 @@ pub enum Mode {
     Build,
     /// Rewriting a tree by a callback that keeps each token.
     Rewrite,
+    /// Expanding a rule of ten variables.
+    Expand,
     /// Reading a tree.
     Walk(Walk),
     /// Printing a tree.
@@ -37,6 +39,7 @@ impl FromStr for Mode {
             "pack" => Ok(Mode::Pack),
             "build" => Ok(Mode::Build),
             "rewrite" => Ok(Mode::Rewrite),
+            "expand" => Ok(Mode::Expand),
             "flat" => Ok(Mode::Walk(Walk::Flat)),
             "flat_whole" => Ok(Mode::Walk(Walk::FlatWhole)),
             "skip" => Ok(Mode::Walk(Walk::Skip)),

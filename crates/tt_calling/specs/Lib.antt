@@ -1,4 +1,5 @@
--- What the callers count and find.
+-- What the callers count, find and expand.
 pub mod Commas
+pub mod Macros
 pub mod Names
 pub mod ViewTrees

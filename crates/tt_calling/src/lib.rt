@@ -1,14 +1,16 @@
-//! A user of the library: packs lists, reads trees in four ways, cuts them and compares them.
+//! A user of the library: packs lists, reads trees in four ways, cuts them, compares them and expands macros.
 #![tactic(auto)]
 
 mod commas;
 mod items;
 mod list;
+mod macros;
 mod siblings;
 mod walk;
 
 pub use commas::arguments;
 pub use items::item;
 pub use list::{flat_list, round_trip, same_tree};
+pub use macros::{Expansions, MacroFault, expand_both};
 pub use siblings::{count_tokens, mentions};
 pub use walk::crossed_by_walk;

@@ -47,6 +47,7 @@ part verb.Unwrap = nothing
 part verb.Point = nothing
 part verb.Restore = word_then decimal (λ n. n < 2 ^ 64) spaceless_long_number one_long_number nothing
 part verb.Expected = nothing
+part verb.Counts = nothing
 part verb.Build = slot_then nothing
 part verb.Skip = slot_then nothing
 part verb.Copy = slot_then (slot_then nothing)
@@ -55,6 +56,7 @@ part verb.Spans = slot_then (span_then (span_then nothing))
 part verb.Set = slot_then (number_then (rest_of_line leaf_words LeafFits one_leaf))
 part verb.Ids = slot_then (words_of decimal (λ n. n < 2 ^ 32) spaceless_number one_number)
 part verb.Rewrite = slot_then (words_of action_word ActionFits spaceless_action one_action)
+part verb.Expand = slot_then (slot_then (slot_then (slot_then nothing)))
 part verb.Split = slot_then (rest_of_line encode_utf8 IsScalar one_character)
 part verb.Equal = slot_then (slot_then nothing)
 part (verb.View view) = slot_then nothing
@@ -74,6 +76,7 @@ make verb.Unwrap = λ _. command.Unwrap
 make verb.Point = λ _. command.Point
 make verb.Restore = λ (number, _). command.Restore number
 make verb.Expected = λ _. command.Expected
+make verb.Counts = λ _. command.Counts
 make verb.Build = λ (slot, _). command.Build slot
 make verb.Skip = λ (slot, _). command.Skip slot
 make verb.Copy = λ (a, (b, _)). command.Copy a b
@@ -82,6 +85,7 @@ make verb.Spans = λ (a, (o, (c, _))). command.Spans a o c
 make verb.Set = λ (a, (n, leaf)). command.Set a n leaf
 make verb.Ids = λ (a, ids). command.Ids a ids
 make verb.Rewrite = λ (a, actions). command.Rewrite a actions
+make verb.Expand = λ (p, (t, (i, (o, _)))). command.Expand p t i o
 make verb.Split = λ (a, char). command.Split a char
 make verb.Equal = λ (a, (b, _)). command.Equal a b
 make (verb.View view) = λ (slot, _). command.View view slot
@@ -119,6 +123,7 @@ taken_apart command.Unwrap fits = (verb.Unwrap, record { value = tt; fits = tt; 
 taken_apart command.Point fits = (verb.Point, record { value = tt; fits = tt; made = refl })
 taken_apart (command.Restore number) fits = (verb.Restore, record { value = (number, tt); fits = (fits, tt); made = refl })
 taken_apart command.Expected fits = (verb.Expected, record { value = tt; fits = tt; made = refl })
+taken_apart command.Counts fits = (verb.Counts, record { value = tt; fits = tt; made = refl })
 taken_apart (command.Build slot) fits = (verb.Build, record { value = (slot, tt); fits = (fits, tt); made = refl })
 taken_apart (command.Skip slot) fits = (verb.Skip, record { value = (slot, tt); fits = (fits, tt); made = refl })
 taken_apart (command.Copy a b) fits = (verb.Copy, record { value = (a, (b, tt)); fits = (fits.0, (fits.1, tt)); made = refl })
@@ -127,6 +132,7 @@ taken_apart (command.Spans a o c) fits = (verb.Spans, record { value = (a, (o, (
 taken_apart (command.Set a n leaf) fits = (verb.Set, record { value = (a, (n, leaf)); fits = (fits.0, (fits.1, fits.2)); made = refl })
 taken_apart (command.Ids a ids) fits = (verb.Ids, record { value = (a, ids); fits = (fits.0, fits.1); made = refl })
 taken_apart (command.Rewrite a actions) fits = (verb.Rewrite, record { value = (a, actions); fits = (fits.0, fits.1); made = refl })
+taken_apart (command.Expand p t i o) fits = (verb.Expand, record { value = (p, (t, (i, (o, tt)))); fits = (fits.0, (fits.1, (fits.2, (fits.3, tt)))); made = refl })
 taken_apart (command.Split a char) fits = (verb.Split, record { value = (a, char); fits = (fits.0, fits.1); made = refl })
 taken_apart (command.Equal a b) fits = (verb.Equal, record { value = (a, (b, tt)); fits = (fits.0, (fits.1, tt)); made = refl })
 taken_apart (command.View view slot) fits = (verb.View view, record { value = (slot, tt); fits = (fits, tt); made = refl })

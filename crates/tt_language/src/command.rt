@@ -52,6 +52,8 @@ pub enum Command {
     Restore(u64),
     /// The kinds of the open subtrees, innermost first.
     Expected,
+    /// How many different span parts and symbols the builder's tokens use.
+    Counts,
     /// Builds the tree, in the slot.
     Build(Slot),
     /// Builds the tree without the top, where that holds one subtree alone.
@@ -68,6 +70,9 @@ pub enum Command {
     Ids(Slot, Many<u32>),
     /// Rewrites a tree by these actions, in order; behind them all is kept.
     Rewrite(Slot, Many<Action>),
+    /// Expands a rule: its pattern is in the first slot, its template in the second, the input in the third. What comes of
+    /// it goes to the last.
+    Expand(Slot, Slot, Slot, Slot),
     /// The text of a slot's tree in one of its forms.
     View(View, Slot),
     /// How many tokens stand in each piece between the puncts of that character, below the top.
@@ -124,6 +129,7 @@ impl Command {
             Verb::Point => read!(alloc, rest; |()| Command::Point),
             Verb::Restore => read!(alloc, rest; |(number, ())| Command::Restore(number)),
             Verb::Expected => read!(alloc, rest; |()| Command::Expected),
+            Verb::Counts => read!(alloc, rest; |()| Command::Counts),
             Verb::Build => read!(alloc, rest; |(slot, ())| Command::Build(slot)),
             Verb::Skip => read!(alloc, rest; |(slot, ())| Command::Skip(slot)),
             Verb::Copy => read!(alloc, rest; |(to, (from, ()))| Command::Copy(to, from)),
@@ -134,6 +140,9 @@ impl Command {
                 read!(alloc, rest; |(slot, (place, leaf))| Command::Set(slot, place, leaf)),
             Verb::Ids => read!(alloc, rest; |(slot, ids)| Command::Ids(slot, ids)),
             Verb::Rewrite => read!(alloc, rest; |(slot, actions)| Command::Rewrite(slot, actions)),
+            Verb::Expand => read!(alloc, rest; |(pattern, (template, (input, (to, ()))))| {
+                Command::Expand(pattern, template, input, to)
+            }),
             Verb::View(view) => read!(alloc, rest; |(slot, ())| Command::View(view, slot)),
             Verb::Split => read!(alloc, rest; |(slot, char)| Command::Split(slot, char)),
             Verb::Equal => read!(alloc, rest; |(left, (right, ()))| Command::Equal(left, right)),

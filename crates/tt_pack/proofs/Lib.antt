@@ -6,11 +6,13 @@ pub mod Joined
 pub mod Kept
 pub mod MostBytes
 pub mod Moves
+pub mod Noting
 pub mod Paired
 pub mod RowOrder
 pub mod SameStored
 pub mod Sorted
 pub mod Storing
 pub mod TableFacts
+pub mod Tally
 pub mod UsesGrow
 pub mod Writing

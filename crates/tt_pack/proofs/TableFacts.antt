@@ -14,7 +14,7 @@ use Rattle.tt_pack.specs.TablesOf.{StandsAt, HasNewIndexAt}
 -- `same` tells whether two values are equal
 module _ {X : Type 0} (same : X → X → Bool) where
   -- Where values differ, each is found where it stands.
-  index_in-distinct : IsEquivalence same → (values : List X) (i : ℕ) (x : X) → IsDistinct same values → slice_get values i ≡ Some x → index_in (same x) values ≡ i
+  pub index_in-distinct : IsEquivalence same → (values : List X) (i : ℕ) (x : X) → IsDistinct same values → slice_get values i ≡ Some x → index_in (same x) values ≡ i
   unfolding IsDistinct
   index_in-distinct laws [] i x distinct at = absurd (cc at)
   index_in-distinct laws (y ∷ values) zero x distinct at = ap (λ t. cond t 0 (suc (index_in (same x) values))) (ap (same x) is ∙ laws.refl x)
@@ -41,6 +41,10 @@ module _ {X : Type 0} (same : X → X → Bool) where
         by_length : (t : Bool) → length (cond t (different same uses) (falling same (uses_of same uses) (different same uses))) ≡ length (different same uses)
         by_length true = refl
         by_length false = length-falling same sound laws.refl (uses_of same uses) (IsEarlier same uses) (different same uses)
+
+    -- A table has as many values as there are different ones.
+    pub length-table_of : (short : ℕ) (uses : List X) → length (table same short uses) ≡ length (different same uses)
+    length-table_of short uses = length-table short uses ∙ length-map (different same uses) (λ y. (y, uses_of same uses y))
 
     -- The values of a table differ.
     distinct_table : (short : ℕ) (uses values : List X) → IsTable same short uses values → IsDistinct same values

@@ -1,5 +1,7 @@
 -- What the codec's contracts speak of.
 pub mod Counted
+pub mod Known
+pub mod Noted
 pub mod Packed
 pub mod ReaderOf
 pub mod Room

@@ -1,15 +1,14 @@
 -- What tables in the code stand for.
-use Rattle.std.specs.Prelude.{◌≡◌, ℕ, ◌≤◌, ◌^◌, Bool, Some, List, slice_get, length, bytes_eq}
+use Rattle.std.specs.Prelude.{◌≡◌, ℕ, ◌≤◌, ◌^◌, Bool, Some, List, map, slice_get, length, bytes_eq}
 use Rattle.tt_base.specs.declared.span.SpanPart.{SpanPart}
 use Rattle.tt_base.specs.declared.token_tree.TokenTree.{TokenTree}
 use Rattle.tt_base.specs.Literal.{symbol_of, span_of}
 use Rattle.tt_base.specs.Span.{part_of}
-use Rattle.tt_tables.specs.TableOrder.{index_in}
+use Rattle.tt_tables.specs.TableOrder.{index_in, different, uses_of}
 use Rattle.tt_pack.specs.declared.uses.TokenUses.{TokenUses}
 use Rattle.tt_pack.specs.declared.table.Table.{Table}
 use Rattle.tt_pack.specs.declared.uses.Uses.{Uses}
 use Rattle.tt_pack.specs.Packed.{HasFewParts, HasFewSymbols}
-use Rattle.indexmap.specs.IndexMap.{keys}
 use Rattle.std.specs.List.{AllZip}
 use Rattle.tt_tables.specs.Tables.{Tables, tables_from, part_table, symbol_table}
 use Rattle.tt_tables.specs.Uses.{same_part, part_uses, symbol_uses}
@@ -41,14 +40,22 @@ pub record IsCountOf (uses : Uses) (tokens : List TokenTree) : Type 0 where
   pub parts : uses.parts.entries ≡ counted same_part (part_uses tokens)
   pub symbols : uses.symbols.entries ≡ counted bytes_eq (symbol_uses tokens)
 
--- the two tables of the tokens, whose uses are counted: they can be written, and tell where what is used went
-pub record AreTables (uses : Uses) (tokens : List TokenTree) (parts : Table SpanPart) (symbols : Table (List ℕ)) : Type 0 where
+-- the tokens are a whole list; these are their parts and their symbols by first use, each with its number of uses
+pub record IsTallyOf (parts : List SpanPart) (part_numbers : List ℕ) (symbols : List (List ℕ)) (symbol_numbers : List ℕ) (tokens : List TokenTree) : Type 0 where
+  pub whole : IsWhole tokens
+  pub all_parts : parts ≡ different same_part (part_uses tokens)
+  pub part_uses_are : part_numbers ≡ map (uses_of same_part (part_uses tokens)) parts
+  pub all_symbols : symbols ≡ different bytes_eq (symbol_uses tokens)
+  pub symbol_uses_are : symbol_numbers ≡ map (uses_of bytes_eq (symbol_uses tokens)) symbols
+
+-- the two tables of the tokens, which have these parts and symbols: they can be written, and tell where what is used went
+pub record AreTables (part_list : List SpanPart) (symbol_list : List (List ℕ)) (tokens : List TokenTree) (parts : Table SpanPart) (symbols : Table (List ℕ)) : Type 0 where
   pub all_parts : parts.values.items ≡ part_table tokens
   pub few_parts : HasFewParts tokens
-  pub new_parts : (i : ℕ) (x : SpanPart) → StandsAt (keys uses.parts) i x → HasNewIndexAt same_part parts.values.items parts.new_indices.items i x
+  pub new_parts : (i : ℕ) (x : SpanPart) → StandsAt part_list i x → HasNewIndexAt same_part parts.values.items parts.new_indices.items i x
   pub all_symbols : symbols.values.items ≡ symbol_table tokens
   pub few_symbols : HasFewSymbols tokens
-  pub new_symbols : (i : ℕ) (x : List ℕ) → StandsAt (keys uses.symbols) i x → HasNewIndexAt bytes_eq symbols.values.items symbols.new_indices.items i x
+  pub new_symbols : (i : ℕ) (x : List ℕ) → StandsAt symbol_list i x → HasNewIndexAt bytes_eq symbols.values.items symbols.new_indices.items i x
 
 -- the parts and the symbols
 abbrev pub tables_of : ListTables → Tables

@@ -2,7 +2,9 @@
 #![tactic(auto)]
 
 mod counts;
+mod known;
 pub mod laws;
+mod noted;
 mod pack;
 mod packed;
 mod reader;
@@ -13,6 +15,7 @@ mod token_reader;
 mod uses;
 mod writer;
 
+pub use known::TokenEntries;
 pub use packed::Packed;
 pub use reader::Reader;
 pub use tt_codec::Encodable;

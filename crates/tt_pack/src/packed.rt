@@ -9,6 +9,7 @@ ghost use Rattle.tt_tables.specs.PackFault.{IsPackFault};
 ghost use Rattle.tt_tables.specs.Shortest.{HasShortestHeaders};
 ghost use Rattle.tt_base.proofs.SameTree.{same_root_iff};
 ghost use Rattle.tt_tables.proofs.StoredAlike.{HasMeaning-prop};
+ghost use Rattle.tt_tables.specs.Counts.{CountsUses};
 ghost use Rattle.tt_tables.specs.TableOrder.{IsTable};
 ghost use Rattle.tt_tables.specs.Tables.{tables_for, short_parts, short_symbols};
 ghost use Rattle.tt_tables.specs.Uses.{same_part, part_uses, symbol_uses};
@@ -19,7 +20,9 @@ ghost use Rattle.tt_base.specs.Equality.{same_token-equivalence, same_root};
 
 mod top;
 
+use crate::known::{Known, TokenEntries};
 use crate::pack::write_tree;
+use indexmap::IndexMap;
 use std::alloc::Global;
 use std::hash::{Hash, Hasher};
 use std::marker::Model;
@@ -49,6 +52,7 @@ impl Model for Packed {
 }
 
 impl Packed {
+    ghost use Rattle.tt_pack.specs.Known.{AreKnown};
     ghost use Rattle.tt_pack.specs.StoredIn.{tables_stored};
     ghost use Rattle.tt_tables.specs.TablesOf.{tables_of};
 
@@ -70,8 +74,71 @@ impl Packed {
         }
     }
 
+    /// The tree of a flat list, as `pack` gives it, where each map gives every value its number of uses in the list
+    /// below the top. A value that is absent, or has the number 0, has none. The maps say nothing of the order.
+    pub fn pack_counted(
+        alloc: Global,
+        tokens: Vec<TokenTree>,
+        parts: &IndexMap<SpanPart, usize>,
+        symbols: &IndexMap<Symbol, usize>,
+    ) -> Result<Packed, Refused<Vec<TokenTree>>>
+        requires parts { CountsUses same_part (part_uses (drop 1 tokens.items)) parts.now.entries }
+        requires symbols { CountsUses bytes_eq (symbol_uses (drop 1 tokens.items)) symbols.now.entries }
+        ensures ok { IfOk result (λ stored. tokens.items ≡ flat_root stored) }
+        ensures counts { IfOk result (λ stored. size stored.children ≤ most_tokens) }
+        ensures limits { IfOk result (λ stored. IsWithinLimits stored) }
+        ensures fault { IfErr result (λ refused. IsPackFault tokens.items refused.fault) }
+        ensures list { IfErr result (λ refused. refused.value ≡ tokens) }
+    {
+        match Packed::of_list_counted(alloc, &tokens, parts, symbols, &[]) {
+            Ok(stored) => Ok(stored),
+            Err(fault) => {
+                let value = tokens;
+                Err(Refused { fault, value })
+            }
+        }
+    }
+
     /// The tree of a flat list that stays with the caller, refused where `pack` refuses it.
     pub fn of_list(alloc: Global, tokens: &[TokenTree]) -> Result<Packed, TtFault>
+        ensures ok { IfOk result (λ stored. (tokens.now ≡ flat_root stored) × (size stored.children ≤ most_tokens) × IsWithinLimits stored) }
+        ensures err { IfErr result (IsPackFault tokens.now) }
+    {
+        Packed::of_known(alloc, tokens, None)
+    }
+
+    /// The same, where the numbers of uses are known, as in `pack_counted`. Of each token below the first, `entries` tells where
+    /// its values stand in the maps. What is not so there, or is not told, is looked up.
+    pub fn of_list_counted(
+        alloc: Global,
+        tokens: &[TokenTree],
+        parts: &IndexMap<SpanPart, usize>,
+        symbols: &IndexMap<Symbol, usize>,
+        entries: &[TokenEntries],
+    ) -> Result<Packed, TtFault>
+        requires parts { CountsUses same_part (part_uses (drop 1 tokens.now)) parts.now.entries }
+        requires symbols { CountsUses bytes_eq (symbol_uses (drop 1 tokens.now)) symbols.now.entries }
+        ensures ok { IfOk result (λ stored. (tokens.now ≡ flat_root stored) × (size stored.children ≤ most_tokens) × IsWithinLimits stored) }
+        ensures err { IfErr result (IsPackFault tokens.now) }
+    {
+        Packed::of_known(
+            alloc,
+            tokens,
+            Some(Known {
+                parts,
+                symbols,
+                entries,
+            }),
+        )
+    }
+
+    // The tree of a flat list, whose numbers of uses are counted where they are not known.
+    fn of_known(
+        alloc: Global,
+        tokens: &[TokenTree],
+        known: Option<Known<'_>>,
+    ) -> Result<Packed, TtFault>
+        requires { AreKnown known (drop 1 tokens.now) }
         ensures ok { IfOk result (λ stored. (tokens.now ≡ flat_root stored) × (size stored.children ≤ most_tokens) × IsWithinLimits stored) }
         ensures err { IfErr result (IsPackFault tokens.now) }
     {
@@ -81,7 +148,7 @@ impl Packed {
         if top.len as usize != below.len() {
             return Err(TtFault::NotOneSubtree);
         }
-        let (bytes, parts, symbols) = write_tree(alloc, *top, below)?;
+        let (bytes, parts, symbols) = write_tree(alloc, *top, below, known)?;
         Ok(Packed {
             bytes,
             parts,

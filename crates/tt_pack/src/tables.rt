@@ -1,16 +1,22 @@
 //! The two tables of a list of tokens, and tokens in numbers under them.
-ghost use Rattle.std.specs.Prelude.{◌≡◌, ◌+◌, ◌<◌, ◌≤◌, Some, length, slice_get, IfOk, IfErr};
+ghost use Rattle.std.specs.Prelude.{◌≡◌, ◌+◌, ◌<◌, ◌≤◌, ◌^◌, Some, length, slice_get, IfOk, IfErr};
 ghost use Rattle.tt_base.specs.Forest.{IsWhole};
 ghost use Rattle.tt_tables.specs.Stored.{most_parts, most_symbols};
 ghost use Rattle.tt_tables.specs.Tables.{Knows, part_table, symbol_table};
+ghost use Rattle.tt_pack.specs.Known.{IsKnown, AreKnown};
 ghost use Rattle.tt_pack.specs.Packed.{HasFewParts, HasFewSymbols, IsTableFault};
 ghost use Rattle.tt_pack.specs.Room.{HasRoomForAll};
 
+use crate::known::{Known, KnownUses};
 use crate::table::Table;
-use crate::uses::{TokenUses, Uses};
+use crate::uses::{TokenUses, Uses, tables_of};
 use std::alloc::Global;
 use tt_base::{Leaf, SpanPart, Subtree, Symbol, TokenTree, TtFault};
 use tt_codec::{Entry, HeaderEntry, LeafEntry, SpanNumbers};
+
+// A longer list is counted, so that a place among the values that are noted always fits four bytes: there are two parts a
+// token at most.
+const MOST_NOTED: usize = 1 << 31;
 
 /// The tables of a list of tokens, what each token uses, and how many bytes all can take.
 #[derive(Drop)]
@@ -37,8 +43,28 @@ impl ListTables {
     ghost use Rattle.tt_pack.specs.TablesOf.{tables_of, HasUses, UsesTables};
 
     /// The tables of the tokens, where these are a whole list, their indices can be written and the parts leave room for
-    /// the top's two (docs/FORMATS.md).
-    pub(crate) fn of_tokens(alloc: Global, below: &[TokenTree]) -> Result<ListTables, TtFault>
+    /// the top's two (docs/FORMATS.md). The numbers of uses are counted where they are not known.
+    pub(crate) fn of_tokens(
+        alloc: Global,
+        below: &[TokenTree],
+        known: Option<Known<'_>>,
+    ) -> Result<ListTables, TtFault>
+        requires { AreKnown known below.now }
+        ensures whole { IfOk result (λ tables. IsWhole below.now) }
+        ensures parts { IfOk result (λ tables. (tables.parts.values.items ≡ part_table below.now) × HasFewParts below.now) }
+        ensures symbols { IfOk result (λ tables. (tables.symbols.values.items ≡ symbol_table below.now) × HasFewSymbols below.now) }
+        ensures uses { IfOk result (λ tables. UsesTables tables below.now) }
+        ensures room { IfOk result (λ tables. HasRoomForAll below.now tables.room) }
+        ensures err { IfErr result (IsTableFault below.now) }
+    {
+        match known {
+            Some(known) if below.len() < MOST_NOTED => ListTables::of_known(alloc, below, known),
+            _ => ListTables::of_counted(alloc, below),
+        }
+    }
+
+    // The same, where the numbers of uses are counted.
+    fn of_counted(alloc: Global, below: &[TokenTree]) -> Result<ListTables, TtFault>
         ensures whole { IfOk result (λ tables. IsWhole below.now) }
         ensures parts { IfOk result (λ tables. (tables.parts.values.items ≡ part_table below.now) × HasFewParts below.now) }
         ensures symbols { IfOk result (λ tables. (tables.symbols.values.items ≡ symbol_table below.now) × HasFewSymbols below.now) }
@@ -47,7 +73,40 @@ impl ListTables {
         ensures err { IfErr result (IsTableFault below.now) }
     {
         let uses = Uses::of_tokens(alloc, below)?;
-        let (parts, symbols) = uses.tables(alloc)?;
+        let (parts, symbols) = tables_of(
+            alloc,
+            uses.parts.keys().as_slice(),
+            uses.parts.values().as_slice(),
+            uses.symbols.keys().as_slice(),
+            uses.symbols.values().as_slice(),
+        )?;
+        Ok(ListTables {
+            parts,
+            symbols,
+            uses: uses.tokens,
+            room: uses.room,
+        })
+    }
+
+    // The same, where they are known.
+    fn of_known(alloc: Global, below: &[TokenTree], known: Known<'_>) -> Result<ListTables, TtFault>
+        requires known { IsKnown known below.now }
+        requires few { length below.now < 2 ^ 31 }
+        ensures whole { IfOk result (λ tables. IsWhole below.now) }
+        ensures parts { IfOk result (λ tables. (tables.parts.values.items ≡ part_table below.now) × HasFewParts below.now) }
+        ensures symbols { IfOk result (λ tables. (tables.symbols.values.items ≡ symbol_table below.now) × HasFewSymbols below.now) }
+        ensures uses { IfOk result (λ tables. UsesTables tables below.now) }
+        ensures room { IfOk result (λ tables. HasRoomForAll below.now tables.room) }
+        ensures err { IfErr result (IsTableFault below.now) }
+    {
+        let uses = KnownUses::of_tokens(alloc, known, below)?;
+        let (parts, symbols) = tables_of(
+            alloc,
+            &uses.parts.values,
+            &uses.parts.numbers,
+            &uses.symbols.values,
+            &uses.symbols.numbers,
+        )?;
         Ok(ListTables {
             parts,
             symbols,

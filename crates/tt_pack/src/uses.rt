@@ -1,11 +1,11 @@
 //! What a list of tokens uses: its different parts and symbols, how often each is used, and which of them each token uses.
-ghost use Rattle.std.specs.Prelude.{◌≡◌, List, [], ◌∷◌, ◌++◌, fold, IfOk, IfErr, OnOk, bytes_eq};
+ghost use Rattle.std.specs.Prelude.{◌≡◌, List, [], ◌∷◌, ◌++◌, fold, length, IfOk, IfErr, OnOk, bytes_eq};
 ghost use Rattle.std.specs.List.{AllZip};
 ghost use Rattle.indexmap.specs.IndexMap.{keys};
 ghost use Rattle.tt_base.specs.declared.token_tree.TokenTree.{TokenTree};
 ghost use Rattle.tt_tables.specs.Uses.{same_part, token_parts, token_symbols};
 ghost use Rattle.tt_pack.specs.Counted.{count_use, HasRoomFor};
-ghost use Rattle.tt_pack.specs.TablesOf.{StandsAt, AreUses, AreTables, IsCountOf};
+ghost use Rattle.tt_pack.specs.TablesOf.{StandsAt, AreUses, AreTables, IsCountOf, IsTallyOf};
 ghost use Rattle.tt_pack.specs.Packed.{IsCountFault, IsTableFault};
 ghost use Rattle.tt_pack.specs.Room.{HasRoomForAll};
 
@@ -150,21 +150,30 @@ impl Uses {
         uses.count_list(alloc, tokens)?;
         Ok(uses)
     }
+}
 
-    /// The two tables of what a list uses, where their indices can be written and the parts leave room for the top's two.
-    /// More than 15 parts or 63 symbols go by falling number of uses, ties by first use (docs/FORMATS.md).
-    pub(crate) fn tables(&self, alloc: Global) -> Result<(Table<SpanPart>, Table<Symbol>), TtFault>
-        ensures tables { IfOk result (λ tables. (tokens : List TokenTree) → IsCountOf self.now tokens → AreTables self.now tokens tables.0 tables.1) }
-        ensures err { IfErr result (λ fault. (tokens : List TokenTree) → IsCountOf self.now tokens → IsTableFault tokens fault) }
-    {
-        if self.parts.len() > MOST_PARTS_BELOW {
-            return Err(TtFault::TooManySpanParts);
-        }
-        if self.symbols.len() > MOST_SYMBOLS {
-            return Err(TtFault::TooManySymbols);
-        }
-        let parts = Table::of_counts(alloc, &self.parts, SHORT_PARTS)?;
-        let symbols = Table::of_counts(alloc, &self.symbols, SHORT_SYMBOLS)?;
-        Ok((parts, symbols))
+/// The two tables of what a list uses, where their indices can be written and the parts leave room for the top's two.
+/// More than 15 parts or 63 symbols go by falling number of uses, ties by first use (docs/FORMATS.md). Both are given by
+/// first use, each beside its number of uses.
+pub(crate) fn tables_of(
+    alloc: Global,
+    parts: &[SpanPart],
+    part_uses: &[usize],
+    symbols: &[Symbol],
+    symbol_uses: &[usize],
+) -> Result<(Table<SpanPart>, Table<Symbol>), TtFault>
+    requires parts { length part_uses.now ≡ length parts.now }
+    requires symbols { length symbol_uses.now ≡ length symbols.now }
+    ensures tables { IfOk result (λ tables. (tokens : List TokenTree) → IsTallyOf parts.now part_uses.now symbols.now symbol_uses.now tokens → AreTables parts.now symbols.now tokens tables.0 tables.1) }
+    ensures err { IfErr result (λ fault. (tokens : List TokenTree) → IsTallyOf parts.now part_uses.now symbols.now symbol_uses.now tokens → IsTableFault tokens fault) }
+{
+    if parts.len() > MOST_PARTS_BELOW {
+        return Err(TtFault::TooManySpanParts);
     }
+    if symbols.len() > MOST_SYMBOLS {
+        return Err(TtFault::TooManySymbols);
+    }
+    let part_table = Table::of_counts(alloc, parts, part_uses, SHORT_PARTS)?;
+    let symbol_table = Table::of_counts(alloc, symbols, symbol_uses, SHORT_SYMBOLS)?;
+    Ok((part_table, symbol_table))
 }

@@ -1,8 +1,32 @@
 //! The bytes of a header under given tables.
 use crate::lists::header;
 use crate::tables::{Spot, Tables};
+use std::alloc::Global;
+use std::process::Abort;
 use std::test::Fail;
 use tt_base::DelimiterKind;
+
+// A header of that kind, with these spans, has these bytes. It holds so many tokens in so many bytes.
+fn has_bytes(
+    rt: &impl Abort,
+    alloc: Global,
+    tables: &Tables,
+    kind: DelimiterKind,
+    spans: (Spot, Spot),
+    children: (u32, u32),
+    bytes: &[u8],
+) -> Result<(), Fail> {
+    let (opening, closing) = spans;
+    let (len, child_bytes) = children;
+    let token = header(kind, opening, closing, len)?;
+    tables.give(rt, alloc, &token, child_bytes, bytes)
+}
+
+// Whether the tables have the parts of a header that opens in the one and closes in the other.
+fn know(alloc: Global, tables: &Tables, opening: u32, closing: u32) -> Result<bool, Fail> {
+    let token = header(DelimiterKind::Bracket, (opening, 0, 1), (closing, 1, 2), 0)?;
+    tables.know(alloc, &token)
+}
 
 // A span of one character, and one of two.
 const SHORT: Spot = (0, 0, 1);
@@ -50,8 +74,8 @@ fn parentheses_around_nothing(rt: HostRuntime) -> Result<(), Fail> {
     let alloc = rt.alloc();
     let tables = Tables::new(alloc, 129, &[])?;
     for (opening, closing, bytes) in AROUND_NOTHING {
-        let token = header(DelimiterKind::Parenthesis, opening, closing, 0)?;
-        tables.give(&rt, alloc, &token, 0, bytes)?;
+        let kind = DelimiterKind::Parenthesis;
+        has_bytes(&rt, alloc, &tables, kind, (opening, closing), (0, 0), bytes)?;
     }
     Ok(())
 }
@@ -89,8 +113,16 @@ fn what_a_header_holds(rt: HostRuntime) -> Result<(), Fail> {
         ),
     ];
     for (kind, opening, closing, len, child_bytes, bytes) in cases {
-        let token = header(kind, opening, closing, len)?;
-        tables.give(&rt, alloc, &token, child_bytes, bytes)?;
+        let children = (len, child_bytes);
+        has_bytes(
+            &rt,
+            alloc,
+            &tables,
+            kind,
+            (opening, closing),
+            children,
+            bytes,
+        )?;
     }
     Ok(())
 }
@@ -101,8 +133,7 @@ fn what_a_header_lacks(rt: HostRuntime) -> Result<(), Fail> {
     let tables = Tables::new(alloc, 2, &[])?;
     let cases = [(0, 0, true), (1, 1, true), (0, 2, false), (2, 0, false)];
     for (opening, closing, known) in cases {
-        let token = header(DelimiterKind::Bracket, (opening, 0, 1), (closing, 1, 2), 0)?;
-        assert_eq!(rt; tables.know(alloc, &token)?, known);
+        assert_eq!(rt; know(alloc, &tables, opening, closing)?, known);
     }
     Ok(())
 }

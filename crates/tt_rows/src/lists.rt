@@ -6,6 +6,7 @@ use std::process::Abort;
 use std::test::Fail;
 use tt_base::{
     Delimiter, DelimiterKind, Ident, Leaf, LitKind, Literal, Punct, Spacing, Subtree, TokenTree,
+    TtFault,
 };
 use tt_pack::{Packed, Reader};
 
@@ -54,22 +55,66 @@ pub(crate) fn one(alloc: Global, spot: Spot) -> Result<TokenTree, Fail> {
     Ok(Leaf::from(literal).into())
 }
 
+/// A brace from 0 to 6 over the ident `a` and that token.
+pub(crate) fn braces_over(alloc: Global, last: TokenTree) -> Result<Vec<TokenTree>, Fail> {
+    let below = [ident(alloc, "a", (0, 2, 3))?, last];
+    let header = header(DelimiterKind::Brace, (0, 0, 1), (0, 5, 6), 2)?;
+    with_below(alloc, header, &below)
+}
+
 /// A brace from 0 to 6 over the ident `a` and a semicolon.
 pub(crate) fn braces(alloc: Global) -> Result<Vec<TokenTree>, Fail> {
-    let mut tokens = Vec::new(alloc);
-    tokens.push(header(DelimiterKind::Brace, (0, 0, 1), (0, 5, 6), 2)?)?;
-    tokens.push(ident(alloc, "a", (0, 2, 3))?)?;
-    tokens.push(punct(';', (0, 3, 4))?)?;
+    braces_over(alloc, punct(';', (0, 3, 4))?)
+}
+
+/// A copy of the tokens behind a header.
+pub(crate) fn with_below(
+    alloc: Global,
+    header: TokenTree,
+    below: &[TokenTree],
+) -> Result<Vec<TokenTree>, Fail> {
+    let mut tokens = vec![in alloc; header]?;
+    for token in below {
+        tokens.push(token.clone()?)?;
+    }
     Ok(tokens)
 }
 
-/// The tree that is stored for a copy of the list.
-pub(crate) fn stored(alloc: Global, tokens: &[TokenTree]) -> Result<Packed, Fail> {
+// A copy of the list.
+fn copy_of(alloc: Global, tokens: &[TokenTree]) -> Result<Vec<TokenTree>, Fail> {
     let mut copy = Vec::new(alloc);
     for token in tokens {
         copy.push(token.clone()?)?;
     }
-    Ok(Packed::pack(alloc, copy)?)
+    Ok(copy)
+}
+
+/// What is stored for the list.
+pub(crate) fn pack(alloc: Global, tokens: Vec<TokenTree>) -> Result<Packed, TtFault> {
+    Ok(Packed::pack(alloc, tokens)?)
+}
+
+/// The tree that is stored for a copy of the list.
+pub(crate) fn stored(alloc: Global, tokens: &[TokenTree]) -> Result<Packed, Fail> {
+    Ok(pack(alloc, copy_of(alloc, tokens)?)?)
+}
+
+/// The reader gives that token.
+pub(crate) fn gives(
+    rt: &impl Abort,
+    reader: &mut Reader<'_>,
+    token: &TokenTree,
+) -> Result<(), Fail> {
+    let found = reader.advance().ok_or("too few tokens")?;
+    assert!(rt; found == *token);
+    Ok(())
+}
+
+/// The reader is at that offset after so many steps, with no token ahead.
+pub(crate) fn is_at_end(rt: &impl Abort, reader: &mut Reader<'_>, place: usize, steps: u64) {
+    assert!(rt; reader.advance().is_none());
+    assert_eq!(rt; reader.place(), place);
+    assert_eq!(rt; reader.steps(), steps);
 }
 
 /// A reader finds these tokens in the tree, one step each, and no others.
@@ -77,11 +122,8 @@ pub(crate) fn is_read(rt: &impl Abort, tree: &Packed, tokens: &[TokenTree]) -> R
     assert_eq!(rt; tree.len(), tokens.len());
     let mut reader = Reader::start(tree);
     for token in tokens {
-        let found = reader.advance().ok_or("too few tokens")?;
-        assert_eq!(rt; found, *token);
+        gives(rt, &mut reader, token)?;
     }
-    assert!(rt; reader.advance().is_none());
-    assert_eq!(rt; reader.place(), tree.bytes().len());
-    assert_eq!(rt; reader.steps(), tokens.len() as u64);
+    is_at_end(rt, &mut reader, tree.bytes().len(), tokens.len() as u64);
     Ok(())
 }

@@ -1,7 +1,7 @@
 //! Reading what is stored, token by token and sibling by sibling.
 ghost use Rattle.std.specs.Prelude.{◌≤◌, ◌<◌, ◌-◌};
 
-use crate::lists::{braces, header, ident, is_read, punct, stored, top};
+use crate::lists::{braces, gives, header, ident, is_at_end, is_read, pack, punct, stored, top};
 use std::alloc::Global;
 use std::process::Abort;
 use std::test::Fail;
@@ -62,26 +62,27 @@ fn goes_on(
     token: &TokenTree,
     place: (usize, u64),
 ) -> Result<(), Fail> {
+    gives(rt, reader, token)?;
+    is_at(rt, reader, place);
+    Ok(())
+}
+
+// The reader is at that offset after so many steps.
+fn is_at(rt: &impl Abort, reader: &Reader<'_>, place: (usize, u64)) {
     let (offset, steps) = place;
-    let found = reader.advance().ok_or("no token")?;
-    assert_eq!(rt; found, *token);
     assert_eq!(rt; reader.place(), offset);
     assert_eq!(rt; reader.steps(), steps);
-    Ok(())
 }
 
 // The tokens of the braces are read one after another.
 fn goes_through(rt: &impl Abort, tree: &Packed, tokens: &[TokenTree]) -> Result<(), Fail> {
     let mut reader = Reader::start(tree);
-    assert_eq!(rt; reader.place(), 0);
-    assert_eq!(rt; reader.steps(), 0);
+    is_at(rt, &reader, (0, 0));
     let places: [(usize, u64); 3] = [(33, 1), (38, 2), (43, 3)];
     for (token, place) in tokens.iter().zip(places.iter()) {
         goes_on(rt, &mut reader, token, *place)?;
     }
-    assert!(rt; reader.advance().is_none());
-    assert_eq!(rt; reader.place(), 43);
-    assert_eq!(rt; reader.steps(), 3);
+    is_at_end(rt, &mut reader, 43, 3);
     Ok(())
 }
 
@@ -93,35 +94,46 @@ fn one_token_after_another(rt: HostRuntime) -> Result<(), Fail> {
     goes_through(&rt, &tree, tokens.as_slice())
 }
 
+// The reader passes that token and all that it holds. The answer reads what it holds.
+fn skips_to<'a>(
+    rt: &impl Abort,
+    reader: &mut Reader<'a>,
+    token: &TokenTree,
+) -> Result<Reader<'a>, Fail> {
+    let (found, below) = reader.advance_skip().ok_or("no token")?;
+    assert!(rt; found == *token);
+    Ok(below)
+}
+
 // The reader passes the braces in one step, and so comes to the end. The answer reads what they hold.
 fn passes<'a>(rt: &impl Abort, reader: &mut Reader<'a>) -> Result<Reader<'a>, Fail> {
     let brace = header(DelimiterKind::Brace, (0, 0, 1), (0, 5, 6), 2)?;
-    let (found, below) = reader.advance_skip().ok_or("no token")?;
-    assert_eq!(rt; found, brace);
-    assert_eq!(rt; reader.place(), 43);
-    assert_eq!(rt; reader.steps(), 1);
+    let below = skips_to(rt, reader, &brace)?;
+    is_at(rt, reader, (43, 1));
     Ok(below)
 }
 
 // The reader stays at the end.
 fn stays(rt: &impl Abort, reader: &mut Reader<'_>) {
-    assert!(rt; reader.advance().is_none());
     assert!(rt; reader.advance_skip().is_none());
-    assert_eq!(rt; reader.place(), 43);
-    assert_eq!(rt; reader.steps(), 1);
+    is_at_end(rt, reader, 43, 1);
+}
+
+// The reader of what the braces hold gives the ident first.
+fn goes_below(rt: &impl Abort, alloc: Global, below: &mut Reader<'_>) -> Result<(), Fail> {
+    is_at(rt, below, (33, 1));
+    let name = ident(alloc, "a", (0, 2, 3))?;
+    goes_on(rt, below, &name, (38, 2))
 }
 
 #[test]
 fn all_that_a_header_holds(rt: HostRuntime) -> Result<(), Fail> {
     let alloc = rt.alloc();
-    let name = ident(alloc, "a", (0, 2, 3))?;
-    let tree = Packed::pack(alloc, braces(alloc)?)?;
+    let tree = pack(alloc, braces(alloc)?)?;
     let mut reader = Reader::start(&tree);
     let mut below = passes(&rt, &mut reader)?;
     stays(&rt, &mut reader);
-    assert_eq!(rt; below.place(), 33);
-    assert_eq!(rt; below.steps(), 1);
-    goes_on(&rt, &mut below, &name, (38, 2))
+    goes_below(&rt, alloc, &mut below)
 }
 
 #[test]
@@ -154,30 +166,48 @@ fn groups(alloc: Global) -> Result<Vec<TokenTree>, Fail> {
     Ok(tokens)
 }
 
+// The reader passes the parentheses of that group.
+fn skips_outer<'a>(rt: &impl Abort, reader: &mut Reader<'a>, group: u32) -> Result<Reader<'a>, Fail>
+    requires { group < 200 }
+{
+    let outer = parentheses(group * 10, 9)?;
+    skips_to(rt, reader, &outer)
+}
+
+// The reader gives the parentheses that those of that group hold.
+fn gives_inner(rt: &impl Abort, below: &mut Reader<'_>, group: u32) -> Result<(), Fail>
+    requires { group < 200 }
+{
+    let inner = parentheses(group * 10 + 1, 8)?;
+    gives(rt, below, &inner)
+}
+
 // The reader passes that group in one step, and inside of it the first token takes one more.
 fn skips(rt: &impl Abort, reader: &mut Reader<'_>, group: u32) -> Result<(), Fail>
     requires { group < 200 }
 {
     assert_eq!(rt; reader.steps(), group as u64 + 1);
-    let (found, mut below) = reader.advance_skip().ok_or("no sibling")?;
-    assert_eq!(rt; found, parentheses(group * 10, 9)?);
-    let inner = below.advance().ok_or("nothing below")?;
-    assert_eq!(rt; inner, parentheses(group * 10 + 1, 8)?);
+    let mut below = skips_outer(rt, reader, group)?;
+    gives_inner(rt, &mut below, group)?;
     assert_eq!(rt; below.steps(), group as u64 + 3);
+    Ok(())
+}
+
+// A reader passes the top, each of the groups in one step, and nothing else.
+fn skips_all(rt: &impl Abort, tree: &Packed) -> Result<(), Fail> {
+    let mut reader = Reader::start(tree);
+    gives(rt, &mut reader, &top(2000)?)?;
+    for group in 0..200u32 {
+        skips(rt, &mut reader, group)?;
+    }
+    assert!(rt; reader.advance_skip().is_none());
+    is_at_end(rt, &mut reader, tree.bytes().len(), 201);
     Ok(())
 }
 
 #[test]
 fn siblings_are_skipped(rt: HostRuntime) -> Result<(), Fail> {
     let alloc = rt.alloc();
-    let tree = Packed::pack(alloc, groups(alloc)?)?;
-    let mut reader = Reader::start(&tree);
-    assert_eq!(rt; reader.advance().ok_or("no top")?, top(2000)?);
-    for group in 0..200u32 {
-        skips(&rt, &mut reader, group)?;
-    }
-    assert!(rt; reader.advance_skip().is_none());
-    assert_eq!(rt; reader.steps(), 201);
-    assert_eq!(rt; reader.place(), tree.bytes().len());
-    Ok(())
+    let tree = pack(alloc, groups(alloc)?)?;
+    skips_all(&rt, &tree)
 }

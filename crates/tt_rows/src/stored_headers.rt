@@ -1,5 +1,5 @@
 //! How many bytes headers take in the trees that are stored.
-use crate::lists::{header, is_read, one, punct, stored, top};
+use crate::lists::{header, is_read, one, punct, stored, top, with_below};
 use crate::tables::Spot;
 use std::alloc::Global;
 use std::process::Abort;
@@ -8,15 +8,6 @@ use tt_base::{DelimiterKind, TokenTree};
 
 // How many bytes the header of a top takes.
 const TOP_BYTES: usize = 33;
-
-// These tokens behind a header.
-fn behind(alloc: Global, header: TokenTree, below: Vec<TokenTree>) -> Result<Vec<TokenTree>, Fail> {
-    let mut tokens = vec![in alloc; header]?;
-    for token in below {
-        tokens.push(token)?;
-    }
-    Ok(tokens)
-}
 
 // The tree of these tokens takes so many bytes, and is read back.
 fn is_stored(
@@ -31,32 +22,64 @@ fn is_stored(
 }
 
 // A top over these tokens takes so many bytes, and is read back.
-fn takes(rt: &impl Abort, alloc: Global, below: Vec<TokenTree>, bytes: usize) -> Result<(), Fail> {
+fn takes(rt: &impl Abort, alloc: Global, below: &[TokenTree], bytes: usize) -> Result<(), Fail> {
     let len = u32::try_from(below.len())?;
-    let tokens = behind(alloc, top(len)?, below)?;
+    let tokens = with_below(alloc, top(len)?, below)?;
     is_stored(rt, alloc, tokens.as_slice(), bytes)
 }
 
 // Parentheses over these leaves, which follow them, take so many bytes with the leaves and the top.
-fn hold(rt: &impl Abort, alloc: Global, leaves: Vec<TokenTree>, bytes: usize) -> Result<(), Fail> {
+fn hold(rt: &impl Abort, alloc: Global, leaves: &[TokenTree], bytes: usize) -> Result<(), Fail> {
     let len = u32::try_from(leaves.len())?;
     let open = header(DelimiterKind::Parenthesis, (0, 0, 1), (0, 1, 2), len)?;
-    takes(rt, alloc, behind(alloc, open, leaves)?, bytes)
+    let below = with_below(alloc, open, leaves)?;
+    takes(rt, alloc, below.as_slice(), bytes)
 }
 
-// So many puncts of 5 bytes behind so many of 17, and then so many numbers of 6.
-fn leaves(alloc: Global, large: u32, small: u32, numbers: u32) -> Result<Vec<TokenTree>, Fail> {
+// So many copies of a token go to the list.
+fn push_copies(tokens: &mut Vec<TokenTree>, token: &TokenTree, count: u32) -> Result<(), Fail> {
+    for _ in 0..count {
+        tokens.push(token.clone()?)?;
+    }
+    Ok(())
+}
+
+// So many puncts there go to the list.
+fn push_puncts(
+    tokens: &mut Vec<TokenTree>,
+    char: char,
+    spot: Spot,
+    count: u32,
+) -> Result<(), Fail> {
+    let token = punct(char, spot)?;
+    push_copies(tokens, &token, count)
+}
+
+// So many numbers go to the list.
+fn push_numbers(alloc: Global, tokens: &mut Vec<TokenTree>, count: u32) -> Result<(), Fail> {
+    let token = one(alloc, (0, 0, 1))?;
+    push_copies(tokens, &token, count)
+}
+
+// So many puncts of 17 bytes, then so many of 5, and then so many numbers of 6.
+fn leaves(alloc: Global, counts: (u32, u32, u32)) -> Result<Vec<TokenTree>, Fail> {
+    let (large, small, numbers) = counts;
     let mut found = Vec::new(alloc);
-    for _ in 0..large {
-        found.push(punct('→', (0, 134217728, 134217729))?)?;
-    }
-    for _ in 0..small {
-        found.push(punct(';', (0, 0, 1))?)?;
-    }
-    for _ in 0..numbers {
-        found.push(one(alloc, (0, 0, 1))?)?;
-    }
+    push_puncts(&mut found, '→', (0, 134217728, 134217729), large)?;
+    push_puncts(&mut found, ';', (0, 0, 1), small)?;
+    push_numbers(alloc, &mut found, numbers)?;
     Ok(found)
+}
+
+// Parentheses over so many leaves of each size take so many bytes with the leaves and the top.
+fn hold_leaves(
+    rt: &impl Abort,
+    alloc: Global,
+    counts: (u32, u32, u32),
+    bytes: usize,
+) -> Result<(), Fail> {
+    let leaves = leaves(alloc, counts)?;
+    hold(rt, alloc, leaves.as_slice(), bytes)
 }
 
 // A punct of each of so many parts, and parentheses that close in one part more.
@@ -67,6 +90,12 @@ fn with_parts(alloc: Global, parts: u32) -> Result<Vec<TokenTree>, Fail> {
     }
     found.push(header(DelimiterKind::Parenthesis, (0, 0, 1), (parts, 1, 2), 0)?)?;
     Ok(found)
+}
+
+// The puncts and the parentheses of so many parts take so many bytes with the top.
+fn parts_take(rt: &impl Abort, alloc: Global, parts: u32, bytes: usize) -> Result<(), Fail> {
+    let below = with_parts(alloc, parts)?;
+    takes(rt, alloc, below.as_slice(), bytes)
 }
 
 #[test]
@@ -105,7 +134,7 @@ fn parentheses_over_nothing(rt: HostRuntime) -> Result<(), Fail> {
     ];
     for (opening, closing, bytes) in cases {
         let token = header(DelimiterKind::Parenthesis, opening, closing, 0)?;
-        takes(&rt, alloc, vec![in alloc; token]?, bytes)?;
+        takes(&rt, alloc, &[token], bytes)?;
     }
     Ok(())
 }
@@ -113,29 +142,17 @@ fn parentheses_over_nothing(rt: HostRuntime) -> Result<(), Fail> {
 #[test]
 fn counts_and_bytes(rt: HostRuntime) -> Result<(), Fail> {
     let alloc = rt.alloc();
-    hold(&rt, alloc, leaves(alloc, 0, 51, 0)?, TOP_BYTES + 7 + 255)?;
-    hold(&rt, alloc, leaves(alloc, 0, 50, 1)?, TOP_BYTES + 9 + 256)?;
-    hold(&rt, alloc, leaves(alloc, 0, 255, 0)?, TOP_BYTES + 9 + 1275)?;
-    hold(&rt, alloc, leaves(alloc, 0, 256, 0)?, TOP_BYTES + 17 + 1280)?;
-    hold(&rt, alloc, leaves(alloc, 240, 3, 0)?, TOP_BYTES + 9 + 4095)?;
-    hold(&rt, alloc, leaves(alloc, 240, 2, 1)?, TOP_BYTES + 17 + 4096)?;
-    Ok(())
+    hold_leaves(&rt, alloc, (0, 51, 0), TOP_BYTES + 7 + 255)?;
+    hold_leaves(&rt, alloc, (0, 50, 1), TOP_BYTES + 9 + 256)?;
+    hold_leaves(&rt, alloc, (0, 255, 0), TOP_BYTES + 9 + 1275)?;
+    hold_leaves(&rt, alloc, (0, 256, 0), TOP_BYTES + 17 + 1280)?;
+    hold_leaves(&rt, alloc, (240, 3, 0), TOP_BYTES + 9 + 4095)?;
+    hold_leaves(&rt, alloc, (240, 2, 1), TOP_BYTES + 17 + 4096)
 }
 
 #[test]
 fn parts_of_closes(rt: HostRuntime) -> Result<(), Fail> {
     let alloc = rt.alloc();
-    takes(
-        &rt,
-        alloc,
-        with_parts(alloc, 127)?,
-        TOP_BYTES + 16 * 5 + 111 * 9 + 9,
-    )?;
-    takes(
-        &rt,
-        alloc,
-        with_parts(alloc, 128)?,
-        TOP_BYTES + 16 * 5 + 112 * 9 + 21,
-    )?;
-    Ok(())
+    parts_take(&rt, alloc, 127, TOP_BYTES + 16 * 5 + 111 * 9 + 9)?;
+    parts_take(&rt, alloc, 128, TOP_BYTES + 16 * 5 + 112 * 9 + 21)
 }

@@ -43,17 +43,28 @@ fn letters(alloc: Global, count: usize) -> Result<String, Fail> {
     Ok(text)
 }
 
+// A punct has these bytes where the tables have one part.
+fn is_punct(
+    rt: &impl Abort,
+    alloc: Global,
+    char: char,
+    spacing: Spacing,
+    bytes: &[u8],
+) -> Result<(), Fail> {
+    let tables = Tables::new(alloc, 1, &[])?;
+    let token = punct(char, spacing, 0)?;
+    tables.give(rt, alloc, &token, 0, bytes)
+}
+
 #[test]
 fn puncts(rt: HostRuntime) -> Result<(), Fail> {
-    let alloc = rt.alloc();
-    let tables = Tables::new(alloc, 1, &[])?;
     let cases: [(char, Spacing, &[u8]); 3] = [
         (';', Spacing::Alone, b"\x41\x00\x00\x00\x76"),
         ('+', Spacing::JointHidden, b"\x43\x00\x00\x00\x56"),
         ('→', Spacing::Joint, b"\x40\x00\x00\x00\x0e\x92\x21\x00\x00"),
     ];
     for (char, spacing, bytes) in cases {
-        tables.give(&rt, alloc, &punct(char, spacing, 0)?, 0, bytes)?;
+        is_punct(&rt, rt.alloc(), char, spacing, bytes)?;
     }
     Ok(())
 }
@@ -116,8 +127,8 @@ fn literals(rt: HostRuntime) -> Result<(), Fail> {
 // A literal with that suffix is refused.
 fn is_too_long(rt: &impl Abort, alloc: Global, suffix: &str) -> Result<(), Fail> {
     let span = span((0, 0, 257)).ok_or("no span")?;
-    let refused = Literal::new(alloc, "1", span, LitKind::Integer, suffix);
-    assert_eq!(rt; refused.err(), Some(TtFault::SuffixTooLong));
+    let fault = Literal::new(alloc, "1", span, LitKind::Integer, suffix).err();
+    assert!(rt; fault == Some(TtFault::SuffixTooLong));
     Ok(())
 }
 
@@ -127,9 +138,13 @@ fn long_suffixes(rt: HostRuntime) -> Result<(), Fail> {
     let suffix = letters(alloc, 255)?;
     let row = ("1", LitKind::Integer, suffix.as_str(), 256);
     let bytes = b"\x00\x40\x00\x00\x00\x10\x00\x00\x17\xff\x00";
-    is_written(&rt, alloc, row, bytes)?;
-    let suffix = letters(alloc, 256)?;
-    is_too_long(&rt, alloc, suffix.as_str())
+    is_written(&rt, alloc, row, bytes)
+}
+
+#[test]
+fn longer_suffixes(rt: HostRuntime) -> Result<(), Fail> {
+    let suffix = letters(rt.alloc(), 256)?;
+    is_too_long(&rt, rt.alloc(), suffix.as_str())
 }
 
 // Whether tables of one part and one symbol have what the token uses.
@@ -140,12 +155,21 @@ fn is_known(rt: &impl Abort, alloc: Global, token: &TokenTree, known: bool) -> R
 }
 
 #[test]
-fn what_a_leaf_lacks(rt: HostRuntime) -> Result<(), Fail> {
+fn parts_that_are_lacking(rt: HostRuntime) -> Result<(), Fail> {
+    for (part, known) in [(0, true), (1, false)] {
+        let token = punct(';', Spacing::Alone, part)?;
+        is_known(&rt, rt.alloc(), &token, known)?;
+    }
+    Ok(())
+}
+
+#[test]
+fn symbols_that_are_lacking(rt: HostRuntime) -> Result<(), Fail> {
     let alloc = rt.alloc();
-    is_known(&rt, alloc, &punct(';', Spacing::Alone, 0)?, true)?;
-    is_known(&rt, alloc, &punct(';', Spacing::Alone, 1)?, false)?;
-    is_known(&rt, alloc, &ident(alloc, "type", 4)?, true)?;
-    is_known(&rt, alloc, &ident(alloc, "typed", 5)?, false)?;
+    for (text, end, known) in [("type", 4, true), ("typed", 5, false)] {
+        let token = ident(alloc, text, end)?;
+        is_known(&rt, alloc, &token, known)?;
+    }
     let number = literal(alloc, "1", LitKind::Integer, "u8", 3)?;
     is_known(&rt, alloc, &number, false)
 }

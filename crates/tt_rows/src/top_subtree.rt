@@ -1,14 +1,19 @@
 //! Trees of flat lists: what is stored for them, and when two are equal.
-use crate::lists::{braces, header, ident, punct, top};
+use crate::lists::{braces, braces_over, header, ident, punct, top, with_below};
 use crate::tables::span;
 use std::alloc::Global;
 use std::hash::{DefaultHasher, FoldHasher, Hash, Hasher};
 use std::process::Abort;
 use std::test::Fail;
 use tt::{
-    DelimSpan, DelimiterKind, Leaf, Punct, Spacing, SpanPart, Symbol, SyntaxContext, TokenTree,
-    TopSubtree, TtFault,
+    DelimSpan, DelimiterKind, Leaf, Punct, Refused, Spacing, SpanPart, Symbol, SyntaxContext,
+    TokenTree, TopSubtree, TtFault,
 };
+
+// The tree of the list.
+fn tree_of(alloc: Global, tokens: Vec<TokenTree>) -> Result<TopSubtree, TtFault> {
+    Ok(TopSubtree::from_serialized(alloc, tokens)?)
+}
 
 // The numbers of the files of those parts.
 fn files(alloc: Global, parts: &[SpanPart]) -> Result<Vec<u32>, Fail> {
@@ -19,32 +24,56 @@ fn files(alloc: Global, parts: &[SpanPart]) -> Result<Vec<u32>, Fail> {
     Ok(found)
 }
 
-// Headers with those counts, and those puncts behind them: a semicolon from 0 to 1, a comma from 1 to 2.
-fn headers_and_puncts(alloc: Global, counts: &[u32], puncts: &str) -> Result<Vec<TokenTree>, Fail> {
+// Headers with those counts.
+fn headers(alloc: Global, counts: &[u32]) -> Result<Vec<TokenTree>, Fail> {
     let mut tokens = Vec::new(alloc);
     for count in counts {
         tokens.push(top(*count)?)?;
     }
+    Ok(tokens)
+}
+
+// A semicolon from 0 to 1, or a comma from 1 to 2.
+fn placed(char: char) -> Result<TokenTree, Fail> {
+    match char {
+        ',' => punct(char, (0, 1, 2)),
+        _ => punct(char, (0, 0, 1)),
+    }
+}
+
+// Headers with those counts, and those puncts behind them.
+fn headers_and_puncts(alloc: Global, counts: &[u32], puncts: &str) -> Result<Vec<TokenTree>, Fail> {
+    let mut tokens = headers(alloc, counts)?;
     for char in puncts.chars() {
-        let spot = match char {
-            ',' => (0, 1, 2),
-            _ => (0, 0, 1),
-        };
-        tokens.push(punct(char, spot)?)?;
+        tokens.push(placed(char)?)?;
     }
     Ok(tokens)
+}
+
+// Why no tree is made of the list, with what comes back.
+fn refusal(alloc: Global, tokens: Vec<TokenTree>) -> Result<Refused<Vec<TokenTree>>, Fail> {
+    let made = TopSubtree::from_serialized(alloc, tokens);
+    Ok(made.err().ok_or("the list is accepted")?)
+}
+
+// The list is refused as one that is not one subtree, and is handed back: the same tokens as the copy has.
+fn is_handed_back(
+    rt: &impl Abort,
+    alloc: Global,
+    tokens: Vec<TokenTree>,
+    copy: &[TokenTree],
+) -> Result<(), Fail> {
+    let refused = refusal(alloc, tokens)?;
+    assert!(rt; refused.fault == TtFault::NotOneSubtree);
+    assert!(rt; refused.value.as_slice() == copy);
+    Ok(())
 }
 
 // The list of these headers and puncts is refused as one that is not one subtree, and is handed back.
 fn is_refused(rt: &impl Abort, alloc: Global, counts: &[u32], puncts: &str) -> Result<(), Fail> {
     let copy = headers_and_puncts(alloc, counts, puncts)?;
     let tokens = headers_and_puncts(alloc, counts, puncts)?;
-    let Err(refused) = TopSubtree::from_serialized(alloc, tokens) else {
-        return Err(Fail::new("the list is accepted"));
-    };
-    assert_eq!(rt; refused.fault, TtFault::NotOneSubtree);
-    assert_eq!(rt; refused.value.as_slice(), copy.as_slice());
-    Ok(())
+    is_handed_back(rt, alloc, tokens, copy.as_slice())
 }
 
 // What the hashers start from.
@@ -83,7 +112,7 @@ fn has_files(
     tokens: Vec<TokenTree>,
     table: &[u32],
 ) -> Result<(), Fail> {
-    let tree = TopSubtree::from_serialized(alloc, tokens)?;
+    let tree = tree_of(alloc, tokens)?;
     let found = files(alloc, tree.span_part_table())?;
     assert_eq!(rt; found.as_slice(), table);
     Ok(())
@@ -105,15 +134,29 @@ fn named(alloc: Global, number: u32) -> Result<TokenTree, Fail> {
     ident(alloc, text.as_str(), (0, 0, 1))
 }
 
+// So many idents, the names from s0 on.
+fn names(alloc: Global, count: u32) -> Result<Vec<TokenTree>, Fail> {
+    let mut tokens = Vec::new(alloc);
+    for number in 0..count {
+        tokens.push(named(alloc, number)?)?;
+    }
+    Ok(tokens)
+}
+
+// So many idents, and a second of the last one.
+fn names_and_last(alloc: Global, count: u32) -> Result<Vec<TokenTree>, Fail> {
+    let last = count.checked_sub(1).ok_or("no name")?;
+    let mut tokens = names(alloc, count)?;
+    tokens.push(named(alloc, last)?)?;
+    Ok(tokens)
+}
+
 // A top over so many idents, the names from s0 on, and a second of the last one.
 fn last_name_twice(alloc: Global, count: u32) -> Result<TopSubtree, Fail> {
-    let last = count.checked_sub(1).ok_or("no name")?;
-    let len = count.checked_add(1).ok_or("too many names")?;
-    let mut tokens = vec![in alloc; top(len)?]?;
-    for number in 0..len {
-        tokens.push(named(alloc, number.min(last))?)?;
-    }
-    Ok(TopSubtree::from_serialized(alloc, tokens)?)
+    let below = names_and_last(alloc, count)?;
+    let top = top(u32::try_from(below.len())?)?;
+    let tokens = with_below(alloc, top, below.as_slice())?;
+    Ok(tree_of(alloc, tokens)?)
 }
 
 // That name, and then the others of so many, in their order.
@@ -135,33 +178,57 @@ fn are_names(rt: &impl Abort, symbols: &[Symbol], table: &[String]) {
     }
 }
 
-// The braces, where the semicolon has another context.
-fn braces_of_another_context(alloc: Global) -> Result<Vec<TokenTree>, Fail> {
+// The semicolon of the braces in another context.
+fn semicolon_of_another_context() -> Result<TokenTree, Fail> {
     let mut span = span((0, 3, 4)).ok_or("no span")?;
     span.ctx = SyntaxContext(1);
-    let mut tokens = braces(alloc)?;
-    let _semicolon = tokens.pop();
     let other = Punct {
         char: ';',
         spacing: Spacing::Alone,
         span,
     };
-    tokens.push(Leaf::from(other).into())?;
-    Ok(tokens)
+    Ok(Leaf::from(other).into())
+}
+
+// The tree of the braces, where the semicolon has another context.
+fn tree_of_another_context(alloc: Global) -> Result<TopSubtree, Fail> {
+    let tokens = braces_over(alloc, semicolon_of_another_context()?)?;
+    Ok(tree_of(alloc, tokens)?)
+}
+
+// What is stored for the tree: its bytes, its table of parts and how many tokens it has.
+fn is_stored(rt: &impl Abort, tree: &TopSubtree, bytes: &[u8], parts: &[SpanPart], len: usize) {
+    assert_eq!(rt; tree.packed_bytes(), bytes);
+    assert!(rt; tree.span_part_table() == parts);
+    assert_eq!(rt; tree.as_token_trees().len(), len);
+}
+
+// There is one symbol, with that text.
+fn is_text(rt: &impl Abort, symbols: &[Symbol], text: &str) {
+    assert_eq!(rt; symbols.len(), 1);
+    assert_eq!(rt; symbols[0].as_str(), text);
+}
+
+// The part of all spots here.
+fn part() -> Result<SpanPart, Fail> {
+    let place = span((0, 0, 0)).ok_or("no span")?;
+    Ok(SpanPart::from_span(&place))
+}
+
+// The invisible tree over nothing.
+fn over_nothing(alloc: Global) -> Result<TopSubtree, Fail> {
+    let place = span((0, 0, 0)).ok_or("no span")?;
+    Ok(TopSubtree::empty(alloc, DelimSpan::from_single(place))?)
 }
 
 #[test]
 fn a_top_over_nothing(rt: HostRuntime) -> Result<(), Fail> {
-    let alloc = rt.alloc();
-    let place = span((0, 0, 0)).ok_or("no span")?;
-    let tree = TopSubtree::empty(alloc, DelimSpan::from_single(place))?;
+    let part = part()?;
+    let tree = over_nothing(rt.alloc())?;
     let bytes =
         b"\x00\x40\x00\x00\x01\x00\x00\x00\x00\x00\x00\x00\x1d\x04\x40\x00\x00\x01\x00\x00\x00\x00\x00\x00\x00\x00\x00\x00\x00\x00\x00\x00\x00";
-    assert_eq!(rt; tree.packed_bytes(), bytes.as_slice());
-    let part = SpanPart::from_span(&place);
-    assert_eq!(rt; tree.span_part_table(), [part, part].as_slice());
+    is_stored(&rt, &tree, bytes, &[part, part], 1);
     assert!(rt; tree.symbol_table().is_empty());
-    assert_eq!(rt; tree.as_token_trees().len(), 1);
     Ok(())
 }
 
@@ -183,8 +250,7 @@ fn is_set(
 #[test]
 fn an_opaque_top_and_back(rt: HostRuntime) -> Result<(), Fail> {
     let alloc = rt.alloc();
-    let place = span((0, 0, 0)).ok_or("no span")?;
-    let mut tree = TopSubtree::empty(alloc, DelimSpan::from_single(place))?;
+    let mut tree = over_nothing(alloc)?;
     let opaque =
         b"\x00\x40\x00\x00\x01\x00\x00\x00\x00\x00\x00\x00\x25\x04\x40\x00\x00\x01\x00\x00\x00\x00\x00\x00\x00\x00\x00\x00\x00\x00\x00\x00\x00";
     let invisible =
@@ -197,18 +263,25 @@ fn an_opaque_top_and_back(rt: HostRuntime) -> Result<(), Fail> {
 
 #[test]
 fn a_brace_over_two_leaves(rt: HostRuntime) -> Result<(), Fail> {
-    let alloc = rt.alloc();
-    let part = SpanPart::from_span(&span((0, 0, 0)).ok_or("no span")?);
-    let tree = TopSubtree::from_serialized(alloc, braces(alloc)?)?;
+    let part = part()?;
+    let tree = braces_tree(rt.alloc())?;
     let bytes =
         b"\x44\x40\x00\x00\x01\x00\x00\x00\x00\x00\x00\x00\x0d\x48\xc0\x02\x00\x01\x00\x00\x00\x00\x00\x00\x00\x02\x00\x00\x00\x0a\x00\x00\x00\x42\x00\x01\x00\x00\x41\x80\x01\x00\x76";
-    assert_eq!(rt; tree.packed_bytes(), bytes.as_slice());
-    assert_eq!(rt; tree.span_part_table(), [part, part, part].as_slice());
-    let symbols = tree.symbol_table();
-    assert_eq!(rt; symbols.len(), 1);
-    assert_eq!(rt; symbols[0].as_str(), "a");
-    assert_eq!(rt; tree.as_token_trees().len(), 3);
+    is_stored(&rt, &tree, bytes, &[part, part, part], 3);
+    is_text(&rt, tree.symbol_table(), "a");
     Ok(())
+}
+
+// A pair of parentheses of these two parts has this table.
+fn has_table_alone(
+    rt: &impl Abort,
+    alloc: Global,
+    parts: (u32, u32),
+    table: &[u32],
+) -> Result<(), Fail> {
+    let (open, close) = parts;
+    let alone = header(DelimiterKind::Parenthesis, (open, 0, 1), (close, 1, 2), 0)?;
+    has_files(rt, alloc, with_below(alloc, top(1)?, &[alone])?, table)
 }
 
 #[test]
@@ -226,8 +299,7 @@ fn tables_of_parts(rt: HostRuntime) -> Result<(), Fail> {
         &[0, 1, 2, 3, 4, 5, 6, 7, 8, 9, 10, 11, 12, 13, 14, 15, 15],
         &[15, 0, 1, 2, 3, 4, 5, 6, 7, 8, 9, 10, 11, 12, 13, 14, 20, 21],
     )?;
-    let alone = header(DelimiterKind::Parenthesis, (7, 0, 1), (3, 1, 2), 0)?;
-    has_files(&rt, alloc, vec![in alloc; top(1)?, alone]?, &[7, 3, 0, 0])
+    has_table_alone(&rt, alloc, (7, 3), &[7, 3, 0, 0])
 }
 
 // How many names, which stands first, how many tokens, and the bytes of the top, the spans and the references.
@@ -267,26 +339,30 @@ fn lists_that_are_not_one_subtree(rt: HostRuntime) -> Result<(), Fail> {
 
 // The tree of the braces.
 fn braces_tree(alloc: Global) -> Result<TopSubtree, Fail> {
-    Ok(TopSubtree::from_serialized(alloc, braces(alloc)?)?)
+    Ok(tree_of(alloc, braces(alloc)?)?)
 }
 
 // A copy of the tree is equal to it, and stored alike.
 fn is_copied(rt: &impl Abort, alloc: Global, tree: &TopSubtree) -> Result<(), Fail> {
     let copy = tree.clone(alloc)?;
-    assert!(rt; copy == *tree);
-    assert_eq!(rt; copy.packed_bytes(), tree.packed_bytes());
-    assert_eq!(rt; copy.span_part_table(), tree.span_part_table());
-    assert_eq!(rt; copy.symbol_table(), tree.symbol_table());
-    assert_eq!(rt; copy.as_token_trees().len(), tree.as_token_trees().len());
+    are_stored_alike(rt, &copy, tree);
     Ok(())
+}
+
+// The trees are equal, and stored alike.
+fn are_stored_alike(rt: &impl Abort, left: &TopSubtree, right: &TopSubtree) {
+    assert!(rt; left == right);
+    assert!(rt; left.packed_bytes() == right.packed_bytes());
+    assert!(rt; left.span_part_table() == right.span_part_table());
+    assert!(rt; left.symbol_table() == right.symbol_table());
+    assert_eq!(rt; left.as_token_trees().len(), right.as_token_trees().len());
 }
 
 #[test]
 fn equal_trees(rt: HostRuntime) -> Result<(), Fail> {
     let alloc = rt.alloc();
     let tree = braces_tree(alloc)?;
-    let again = braces_tree(alloc)?;
-    assert!(rt; tree == again);
+    are_stored_alike(&rt, &tree, &braces_tree(alloc)?);
     is_copied(&rt, alloc, &tree)
 }
 
@@ -308,7 +384,7 @@ fn hashes_from_seeds(rt: HostRuntime) -> Result<(), Fail> {
     let alloc = rt.alloc();
     let tree = braces_tree(alloc)?;
     let again = braces_tree(alloc)?;
-    let other = TopSubtree::from_serialized(alloc, braces_of_another_context(alloc)?)?;
+    let other = tree_of_another_context(alloc)?;
     hash_by_value(&rt, &tree, &again, &other);
     Ok(())
 }

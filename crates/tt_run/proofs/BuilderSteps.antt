@@ -1,13 +1,17 @@
 -- Steps of the machine that go by its builder, over plain values.
-use Rattle.std.proofs.Common.{◌≡◌, ℕ, List, Option, Some, None, inl, inr, ap, sym, subst, ◌∙◌}
+use Rattle.std.proofs.Common.{◌≡◌, ℕ, List, Option, Some, None, Result, Ok, Err, MatchResult, OnOk, OnErr, IfErr, inl, inr, ap, sym, subst, ◌∙◌}
 use Rattle.std.specs.Prelude.{slice_set}
-use Rattle.tt.specs.Building.{BuilderState, Stack, lowest, above, IsAbove, IsOpen}
+use Rattle.tt.specs.Building.{BuilderState, Stack, lowest, above, IsAbove, IsOpen, closed}
 use Rattle.tt.specs.Forest.{Root}
 use Rattle.tt.specs.Stored.{IsWithinLimits}
 use Rattle.tt.specs.TreeFault.{IsTreeFault}
 use Rattle.tt_base.specs.declared.fault.TtFault.{TtFault}
+use Rattle.tt_base.specs.declared.fault.TtFault.TheVariants.{Memory}
+use Rattle.tt_base.specs.declared.span.Span.{Span}
+use Rattle.tt_language.specs.declared.command.Command.TheVariants as command
 use Rattle.tt_run.specs.Answer.{ok_line, fault_line}
-use Rattle.tt_run.specs.Building.{OfBuilder, Builds, MakesRoot}
+use Rattle.tt_run.specs.Building.{OfBuilder, Builds, Closes, MakesRoot}
+use Rattle.tt_run.specs.Machine.{Step}
 use Rattle.tt_run.specs.State.{State, with_builder}
 
 -- The builder stays.
@@ -47,3 +51,17 @@ refused_in f slot inside old b back fault answer seen there none why same told =
     let new : State = with_builder inside back in
     let made : MakesRoot (f b) slot inside answer new = inr (fault, why, told, ap (with_builder inside) same ∙ still_there inside b there) in
     subst (λ s. OfBuilder (λ builder. Builds (f builder) slot builder.stack s answer new) s s.builder answer new) seen (tried f slot inside new b answer there none made)
+
+-- An open subtree is closed, or memory for the count of its close part was refused.
+pub closed_in : {R : Type 0} (span : Span) (inside old : State) (b after : BuilderState) (done : Result R TtFault) (answer : List ℕ)
+    → inside ≡ old → inside.builder ≡ Some b → IsOpen b → OnOk done (after ≡ closed span b) → OnErr done (after ≡ b) → IfErr done (λ fault. fault ≡ Memory)
+    → MatchResult done (λ _. answer ≡ ok_line) (λ fault. answer ≡ fault_line fault) → Step old (command.Close span) answer (with_builder inside after)
+closed_in span inside old b after (Ok unit) answer seen there is ok err why told =
+    inl (subst (λ s. OfBuilder (λ builder. Closes span builder builder.stack s answer (with_builder inside after)) s s.builder answer (with_builder inside after)) seen
+    (of_builder (λ builder. Closes span builder builder.stack inside answer (with_builder inside after)) inside b answer (with_builder inside after) there (by b.stack is)))
+  where
+    by : (stack : Stack) → IsAbove stack → Closes span b stack inside answer (with_builder inside after)
+    by (lowest trees) is = absurd is
+    by (above outer kind open_span trees) is = (told, ap (with_builder inside) ok)
+closed_in span inside old b after (Err fault) answer seen there is ok err why told =
+    inr (tt, told ∙ ap fault_line why, ap (with_builder inside) err ∙ still_there inside b there ∙ seen)

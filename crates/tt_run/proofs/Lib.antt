@@ -2,6 +2,7 @@ pub mod Answering
 pub mod BuilderSteps
 pub mod Feeding
 pub mod Editing
+pub mod Expanding
 pub mod Following
 pub mod InHand
 pub mod LineCuts

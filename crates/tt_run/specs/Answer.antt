@@ -2,6 +2,9 @@
 use Rattle.std.specs.Prelude.{ℕ, List, [], ◌∷◌, ◌++◌, codes, decimal}
 use Rattle.tt_base.specs.Fault.{number_of}
 use Rattle.tt_base.specs.declared.fault.TtFault.{TtFault}
+use Rattle.tt_base.specs.declared.fault.TtFault.TheVariants.{Memory}
+use Rattle.tt_mbe.specs.declared.fault.RuleFault.{RuleFault}
+use Rattle.tt_mbe.specs.declared.fault.RuleFault.TheVariants as rule
 
 -- a text and its line feed
 abbrev pub line : List ℕ → List ℕ
@@ -42,3 +45,15 @@ no_line = line (codes "no")
 -- the command was refused, with this fault
 abbrev pub fault_line : TtFault → List ℕ
 fault_line fault = line (codes "fault " ++ decimal (number_of fault))
+
+-- the input is no instance of the pattern
+abbrev pub no_match_line : List ℕ
+no_match_line = line (codes "no match")
+
+-- the rule has this fault; where memory for it was refused, the command was
+abbrev pub rule_line : RuleFault → List ℕ
+rule_line rule.BadPattern = line (codes "rule 1")
+rule_line rule.BadTemplate = line (codes "rule 2")
+rule_line rule.DuplicateName = line (codes "rule 3")
+rule_line rule.UnknownName = line (codes "rule 4")
+rule_line rule.Memory = fault_line Memory

@@ -3,6 +3,7 @@ use Rattle.std.specs.Prelude.{◌≡◌, ◌⊎◌, ◌<◌, ◌+◌, ◌-◌, �
 use Rattle.std.specs.List.{flat_map}
 use Rattle.tt.specs.Building.{BuilderState, Stack, lowest, above, HasRoom, most_held, tokens_held, open_kinds, closed, extended, noted, point_taken, restored}
 use Rattle.tt.specs.Forest.{Forest, Root, size}
+use Rattle.tt.specs.HeldUses.{distinct_parts, distinct_symbols}
 use Rattle.tt.specs.Stored.{IsWithinLimits}
 use Rattle.tt.specs.TreeFault.{IsTreeFault}
 use Rattle.tt_base.specs.declared.delimiter.DelimiterKind.{DelimiterKind}
@@ -60,6 +61,14 @@ expected_kind kind = 32 ∷ kind_word kind
 -- the kinds of the open subtrees, innermost first
 abbrev pub expected_text : BuilderState → List ℕ
 expected_text builder = line (codes "expected" ++ flat_map expected_kind (open_kinds builder.stack))
+
+-- `counts`, and two numbers
+abbrev pub counts_line : ℕ → ℕ → List ℕ
+counts_line parts symbols = line (codes "counts " ++ decimal parts ++ codes " " ++ decimal symbols)
+
+-- how many different span parts and symbols are used in the tokens held
+abbrev pub counts_text : BuilderState → List ℕ
+counts_text builder = counts_line (distinct_parts builder.stack) (distinct_symbols builder.stack)
 
 -- the tree comes to the slot and the builder is gone, where it is within the limits; else both stay
 abbrev pub MakesRoot : Root → ℕ → State → List ℕ → State → Type 0

@@ -2,6 +2,7 @@
 pub mod Answer
 pub mod Building
 pub mod Editing
+pub mod Expanding
 pub mod Held
 pub mod Lines
 pub mod Machine

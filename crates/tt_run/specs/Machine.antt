@@ -11,7 +11,8 @@ use Rattle.tt_base.specs.declared.fault.TtFault.TheVariants.{Memory}
 use Rattle.tt_language.specs.declared.command.Command.{Command}
 use Rattle.tt_language.specs.declared.command.Command.TheVariants as command
 use Rattle.tt_run.specs.Answer.{ok_line, empty_line, yes_line, no_line, fault_line}
-use Rattle.tt_run.specs.Building.{OfBuilder, OfTree, Grows, Appends, Closes, Points, Restores, Builds, expected_text}
+use Rattle.tt_run.specs.Building.{OfBuilder, OfTree, Grows, Appends, Closes, Points, Restores, Builds, expected_text, counts_text}
+use Rattle.tt_run.specs.Expanding.{Expands}
 use Rattle.tt_run.specs.State.{State, tree_in, with_builder, with_tree}
 use Rattle.tt_run.specs.Editing.{Changes, SetsLeaf, ChangesIds, RewritesSlot}
 use Rattle.tt_run.specs.ViewText.{split_text, view_text}
@@ -53,6 +54,7 @@ Does old command.Unwrap answer new = OfBuilder (λ builder. (answer ≡ ok_line)
 Does old command.Point answer new = OfBuilder (λ builder. Points builder old answer new) old old.builder answer new
 Does old (command.Restore number) answer new = OfBuilder (λ builder. Restores number builder old answer new) old old.builder answer new
 Does old command.Expected answer new = OfBuilder (λ builder. (answer ≡ expected_text builder) × (new ≡ old)) old old.builder answer new
+Does old command.Counts answer new = OfBuilder (λ builder. (answer ≡ counts_text builder) × (new ≡ old)) old old.builder answer new
 Does old (command.Build slot) answer new = OfBuilder (λ builder. Builds (built builder) slot builder.stack old answer new) old old.builder answer new
 Does old (command.Skip slot) answer new = OfBuilder (λ builder. Builds (built_skipping builder) slot builder.stack old answer new) old old.builder answer new
 Does old (command.Copy to from) answer new = Copies old to (tree_in old from) answer new
@@ -61,6 +63,7 @@ Does old (command.Spans slot opens closes) answer new = Changes (with_spans (del
 Does old (command.Set slot place leaf) answer new = SetsLeaf old slot place leaf (tree_in old slot) answer new
 Does old (command.Ids slot ids) answer new = ChangesIds old slot ids (tree_in old slot) answer new
 Does old (command.Rewrite slot actions) answer new = RewritesSlot old slot actions (tree_in old slot) answer new
+Does old (command.Expand pattern template input to) answer new = Expands old (tree_in old pattern) (tree_in old template) (tree_in old input) to answer new
 Does old (command.View view slot) answer new = (answer ≡ text_or_empty (view_text view) (tree_in old slot)) × (new ≡ old)
 Does old (command.Split slot char) answer new = (answer ≡ text_or_empty (split_text char) (tree_in old slot)) × (new ≡ old)
 Does old (command.Equal left right) answer new = Compares (tree_in old left) (tree_in old right) answer × (new ≡ old)
@@ -73,13 +76,14 @@ TakesMemory (command.List slot) = Unit {0}
 TakesMemory (command.New delimiter) = Unit {0}
 TakesMemory (command.Open kind span) = Unit {0}
 TakesMemory (command.Push leaf) = Unit {0}
-TakesMemory (command.Close span) = ⊥
+TakesMemory (command.Close span) = Unit {0}
 TakesMemory (command.Append slot) = Unit {0}
 TakesMemory (command.Alone slot) = Unit {0}
 TakesMemory command.Unwrap = ⊥
 TakesMemory command.Point = Unit {0}
 TakesMemory (command.Restore number) = ⊥
 TakesMemory command.Expected = Unit {0}
+TakesMemory command.Counts = ⊥
 TakesMemory (command.Build slot) = Unit {0}
 TakesMemory (command.Skip slot) = Unit {0}
 TakesMemory (command.Copy to from) = Unit {0}
@@ -88,6 +92,7 @@ TakesMemory (command.Spans slot opens closes) = ⊥
 TakesMemory (command.Set slot place leaf) = Unit {0}
 TakesMemory (command.Ids slot ids) = Unit {0}
 TakesMemory (command.Rewrite slot actions) = Unit {0}
+TakesMemory (command.Expand pattern template input to) = Unit {0}
 TakesMemory (command.View view slot) = Unit {0}
 TakesMemory (command.Split slot char) = Unit {0}
 TakesMemory (command.Equal left right) = ⊥

@@ -2,13 +2,20 @@
 ghost use Rattle.std.specs.Prelude.{◌≡◌, ◌++◌, ◌∷◌, [], MatchResult, string_bytes, if◌then◌else◌};
 ghost use Rattle.tt_base.specs.declared.fault.TtFault.TheVariants.{Memory};
 
+use arrayvec::ArrayString;
+use itoa::Buffer;
 use std::alloc::AllocError;
 use std::marker::Model;
 use tt_base::TtFault;
+use tt_mbe::RuleFault;
+
+// The most bytes of a line that is made without memory: a word, and two numbers of at most 20 digits.
+const MOST_SHORT_BYTES: usize = 49;
 
 #[derive(Drop)]
 enum Held {
     Fixed(&'static [u8]),
+    Short(ArrayString<MOST_SHORT_BYTES>),
     Built(String),
 }
 
@@ -29,13 +36,15 @@ impl Model for Answer {
 }
 
 impl Answer {
-    ghost use Rattle.tt_run.specs.Answer.{ok_line, empty_line, same_line, no_builder_line, none_open_line, still_open_line, yes_line, no_line, fault_line};
+    ghost use Rattle.tt_run.specs.Answer.{ok_line, empty_line, same_line, no_builder_line, none_open_line, still_open_line, yes_line, no_line, fault_line, no_match_line, rule_line};
+    ghost use Rattle.tt_run.specs.Building.{point_line, counts_line};
 
     pub fn as_bytes(&self) -> &[u8]
         ensures { result.now ≡ self.now }
     {
         match &self.held {
             Held::Fixed(bytes) => *bytes,
+            Held::Short(text) => text.as_str().as_bytes(),
             Held::Built(text) => text.as_bytes(),
         }
     }
@@ -57,6 +66,34 @@ impl Answer {
                 held: Held::Built(text),
             },
             Err(_) => Answer::fault(TtFault::Memory),
+        }
+    }
+
+    /// `point` and the number, made without memory.
+    pub(crate) fn point(number: u64) -> Answer
+        ensures { result ≡ point_line number }
+    {
+        let mut text = ArrayString::new();
+        text.push_str("point ");
+        text.push_str(Buffer::new().format(number));
+        text.push_str("\n");
+        Answer {
+            held: Held::Short(text),
+        }
+    }
+
+    /// `counts` and the two numbers, made without memory.
+    pub(crate) fn counts(parts: usize, symbols: usize) -> Answer
+        ensures { result ≡ counts_line parts symbols }
+    {
+        let mut text = ArrayString::new();
+        text.push_str("counts ");
+        text.push_str(Buffer::new().format(parts));
+        text.push_str(" ");
+        text.push_str(Buffer::new().format(symbols));
+        text.push_str("\n");
+        Answer {
+            held: Held::Short(text),
         }
     }
 
@@ -139,6 +176,26 @@ impl Answer {
             TtFault::TooManySymbols => b"fault 9\n",
             TtFault::TooManyBytes => b"fault 10\n",
             TtFault::PointsSpent => b"fault 11\n",
+        })
+    }
+
+    /// `no match`: the input is no instance of the pattern.
+    pub(crate) fn no_match() -> Answer
+        ensures { result ≡ no_match_line }
+    {
+        Answer::fixed(b"no match\n")
+    }
+
+    /// `rule N` for a fault of a rule, and `fault 1` where that is that memory was refused. Made without memory.
+    pub(crate) fn rule(fault: RuleFault) -> Answer
+        ensures { result ≡ rule_line fault }
+    {
+        Answer::fixed(match fault {
+            RuleFault::BadPattern => b"rule 1\n",
+            RuleFault::BadTemplate => b"rule 2\n",
+            RuleFault::DuplicateName => b"rule 3\n",
+            RuleFault::UnknownName => b"rule 4\n",
+            RuleFault::Memory => b"fault 1\n",
         })
     }
 }

@@ -3,6 +3,7 @@ ghost use Rattle.std.specs.Prelude.{◌≡◌};
 
 mod building;
 mod editing;
+mod expanding;
 mod rewriting;
 
 use crate::answer::Answer;
@@ -72,6 +73,7 @@ impl Machine {
             Command::Point => self.point(),
             Command::Restore(number) => self.restore(number),
             Command::Expected => self.expected(),
+            Command::Counts => self.counts(),
             Command::Build(slot) => self.build(slot),
             Command::Skip(slot) => self.skip(slot),
             Command::Copy(to, from) => self.copy(to, from),
@@ -80,6 +82,9 @@ impl Machine {
             Command::Set(slot, place, leaf) => self.set(slot, place, leaf),
             Command::Ids(slot, ids) => self.ids(slot, ids),
             Command::Rewrite(slot, actions) => self.rewrite(slot, actions),
+            Command::Expand(pattern, template, input, to) => {
+                self.expand(pattern, template, input, to)
+            }
             Command::View(view, slot) => self.view(view, slot),
             Command::Split(slot, char) => self.split(slot, char),
             Command::Equal(left, right) => self.equal(left, right),

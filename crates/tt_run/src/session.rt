@@ -232,7 +232,8 @@ fn command_of(alloc: Global, line: &[u8]) -> Result<Option<Command>, RunFault>
 }
 
 /// Answers the lines of the reader, until they end or one is no command. Before each read, and before it
-/// returns, all answers are written and the writer is flushed, except after a failed write.
+/// returns, all answers are written and the writer is flushed, except after a failed write. Neither the reader nor the writer
+/// has failed before, of which `Noted::failed` tells; new ones have not.
 pub fn run<R: Read, W: Write>(
     alloc: Global,
     reader: &mut Noted<R>,

@@ -47,7 +47,11 @@ const BAD_LINES: [&[u8]; 11] = [
       rewrite 0 put: 1\n\
       rewrite 0 Keep\n\
       rewrite 0 keep  remove\n\
-      rewrite 0 keep ",
+      rewrite 0 keep \n\
+      expand 0 1 2\n\
+      expand 0 1 2 16\n\
+      expand 0 1 2 3 \n\
+      expand 0 1 2 3 4",
     // Slots.
     b"list \n\
       list 16\n\
@@ -154,7 +158,7 @@ const BAD_LINES: [&[u8]; 11] = [
       item lit str 0 0:0@0..1#0 a\xc3",
 ];
 
-const ROWS: u32 = 137;
+const ROWS: u32 = 141;
 
 #[test]
 fn stand_for_nothing(rt: HostRuntime) -> Result<(), Fail> {

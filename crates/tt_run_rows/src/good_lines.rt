@@ -55,6 +55,7 @@ fn stand_for_commands_of_slots(rt: HostRuntime) -> Result<(), Fail> {
         ("restore 0", Command::Restore(0)),
         ("restore 18446744073709551615", Command::Restore(u64::MAX)),
         ("expected", Command::Expected),
+        ("counts", Command::Counts),
         ("build 0", Command::Build(zero)),
         ("skip 15", Command::Skip(last)),
         ("copy 0 15", Command::Copy(zero, last)),
@@ -71,6 +72,7 @@ fn stand_for_commands_of_slots(rt: HostRuntime) -> Result<(), Fail> {
         ("split 0 ;", Command::Split(zero, ';')),
         ("split 15  ", Command::Split(last, ' ')),
         ("split 15 \u{2192}", Command::Split(last, '\u{2192}')),
+        ("expand 15 0 15 0", Command::Expand(last, zero, last, zero)),
         ("equal 0 15", Command::Equal(zero, last)),
         ("equal 15 0", Command::Equal(last, zero)),
     ];
@@ -116,6 +118,21 @@ fn stand_for_commands_of_the_builder(rt: HostRuntime) -> Result<(), Fail> {
 // Values that end a line.
 fn many<T: Copy>(alloc: Global, values: &[T]) -> Result<Many<T>, Fail> {
     Ok(Many::new(Vec::from_slice(alloc, values)?))
+}
+
+// Their Debug text is that of a list.
+#[test]
+fn many_are_told_as_a_list(rt: HostRuntime) -> Result<(), Fail> {
+    let rows: [(&[u32], &str); 3] = [
+        (&[], "[]"),
+        (&[5], "[5]"),
+        (&[u32::MAX, 0, 7], "[4294967295, 0, 7]"),
+    ];
+    for (values, text) in rows {
+        let told = format!(in rt.alloc(); "{:?}", many(rt.alloc(), values)?)?;
+        assert_eq!(rt; told.as_str(), text);
+    }
+    Ok(())
 }
 
 #[test]

@@ -1,6 +1,7 @@
 -- The two tables, tokens in numbers under them, and what is stored for a tree.
 pub mod AstIds
 pub mod Cost
+pub mod Counts
 pub mod Meaning
 pub mod NextToken
 pub mod PackFault

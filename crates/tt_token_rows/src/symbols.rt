@@ -4,6 +4,7 @@ ghost use Rattle.std.specs.Prelude.{◌≡◌};
 use std::alloc::Global;
 use std::collections::{HashSet, VecDeque};
 use std::mem::size_of;
+use std::process::Abort;
 use std::test::Fail;
 use tt_base::{Ident, Leaf, LitKind, Literal, Punct, Symbol, TokenTree, TtFault};
 
@@ -22,27 +23,53 @@ fn is_copied(tokens: &[TokenTree]) -> bool {
     tokens.iter().cloned().eq(tokens.iter().cloned())
 }
 
+// Display writes the symbol's text, and Debug the text in quotes.
+fn is_told_as(rt: &impl Abort, alloc: Global, symbol: &Symbol, text: &str) -> Result<(), Fail> {
+    let told = format!(in alloc; "{symbol} {symbol:?}")?;
+    assert_eq!(rt; told.as_str(), text);
+    Ok(())
+}
+
+// Whether the set takes a symbol of that text.
+fn is_new(alloc: Global, seen: &mut HashSet<Symbol>, text: &str) -> Result<bool, Fail> {
+    Ok(seen.insert(Symbol::new(alloc, text)?)?)
+}
+
 #[test]
 fn a_symbol_is_its_text(rt: HostRuntime) -> Result<(), Fail> {
     let name = Symbol::new(rt.alloc(), "r#fn")?;
     let same = Symbol::new(rt.alloc(), "r#fn")?;
     let empty = Symbol::new(rt.alloc(), "")?;
     assert!(rt; name == same && name != empty);
-    let printed = format!(in rt.alloc(); "{name} {empty} {name:?} {empty:?}")?;
-    assert_eq!(rt; printed.as_str(), "r#fn  \"r#fn\" \"\"");
+    is_told_as(&rt, rt.alloc(), &name, "r#fn \"r#fn\"")?;
+    is_told_as(&rt, rt.alloc(), &empty, " \"\"")
+}
+
+#[test]
+fn symbols_in_a_set(rt: HostRuntime) -> Result<(), Fail> {
     let mut seen = HashSet::new(rt.alloc());
-    assert!(rt; seen.insert(name)?);
-    assert!(rt; !seen.insert(same)?);
-    assert!(rt; seen.insert(empty)?);
+    for (text, taken) in [("r#fn", true), ("r#fn", false), ("", true)] {
+        assert_eq!(rt; is_new(rt.alloc(), &mut seen, text)?, taken);
+    }
     Ok(())
+}
+
+// An ident.
+fn name(alloc: Global) -> Result<TokenTree, TtFault> {
+    let ident = Ident::new(alloc, "r#struct", Punct::default().span)?;
+    Ok(Leaf::from(ident).into())
+}
+
+// A literal.
+fn number(alloc: Global) -> Result<TokenTree, TtFault> {
+    let span = Punct::default().span;
+    let literal = Literal::new(alloc, "7", span, LitKind::Integer, "u8")?;
+    Ok(Leaf::from(literal).into())
 }
 
 // An ident and a literal.
 fn two_tokens(alloc: Global) -> Result<[TokenTree; 2], TtFault> {
-    let span = Punct::default().span;
-    let name = Ident::new(alloc, "r#struct", span)?;
-    let number = Literal::new(alloc, "7", span, LitKind::Integer, "u8")?;
-    Ok([Leaf::from(name).into(), Leaf::from(number).into()])
+    Ok([name(alloc)?, number(alloc)?])
 }
 
 #[test]

@@ -80,6 +80,19 @@ fn numbers_of_kinds(rt: HostRuntime) {
     assert_eq!(rt; IdentIsRaw::Yes as u8, 1);
 }
 
+// The fault has that number and is shown so.
+fn is_fault(
+    rt: &impl Abort,
+    alloc: Global,
+    fault: TtFault,
+    number: u8,
+    text: &str,
+) -> Result<(), Fail> {
+    assert_eq!(rt; fault.number(), number);
+    assert_eq!(rt; fault.to_string(alloc)?.as_str(), text);
+    Ok(())
+}
+
 #[test]
 fn faults(rt: HostRuntime) -> Result<(), Fail> {
     let texts = [
@@ -98,65 +111,87 @@ fn faults(rt: HostRuntime) -> Result<(), Fail> {
     let mut number = 0u8;
     for (fault, text) in texts {
         number = number.saturating_add(1);
-        assert_eq!(rt; fault.number(), number);
-        assert_eq!(rt; fault.to_string(rt.alloc())?.as_str(), text);
+        is_fault(&rt, rt.alloc(), fault, number, text)?;
     }
-    let refused = Refused {
-        fault: TtFault::NotALeaf,
-        value: 5u8,
-    };
-    assert_eq!(rt; (refused.fault, refused.value), (TtFault::NotALeaf, 5));
     Ok(())
 }
 
 #[test]
-fn idents_and_puncts(rt: HostRuntime) -> Result<(), Fail> {
-    let cases = [
+fn refusals(rt: HostRuntime) {
+    let refused = Refused {
+        fault: TtFault::NotALeaf,
+        value: 5u8,
+    };
+    assert!(rt; refused.fault == TtFault::NotALeaf && refused.value == 5);
+}
+
+// An ident that is written so is raw or not, has that name, and is shown as it was written.
+fn is_ident(
+    rt: &impl Abort,
+    alloc: Global,
+    written: &str,
+    is_raw: IdentIsRaw,
+    name: &str,
+) -> Result<(), Fail> {
+    let ident = Ident::new(alloc, written, span(0, 6))?;
+    assert!(rt; ident.is_raw == is_raw, "{written}");
+    assert_eq!(rt; ident.sym.as_str(), name);
+    is_leaf(rt, alloc, &Leaf::from(ident), written)
+}
+
+// The leaf is shown so, and has the span from 0 to 6.
+fn is_leaf(rt: &impl Abort, alloc: Global, leaf: &Leaf, text: &str) -> Result<(), Fail> {
+    assert_eq!(rt; leaf.to_string(alloc)?.as_str(), text);
+    assert!(rt; *leaf.span() == span(0, 6));
+    Ok(())
+}
+
+#[test]
+fn idents(rt: HostRuntime) -> Result<(), Fail> {
+    let rows = [
         ("a", IdentIsRaw::No, "a"),
         ("r#type", IdentIsRaw::Yes, "type"),
         ("r#r#a", IdentIsRaw::Yes, "r#a"),
         ("r", IdentIsRaw::No, "r"),
         ("", IdentIsRaw::No, ""),
     ];
-    for (written, is_raw, name) in cases {
-        let ident = Ident::new(rt.alloc(), written, span(0, 6))?;
-        assert_eq!(rt; ident.is_raw, is_raw);
-        assert_eq!(rt; ident.sym.as_str(), name);
-        assert_eq!(rt; ident.to_string(rt.alloc())?.as_str(), written);
-        assert_eq!(rt; *Leaf::from(ident).span(), span(0, 6));
+    for (written, is_raw, name) in rows {
+        is_ident(&rt, rt.alloc(), written, is_raw, name)?;
     }
-    assert!(rt; IdentIsRaw::Yes.yes());
-    assert!(rt; IdentIsRaw::No.no());
+    assert!(rt; IdentIsRaw::Yes.yes() && IdentIsRaw::No.no());
+    Ok(())
+}
+
+#[test]
+fn puncts(rt: HostRuntime) -> Result<(), Fail> {
     let none = Punct::default();
-    assert_eq!(rt; (none.char, none.spacing), ('\0', Spacing::Alone));
-    assert_eq!(rt; none.span.range, range(0, 0));
-    let arrow = Leaf::from(Punct {
+    assert!(rt; none.char == '\0' && none.spacing == Spacing::Alone);
+    assert!(rt; none.span.range == range(0, 0));
+    let arrow = Punct {
         char: '\u{2192}',
         spacing: Spacing::Joint,
-        span: span(0, 1),
-    });
-    assert_eq!(rt; arrow.to_string(rt.alloc())?.as_str(), "\u{2192}");
-    Ok(())
+        span: span(0, 6),
+    };
+    is_leaf(&rt, rt.alloc(), &Leaf::from(arrow), "\u{2192}")
 }
 
-// A literal `a` of that kind has that text, where nothing follows it.
-fn has_text(rt: &impl Abort, alloc: Global, kind: LitKind, text: &str) -> Result<(), Fail> {
+// The text of a literal `a` of that kind, where nothing follows it.
+fn text_of(rt: &impl Abort, alloc: Global, kind: LitKind) -> Result<String, Fail> {
     let literal = Literal::new_no_suffix(alloc, "a", span(0, 1), kind)?;
-    assert_eq!(rt; literal.kind(), kind);
-    let shown = literal.to_string(alloc)?;
-    assert_eq!(rt; shown.as_str(), text);
-    Ok(())
+    assert!(rt; literal.kind() == kind);
+    Ok(literal.to_string(alloc)?)
 }
 
-// One with the suffix `u8` has that text before it.
-fn has_text_before_suffix(
-    rt: &impl Abort,
-    alloc: Global,
-    kind: LitKind,
-    text: &str,
-) -> Result<(), Fail> {
-    let leaf = Leaf::from(Literal::new(alloc, "a", span(0, 1), kind, "u8")?);
-    let shown = leaf.to_string(alloc)?;
+// The text of one with the suffix `u8`.
+fn text_before_suffix(alloc: Global, kind: LitKind) -> Result<String, Fail> {
+    let literal = Literal::new(alloc, "a", span(0, 1), kind, "u8")?;
+    Ok(Leaf::from(literal).to_string(alloc)?)
+}
+
+// A literal `a` of that kind has that text, and so has one before its suffix `u8`.
+fn has_text(rt: &impl Abort, alloc: Global, kind: LitKind, text: &str) -> Result<(), Fail> {
+    assert_eq!(rt; text_of(rt, alloc, kind)?.as_str(), text);
+    let shown = text_before_suffix(alloc, kind)?;
     assert_eq!(rt; shown.as_str().strip_suffix("u8"), Some(text));
     Ok(())
 }
@@ -180,7 +215,6 @@ fn texts_of_literals(rt: HostRuntime) -> Result<(), Fail> {
     ];
     for (kind, text) in cases {
         has_text(&rt, rt.alloc(), kind, text)?;
-        has_text_before_suffix(&rt, rt.alloc(), kind, text)?;
     }
     Ok(())
 }
@@ -210,27 +244,29 @@ fn suffixes(rt: HostRuntime) -> Result<(), Fail> {
     for (suffix_len, fits) in [(0, true), (1, false), (2, true), (3, true), (4, false)] {
         is_suffix(&rt, rt.alloc(), suffix_len, fits)?;
     }
-    let mut suffix = String::new(rt.alloc());
-    for _ in 0..255 {
-        suffix.push('a')?;
+    Ok(())
+}
+
+// So many letters.
+fn letters(alloc: Global, count: u32) -> Result<String, Fail> {
+    let mut text = String::new(alloc);
+    for _ in 0..count {
+        text.push('a')?;
     }
-    let longest = Literal::new(
-        rt.alloc(),
-        "1",
-        span(0, 1),
-        LitKind::Integer,
-        suffix.as_str(),
-    )?;
-    assert_eq!(rt; longest.suffix_len(), 255);
-    suffix.push('a')?;
-    let refused = Literal::new(
-        rt.alloc(),
-        "1",
-        span(0, 1),
-        LitKind::Integer,
-        suffix.as_str(),
-    );
-    assert_eq!(rt; refused, Err(TtFault::SuffixTooLong));
+    Ok(text)
+}
+
+// The length of the suffix of a literal that is given so many letters as a suffix, or why there is none.
+fn suffix_of(alloc: Global, count: u32) -> Result<Result<u8, TtFault>, Fail> {
+    let suffix = letters(alloc, count)?;
+    let literal = Literal::new(alloc, "1", span(0, 1), LitKind::Integer, suffix.as_str());
+    Ok(literal.map(|literal| literal.suffix_len()))
+}
+
+#[test]
+fn long_suffixes(rt: HostRuntime) -> Result<(), Fail> {
+    assert_eq!(rt; suffix_of(rt.alloc(), 255)?, Ok(255));
+    assert_eq!(rt; suffix_of(rt.alloc(), 256)?, Err(TtFault::SuffixTooLong));
     Ok(())
 }
 

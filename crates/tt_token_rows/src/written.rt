@@ -30,8 +30,7 @@ pub(crate) fn is_read(rt: &impl Abort, entry: Entry, bytes: &[u8]) -> Result<(),
     let Some((found, rest)) = Entry::read(bytes) else {
         return Err(Fail::new("no token"));
     };
-    assert_eq!(rt; found, entry);
-    assert!(rt; rest.is_empty());
+    assert!(rt; found == entry && rest.is_empty());
     Ok(())
 }
 

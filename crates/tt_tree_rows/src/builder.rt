@@ -1,17 +1,32 @@
-//! The builder: restore points, and trees that are built in several ways.
-use crate::tokens::{
-    ident, ident_leaf, is_under, parentheses, punct, span, span_with, stored_ids, under,
-};
+//! The builder: points of a copy, leaves that an iterator gives; and trees that are made of parts of others.
+use crate::tokens::{ident, ident_leaf, is_under, parentheses, punct, span, tree_of, under};
 use std::alloc::Global;
 use std::process::Abort;
 use std::test::Fail;
 use tt::{
-    Delimiter, DelimiterKind, Ident, Spacing, SubtreeBuilderRestorePoint, TokenTree,
-    TokenTreesView, TopSubtree, TopSubtreeBuilder,
+    Delimiter, DelimiterKind, Leaf, Spacing, SubtreeBuilderRestorePoint, TokenTree, TokenTreesView,
+    TopSubtree, TopSubtreeBuilder, TtFault,
 };
 
 fn invisible(alloc: Global) -> Result<TopSubtreeBuilder, Fail> {
     Ok(TopSubtreeBuilder::new(alloc, Delimiter::invisible_spanned(span(0)))?)
+}
+
+/// Pushes the leaf.
+pub(crate) fn push(builder: &mut TopSubtreeBuilder, leaf: Leaf) -> Result<(), TtFault> {
+    builder.push(leaf)?;
+    Ok(())
+}
+
+/// Pushes an ident at that offset.
+pub(crate) fn push_ident(
+    alloc: Global,
+    builder: &mut TopSubtreeBuilder,
+    text: &str,
+    start: u32,
+) -> Result<(), Fail> {
+    push(builder, ident_leaf(alloc, text, start)?)?;
+    Ok(())
 }
 
 /// Closes the subtree opened last, at that offset.
@@ -28,14 +43,10 @@ pub(crate) fn build(builder: TopSubtreeBuilder) -> Result<TopSubtree, Fail> {
     if builder.is_open() {
         return Err(Fail::new("still open"));
     }
-    Ok(builder.build()?)
-}
-
-fn build_skip(builder: TopSubtreeBuilder) -> Result<TopSubtree, Fail> {
-    if builder.is_open() {
-        return Err(Fail::new("still open"));
+    match builder.build() {
+        Ok(tree) => Ok(tree),
+        Err(refused) => Err(refused.fault.into()),
     }
-    Ok(builder.build_skip_top_subtree()?)
 }
 
 // Each of these points, by its number, and whether it stands when it is restored.
@@ -68,57 +79,74 @@ fn builds(
     is_under(rt, alloc, &tree, below)
 }
 
+// An open brace over the ident `b`.
+fn open_brace(alloc: Global, builder: &mut TopSubtreeBuilder) -> Result<(), Fail> {
+    builder.open(DelimiterKind::Brace, span(2))?;
+    push_ident(alloc, builder, "b", 3)
+}
+
 // A point before and one behind the ident `a`, and then an open brace over the ident `b`.
+fn take_two_points(
+    rt: &impl Abort,
+    alloc: Global,
+    builder: &mut TopSubtreeBuilder,
+) -> Result<(), Fail> {
+    next_point(rt, builder, 0)?;
+    push_ident(alloc, builder, "a", 1)?;
+    next_point(rt, builder, 1)?;
+    open_brace(alloc, builder)
+}
+
+// A builder with these points.
 fn with_two_points(rt: &impl Abort, alloc: Global) -> Result<TopSubtreeBuilder, Fail> {
     let mut builder = invisible(alloc)?;
-    next_point(rt, &mut builder, 0)?;
-    builder.push(ident_leaf(alloc, "a", 1)?)?;
-    next_point(rt, &mut builder, 1)?;
-    builder.open(DelimiterKind::Brace, span(2))?;
-    builder.push(ident_leaf(alloc, "b", 3)?)?;
+    take_two_points(rt, alloc, &mut builder)?;
     Ok(builder)
 }
 
-// The points stand in turn, and all that they go back over is gone.
-fn goes_back(rt: &impl Abort, alloc: Global, builder: TopSubtreeBuilder) -> Result<(), Fail> {
-    let mut builder = builder;
-    let rows = [(1, true), (1, true), (0, true), (1, false), (7, false)];
-    restores(rt, &mut builder, &rows);
-    is_open_for(rt, &builder, None);
-    next_point(rt, &mut builder, 2)?;
-    builds(rt, alloc, builder, &[])
-}
-
 // A copy has the points that stood.
-fn goes_back_as_a_copy(
-    rt: &impl Abort,
-    alloc: Global,
-    copy: TopSubtreeBuilder,
-) -> Result<(), Fail> {
-    let mut builder = copy;
-    is_open_for(rt, &builder, Some(DelimiterKind::Brace));
-    restores(rt, &mut builder, &[(1, true)]);
-    builds(rt, alloc, builder, &[ident(alloc, "a", 1)?])
+fn goes_back_as_a_copy(rt: &impl Abort, builder: &mut TopSubtreeBuilder) {
+    is_open_for(rt, builder, Some(DelimiterKind::Brace));
+    restores(rt, builder, &[(1, true)]);
 }
 
 #[test]
-fn points(rt: HostRuntime) -> Result<(), Fail> {
+fn points_of_a_copy(rt: HostRuntime) -> Result<(), Fail> {
     let alloc = rt.alloc();
-    let builder = with_two_points(&rt, alloc)?;
-    let copy = builder.clone()?;
-    goes_back(&rt, alloc, builder)?;
-    goes_back_as_a_copy(&rt, alloc, copy)
+    let mut copy = with_two_points(&rt, alloc)?.clone()?;
+    goes_back_as_a_copy(&rt, &mut copy);
+    builds(&rt, alloc, copy, &[ident(alloc, "a", 1)?])
+}
+
+// The first point of a builder that is not used any more.
+fn point_of_another(alloc: Global) -> Result<SubtreeBuilderRestorePoint, Fail> {
+    let mut other = invisible(alloc)?;
+    Ok(other.restore_point()?)
+}
+
+// An ident `a`, and behind it a point, if one is asked for, and the ident `b`.
+fn with_a_point(alloc: Global, is_taken: bool) -> Result<TopSubtreeBuilder, Fail> {
+    let mut builder = invisible(alloc)?;
+    builder.push(ident_leaf(alloc, "a", 1)?)?;
+    if is_taken {
+        builder.restore_point()?;
+    }
+    builder.push(ident_leaf(alloc, "b", 2)?)?;
+    Ok(builder)
 }
 
 #[test]
-fn a_point_inside_a_closed_subtree(rt: HostRuntime) -> Result<(), Fail> {
-    // a point does not outlive a subtree that was open when it was taken
-    let mut builder = invisible(rt.alloc())?;
-    builder.open(DelimiterKind::Parenthesis, span(0))?;
-    builder.restore_point()?;
-    close(&mut builder, 1)?;
-    restores(&rt, &mut builder, &[(0, false)]);
-    Ok(())
+fn a_point_of_another_builder(rt: HostRuntime) -> Result<(), Fail> {
+    let alloc = rt.alloc();
+    let point = point_of_another(alloc)?;
+    // without a point of that number it stays
+    let mut builder = with_a_point(alloc, false)?;
+    assert!(rt; !builder.restore(point));
+    builds_straight(&rt, alloc, builder)?;
+    // and with one it goes back to its own
+    let mut builder = with_a_point(alloc, true)?;
+    assert!(rt; builder.restore(point));
+    builds(&rt, alloc, builder, &[ident(alloc, "a", 1)?])
 }
 
 // The builder makes the tree of the idents `a` and `b`.
@@ -127,58 +155,35 @@ fn builds_straight(rt: &impl Abort, alloc: Global, builder: TopSubtreeBuilder) -
     builds(rt, alloc, builder, &below)
 }
 
-// The children of an invisible subtree take its place.
-fn with_one_taken_away(alloc: Global) -> Result<TopSubtreeBuilder, Fail> {
-    let mut builder = invisible(alloc)?;
-    builder.open(DelimiterKind::Invisible, span(3))?;
-    builder.push(ident_leaf(alloc, "a", 1)?)?;
-    close(&mut builder, 4)?;
-    builder.push(ident_leaf(alloc, "b", 2)?)?;
-    builder.remove_last_subtree_if_invisible();
-    builder.remove_last_subtree_if_invisible();
-    Ok(builder)
-}
-
-// What is restored leaves no trace.
-fn with_one_restored(rt: &impl Abort, alloc: Global) -> Result<TopSubtreeBuilder, Fail> {
-    let mut builder = invisible(alloc)?;
+/// A subtree is opened and left again by a point.
+pub(crate) fn open_and_restore(
+    rt: &impl Abort,
+    builder: &mut TopSubtreeBuilder,
+) -> Result<(), Fail> {
     let point = builder.restore_point()?;
     builder.open(DelimiterKind::Bracket, span(5))?;
     assert!(rt; builder.restore(point));
+    Ok(())
+}
+
+// The idents `a` and `b` at the end.
+fn extend(alloc: Global, builder: &mut TopSubtreeBuilder) -> Result<(), Fail> {
     let leaves = [ident_leaf(alloc, "a", 1)?, ident_leaf(alloc, "b", 2)?];
     builder.extend(leaves.into_iter())?;
-    Ok(builder)
+    Ok(())
 }
 
 #[test]
-fn trees_that_are_built(rt: HostRuntime) -> Result<(), Fail> {
+fn leaves_at_the_end(rt: HostRuntime) -> Result<(), Fail> {
     let alloc = rt.alloc();
-    builds_straight(&rt, alloc, with_one_taken_away(alloc)?)?;
-    builds_straight(&rt, alloc, with_one_restored(&rt, alloc)?)
-}
-
-// Parentheses over a plus with that spacing.
-fn over_a_plus(spacing: Spacing) -> [TokenTree; 2] {
-    [parentheses(1, 2, 1), punct('+', spacing)]
-}
-
-// Trees are appended as they are.
-fn are_appended(
-    rt: &impl Abort,
-    alloc: Global,
-    trees: TokenTreesView<'_>,
-    below: &[TokenTree],
-) -> Result<(), Fail> {
     let mut builder = invisible(alloc)?;
-    builder.extend_with_tt(trees)?;
-    builds(rt, alloc, builder, below)
+    extend(alloc, &mut builder)?;
+    builds_straight(&rt, alloc, builder)
 }
 
-// The one subtree of these trees, whose last token becomes alone, as a tree of its own.
-fn appended_alone(alloc: Global, trees: TokenTreesView<'_>) -> Result<TopSubtree, Fail> {
-    let mut builder = invisible(alloc)?;
-    builder.extend_with_tt_alone(trees)?;
-    build_skip(builder)
+// Parentheses over a plus.
+fn over_a_plus() -> [TokenTree; 2] {
+    [parentheses(1, 2, 1), punct('+', Spacing::Alone)]
 }
 
 // The tree is made of the one subtree of these trees.
@@ -188,69 +193,33 @@ fn is_of_subtree(
     tree: &TopSubtree,
     trees: TokenTreesView<'_>,
 ) -> Result<(), Fail> {
-    let Some(subtree) = trees.try_into_subtree() else {
-        return Err(Fail::new("no subtree"));
-    };
+    let subtree = trees.try_into_subtree().ok_or("no subtree")?;
     let expected = TopSubtree::from_subtree(alloc, subtree)?;
     assert!(rt; *tree == expected);
     Ok(())
 }
 
+// The tree of these parentheses alone.
+fn alone(alloc: Global) -> Result<TopSubtree, Fail> {
+    let [header, plus] = over_a_plus();
+    Ok(tree_of(alloc, vec![in alloc; header, plus]?)?)
+}
+
 #[test]
-fn trees_that_are_appended(rt: HostRuntime) -> Result<(), Fail> {
+fn a_tree_of_a_subtree(rt: HostRuntime) -> Result<(), Fail> {
     let alloc = rt.alloc();
-    let tokens = over_a_plus(Spacing::Joint);
-    let joint = under(alloc, &tokens)?;
-    are_appended(&rt, alloc, joint.token_trees(), &tokens)?;
-    // the last token becomes alone
-    let skipped = appended_alone(alloc, joint.token_trees())?;
-    let alone = under(alloc, &over_a_plus(Spacing::Alone))?;
-    is_of_subtree(&rt, alloc, &skipped, alone.token_trees())
+    let outer = under(alloc, &over_a_plus())?;
+    let alone = alone(alloc)?;
+    is_of_subtree(&rt, alloc, &alone, outer.token_trees())
 }
 
 #[test]
 fn a_tree_of_a_view(rt: HostRuntime) -> Result<(), Fail> {
     let alloc = rt.alloc();
-    let tokens = over_a_plus(Spacing::Alone);
+    let tokens = over_a_plus();
     let alone = under(alloc, &tokens)?;
     let top = Delimiter::invisible_spanned(span(0));
     let again = TopSubtree::from_token_trees(alloc, top, alone.token_trees())?;
     assert!(rt; again == alone);
     Ok(())
-}
-
-// Parentheses with the ids 1 and 3 over an ident with the id 2, below an invisible top with the id 0.
-fn with_ids(alloc: Global) -> Result<TopSubtreeBuilder, Fail> {
-    let mut builder = invisible(alloc)?;
-    builder.open(DelimiterKind::Parenthesis, span_with(1))?;
-    builder.push(Ident::new(alloc, "a", span_with(2))?.into())?;
-    if builder.is_open() {
-        builder.close(span_with(3))?;
-    }
-    Ok(builder)
-}
-
-// The ids of the stored span parts are these.
-fn has_ids(rt: &impl Abort, alloc: Global, tree: &TopSubtree, ids: &[u32]) -> Result<(), Fail> {
-    assert_eq!(rt; stored_ids(alloc, tree)?.as_slice(), ids);
-    Ok(())
-}
-
-// The whole tree of that builder.
-fn whole_with_ids(alloc: Global) -> Result<TopSubtree, Fail> {
-    build(with_ids(alloc)?)
-}
-
-// The tree of that builder without its top.
-fn only_with_ids(alloc: Global) -> Result<TopSubtree, Fail> {
-    build_skip(with_ids(alloc)?)
-}
-
-#[test]
-fn tables_of_built_trees(rt: HostRuntime) -> Result<(), Fail> {
-    let alloc = rt.alloc();
-    // a header's two parts stand in front of those of what it holds
-    has_ids(&rt, alloc, &whole_with_ids(alloc)?, &[1, 3, 2, 0, 0])?;
-    // and those of the top behind all others
-    has_ids(&rt, alloc, &only_with_ids(alloc)?, &[2, 1, 3])
 }

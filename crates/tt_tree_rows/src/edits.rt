@@ -1,14 +1,13 @@
-//! Trees that are changed: rewritten by a callback, with another leaf, other ids, or another delimiter.
-use crate::builder::{build, close};
-use crate::tokens::{header, ident, ident_leaf, punct, punct_leaf, span, span_with, stored_ids};
+//! Trees that are changed: rewritten by a callback, with another leaf, or another delimiter.
+use crate::builder::{build, close, open_and_restore, push, push_ident};
+use crate::tokens::{header, ident, punct, punct_leaf, span, span_with, tree_of};
 use std::alloc::Global;
 use std::hash::{FoldHasher, Hash, Hasher};
 use std::process::Abort;
 use std::test::Fail;
 use tt::{
-    DelimSpan, Delimiter, DelimiterKind, ErasedFileAstId, Leaf, Punct, Spacing, Subtree,
-    SyntaxContext, TokenTree, TopSubtree, TopSubtreeBuilder, TransformTtAction, TtFault,
-    transform_tt,
+    DelimSpan, Delimiter, DelimiterKind, Leaf, Refused, Spacing, SyntaxContext, TokenTree,
+    TopSubtree, TopSubtreeBuilder, TransformTtAction, TtFault, transform_tt,
 };
 
 // The kind of delimiter that opens so.
@@ -50,7 +49,7 @@ fn spelled(alloc: Global, text: &str) -> Result<Vec<TokenTree>, Fail> {
 
 // The tree that a text spells.
 fn tree(alloc: Global, text: &str) -> Result<TopSubtree, Fail> {
-    Ok(TopSubtree::from_serialized(alloc, spelled(alloc, text)?)?)
+    Ok(tree_of(alloc, spelled(alloc, text)?)?)
 }
 
 // The tree is the one that a text spells.
@@ -68,7 +67,7 @@ fn are_spelled(
     text: &str,
 ) -> Result<(), Fail> {
     let expected = spelled(alloc, text)?;
-    assert_eq!(rt; found, expected.as_slice());
+    assert!(rt; found == expected.as_slice());
     Ok(())
 }
 
@@ -102,12 +101,13 @@ fn shows(
 ) -> Result<(), Fail> {
     let (text, end) = expected;
     let mut shown = Vec::new(alloc);
-    assert_eq!(rt; rewrite(alloc, changed, answers, &mut shown), end);
+    let ended = rewrite(alloc, changed, answers, &mut shown);
+    assert!(rt; ended == end);
     are_spelled(rt, alloc, shown.as_slice(), text)
 }
 
-// A tree, the tokens that are shown when it is rewritten, and the tree that comes of it, or why it is refused and stays.
-type Rewriting<'a> = (&'a str, &'a str, Result<&'a str, TtFault>);
+// A tree, the tokens that are shown when it is rewritten, the tree that is there then, and how the rewriting ends.
+type Rewriting<'a> = (&'a str, &'a str, &'a str, Result<(), TtFault>);
 
 // The callback gives those answers in turn, behind which all is kept.
 fn is_rewritten(
@@ -116,53 +116,74 @@ fn is_rewritten(
     answers: &[TransformTtAction<'_>],
     row: Rewriting<'_>,
 ) -> Result<(), Fail> {
-    let (before, expected, after) = row;
-    let (left, end) = match after {
-        Ok(after) => (after, Ok(())),
-        Err(fault) => (before, Err(fault)),
-    };
+    let (before, expected, after, end) = row;
     let mut changed = tree(alloc, before)?;
     shows(rt, alloc, &mut changed, answers, (expected, end))?;
-    is_spelled(rt, alloc, &changed, left)
+    is_spelled(rt, alloc, &changed, after)
 }
 
-// What is put is a bracket over an ident, with its header or without, or two idents.
-fn are_rewritten<'a>(
-    rt: &impl Abort,
-    alloc: Global,
+// The answer that a letter spells: `k` keeps, `r` removes, `p` puts a bracket with its header, `o` what it holds, and `t` the
+// two trees that the pair holds.
+fn answer<'a>(
+    letter: char,
     bracket: &'a TopSubtree,
     pair: &'a TopSubtree,
-) -> Result<(), Fail> {
-    let keep = TransformTtAction::Keep;
-    let remove = TransformTtAction::remove();
-    let put = TransformTtAction::ReplaceWith(bracket.as_token_trees());
-    let one = TransformTtAction::ReplaceWith(bracket.token_trees());
-    let two = TransformTtAction::ReplaceWith(pair.token_trees());
-    let refused = Err(TtFault::NotOneSubtree);
-    let rows: [([TransformTtAction<'a>; 4], Rewriting<'_>); 9] = [
-        ([keep, keep, keep, keep], ("(2a;", "(2a;", Ok("(2a;"))),
-        ([keep, put, keep, keep], ("(2a;", "(2a;", Ok("(3[1b;"))),
-        ([keep, remove, keep, keep], ("(2a;", "(2a;", Ok("(1;"))),
-        ([put, keep, keep, keep], ("(2a;", "(2", Ok("[1b"))),
-        ([remove, keep, keep, keep], ("(2a;", "(2", refused)),
-        ([one, keep, keep, keep], ("(2a;", "(2", refused)),
-        ([two, keep, keep, keep], ("(2a;", "(2", refused)),
-        // the counts of all that held what went
-        (
-            [keep, keep, keep, remove],
-            ("$3{2ab", "$3{2ab", Ok("$2{1a")),
-        ),
-        // what a replaced subtree holds is not shown
-        (
-            [keep, two, keep, put],
-            ("(7{3[1ab;[1c", "(7{3;[1", Ok("(5xy;[1b")),
-        ),
-    ];
-    for (answers, row) in rows {
-        is_rewritten(rt, alloc, &answers, row)?;
+) -> TransformTtAction<'a> {
+    match letter {
+        'r' => TransformTtAction::remove(),
+        'p' => TransformTtAction::ReplaceWith(bracket.as_token_trees()),
+        'o' => TransformTtAction::ReplaceWith(bracket.token_trees()),
+        't' => TransformTtAction::ReplaceWith(pair.token_trees()),
+        _ => TransformTtAction::Keep,
     }
+}
+
+// The answers that a text spells.
+fn answers_of<'a>(
+    alloc: Global,
+    text: &str,
+    bracket: &'a TopSubtree,
+    pair: &'a TopSubtree,
+) -> Result<Vec<TransformTtAction<'a>>, Fail> {
+    let mut answers = Vec::new(alloc);
+    for letter in text.chars() {
+        answers.push(answer(letter, bracket, pair))?;
+    }
+    Ok(answers)
+}
+
+// Why a tree is not rewritten here.
+const REFUSED: Result<(), TtFault> = Err(TtFault::NotOneSubtree);
+
+// Answers, and what comes of them. Behind the last answer all is kept.
+const REWRITINGS: [(&str, Rewriting<'_>); 10] = [
+    ("kkkk", ("(2a;", "(2a;", "(2a;", Ok(()))),
+    ("kp", ("(2a;", "(2a;", "(3[1b;", Ok(()))),
+    ("kr", ("(2a;", "(2a;", "(1;", Ok(()))),
+    ("p", ("(2a;", "(2", "[1b", Ok(()))),
+    ("r", ("(2a;", "(2", "(2a;", REFUSED)),
+    ("o", ("(2a;", "(2", "(2a;", REFUSED)),
+    ("t", ("(2a;", "(2", "(2a;", REFUSED)),
+    // the counts of all that held what went
+    ("kkkr", ("$3{2ab", "$3{2ab", "$2{1a", Ok(()))),
+    // what a replaced subtree holds is not shown
+    ("ktkp", ("(7{3[1ab;[1c", "(7{3;[1", "(5xy;[1b", Ok(()))),
     // no answer at all
-    is_rewritten(rt, alloc, &[], ("(2a;", "(2a;", Ok("(2a;")))
+    ("", ("(2a;", "(2a;", "(2a;", Ok(()))),
+];
+
+// What is put is a bracket over an ident, with its header or without, or two idents.
+fn are_rewritten(
+    rt: &impl Abort,
+    alloc: Global,
+    bracket: &TopSubtree,
+    pair: &TopSubtree,
+) -> Result<(), Fail> {
+    for (letters, row) in REWRITINGS {
+        let answers = answers_of(alloc, letters, bracket, pair)?;
+        is_rewritten(rt, alloc, answers.as_slice(), row)?;
+    }
+    Ok(())
 }
 
 #[test]
@@ -173,7 +194,7 @@ fn trees_rewritten(rt: HostRuntime) -> Result<(), Fail> {
     are_rewritten(&rt, alloc, &bracket, &pair)
 }
 
-// No leaf is set at that place.
+// No leaf is set at that place, and it comes back.
 fn is_not_set(
     rt: &impl Abort,
     alloc: Global,
@@ -181,122 +202,34 @@ fn is_not_set(
     row: (usize, TtFault),
 ) -> Result<(), Fail> {
     let (place, fault) = row;
-    let leaf = punct_leaf(',', Spacing::Alone);
-    let Err(refused) = changed.set_token(alloc, place, leaf) else {
-        return Err(Fail::new("a leaf is set"));
-    };
-    assert_eq!(rt; refused.fault, fault);
-    assert_eq!(rt; refused.value, punct_leaf(',', Spacing::Alone));
+    let refused = refusal(alloc, changed, place).ok_or("a leaf is set")?;
+    assert!(rt; refused.fault == fault);
+    assert!(rt; is_comma(&refused.value));
     Ok(())
 }
 
+// What comes back where no comma is set at that place.
+fn refusal(alloc: Global, changed: &mut TopSubtree, place: usize) -> Option<Refused<Leaf>> {
+    let comma = punct_leaf(',', Spacing::Alone);
+    changed.set_token(alloc, place, comma).err()
+}
+
+// Whether the leaf is a comma at offset 0.
+fn is_comma(leaf: &Leaf) -> bool {
+    match leaf {
+        Leaf::Punct(punct) => punct.char == ',' && punct.span == span(0),
+        _ => false,
+    }
+}
+
 #[test]
-fn a_leaf_set(rt: HostRuntime) -> Result<(), Fail> {
+fn a_leaf_that_is_not_set(rt: HostRuntime) -> Result<(), Fail> {
     let alloc = rt.alloc();
     let mut changed = tree(alloc, "(2a;")?;
     for row in [(0, TtFault::NotALeaf), (3, TtFault::NoSuchPlace)] {
         is_not_set(&rt, alloc, &mut changed, row)?;
-        is_spelled(&rt, alloc, &changed, "(2a;")?;
     }
-    changed.set_token(alloc, 2, punct_leaf(',', Spacing::Alone))?;
-    is_spelled(&rt, alloc, &changed, "(2a,")
-}
-
-// Parentheses with these two ids over puncts with those.
-fn tree_of_ids(alloc: Global, top: (u32, u32), below: &[u32]) -> Result<TopSubtree, Fail> {
-    let delimiter = Delimiter {
-        open_span: span_with(top.0),
-        close: span_with(top.1),
-        kind: DelimiterKind::Parenthesis,
-    };
-    let len = u32::try_from(below.len())?;
-    let mut tokens = vec![in alloc; TokenTree::from(Subtree { delimiter, len })]?;
-    for id in below {
-        let punct = Punct {
-            char: ';',
-            spacing: Spacing::Alone,
-            span: span_with(*id),
-        };
-        tokens.push(Leaf::from(punct).into())?;
-    }
-    Ok(TopSubtree::from_serialized(alloc, tokens)?)
-}
-
-// The tree is the one with these ids.
-fn has_ids(
-    rt: &impl Abort,
-    alloc: Global,
-    found: &TopSubtree,
-    top: (u32, u32),
-    below: &[u32],
-) -> Result<(), Fail> {
-    let expected = tree_of_ids(alloc, top, below)?;
-    assert!(rt; *found == expected);
-    Ok(())
-}
-
-// The ids of the tree are changed by a callback that gives these answers in turn, behind which each id stays. The ids that it is
-// asked for go to the list.
-fn answer_ids(
-    alloc: Global,
-    tree: &mut TopSubtree,
-    answers: &[u32],
-    asked: &mut Vec<u32>,
-) -> Result<(), TtFault> {
-    tree.change_every_ast_id(alloc, |id| {
-        let answer = answers.get(asked.len());
-        let _noted = asked.push(id.0);
-        match answer {
-            Some(answer) => ErasedFileAstId(*answer),
-            None => id,
-        }
-    })
-}
-
-// The row has the answers of a callback, behind which each id stays; the ids that it is asked for, in order; and those that
-// are stored then.
-fn change_ids(
-    rt: &impl Abort,
-    alloc: Global,
-    tree: &mut TopSubtree,
-    row: (&[u32], &[u32], &[u32]),
-) -> Result<(), Fail> {
-    let (answers, expected, stored) = row;
-    let mut asked = Vec::new(alloc);
-    answer_ids(alloc, tree, answers, &mut asked)?;
-    assert_eq!(rt; asked.as_slice(), expected);
-    assert_eq!(rt; stored_ids(alloc, tree)?.as_slice(), stored);
-    Ok(())
-}
-
-#[test]
-fn ids_changed(rt: HostRuntime) -> Result<(), Fail> {
-    let alloc = rt.alloc();
-    // the parts below the top come first
-    let mut changed = tree_of_ids(alloc, (5, 6), &[7])?;
-    change_ids(&rt, alloc, &mut changed, (&[1], &[7, 5, 6], &[1, 5, 6]))?;
-    has_ids(&rt, alloc, &changed, (5, 6), &[1])?;
-    change_ids(
-        &rt,
-        alloc,
-        &mut changed,
-        (&[9, 9, 9], &[1, 5, 6], &[9, 9, 9]),
-    )?;
-    has_ids(&rt, alloc, &changed, (9, 9), &[9])
-}
-
-#[test]
-fn ids_that_become_equal(rt: HostRuntime) -> Result<(), Fail> {
-    let alloc = rt.alloc();
-    // parts that become equal are stored once
-    let mut changed = tree_of_ids(alloc, (1, 2), &[3, 4, 3])?;
-    change_ids(
-        &rt,
-        alloc,
-        &mut changed,
-        (&[0, 0, 0, 0], &[3, 4, 1, 2], &[0, 0, 0]),
-    )?;
-    has_ids(&rt, alloc, &changed, (0, 0), &[0, 0, 0])
+    is_spelled(&rt, alloc, &changed, "(2a;")
 }
 
 // What a tree feeds to a hasher that always starts alike.
@@ -308,10 +241,9 @@ fn hash_of(tree: &TopSubtree) -> u64 {
 
 // The same tree, in the same bytes, with the same hash.
 fn are_alike(rt: &impl Abort, left: &TopSubtree, right: &TopSubtree) {
-    assert!(rt; left == right);
-    assert_eq!(rt; left.packed_bytes(), right.packed_bytes());
-    assert_eq!(rt; left.span_part_table(), right.span_part_table());
-    assert_eq!(rt; hash_of(left), hash_of(right));
+    assert!(rt; left == right && hash_of(left) == hash_of(right));
+    assert!(rt; left.packed_bytes() == right.packed_bytes());
+    assert!(rt; left.span_part_table() == right.span_part_table());
 }
 
 // The other tree and its hash are others.
@@ -322,23 +254,31 @@ fn are_apart(rt: &impl Abort, left: &TopSubtree, right: &TopSubtree) {
 // An ident and a punct under an invisible delimiter, through a restore and a removal.
 fn through_a_restore(rt: &impl Abort, alloc: Global) -> Result<TopSubtreeBuilder, Fail> {
     let mut builder = TopSubtreeBuilder::new(alloc, Delimiter::invisible_spanned(span_with(6)))?;
-    let point = builder.restore_point()?;
-    builder.open(DelimiterKind::Brace, span_with(7))?;
-    assert!(rt; builder.restore(point));
-    builder.open(DelimiterKind::Invisible, span_with(8))?;
-    builder.push(ident_leaf(alloc, "a", 3)?)?;
-    close(&mut builder, 9)?;
-    builder.remove_last_subtree_if_invisible();
-    builder.push(punct_leaf(';', Spacing::Alone))?;
+    open_and_restore(rt, &mut builder)?;
+    push_through_a_removal(alloc, &mut builder)?;
     Ok(builder)
 }
 
-// The tree becomes the straight one when it is given its top, and another with another context of one span.
+// An ident, of which the subtree that held it is removed, and a punct.
+fn push_through_a_removal(alloc: Global, builder: &mut TopSubtreeBuilder) -> Result<(), Fail> {
+    builder.open(DelimiterKind::Invisible, span_with(8))?;
+    push_ident(alloc, builder, "a", 3)?;
+    close(builder, 9)?;
+    builder.remove_last_subtree_if_invisible();
+    push(builder, punct_leaf(';', Spacing::Alone))?;
+    Ok(())
+}
+
+// The tree becomes the straight one when it is given its top.
 fn becomes(rt: &impl Abort, set: &mut TopSubtree, straight: &TopSubtree) {
     assert!(rt; *set != *straight);
     set.set_top_subtree_delimiter_kind(DelimiterKind::Parenthesis);
     set.set_top_subtree_delimiter_span(DelimSpan::from_pair(span(1), span(2)));
     are_alike(rt, set, straight);
+}
+
+// The tree becomes another with another context of one span.
+fn leaves(rt: &impl Abort, set: &mut TopSubtree, straight: &TopSubtree) {
     let mut other = span(2);
     other.ctx = SyntaxContext(1);
     set.set_top_subtree_delimiter_span(DelimSpan::from_pair(span(1), other));
@@ -351,5 +291,6 @@ fn one_tree_made_in_several_ways(rt: HostRuntime) -> Result<(), Fail> {
     let straight = tree(alloc, "(2a;")?;
     let mut set = build(through_a_restore(&rt, alloc)?)?;
     becomes(&rt, &mut set, &straight);
+    leaves(&rt, &mut set, &straight);
     Ok(())
 }

@@ -1,9 +1,9 @@
 //! Single elements: which expectation takes which, what is looked at and not passed, and what is stripped.
-use crate::tokens::{header, ident, ident_leaf, parentheses, punct, span, under};
+use crate::tokens::{header, ident, is_ident, parentheses, punct, span, tree_of, under};
 use std::alloc::Global;
 use std::process::Abort;
 use std::test::Fail;
-use tt::{DelimiterKind, Spacing, TokenTree, TokenTreesView, TopSubtree, TtElement, TtIter};
+use tt::{DelimiterKind, Leaf, Spacing, TokenTree, TokenTreesView, TopSubtree, TtElement, TtIter};
 
 // Whether the first sibling is taken for a dollar, a comma, one of `+` and `-`, and any punct.
 fn taken_as_punct(trees: TokenTreesView<'_>) -> [bool; 4] {
@@ -42,8 +42,8 @@ fn is_taken(
     as_text: [bool; 3],
 ) -> Result<(), Fail> {
     let tree = under(alloc, &[token])?;
-    assert_eq!(rt; taken_as_punct(tree.token_trees()), as_punct);
-    assert_eq!(rt; taken_as_text(tree.token_trees()), as_text);
+    assert!(rt; taken_as_punct(tree.token_trees()) == as_punct);
+    assert!(rt; taken_as_text(tree.token_trees()) == as_text);
     Ok(())
 }
 
@@ -79,29 +79,47 @@ fn idents_taken(rt: HostRuntime) -> Result<(), Fail> {
     Ok(())
 }
 
-#[test]
-fn trees_taken(rt: HostRuntime) -> Result<(), Fail> {
-    let alloc = rt.alloc();
-    let leaf = under(alloc, &[ident(alloc, "a", 0)?])?;
-    assert_eq!(rt; taken_as_tree(leaf.token_trees()), [true, false]);
-    let subtree = under(alloc, &[parentheses(0, 1, 0)])?;
-    assert_eq!(rt; taken_as_tree(subtree.token_trees()), [false, true]);
-    assert_eq!(rt; taken_as_tree(TokenTreesView::empty()), [false, false]);
+// The token is taken for a leaf, and for a subtree.
+fn is_taken_as_tree(
+    rt: &impl Abort,
+    alloc: Global,
+    token: TokenTree,
+    as_tree: [bool; 2],
+) -> Result<(), Fail> {
+    let tree = under(alloc, &[token])?;
+    assert!(rt; taken_as_tree(tree.token_trees()) == as_tree);
     Ok(())
 }
 
+#[test]
+fn trees_taken(rt: HostRuntime) -> Result<(), Fail> {
+    let alloc = rt.alloc();
+    is_taken_as_tree(&rt, alloc, ident(alloc, "a", 0)?, [true, false])?;
+    is_taken_as_tree(&rt, alloc, parentheses(0, 1, 0), [false, true])?;
+    assert!(rt; taken_as_tree(TokenTreesView::empty()) == [false, false]);
+    Ok(())
+}
+
+// The next sibling is the ident `a` at 1.
+fn is_ahead(rt: &impl Abort, siblings: &TtIter<'_>) {
+    assert!(rt; siblings.next_span() == Some(span(1)));
+    assert!(rt; is_leaf_ahead(siblings));
+}
+
+// Whether what is looked at is that ident.
+fn is_leaf_ahead(siblings: &TtIter<'_>) -> bool {
+    match siblings.peek() {
+        Some(TtElement::Leaf(leaf)) => is_ident(&leaf, "a", 1),
+        _ => false,
+    }
+}
+
 // The siblings are the ident `a` at 1 and a punct; what is looked at is not passed, and a savepoint has what was left.
-fn are_looked_at(rt: &impl Abort, alloc: Global, siblings: TtIter<'_>) -> Result<(), Fail> {
+fn are_looked_at(rt: &impl Abort, siblings: TtIter<'_>) -> Result<(), Fail> {
     let mut siblings = siblings;
-    assert_eq!(rt; siblings.next_span(), Some(span(1)));
-    let Some(TtElement::Leaf(first)) = siblings.peek() else {
-        return Err(Fail::new("no leaf"));
-    };
-    assert_eq!(rt; first, ident_leaf(alloc, "a", 1)?);
+    is_ahead(rt, &siblings);
     let start = siblings.savepoint();
-    let Some(passed) = siblings.next_as_view() else {
-        return Err(Fail::new("no tree"));
-    };
+    let passed = siblings.next_as_view().ok_or("no tree")?;
     assert_eq!(rt; passed.len(), 1);
     assert_eq!(rt; start.remaining().len(), 2);
     assert_eq!(rt; siblings.remaining().len(), 1);
@@ -113,13 +131,26 @@ fn elements_looked_at(rt: HostRuntime) -> Result<(), Fail> {
     let alloc = rt.alloc();
     let tokens = [ident(alloc, "a", 1)?, punct(';', Spacing::Alone)];
     let tree = under(alloc, &tokens)?;
-    are_looked_at(&rt, alloc, tree.iter())
+    are_looked_at(&rt, tree.iter())
 }
 
 // A tree of that kind over one ident.
 fn over_one(alloc: Global, kind: DelimiterKind) -> Result<TopSubtree, Fail> {
     let tokens = vec![in alloc; header(kind, 0, 2, 1), ident(alloc, "a", 1)?]?;
-    Ok(TopSubtree::from_serialized(alloc, tokens)?)
+    Ok(tree_of(alloc, tokens)?)
+}
+
+// So many tokens are left of a tree of that kind over one ident.
+fn is_stripped(
+    rt: &impl Abort,
+    alloc: Global,
+    kind: DelimiterKind,
+    left: usize,
+) -> Result<(), Fail> {
+    let tree = over_one(alloc, kind)?;
+    assert!(rt; tree.top_subtree().delimiter.kind == kind);
+    assert_eq!(rt; tree.view().strip_invisible().len(), left);
+    Ok(())
 }
 
 #[test]
@@ -133,9 +164,25 @@ fn roots_stripped(rt: HostRuntime) -> Result<(), Fail> {
         (DelimiterKind::InvisibleOpaque, 2),
     ];
     for (kind, left) in rows {
-        let tree = over_one(alloc, kind)?;
-        assert_eq!(rt; tree.top_subtree().delimiter.kind, kind);
-        assert_eq!(rt; tree.view().strip_invisible().len(), left);
+        is_stripped(&rt, alloc, kind, left)?;
     }
+    Ok(())
+}
+
+// The siblings are an ident and a comma, and are told apart.
+fn are_told_apart(rt: &impl Abort, siblings: TtIter<'_>) {
+    let mut siblings = siblings;
+    assert!(rt; siblings.expect_char(',').is_err());
+    assert_eq!(rt; siblings.remaining().len(), 1);
+    assert!(rt; siblings.expect_char(',').is_ok());
+    assert!(rt; siblings.expect_comma().is_err());
+}
+
+#[test]
+fn single_elements(rt: HostRuntime) -> Result<(), Fail> {
+    let alloc = rt.alloc();
+    let tokens = [ident(alloc, "a", 0)?, punct(',', Spacing::Alone)];
+    let tree = under(alloc, &tokens)?;
+    are_told_apart(&rt, tree.iter());
     Ok(())
 }

@@ -10,8 +10,6 @@ mod edits;
 #[cfg(test)]
 mod elements;
 #[cfg(test)]
-mod expectations;
-#[cfg(test)]
 mod texts;
 #[cfg(test)]
 mod tokens;

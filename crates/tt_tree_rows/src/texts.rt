@@ -1,7 +1,7 @@
 //! Literals from scans, and the texts of trees.
 ghost use Rattle.std.specs.Prelude.{◌≤◌};
 
-use crate::tokens::{punct, span, under};
+use crate::tokens::{punct, span, tree_of, under};
 use std::alloc::Global;
 use std::process::Abort;
 use std::test::Fail;
@@ -30,7 +30,7 @@ fn is_read_as(
     parts: (&str, &str),
 ) -> Result<(), Fail> {
     let literal = token_to_literal(alloc, text, span(0), scan)?;
-    assert_eq!(rt; literal.kind(), kind, "{text}");
+    assert!(rt; literal.kind() == kind, "{text}");
     let (value, suffix) = parts;
     assert_eq!(rt; literal.text(), value);
     assert_eq!(rt; literal.suffix(), suffix);
@@ -59,6 +59,13 @@ fn literals_from_scans(rt: HostRuntime) -> Result<(), Fail> {
     for (text, scan, kind, value, suffix) in rows {
         is_read_as(&rt, alloc, text, scan, kind, (value, suffix))?;
     }
+    Ok(())
+}
+
+#[test]
+fn a_long_suffix_of_a_character(rt: HostRuntime) -> Result<(), Fail> {
+    let alloc = rt.alloc();
+    let char = Some((LiteralScan::Char { terminated: true }, 3));
     let long = with_long_suffix(alloc, "'a'")?;
     let text = long.as_str();
     is_read_as(&rt, alloc, text, char, LitKind::Err(()), (text, ""))
@@ -72,13 +79,12 @@ fn is_refused(
     scan: (LiteralScan, u32),
     fault: TtFault,
 ) {
-    let made = token_to_literal(alloc, text, span(0), Some(scan));
-    assert_eq!(rt; made, Err(fault), "{text}");
+    let found = token_to_literal(alloc, text, span(0), Some(scan)).err();
+    assert!(rt; found == Some(fault), "{text}");
 }
 
 #[test]
-fn scans_that_are_refused(rt: HostRuntime) -> Result<(), Fail> {
-    let alloc = rt.alloc();
+fn scans_that_are_refused(rt: HostRuntime) {
     let character = LiteralScan::Char { terminated: true };
     let raw = LiteralScan::RawStr { n_hashes: None };
     let rows = [
@@ -88,8 +94,13 @@ fn scans_that_are_refused(rt: HostRuntime) -> Result<(), Fail> {
         ("r\"", raw, 2),
     ];
     for (text, scan, place) in rows {
-        is_refused(&rt, alloc, text, (scan, place), TtFault::BadScan);
+        is_refused(&rt, rt.alloc(), text, (scan, place), TtFault::BadScan);
     }
+}
+
+#[test]
+fn long_suffixes_that_are_refused(rt: HostRuntime) -> Result<(), Fail> {
+    let alloc = rt.alloc();
     let long = with_long_suffix(alloc, "1")?;
     let text = long.as_str();
     for (place, fault) in [(1, TtFault::SuffixTooLong), (300, TtFault::BadScan)] {
@@ -131,9 +142,20 @@ fn print_as(
     shown: &str,
     pretty_text: &str,
 ) -> Result<(), Fail> {
+    is_displayed(rt, alloc, trees, shown)?;
+    assert_eq!(rt; pretty(alloc, trees)?.as_str(), pretty_text);
+    Ok(())
+}
+
+// Display writes that text, with and without a stack of its own.
+fn is_displayed(
+    rt: &impl Abort,
+    alloc: Global,
+    trees: TokenTreesView<'_>,
+    shown: &str,
+) -> Result<(), Fail> {
     assert_eq!(rt; display_text(alloc, trees)?.as_str(), shown);
     assert_eq!(rt; format!(in alloc; "{trees}")?.as_str(), shown);
-    assert_eq!(rt; pretty(alloc, trees)?.as_str(), pretty_text);
     Ok(())
 }
 
@@ -147,42 +169,29 @@ fn between(alloc: Global, token: TokenTree) -> Result<TopSubtree, Fail> {
 fn spaces_between_siblings(rt: HostRuntime) -> Result<(), Fail> {
     let alloc = rt.alloc();
     let sum = between(alloc, punct('+', Spacing::JointHidden))?;
-    print_as(&rt, alloc, sum.token_trees(), "a +b", "a + b")?;
-    let gap = between(alloc, header(DelimiterKind::Invisible, 0))?;
-    print_as(&rt, alloc, gap.token_trees(), "a  b", "a  b")?;
-    let gap = between(alloc, header(DelimiterKind::InvisibleOpaque, 0))?;
-    print_as(&rt, alloc, gap.token_trees(), "a  b", "a  b")
-}
-
-// The top alone, of that kind, over nothing.
-fn over_nothing(alloc: Global, kind: DelimiterKind) -> Result<TopSubtree, Fail> {
-    Ok(TopSubtree::from_serialized(alloc, vec![in alloc; header(kind, 0)]?)?)
-}
-
-#[test]
-fn lines_of_what_is_not_printed(rt: HostRuntime) -> Result<(), Fail> {
-    let alloc = rt.alloc();
-    let invisible = over_nothing(alloc, DelimiterKind::Invisible)?;
-    let opaque = over_nothing(alloc, DelimiterKind::InvisibleOpaque)?;
-    let line = "SUBTREE $$ 0:0@0..1#0 0:0@3..4#0";
-    has_lines(&rt, alloc, &invisible, line)?;
-    has_lines(&rt, alloc, &opaque, line)
+    print_as(&rt, alloc, sum.token_trees(), "a +b", "a + b")
 }
 
 // The lines that Debug writes of parentheses over an ident and a punct.
 const LINES: &str =
     "SUBTREE () 0:0@0..1#0 0:0@3..4#0\n  IDENT   a 0:0@1..2#0\n  PUNCH   ; [alone] 0:0@2..3#0";
 
-// Parentheses over an ident and a punct.
-fn of_three_lines(alloc: Global) -> Result<TopSubtree, Fail> {
-    let semicolon = Leaf::from(Punct {
+// A semicolon from 2 to 3.
+fn semicolon() -> TokenTree {
+    Leaf::from(Punct {
         char: ';',
         spacing: Spacing::Alone,
         span: placed(2, 3),
-    });
+    })
+    .into()
+}
+
+// Parentheses over an ident and a punct.
+fn of_three_lines(alloc: Global) -> Result<TopSubtree, Fail> {
+    let name = ident(alloc, "a", 1, 2)?;
     let top = header(DelimiterKind::Parenthesis, 2);
-    let tokens = vec![in alloc; top, ident(alloc, "a", 1, 2)?, semicolon.into()]?;
-    Ok(TopSubtree::from_serialized(alloc, tokens)?)
+    let tokens = vec![in alloc; top, name, semicolon()]?;
+    Ok(tree_of(alloc, tokens)?)
 }
 
 // Debug writes these lines of a tree, with and without a stack of its own.
@@ -199,8 +208,10 @@ fn lines_of_tokens(rt: HostRuntime) -> Result<(), Fail> {
     has_lines(&rt, alloc, &tree, LINES)
 }
 
-// The Debug text of a builder says what it is.
-fn is_told_as_a_builder(rt: &impl Abort, alloc: Global) -> Result<(), Fail> {
+// Of an iterator, an element and a builder no more is fixed than that they say what they are.
+#[test]
+fn the_debug_text_of_a_builder(rt: HostRuntime) -> Result<(), Fail> {
+    let alloc = rt.alloc();
     let builder = TopSubtreeBuilder::new(alloc, Delimiter::invisible_spanned(span(0)))?;
     let text = format!(in alloc; "{builder:?}")?;
     assert!(rt; text.as_str().starts_with("TopSubtreeBuilder"));
@@ -234,23 +245,31 @@ fn ends_in_a_raw_ident(
     Ok(())
 }
 
-// The Debug texts of an iterator over a leaf, and of what it gives, say what these are.
+// The Debug texts of an iterator over a leaf, and of what it gives, say what they are.
 fn are_told_as_siblings(rt: &impl Abort, alloc: Global, siblings: TtIter<'_>) -> Result<(), Fail> {
-    let mut siblings = siblings;
     let text = format!(in alloc; "{siblings:?}")?;
     assert!(rt; text.as_str().starts_with("TtIter"));
+    is_told_as_a_leaf(rt, alloc, siblings)
+}
+
+// The Debug text of what it gives says what that is.
+fn is_told_as_a_leaf(rt: &impl Abort, alloc: Global, siblings: TtIter<'_>) -> Result<(), Fail> {
+    let mut siblings = siblings;
     let text = format!(in alloc; "{:?}", siblings.next())?;
     assert!(rt; text.as_str().starts_with("Some(Leaf"));
     Ok(())
+}
+
+// The Debug texts of what is made of the tree, which is a raw ident below a top.
+fn tell_what_they_are(rt: &impl Abort, alloc: Global, tree: &TopSubtree) -> Result<(), Fail> {
+    ends_in_a_raw_ident(rt, alloc, tree.as_token_trees())?;
+    are_told_as_siblings(rt, alloc, tree.iter())?;
+    tell_their_trees(rt, alloc, tree.token_trees())
 }
 
 #[test]
 fn debug_texts(rt: HostRuntime) -> Result<(), Fail> {
     let alloc = rt.alloc();
     let tree = under(alloc, &[ident(alloc, "r#a", 1, 4)?])?;
-    ends_in_a_raw_ident(&rt, alloc, tree.as_token_trees())?;
-    // Of an iterator, an element and a builder no more is fixed than that they say what they are.
-    are_told_as_siblings(&rt, alloc, tree.iter())?;
-    is_told_as_a_builder(&rt, alloc)?;
-    tell_their_trees(&rt, alloc, tree.token_trees())
+    tell_what_they_are(&rt, alloc, &tree)
 }

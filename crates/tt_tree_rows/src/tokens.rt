@@ -4,7 +4,7 @@ use std::process::Abort;
 use std::test::Fail;
 use tt::{
     Delimiter, DelimiterKind, ErasedFileAstId, Ident, Leaf, Punct, Spacing, Span, SpanPart,
-    Subtree, TextRange, TextSize, TokenTree, TopSubtree,
+    Subtree, TextRange, TextSize, TokenTree, TopSubtree, TtFault,
 };
 
 /// The empty span at that offset.
@@ -45,6 +45,26 @@ pub(crate) fn ident(alloc: Global, text: &str, start: u32) -> Result<TokenTree, 
     Ok(ident_leaf(alloc, text, start)?.into())
 }
 
+/// Whether the leaf is that ident at that offset.
+pub(crate) fn is_ident(leaf: &Leaf, text: &str, start: u32) -> bool {
+    match leaf {
+        Leaf::Ident(ident) => ident.sym.as_str() == text && ident.span == span(start),
+        _ => false,
+    }
+}
+
+/// These idents, each at its offset, go to the list.
+pub(crate) fn push_idents(
+    alloc: Global,
+    tokens: &mut Vec<TokenTree>,
+    rows: &[(&str, u32)],
+) -> Result<(), Fail> {
+    for (text, start) in rows {
+        tokens.push(ident(alloc, text, *start)?)?;
+    }
+    Ok(())
+}
+
 /// The header of a subtree of that kind, which opens and closes at those offsets and holds so many tokens.
 pub(crate) fn header(kind: DelimiterKind, open: u32, close: u32, len: u32) -> TokenTree {
     let delimiter = Delimiter {
@@ -60,6 +80,11 @@ pub(crate) fn parentheses(open: u32, close: u32, len: u32) -> TokenTree {
     header(DelimiterKind::Parenthesis, open, close, len)
 }
 
+/// The tree of the list.
+pub(crate) fn tree_of(alloc: Global, tokens: Vec<TokenTree>) -> Result<TopSubtree, TtFault> {
+    Ok(TopSubtree::from_serialized(alloc, tokens)?)
+}
+
 /// The tree of these tokens under an invisible delimiter.
 pub(crate) fn under(alloc: Global, below: &[TokenTree]) -> Result<TopSubtree, Fail> {
     let delimiter = Delimiter::invisible_spanned(span(0));
@@ -68,7 +93,7 @@ pub(crate) fn under(alloc: Global, below: &[TokenTree]) -> Result<TopSubtree, Fa
     for token in below {
         tokens.push(token.clone()?)?;
     }
-    Ok(TopSubtree::from_serialized(alloc, tokens)?)
+    Ok(tree_of(alloc, tokens)?)
 }
 
 /// The tree is that of these tokens under an invisible delimiter.
@@ -81,13 +106,4 @@ pub(crate) fn is_under(
     let expected = under(alloc, below)?;
     assert!(rt; *tree == expected);
     Ok(())
-}
-
-/// The ids of the stored span parts.
-pub(crate) fn stored_ids(alloc: Global, tree: &TopSubtree) -> Result<Vec<u32>, Fail> {
-    let mut found = Vec::new(alloc);
-    for part in tree.span_part_table() {
-        found.push(part.anchor.ast_id.0)?;
-    }
-    Ok(found)
 }

@@ -1,6 +1,8 @@
-//! Views: pieces, the last span, leaves under a delimiter, and one step for each sibling.
+//! Views: pieces, tops that give way, the last span, leaves under a delimiter, and one step for each sibling.
+ghost use Rattle.std.specs.Prelude.{◌≡◌};
+
 use crate::tokens::{
-    header, ident, ident_leaf, is_under, parentheses, punct, punct_leaf, span, under,
+    header, ident, ident_leaf, is_under, parentheses, punct, punct_leaf, span, tree_of, under,
 };
 use std::alloc::Global;
 use std::process::Abort;
@@ -10,59 +12,10 @@ use tt::{
     TtIter,
 };
 
-// Whether the element is a comma.
-fn is_comma(element: TtElement<'_>) -> bool {
-    match element {
-        TtElement::Leaf(Leaf::Punct(punct)) => punct.char == ',',
-        _ => false,
-    }
-}
-
-// A comma for each comma of a text, and an ident for any other character.
-fn idents_and_commas(alloc: Global, text: &str) -> Result<Vec<TokenTree>, Fail> {
-    let mut tokens = Vec::new(alloc);
-    for char in text.chars() {
-        let token = match char {
-            ',' => punct(',', Spacing::Alone),
-            _ => ident(alloc, "a", 0)?,
-        };
-        tokens.push(token)?;
-    }
-    Ok(tokens)
-}
-
-// The lengths of the pieces of a view that is cut at the commas.
-fn piece_lengths(alloc: Global, trees: TokenTreesView<'_>) -> Result<Vec<usize>, Fail> {
-    let mut found = Vec::new(alloc);
-    for piece in trees.split(is_comma) {
-        found.push(piece.len())?;
-    }
-    Ok(found)
-}
-
-// The pieces of a view that is cut at the commas have these lengths.
-fn is_cut_into(
-    rt: &impl Abort,
-    alloc: Global,
-    trees: TokenTreesView<'_>,
-    lengths: &[usize],
-) -> Result<(), Fail> {
-    let found = piece_lengths(alloc, trees)?;
-    assert_eq!(rt; found.as_slice(), lengths);
-    Ok(())
-}
-
-// The pieces of idents and commas, cut at the commas, have these lengths.
-fn has_pieces(rt: &impl Abort, alloc: Global, text: &str, lengths: &[usize]) -> Result<(), Fail> {
-    let tokens = idents_and_commas(alloc, text)?;
-    let tree = under(alloc, &tokens)?;
-    is_cut_into(rt, alloc, tree.token_trees(), lengths)
-}
-
 // The tree of a top of that kind over a comma.
 fn over_a_comma(alloc: Global, kind: DelimiterKind) -> Result<TopSubtree, Fail> {
     let tokens = vec![in alloc; header(kind, 1, 2, 1), punct(',', Spacing::Alone)]?;
-    Ok(TopSubtree::from_serialized(alloc, tokens)?)
+    Ok(tree_of(alloc, tokens)?)
 }
 
 // So many tokens are left of the tree without an invisible top.
@@ -71,25 +24,56 @@ fn strips_to(rt: &impl Abort, tree: &TopSubtree, len: usize) {
     assert_eq!(rt; tree.as_token_trees().strip_invisible().len(), len);
 }
 
+// The trees are different, with different bytes, and only the first one's top gives way.
+fn are_told_apart(rt: &impl Abort, invisible: &TopSubtree, opaque: &TopSubtree) {
+    assert!(rt; invisible != opaque);
+    assert!(rt; invisible.packed_bytes() != opaque.packed_bytes());
+    strips_to(rt, invisible, 1);
+    strips_to(rt, opaque, 2);
+}
+
 // An invisible top gives way, and an opaque one does not; the two make different trees with different bytes.
 #[test]
 fn tops_that_are_not_printed(rt: HostRuntime) -> Result<(), Fail> {
     let alloc = rt.alloc();
     let invisible = over_a_comma(alloc, DelimiterKind::Invisible)?;
     let opaque = over_a_comma(alloc, DelimiterKind::InvisibleOpaque)?;
-    assert!(rt; invisible != opaque);
-    assert!(rt; invisible.packed_bytes() != opaque.packed_bytes());
-    strips_to(&rt, &invisible, 1);
-    strips_to(&rt, &opaque, 2);
+    are_told_apart(&rt, &invisible, &opaque);
     Ok(())
 }
 
+// The lengths of the pieces of a view whose siblings are in turn a separator and none.
+fn piece_lengths_by_turns(alloc: Global, trees: TokenTreesView<'_>) -> Result<Vec<usize>, Fail> {
+    let mut found = Vec::new(alloc);
+    let mut is_separator = false;
+    let pieces = trees.split(
+        |_element|
+            ensures { is_separator.exit ≡ result }
+        {
+            is_separator = !is_separator;
+            is_separator
+        },
+    );
+    for piece in pieces {
+        found.push(piece.len())?;
+    }
+    Ok(found)
+}
+
 #[test]
-fn pieces(rt: HostRuntime) -> Result<(), Fail> {
+fn pieces_of_a_changing_mind(rt: HostRuntime) -> Result<(), Fail> {
     let alloc = rt.alloc();
-    has_pieces(&rt, alloc, "a,,b", &[1, 0, 1])?;
-    has_pieces(&rt, alloc, "a,", &[1, 0])?;
-    has_pieces(&rt, alloc, "", &[0])
+    let semicolon = punct(';', Spacing::Alone);
+    let tokens = [
+        semicolon.clone()?,
+        semicolon.clone()?,
+        semicolon.clone()?,
+        semicolon,
+    ];
+    let tree = under(alloc, &tokens)?;
+    let found = piece_lengths_by_turns(alloc, tree.token_trees())?;
+    assert_eq!(rt; found.as_slice(), [0, 1, 1].as_slice());
+    Ok(())
 }
 
 // The last span below an invisible top over these tokens is the empty one at that offset.
@@ -141,16 +125,21 @@ fn groups(alloc: Global, count: u32) -> Result<Vec<TokenTree>, Fail> {
     Ok(tokens)
 }
 
+// Whether the next sibling is a subtree of two tokens.
+fn gives_a_group(siblings: &mut TtIter<'_>) -> bool {
+    match siblings.next() {
+        Some(TtElement::Subtree(subtree, _)) => subtree.count() == 2,
+        _ => false,
+    }
+}
+
 // The siblings are so many subtrees of two tokens, of which each is passed by one step.
 fn are_groups(rt: &impl Abort, siblings: TtIter<'_>, count: u64) -> Result<(), Fail> {
     let mut siblings = siblings;
     let start = siblings.steps();
     for passed in 0..count {
         assert_eq!(rt; siblings.steps().wrapping_sub(start), passed);
-        let Some(TtElement::Subtree(subtree, _)) = siblings.next() else {
-            return Err(Fail::new("no subtree"));
-        };
-        assert_eq!(rt; subtree.count(), 2);
+        assert!(rt; gives_a_group(&mut siblings));
     }
     assert!(rt; siblings.next().is_none());
     assert_eq!(rt; siblings.steps().wrapping_sub(start), count);
@@ -163,4 +152,44 @@ fn one_step_a_sibling(rt: HostRuntime) -> Result<(), Fail> {
     let tokens = groups(alloc, 200)?;
     let tree = under(alloc, &tokens)?;
     are_groups(&rt, tree.iter(), 200)
+}
+
+// Parentheses in one another.
+fn nest(alloc: Global, depth: u32) -> Result<TopSubtree, Fail> {
+    let mut tokens = Vec::new(alloc);
+    for len in (0..depth).rev() {
+        tokens.push(parentheses(0, 1, len))?;
+    }
+    Ok(TopSubtree::from_serialized(alloc, tokens)?)
+}
+
+// Flat reading gives these parentheses.
+fn is_nest(rt: &impl Abort, trees: TokenTreesView<'_>, depth: u32) {
+    let mut tokens = trees.iter_flat_tokens();
+    for len in (0..depth).rev() {
+        assert_eq!(rt; tokens.next(), Some(parentheses(0, 1, len)));
+    }
+    assert!(rt; tokens.next().is_none());
+}
+
+// Each level is entered by one step, and the last one is empty.
+fn is_entered(rt: &impl Abort, trees: TokenTreesView<'_>, depth: u32) -> Result<(), Fail> {
+    let mut level = trees.iter();
+    let start = level.steps();
+    for passed in 1..depth as u64 + 1 {
+        let Some(TtElement::Subtree(_, below)) = level.next() else {
+            return Err(Fail::new("no subtree"));
+        };
+        level = below;
+        assert_eq!(rt; level.steps().wrapping_sub(start), passed);
+    }
+    assert!(rt; level.next().is_none());
+    Ok(())
+}
+
+#[test]
+fn levels_entered(rt: HostRuntime) -> Result<(), Fail> {
+    let tree = nest(rt.alloc(), 200000)?;
+    is_nest(&rt, tree.as_token_trees(), 200000);
+    is_entered(&rt, tree.as_token_trees(), 200000)
 }

@@ -1,6 +1,7 @@
 -- What the contracts of trees, views and iterators speak of; and, of the crates below, what is stored for a tree and why none is.
 pub use Rattle.tt_tables.specs.AstIds
 pub use Rattle.tt_tables.specs.Cost
+pub use Rattle.tt_tables.specs.Counts
 pub use Rattle.tt_tables.specs.PackFault
 pub use Rattle.tt_tables.specs.Shortest
 pub use Rattle.tt_tables.specs.Stored

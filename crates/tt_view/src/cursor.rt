@@ -98,8 +98,8 @@ impl<'a> Cursor<'a> {
         self.ahead.token()
     }
 
-    /// Goes one place on, into a subtree where its header is here. At the end of a subtree, which `token_tree` tells
-    /// apart by `None` before `eof`, call `end` or `bump_or_end`.
+    /// Goes one place on, into a subtree where its header is here. The cursor is not at the end of a subtree: `is_root` is
+    /// true, or `token_tree` gives a token. Else call `end` or `bump_or_end`.
     pub fn bump(&mut self) -> Result<(), TtFault>
         requires { is_at_close (events_ahead self.old) ≡ false }
         ensures ok { OnOk result (self.new ≡ one_on self.old) }
@@ -133,7 +133,8 @@ impl<'a> Cursor<'a> {
         self.bump()
     }
 
-    /// Goes out of a subtree, at its end, and gives its header.
+    /// Goes out of a subtree, at its end, and gives its header. The cursor is there where `token_tree` gives none and
+    /// `eof` is false.
     pub fn end(&mut self) -> Subtree
         requires { is_at_close (events_ahead self.old) ≡ true }
         ensures header { (events : List Event) × (events_ahead self.old ≡ closes result ∷ events) }
@@ -160,7 +161,7 @@ impl<'a> Cursor<'a> {
         Some([first, second])
     }
 
-    /// The trees that were passed, outside of every subtree.
+    /// The trees that were passed, outside of every subtree. `is_root` tells whether the cursor is there.
     pub fn crossed(&self) -> TokenTreesView<'a>
         requires { open_nodes (events_ahead self.now) ≡ 0 }
         ensures { walk (trees_of result) ++ events_ahead self.now ≡ walk self.now.origin }

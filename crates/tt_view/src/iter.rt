@@ -133,7 +133,9 @@ impl<'a> TtIter<'a> {
         TtIterSavepoint(self.inner)
     }
 
-    /// The trees between a savepoint and here, which stands behind none, one or more of its trees.
+    /// The trees between a savepoint and here, which stands behind none, one or more of its trees. It does where this
+    /// iterator, or the one that it is a clone of, passed siblings alone since then: by `next`, `next_as_view` and the
+    /// `expect_` calls.
     pub fn from_savepoint(&self, savepoint: TtIterSavepoint<'a>) -> TokenTreesView<'a>
         requires { (given : Forest) × (saved_of savepoint ≡ join given (rest_of self.now)) }
         ensures { join (trees_of result) (rest_of self.now) ≡ saved_of savepoint.entry }

@@ -10,6 +10,7 @@ ghost use Rattle.tt_base.specs.Siblings.{leaves as leaf_trees};
 ghost use Rattle.tt_base.specs.Token.{delimiter};
 ghost use Rattle.tt_base.proofs.SameTree.{same_root_iff};
 ghost use Rattle.tt_tables.specs.Cost.{IsCheapest};
+ghost use Rattle.tt_tables.specs.Counts.{CountsUses};
 ghost use Rattle.tt_tables.specs.PackFault.{IsPackFault};
 ghost use Rattle.tt_tables.specs.Shortest.{HasShortestHeaders};
 ghost use Rattle.tt_tables.specs.Stored.{most_tokens, packed, IsInRange, IsWithinLimits};
@@ -26,13 +27,14 @@ mod setters;
 use crate::iter::TtIter;
 use crate::subtree_view::SubtreeView;
 use crate::view::TokenTreesView;
+use indexmap::IndexMap;
 use std::alloc::Global;
 use std::hash::{Hash, Hasher};
 use std::marker::Model;
 use tt_base::{
     DelimSpan, Delimiter, Leaf, Refused, Span, SpanPart, Subtree, Symbol, TokenTree, TtFault,
 };
-use tt_pack::Packed;
+use tt_pack::{Packed, TokenEntries};
 
 /// A token tree: a delimiter and the trees inside. A contract sees the tree. It is stored as bytes and two tables,
 /// which are a function of it (docs/FORMATS.md).
@@ -121,6 +123,27 @@ impl TopSubtree {
         ensures err { IfErr result (IsPackFault tokens.now) }
     {
         let packed = Packed::of_list(alloc, tokens)?;
+        Ok(TopSubtree { packed })
+    }
+
+    /// The same, where each map gives every value its number of uses in the list below the top. A value that is absent,
+    /// or has the number 0, has none. The maps say nothing of the order. Of each token below the top, `entries` tells where
+    /// its values stand in the maps; what is not so there, or is not told, is looked up.
+    pub fn from_tokens_counted(
+        alloc: Global,
+        tokens: &[TokenTree],
+        parts: &IndexMap<SpanPart, usize>,
+        symbols: &IndexMap<Symbol, usize>,
+        entries: &[TokenEntries],
+    ) -> Result<TopSubtree, TtFault>
+        requires parts { CountsUses same_part (part_uses (drop 1 tokens.now)) parts.now.entries }
+        requires symbols { CountsUses bytes_eq (symbol_uses (drop 1 tokens.now)) symbols.now.entries }
+        ensures ok { IfOk result (λ tree. tokens.now ≡ flat_root tree) }
+        ensures counts { IfOk result (λ tree. size tree.children ≤ most_tokens) }
+        ensures limits { IfOk result (λ tree. IsWithinLimits tree) }
+        ensures err { IfErr result (IsPackFault tokens.now) }
+    {
+        let packed = Packed::of_list_counted(alloc, tokens, parts, symbols, entries)?;
         Ok(TopSubtree { packed })
     }
 

@@ -18,6 +18,7 @@ pub enum Verb {
     Point,
     Restore,
     Expected,
+    Counts,
     Build,
     Skip,
     Copy,
@@ -26,6 +27,7 @@ pub enum Verb {
     Set,
     Ids,
     Rewrite,
+    Expand,
     Split,
     Equal,
     View(View),
@@ -57,6 +59,7 @@ impl Word for Verb {
             b"point" => Verb::Point,
             b"restore" => Verb::Restore,
             b"expected" => Verb::Expected,
+            b"counts" => Verb::Counts,
             b"build" => Verb::Build,
             b"skip" => Verb::Skip,
             b"copy" => Verb::Copy,
@@ -65,6 +68,7 @@ impl Word for Verb {
             b"set" => Verb::Set,
             b"ids" => Verb::Ids,
             b"rewrite" => Verb::Rewrite,
+            b"expand" => Verb::Expand,
             b"split" => Verb::Split,
             b"equal" => Verb::Equal
         )

@@ -1,6 +1,6 @@
 //! What the commands on the builder do.
 ghost use Rattle.std.specs.Prelude.{◌≡◌, IfOk, string_bytes};
-ghost use Rattle.tt_run.specs.Building.{expected_text, point_line};
+ghost use Rattle.tt_run.specs.Building.{expected_text};
 ghost use Rattle.tt_run.specs.Machine.{Step};
 
 use super::Machine;
@@ -19,13 +19,6 @@ fn expected_text(alloc: Global, builder: &TopSubtreeBuilder) -> Result<String, A
     }
     text.push_str("\n")?;
     Ok(text)
-}
-
-// The number of a restore point, on one line.
-fn point_text(alloc: Global, number: u64) -> Result<String, AllocError>
-    ensures { IfOk result (λ text. string_bytes text ≡ point_line number) }
-{
-    format!(in alloc; "point {number}\n")
 }
 
 impl Machine {
@@ -115,19 +108,14 @@ impl Machine {
         Answer::ok()
     }
 
-    // The text is made first, so that nothing has changed where there is no memory for it.
     pub(super) fn point(&mut self) -> Answer
         ensures { Step self.old Command.Point result self.new }
     {
         let Some(builder) = &mut self.builder else {
             return Answer::no_builder();
         };
-        let text = match point_text(self.alloc, builder.points_taken()) {
-            Ok(text) => text,
-            Err(error) => return Answer::of_text(Err(error)),
-        };
         match builder.restore_point() {
-            Ok(_) => Answer::of_text(Ok(text)),
+            Ok(point) => Answer::point(point.number()),
             Err(fault) => Answer::fault(fault),
         }
     }
@@ -148,6 +136,16 @@ impl Machine {
             return Answer::no_builder();
         };
         Answer::of_text(expected_text(self.alloc, builder))
+    }
+
+    pub(super) fn counts(&self) -> Answer
+        ensures { Step self.now Command.Counts result self.now }
+    {
+        let Some(builder) = &self.builder else {
+            return Answer::no_builder();
+        };
+        let (parts, symbols) = builder.distinct_counts();
+        Answer::counts(parts, symbols)
     }
 
     pub(super) fn build(&mut self, slot: Slot) -> Answer

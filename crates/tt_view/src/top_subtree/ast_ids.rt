@@ -155,7 +155,8 @@ impl TopSubtree {
     /// Changes the ids of all spans. The callback is asked once for the id of each entry of the table of span parts, in
     /// order, so for those of the top's open and close span last. A span takes the id that was answered for its entry.
     /// The tree is then stored anew. Where that would take too many bytes, or memory is refused, it stays as it was. It has
-    /// no more span parts than before, and the symbols that it had, so nothing else can be too many.
+    /// no more span parts than before, and the symbols that it had, so nothing else can be too many. The callback may be
+    /// called with any id, as one without a `requires` may.
     pub fn change_every_ast_id<F: FnMut(ErasedFileAstId) -> ErasedFileAstId>(
         &mut self,
         alloc: Global,

@@ -1,64 +1,21 @@
-use Rattle.std.proofs.Common.{◌≡◌, ◌≤◌, ◌<◌, ◌+◌, inr, cond, length, refl, arith, rules, ap}
-use Rattle.tt_base.specs.Building.{alone, extended, tokens_held}
-use Rattle.tt_base.specs.Forest.{flat, size}
-use Rattle.tt_base.specs.Unflat.{length-flat}
+use Rattle.std.proofs.Common.{◌≡◌, bytes_eq, ap, sym, ◌∙◌}
+use Rattle.tt_base.specs.Building.{alone, append}
+use Rattle.tt_tables.specs.TableOrder.{uses_of}
+use Rattle.tt_tables.specs.Uses.{same_part}
 use Rattle.tt_view.specs.Views.{trees_of}
-use Rattle.tt.specs.OneState.{state_is, seen, length-written}
-use Rattle.tt.proofs.Growing.{maybe_extended, room}
-use Rattle.tt.proofs.Alone.{size-alone}
+use Rattle.tt_counts.proofs.UseCounts.{either_way}
+use Rattle.tt.specs.HeldUses.{held_parts, held_symbols}
+use Rattle.tt.proofs.HeldGrown.{three_ok, three_err}
 use Rattle.tt.proofs.builder.TopSubtreeBuilder.extend_with_tt_alone.Goals as goal
-
-pub returns-then-len-room-clause-fault : goal.returns-then-len-room-clause-fault
-returns-then-len-room-clause-fault c =
-    let is = seen _ _ _ _ _ c.self.inside.state _ c.self.view_is in
-    let counted : c.len.result ≡ length c.self.inside.tokens.items = search rules in
-    let sized : c.len-2.result ≡ size (trees_of c.args.trees) = search rules in
-    let many : 4294967295 < tokens_held c.args.self.now.stack + size (trees_of c.args.trees) =
-    omega (arith, counted, sized, ap length is.list, length-written c.args.self.now.top c.args.self.now.stack, c.if-len-room.true, c.saturating_sub-room.ensures) in
-    inr (refl, many)
 
 pub invariant_of-self-inside : goal.invariant_of-self-inside
 invariant_of-self-inside c =
-    let is = seen _ _ _ _ _ c.self.inside.state _ c.self.view_is in
-    let more = alone (trees_of c.args.trees) in
-    let counted : c.len.result ≡ length c.self.inside.tokens.items = search rules in
-    let sized : c.len-2.result ≡ size (trees_of c.args.trees) = search rules in
-    let few : length c.self.inside.tokens.items + length (flat more) ≤ 4294967296 =
-    omega (arith, counted, sized, length-flat more, size-alone (trees_of c.args.trees), is.few, c.if-len-room.false, c.saturating_sub-room.ensures) in
-    let next = maybe_extended c.add_trees_alone.result _ _ _ _ _ _ _ more is c.add_trees_alone.ensures few in
-    ((cond c.add_trees_alone.result (extended more c.args.self.now) c.args.self.now, next), tt)
-
-pub returns-then-not-add_trees_alone-clause-err : goal.returns-then-not-add_trees_alone-clause-err
-returns-then-not-add_trees_alone-clause-err c =
-    let is = seen _ _ _ _ _ c.self.inside.state _ c.self.view_is in
-    let more = alone (trees_of c.args.trees) in
-    let counted : c.len.result ≡ length c.self.inside.tokens.items = search rules in
-    let sized : c.len-2.result ≡ size (trees_of c.args.trees) = search rules in
-    let few : length c.self.inside.tokens.items + length (flat more) ≤ 4294967296 =
-    omega (arith, counted, sized, length-flat more, size-alone (trees_of c.args.trees), is.few, c.if-len-room.false, c.saturating_sub-room.ensures) in
-    let next = maybe_extended c.add_trees_alone.result _ _ _ _ _ _ _ more is c.add_trees_alone.ensures few in
-    let same : cond c.add_trees_alone.result (extended more c.args.self.now) c.args.self.now ≡ c.args.self.now =
-    ap (λ b. cond b (extended more c.args.self.now) c.args.self.now) c.if-not-add_trees_alone.true in
-    let then = rw same at next in
-    search (rules, state_is, then)
-
-pub returns-clause-ok : goal.returns-clause-ok
-returns-clause-ok c =
-    let is = seen _ _ _ _ _ c.self.inside.state _ c.self.view_is in
-    let more = alone (trees_of c.args.trees) in
-    let counted : c.len.result ≡ length c.self.inside.tokens.items = search rules in
-    let sized : c.len-2.result ≡ size (trees_of c.args.trees) = search rules in
-    let few : length c.self.inside.tokens.items + length (flat more) ≤ 4294967296 =
-    omega (arith, counted, sized, length-flat more, size-alone (trees_of c.args.trees), is.few, c.if-len-room.false, c.saturating_sub-room.ensures) in
-    let next = maybe_extended c.add_trees_alone.result _ _ _ _ _ _ _ more is c.add_trees_alone.ensures few in
-    let same : cond c.add_trees_alone.result (extended more c.args.self.now) c.args.self.now ≡ extended more c.args.self.now =
-    ap (λ b. cond b (extended more c.args.self.now) c.args.self.now) c.if-not-add_trees_alone.false in
-    let then = rw same at next in
-    search (rules, state_is, then)
-
-pub returns-clause-room : goal.returns-clause-room
-returns-clause-room c =
-    let is = seen _ _ _ _ _ c.self.inside.state _ c.self.view_is in
-    let counted : c.len.result ≡ length c.self.inside.tokens.items = search rules in
-    let sized : c.len-2.result ≡ size (trees_of c.args.trees) = search rules in
-    room _ _ _ _ _ _ (size (trees_of c.args.trees)) is (omega (arith, counted, sized, is.few, c.if-len-room.false, c.saturating_sub-room.ensures))
+    either_way c.extend_with_tt_alone.result (three_ok _ _ _ c.extend_with_tt_alone.result c.extend_with_tt_alone.ensures.ok c.extend_with_tt_alone.ensures.parts_ok c.extend_with_tt_alone.ensures.symbols_ok) (three_err _ _ _ c.extend_with_tt_alone.result c.extend_with_tt_alone.ensures.err c.extend_with_tt_alone.ensures.parts_err c.extend_with_tt_alone.ensures.symbols_err)
+    (λ told. let stack : append (alone (trees_of c.args.trees)) c.self.inside.held.stack ≡ c.extend_with_tt_alone.new.self.stack = sym (ap (λ s. s.stack) told.0) in (
+      λ x. told.1 x ∙ ap (λ s. uses_of same_part (held_parts s) x) stack,
+      (λ x. told.2 x ∙ ap (λ s. uses_of bytes_eq (held_symbols s) x) stack, tt),
+    ))
+    (λ told. let stack : c.self.inside.held.stack ≡ c.extend_with_tt_alone.new.self.stack = sym (ap (λ s. s.stack) told.0) in (
+      λ x. told.1 x ∙ ap (λ s. uses_of same_part (held_parts s) x) stack,
+      (λ x. told.2 x ∙ ap (λ s. uses_of bytes_eq (held_symbols s) x) stack, tt),
+    ))

@@ -1,10 +1,12 @@
-use Rattle.std.proofs.Common.{◌≡◌, ◌<◌, ◌-◌, IfOk, IfErr, length, arith, ap, subst, ◌∙◌, rules}
+use Rattle.std.proofs.Common.{◌≡◌, ◌<◌, ◌-◌, IfOk, IfErr, bytes_eq, drop, length, arith, ap, sym, subst, ◌∙◌, rules}
 use Rattle.tt_base.specs.declared.delimiter.DelimiterKind.TheVariants.{Invisible}
 use Rattle.tt_base.specs.Forest.{header, flat_root}
 use Rattle.tt_base.specs.Token.{delimiter, zero_span}
 use Rattle.tt_view.specs.PackFault.{IsPackFault}
 use Rattle.tt.specs.BuilderFields.{counted}
-use Rattle.tt.proofs.Building.{counted_first, counted_twice, length-counted}
+use Rattle.tt_tables.specs.Counts.{CountsUses}
+use Rattle.tt_tables.specs.Uses.{same_part, part_uses, symbol_uses}
+use Rattle.tt.proofs.Building.{below_counted, counted_first, counted_twice, length-counted}
 use Rattle.tt.proofs.builder.tokens.pack_list.Goals as goal
 
 pub set_len-requires-2 : goal.set_len-requires-2
@@ -28,7 +30,7 @@ returns-clause-ok c =
     let count : c.len.result ≡ length old = search rules in
     let list : c.as_slice.result.now ≡ counted (length old - 1) old =
     c.as_slice.ensures.value ∙ c.set_len.ensures d ∙ counted_first old _ d c.requires.some ∙ ap (λ n. counted (n - 1) old) count in
-    subst (λ l. IfOk c.from_tokens-packed.result (λ tree. l ≡ flat_root tree)) list c.from_tokens-packed.ensures.ok
+    subst (λ l. IfOk c.from_tokens_counted-packed.result (λ tree. l ≡ flat_root tree)) list c.from_tokens_counted-packed.ensures.ok
 
 pub returns-clause-err : goal.returns-clause-err
 returns-clause-err c =
@@ -37,4 +39,20 @@ returns-clause-err c =
     let count : c.len.result ≡ length old = search rules in
     let list : c.as_slice.result.now ≡ counted (length old - 1) old =
     c.as_slice.ensures.value ∙ c.set_len.ensures d ∙ counted_first old _ d c.requires.some ∙ ap (λ n. counted (n - 1) old) count in
-    subst (λ l. IfErr c.from_tokens-packed.result (IsPackFault l)) list c.from_tokens-packed.ensures.err
+    subst (λ l. IfErr c.from_tokens_counted-packed.result (IsPackFault l)) list c.from_tokens_counted-packed.ensures.err
+
+pub from_tokens_counted-packed-requires-clause-parts : goal.from_tokens_counted-packed-requires-clause-parts
+from_tokens_counted-packed-requires-clause-parts c =
+    let old = c.args.tokens.now.items in
+    let d = header (delimiter Invisible zero_span zero_span) 0 in
+    let below : drop 1 c.as_slice.result.now ≡ drop 1 old =
+    ap (drop 1) (c.as_slice.ensures.value ∙ c.set_len.ensures d ∙ counted_first old _ d c.requires.some) ∙ below_counted old _ in
+    subst (λ l. CountsUses same_part (part_uses l) c.args.parts.now.entries) (sym below) c.requires.parts
+
+pub from_tokens_counted-packed-requires-clause-symbols : goal.from_tokens_counted-packed-requires-clause-symbols
+from_tokens_counted-packed-requires-clause-symbols c =
+    let old = c.args.tokens.now.items in
+    let d = header (delimiter Invisible zero_span zero_span) 0 in
+    let below : drop 1 c.as_slice.result.now ≡ drop 1 old =
+    ap (drop 1) (c.as_slice.ensures.value ∙ c.set_len.ensures d ∙ counted_first old _ d c.requires.some) ∙ below_counted old _ in
+    subst (λ l. CountsUses bytes_eq (symbol_uses l) c.args.symbols.now.entries) (sym below) c.requires.symbols

@@ -83,6 +83,11 @@ returns-in_ok-read-in-Expected-clause-reads c =
     let made : c.map-in-Expected.result ≡ option_map (make verb.Expected) c.in_ok-read-in-Expected.field-0 = search rules in
     command_read verb.Expected _ _ _ _ _ c.first_word.ensures.whole c.first_word.ensures.tail (rw c.in-Expected.is at c.in-Some.ensures.0) c.in_ok-read-in-Expected.ensures.reads made
 
+pub returns-in_ok-read-in-Counts-clause-reads : goal.returns-in_ok-read-in-Counts-clause-reads
+returns-in_ok-read-in-Counts-clause-reads c =
+    let made : c.map-in-Counts.result ≡ option_map (make verb.Counts) c.in_ok-read-in-Counts.field-0 = search rules in
+    command_read verb.Counts _ _ _ _ _ c.first_word.ensures.whole c.first_word.ensures.tail (rw c.in-Counts.is at c.in-Some.ensures.0) c.in_ok-read-in-Counts.ensures.reads made
+
 pub returns-in_ok-read-in-Build-clause-reads : goal.returns-in_ok-read-in-Build-clause-reads
 returns-in_ok-read-in-Build-clause-reads c =
     let made : c.map-in-Build.result ≡ option_map (make verb.Build) c.in_ok-read-in-Build.field-0 = search rules in
@@ -127,3 +132,8 @@ pub returns-in_ok-read-in-Rewrite-clause-reads : goal.returns-in_ok-read-in-Rewr
 returns-in_ok-read-in-Rewrite-clause-reads c =
     let made : c.map-in-Rewrite.result ≡ option_map (make verb.Rewrite) c.in_ok-read-in-Rewrite.field-0 = search rules in
     command_read verb.Rewrite _ _ _ _ _ c.first_word.ensures.whole c.first_word.ensures.tail (rw c.in-Rewrite.is at c.in-Some.ensures.0) c.in_ok-read-in-Rewrite.ensures.reads made
+
+pub returns-in_ok-read-in-Expand-clause-reads : goal.returns-in_ok-read-in-Expand-clause-reads
+returns-in_ok-read-in-Expand-clause-reads c =
+    let made : c.map-in-Expand.result ≡ option_map (make verb.Expand) c.in_ok-read-in-Expand.field-0 = search rules in
+    command_read verb.Expand _ _ _ _ _ c.first_word.ensures.whole c.first_word.ensures.tail (rw c.in-Expand.is at c.in-Some.ensures.0) c.in_ok-read-in-Expand.ensures.reads made

@@ -1,0 +1,110 @@
+#!/usr/bin/env python3
+"""Each request for memory of each call refused in turn: sweep.py TT_SWEEP LIBRARY
+
+TT_SWEEP makes one call a run, and LIBRARY is checks/refuse.c. The first, second, .. request of the call is refused, until
+it makes no more of them. A line is printed for each call, `ok NAME` or `FAILED NAME: WHY`; the status is 1 where one failed.
+"""
+import os
+import subprocess
+import sys
+import tempfile
+
+# The calls that take memory.
+TAKE_MEMORY = (
+    # of tokens
+    "Symbol::new Ident::new Literal::new Literal::new_no_suffix token_to_literal",
+    # of what is stored
+    "symbol_bytes span_bytes token_bytes pack Packed::clone",
+    # of trees
+    "empty invisible_from_leaves from_token_trees from_serialized from_subtree TopSubtree::clone",
+    "set_token change_every_ast_id transform_tt display_text pretty debug_text",
+    # of a cursor
+    "bump bump_or_end",
+    # of a builder
+    "TopSubtreeBuilder::new open push close extend extend_with_tt extend_with_tt_alone restore_point",
+    "build build_skip_top_subtree TopSubtreeBuilder::clone",
+    # of a macro
+    "Rule::new expand",
+)
+
+# Those that take none, by groups.
+TAKE_NONE = (
+    "ranges tokens literals numbers stored setters trees texts views siblings expectations cursors builders",
+)
+
+# What is written before the call ends.
+BEGUN = "prepared\nanswered\n"
+DONE = BEGUN + "done\n"
+DONE_AGAIN = BEGUN + "refused, and done again\n"
+
+# No call makes as many requests.
+MOST_REQUESTS = 10_000
+
+
+class Wrong(Exception):
+    """What a call did, and should not have."""
+
+
+class Sweep:
+    """The program and the library, and the file that has a byte for each refused request."""
+
+    def __init__(self, program, library, refused):
+        self.program = program
+        self.library = library
+        self.refused = refused
+
+    def run(self, call, which):
+        """What the program writes while these requests are refused, and how many were."""
+        if os.path.exists(self.refused):
+            os.remove(self.refused)
+        given = {"LD_PRELOAD": self.library, "REFUSE": which, "REFUSE_BETWEEN": "1", "REFUSED": self.refused}
+        done = subprocess.run([self.program, call], env=given, capture_output=True, text=True, timeout=60, check=False)
+        if done.returncode != 0:
+            raise Wrong(f"request {which} refused: status {done.returncode}, {done.stdout + done.stderr!r}")
+        return done.stdout, os.path.getsize(self.refused) if os.path.exists(self.refused) else 0
+
+    def refuse_each(self, call):
+        """Refuses the first, second, .. request, until no more is made: the call is refused each time, but for the last."""
+        for nth in range(1, MOST_REQUESTS):
+            written, refused = self.run(call, str(nth))
+            if refused == 0:
+                break
+            if written != DONE_AGAIN:
+                raise Wrong(f"request {nth} refused: {written!r}")
+        if refused or written != DONE:
+            raise Wrong(f"no request refused: {written!r}")
+        if nth == 1:
+            raise Wrong("it was never refused")
+        return f"{nth - 1} requests"
+
+    def refuse_all(self, call):
+        """Refuses every request, of which there are none."""
+        written, refused = self.run(call, "all")
+        if written != DONE:
+            raise Wrong(f"every request refused: {written!r}")
+        if refused:
+            raise Wrong(f"it made {refused} requests")
+        return "no request"
+
+
+def judged(judge, call):
+    """Whether the call did what it should, which is printed."""
+    try:
+        print(f"ok {call}: {judge(call)}")
+        return True
+    except (Wrong, subprocess.TimeoutExpired) as why:
+        print(f"FAILED {call}: {why}")
+        return False
+
+
+def main():
+    """Judges the calls one after the other."""
+    program, library = sys.argv[1:]
+    with tempfile.TemporaryDirectory() as room:
+        sweep = Sweep(program, library, os.path.join(room, "refused"))
+        fine = [judged(sweep.refuse_each, call) for call in " ".join(TAKE_MEMORY).split()]
+        fine += [judged(sweep.refuse_all, call) for call in " ".join(TAKE_NONE).split()]
+    sys.exit(not all(fine))
+
+
+main()

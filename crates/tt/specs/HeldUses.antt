@@ -1,0 +1,40 @@
+-- The uses of span parts and symbols in what a builder holds: the top is left out, and so is the close of an open subtree.
+use Rattle.std.specs.Prelude.{List, ℕ, [], ◌∷◌, ◌++◌, ◌≡◌, Option, Some, None, slice_get, length, bytes_eq}
+use Rattle.tt_base.specs.declared.span.SpanPart.{SpanPart}
+use Rattle.tt_base.specs.Building.{Stack, lowest, above}
+use Rattle.tt_base.specs.Forest.{flat}
+use Rattle.tt_base.specs.Span.{part_of}
+use Rattle.tt_base.specs.Token.{first_span}
+use Rattle.tt_base.specs.declared.token_tree.TokenTree.{TokenTree}
+use Rattle.tt_tables.specs.TableOrder.{different}
+use Rattle.tt_tables.specs.Uses.{same_part, part_uses, symbol_uses}
+
+-- the uses of span parts
+abbrev pub held_parts : Stack → List SpanPart
+held_parts (lowest trees) = part_uses (flat trees)
+held_parts (above outer kind open_span trees) = held_parts outer ++ part_of open_span ∷ part_uses (flat trees)
+
+-- the uses of symbols
+abbrev pub held_symbols : Stack → List (List ℕ)
+held_symbols (lowest trees) = symbol_uses (flat trees)
+held_symbols (above outer kind open_span trees) = held_symbols outer ++ symbol_uses (flat trees)
+
+-- how many different span parts are used
+abbrev pub distinct_parts : Stack → ℕ
+distinct_parts stack = length (different same_part (held_parts stack))
+
+-- how many different symbols are used
+abbrev pub distinct_symbols : Stack → ℕ
+distinct_symbols stack = length (different bytes_eq (held_symbols stack))
+
+-- the symbols, of which there is one at most, stand at the index
+abbrev pub StandAt : List (List ℕ) → Option ℕ → List (List ℕ) → Type 0
+StandAt keys None [] = Unit {0}
+StandAt keys None (x ∷ xs) = ⊥
+StandAt keys (Some index) [] = ⊥
+StandAt keys (Some index) (x ∷ []) = slice_get keys index ≡ Some x
+StandAt keys (Some index) (x ∷ y ∷ xs) = ⊥
+
+-- the part with which a token begins
+abbrev pub first_part : TokenTree → SpanPart
+first_part it = part_of (first_span it)

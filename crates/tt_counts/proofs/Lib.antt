@@ -1,0 +1,2 @@
+-- Laws of numbers of uses.
+pub mod UseCounts

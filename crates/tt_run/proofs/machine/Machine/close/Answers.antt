@@ -1,0 +1,13 @@
+use Rattle.std.proofs.Common.{◌≡◌, Some, false, rules}
+use Rattle.tt.specs.Building.{IsOpen}
+use Rattle.tt_run.specs.State.{State}
+use Rattle.tt_run.proofs.BuilderSteps.{closed_in}
+use Rattle.tt_run.proofs.machine.Machine.close.Goals as goal
+
+pub returns : goal.returns
+returns c =
+    let inside : State = record { slots = c.self.inside.slots; list = c.self.inside.list.items; builder = c.self.inside.builder } in
+    let there : c.self.inside.builder ≡ Some c.in-Some.builder = search rules in
+    let is : IsOpen c.in-Some.builder = search rules in
+    closed_in c.args.span inside _ c.in-Some.builder c.close-done.new.self c.close-done.result _ c.self.view_is there is
+    c.close-done.ensures.ok c.close-done.ensures.err c.close-done.ensures.fault c.ok_or_fault.ensures

@@ -1,0 +1,292 @@
+//! Calls of a builder, and those that make one.
+use crate::alike::{are_alike, close, close_at, closed};
+use crate::call::{Call, Outcome, ends as call_ends};
+use crate::error::SweepError;
+use crate::tokens::{
+    braces, delimiter, flat_tree, header, ident, plus, punct, push_all, span, ten, tree_of,
+};
+use std::alloc::Global;
+use tt::{
+    Delimiter, DelimiterKind, Leaf, Spacing, TokenTree, TopSubtree, TopSubtreeBuilder, TtFault,
+};
+
+/// A call of a builder, or one that makes one.
+#[derive(Clone, Copy, Debug, PartialEq, Eq)]
+pub enum Growth {
+    New,
+    Clone,
+    Open,
+    Push,
+    Close,
+    Extend,
+    Trees,
+    TreesAlone,
+    Point,
+}
+
+/// The call of that name.
+pub fn named(name: &str) -> Option<Growth> {
+    let growth = match name {
+        "TopSubtreeBuilder::new" => Growth::New,
+        "TopSubtreeBuilder::clone" => Growth::Clone,
+        "open" => Growth::Open,
+        "push" => Growth::Push,
+        "close" => Growth::Close,
+        "extend" => Growth::Extend,
+        "extend_with_tt" => Growth::Trees,
+        "extend_with_tt_alone" => Growth::TreesAlone,
+        "restore_point" => Growth::Point,
+        _ => return None,
+    };
+    Some(growth)
+}
+
+/// How the call ends.
+pub fn ends<R: Print>(rt: &R, alloc: Global, growth: Growth) -> Result<Outcome, SweepError> {
+    let mut call = Growing {
+        growth,
+        alloc,
+        builder: builder_for(alloc, growth)?,
+        before: builder_for(alloc, growth)?,
+        after: held(alloc, growth)?,
+        trees: flat_tree(alloc, &ten())?,
+    };
+    call_ends(rt, &mut call)
+}
+
+// How many brackets are open in the builder, one in another.
+const OPEN: u32 = 4;
+
+// The id of their open spans.
+const OPEN_ID: u32 = 3;
+
+// The id of a span whose part the builder does not use.
+const NEW_ID: u32 = 20;
+
+// The idents, and the id of each.
+const IDENTS: [(&str, u32); 2] = [("a", 1), ("b", 2)];
+
+// How many restore points it has taken.
+const TAKEN: u64 = 5;
+
+// A builder of braces over an empty invisible subtree and four open brackets, and in the innermost two idents. Of its five
+// restore points the second does not stand. So it has eight tokens, four open subtrees and four points, and no room for
+// one more of any.
+fn builder(alloc: Global) -> Result<TopSubtreeBuilder, TtFault> {
+    let mut builder = TopSubtreeBuilder::new(alloc, braces())?;
+    builder.restore_point()?;
+    builder.open(DelimiterKind::Invisible, span(0))?;
+    builder.restore_point()?;
+    close(&mut builder)?;
+    open_brackets(&mut builder)?;
+    push_idents(alloc, &mut builder)?;
+    builder.restore_point()?;
+    builder.restore_point()?;
+    builder.restore_point()?;
+    Ok(builder)
+}
+
+// That builder; to be closed, it has leaves of five more span parts, so that it uses nine, and no room for one more.
+fn builder_for(alloc: Global, growth: Growth) -> Result<TopSubtreeBuilder, TtFault> {
+    let mut builder = builder(alloc)?;
+    if growth == Growth::Close {
+        for leaf in of_new_parts() {
+            builder.push(leaf)?;
+        }
+    }
+    Ok(builder)
+}
+
+fn of_new_parts() -> [Leaf; 5] {
+    [plus(11), plus(12), plus(13), plus(14), plus(15)]
+}
+
+fn open_brackets(builder: &mut TopSubtreeBuilder) -> Result<(), TtFault> {
+    for _ in 0..OPEN {
+        builder.open(DelimiterKind::Bracket, span(OPEN_ID))?;
+    }
+    Ok(())
+}
+
+fn push_idents(alloc: Global, builder: &mut TopSubtreeBuilder) -> Result<(), TtFault> {
+    for (name, id) in IDENTS {
+        builder.push(ident(alloc, name, id)?)?;
+    }
+    Ok(())
+}
+
+// The idents, that token and these leaves: what the innermost bracket holds.
+fn inside(
+    alloc: Global,
+    more: Option<TokenTree>,
+    leaves: &[Leaf],
+) -> Result<Vec<TokenTree>, TtFault> {
+    let mut below = Vec::new(alloc);
+    for (name, id) in IDENTS {
+        below.push(ident(alloc, name, id)?.into())?;
+    }
+    below.extend(more.into_iter())?;
+    push_all(&mut below, leaves)?;
+    Ok(below)
+}
+
+// The tree of what that builder makes when its innermost bracket gets that token and these leaves too.
+fn with(alloc: Global, more: Option<TokenTree>, leaves: &[Leaf]) -> Result<TopSubtree, TtFault> {
+    with_close(alloc, more, leaves, 0)
+}
+
+// The same, where the innermost bracket is closed by a span of that id.
+fn with_close(
+    alloc: Global,
+    more: Option<TokenTree>,
+    leaves: &[Leaf],
+    innermost: u32,
+) -> Result<TopSubtree, TtFault> {
+    let below = inside(alloc, more, leaves)?;
+    let len = u32::try_from(below.len()).unwrap_or(0);
+    let mut list = vec![in alloc; header(braces(), len.saturating_add(OPEN + 1))]?;
+    list.push(header(delimiter(DelimiterKind::Invisible, 0, 0), 0))?;
+    for deeper in (0..OPEN).rev() {
+        let close = if deeper == 0 { innermost } else { 0 };
+        let brackets = delimiter(DelimiterKind::Bracket, OPEN_ID, close);
+        list.push(header(brackets, len.saturating_add(deeper)))?;
+    }
+    list.extend(below.into_iter())?;
+    tree_of(alloc, list)
+}
+
+// The tree of what a builder makes behind the call.
+fn held(alloc: Global, growth: Growth) -> Result<TopSubtree, TtFault> {
+    match growth {
+        Growth::New => flat_tree(alloc, &[]),
+        Growth::Clone | Growth::Point => with(alloc, None, &[]),
+        Growth::Open => {
+            let parentheses = delimiter(DelimiterKind::Parenthesis, 0, 0);
+            with(alloc, Some(header(parentheses, 0)), &[])
+        }
+        Growth::Push => with(alloc, None, &[plus(1)]),
+        Growth::Close => with_close(alloc, None, &of_new_parts(), NEW_ID),
+        Growth::Extend | Growth::Trees => with(alloc, None, &ten()),
+        Growth::TreesAlone => with(alloc, None, &ten_of_which_the_last_is_alone()),
+    }
+}
+
+fn ten_of_which_the_last_is_alone() -> [Leaf; 10] {
+    let mut leaves = ten();
+    leaves[9] = punct('+', Spacing::Alone, 10);
+    leaves
+}
+
+// A call of a builder, the builder before it, the tree that it makes behind it, and what is appended.
+#[derive(Drop)]
+struct Growing {
+    growth: Growth,
+    alloc: Global,
+    builder: TopSubtreeBuilder,
+    before: TopSubtreeBuilder,
+    after: TopSubtree,
+    trees: TopSubtree,
+}
+
+impl Call for Growing {
+    fn make(&mut self) -> Result<bool, TtFault> {
+        let trees = self.trees.token_trees();
+        match self.growth {
+            Growth::New => self.builder = TopSubtreeBuilder::new(self.alloc, invisible())?,
+            Growth::Clone => self.builder = self.builder.clone()?,
+            Growth::Open => self.builder.open(DelimiterKind::Parenthesis, span(0))?,
+            Growth::Push => return push(&mut self.builder),
+            Growth::Close => close_at(&mut self.builder, span(NEW_ID))?,
+            Growth::Extend => self.builder.extend(ten().into_iter())?,
+            Growth::Trees => self.builder.extend_with_tt(trees)?,
+            Growth::TreesAlone => self.builder.extend_with_tt_alone(trees)?,
+            Growth::Point => return point(&mut self.builder),
+        }
+        Ok(true)
+    }
+
+    fn is_as_before(&self) -> Result<bool, TtFault> {
+        are_alike(&self.builder, &self.before)
+    }
+
+    fn is_as_after(&self) -> Result<bool, TtFault> {
+        let kinds = self.growth.open_kinds();
+        let points = self.growth.points();
+        Ok(
+            has_open(&self.builder, kinds)
+                && self.builder.points_taken() == points
+                && closed(&self.builder)? == self.after,
+        )
+    }
+}
+
+// The kinds that are open, innermost first, and those behind `close` and `open`.
+const OPEN_KINDS: [DelimiterKind; 4] = [
+    DelimiterKind::Bracket,
+    DelimiterKind::Bracket,
+    DelimiterKind::Bracket,
+    DelimiterKind::Bracket,
+];
+
+const CLOSED_KINDS: [DelimiterKind; 3] = [
+    DelimiterKind::Bracket,
+    DelimiterKind::Bracket,
+    DelimiterKind::Bracket,
+];
+
+const OPENED_KINDS: [DelimiterKind; 5] = [
+    DelimiterKind::Parenthesis,
+    DelimiterKind::Bracket,
+    DelimiterKind::Bracket,
+    DelimiterKind::Bracket,
+    DelimiterKind::Bracket,
+];
+
+impl Growth {
+    // The kinds that are open behind the call, innermost first.
+    fn open_kinds(self) -> &'static [DelimiterKind] {
+        match self {
+            Growth::New => &[],
+            Growth::Open => &OPENED_KINDS,
+            Growth::Close => &CLOSED_KINDS,
+            _ => &OPEN_KINDS,
+        }
+    }
+
+    // How many points were taken behind the call.
+    fn points(self) -> u64 {
+        match self {
+            Growth::New => 0,
+            Growth::Point => TAKEN + 1,
+            _ => TAKEN,
+        }
+    }
+}
+
+fn invisible() -> Delimiter {
+    delimiter(DelimiterKind::Invisible, 0, 0)
+}
+
+fn push(builder: &mut TopSubtreeBuilder) -> Result<bool, TtFault> {
+    match builder.push(plus(1)) {
+        Ok(()) => Ok(true),
+        Err(refused) if refused.value == plus(1) => Err(refused.fault),
+        Err(_) => Ok(false),
+    }
+}
+
+fn point(builder: &mut TopSubtreeBuilder) -> Result<bool, TtFault> {
+    Ok(builder.restore_point()?.number() == TAKEN)
+}
+
+// Whether these kinds are open, innermost first.
+fn has_open(builder: &TopSubtreeBuilder, kinds: &[DelimiterKind]) -> bool {
+    let mut rest = kinds;
+    for kind in builder.expected_delimiters() {
+        match rest.split_first() {
+            Some((first, others)) if *first == kind => rest = others,
+            _ => return false,
+        }
+    }
+    rest.is_empty()
+}

@@ -1,0 +1,40 @@
+//! Calls of a builder that take no memory.
+use crate::alike::close;
+use crate::tokens::{delimiter, plus, span};
+use std::alloc::Global;
+use tt::{DelimiterKind, SubtreeBuilderRestorePoint, Symbol, TopSubtreeBuilder, TtFault};
+
+/// A builder of an invisible top, with a point, a closed invisible subtree over a plus, and an open brace.
+pub fn builder(alloc: Global) -> Result<TopSubtreeBuilder, TtFault> {
+    let top = delimiter(DelimiterKind::Invisible, 0, 0);
+    let mut builder = TopSubtreeBuilder::new(alloc, top)?;
+    builder.restore_point()?;
+    builder.open(DelimiterKind::Brace, span(0))?;
+    builder.open(DelimiterKind::Invisible, span(0))?;
+    builder.push(plus(0))?;
+    close(&mut builder)?;
+    Ok(builder)
+}
+
+/// Whether that builder uses one part four times, the close of its brace left out, and no symbol.
+pub fn counts(builder: &TopSubtreeBuilder, symbol: &Symbol) -> bool {
+    let (parts, symbols) = builder.distinct_counts();
+    parts == 1
+        && symbols == 0
+        && builder.span_part_uses(&span(0)) == 4
+        && builder.symbol_uses(symbol) == 0
+}
+
+/// Its invisible subtree is taken away, its brace closed, and its point restored.
+pub fn go_back(builder: &mut TopSubtreeBuilder) -> bool {
+    builder.remove_last_subtree_if_invisible();
+    let open = builder.expected_delimiters().next();
+    let is_closed = close(builder).is_ok() && !builder.is_open();
+    let point = SubtreeBuilderRestorePoint::from_number(0);
+    open == Some(DelimiterKind::Brace)
+        && is_closed
+        && point.number() == 0
+        && builder.restore(point)
+        && !builder.is_open()
+        && builder.points_taken() == 1
+}
