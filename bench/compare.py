@@ -1,5 +1,5 @@
 #!/usr/bin/env python3
-"""Times the packed form on made trees, alone or beside another program: compare.py [OPTION]..
+"""Times the packed form on made trees, or on any, alone or beside another program: compare.py [OPTION]..
 
 For each tree of items.py and each mode it runs `tt_bench MODE ROUNDS`, and prints the least time of all turns, in
 nanoseconds for a token (for a child of the top where the mode is skip). With --other the two programs take turns on
@@ -23,6 +23,8 @@ import items
 MODES = "pack build rewrite flat flat_whole skip siblings siblings_whole walk show equal fold clone drop"
 # In these modes two programs that read the same tree print the same sum.
 SUMS_AGREE = {"flat", "skip", "siblings", "siblings_whole", "walk", "show", "equal"}
+# Instructions are counted over so many tokens at least.
+FEW_TOKENS = 2_000
 CRATE = Path(__file__).resolve().parent.parent / "crates" / "tt_bench"
 OURS = CRATE / "out" / "tt_bench"
 
@@ -53,6 +55,13 @@ def tree(profile, size, folder):
         text = "".join(line + "\n" for line in items.lines(size, profile))
         path.write_text(text, encoding="utf-8", newline="\n")
     return Tree(profile, size, top_children(path), path)
+
+
+def read_tree(path):
+    """The tree of a file of `item` lines."""
+    with path.open("rb") as lines:
+        size = sum(1 for _ in lines)
+    return Tree(path.stem, size, top_children(path), path)
 
 
 def top_children(path):
@@ -112,7 +121,8 @@ def least_times(programs, mode, on, options):
 
 def counts(programs, mode, on):
     """The instructions of each program for a unit: the difference of two numbers of rounds."""
-    few, many = 2, 6
+    few = max(2, FEW_TOKENS // on.size)
+    many = 4 * few
     found = []
     for program in programs:
         first, second = (program.instructions(mode, rounds, on) for rounds in (few, many))
@@ -162,6 +172,7 @@ def parsed():
     options.add_argument("--ours", default=OURS, help="our program, if not the one that was built last")
     options.add_argument("--profiles", default="mix many-parts deep", help="profiles of items.py")
     options.add_argument("--sizes", default="1000 100000", help="numbers of tokens")
+    options.add_argument("--items", type=Path, nargs="+", help="files of item lines, in place of made trees")
     options.add_argument("--modes", default=MODES, help="modes of tt_bench")
     options.add_argument("--turns", type=int, default=3, help="how often each program is run")
     options.add_argument("--work", type=int, default=5_000_000, help="tokens of all rounds of a run")
@@ -178,6 +189,10 @@ def main():
     programs = [Program([str(options.ours), "MODE", "ROUNDS"] + ["apart"] * options.apart)]
     if options.other:
         programs.append(Program(options.other))
+    for path in options.items or []:
+        report(programs, read_tree(path), options)
+    if options.items:
+        return
     with tempfile.TemporaryDirectory() as passing:
         folder = options.keep or Path(passing)
         folder.mkdir(parents=True, exist_ok=True)

@@ -17,10 +17,10 @@ BAD_LINES = (
 )
 
 # Together they have each command.
-SCRIPTS = ("stored", "siblings", "walk", "builder", "append", "texts", "edits", "rewrite")
+SCRIPTS = ("stored", "siblings", "walk", "builder", "append", "counts", "texts", "edits", "rewrite", "macro")
 COMMANDS = (
-    "item clear list new open push close append alone unwrap point restore expected build skip copy kind spans set ids"
-    " rewrite show pretty debug flat siblings walk glue split bytes parts symbols equal"
+    "item clear list new open push close append alone unwrap point restore expected counts build skip copy kind spans set"
+    " ids rewrite expand show pretty debug flat siblings walk glue split bytes parts symbols equal"
 ).split()
 
 # Their answers end with a line `end`, where the slot is not empty; all others are one line.

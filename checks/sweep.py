@@ -3,8 +3,10 @@
 
 TT_SWEEP makes one call a run, and LIBRARY is checks/refuse.c. The first, second, .. request of the call is refused, until
 it makes no more of them. A line is printed for each call, `ok NAME` or `FAILED NAME: WHY`; the status is 1 where one failed.
+Calls that are wrong are made too, and it has to be noticed.
 """
 import os
+import shutil
 import subprocess
 import sys
 import tempfile
@@ -13,15 +15,18 @@ import tempfile
 TAKE_MEMORY = (
     # of tokens
     "Symbol::new Ident::new Literal::new Literal::new_no_suffix token_to_literal",
+    # of lists
+    "is_one_subtree Levels::take",
     # of what is stored
-    "symbol_bytes span_bytes token_bytes pack Packed::clone",
+    "symbol_bytes span_bytes token_bytes pack pack_counted of_list of_list_counted Packed::clone",
     # of trees
-    "empty invisible_from_leaves from_token_trees from_serialized from_subtree TopSubtree::clone",
-    "set_token change_every_ast_id transform_tt display_text pretty debug_text",
+    "empty invisible_from_leaves from_token_trees from_serialized from_tokens from_tokens_counted from_subtree",
+    "TopSubtree::clone",
+    "set_token change_every_ast_id change_every_ast_id_joined transform_tt display_text pretty debug_text",
     # of a cursor
     "bump bump_or_end",
     # of a builder
-    "TopSubtreeBuilder::new open push close extend extend_with_tt extend_with_tt_alone restore_point",
+    "TopSubtreeBuilder::new open push close extend extend_by_names extend_with_tt extend_with_tt_alone restore_point",
     "build build_skip_top_subtree TopSubtreeBuilder::clone",
     # of a macro
     "Rule::new expand",
@@ -87,6 +92,33 @@ class Sweep:
         return "no request"
 
 
+# Calls that are wrong: whether each request is refused or all are, and what has to be said of it.
+FLAWS = (
+    ("forgets_to_undo", "refuse_each", "what was left behind a refusal"),
+    ("always_refused", "refuse_each", "refused again"),
+    ("another_fault", "refuse_each", "another fault than Memory"),
+    ("hides_refusal", "refuse_each", "request 1 refused"),
+    ("changes_nothing", "refuse_each", "what was changed"),
+    ("never_asks", "refuse_each", "it was never refused"),
+    ("hides_refusal", "refuse_all", "requests"),
+    ("no such call", "refuse_all", "status 1"),
+)
+
+
+def is_noticed(sweep, call, how, wanted):
+    """Whether it is said that a call is wrong, which is printed: a judge that cannot fail judges nothing."""
+    name = f"{call} of {os.path.basename(sweep.program)}"
+    try:
+        said = getattr(sweep, how)(call)
+    except Wrong as why:
+        said = str(why)
+        if wanted in said:
+            print(f"ok {name} is noticed by {how}")
+            return True
+    print(f"FAILED {name} is not noticed by {how}: {said}")
+    return False
+
+
 def judged(judge, call):
     """Whether the call did what it should, which is printed."""
     try:
@@ -104,6 +136,10 @@ def main():
         sweep = Sweep(program, library, os.path.join(room, "refused"))
         fine = [judged(sweep.refuse_each, call) for call in " ".join(TAKE_MEMORY).split()]
         fine += [judged(sweep.refuse_all, call) for call in " ".join(TAKE_NONE).split()]
+        fine += [is_noticed(sweep, *flaw) for flaw in FLAWS]
+        # a program that dies at once
+        dead = Sweep(shutil.which("false"), library, sweep.refused)
+        fine += [is_noticed(dead, "pack", how, "status 1") for how in ("refuse_each", "refuse_all")]
     sys.exit(not all(fine))
 
 

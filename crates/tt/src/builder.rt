@@ -24,13 +24,13 @@ mod tokens;
 
 pub use expected::ExpectedDelimiters;
 use held::Held;
-use leaves::{add_symbol, entries_of, symbol_index};
+use leaves::{add_symbol, symbol_index};
 pub use standing::SubtreeBuilderRestorePoint;
-use std::alloc::{AllocError, Global};
+use std::alloc::Global;
 use std::marker::Model;
 use tt_base::{Delimiter, DelimiterKind, Leaf, Refused, Span, SpanPart, Symbol, TtFault};
 use tt_counts::Counts;
-use tt_view::{TokenEntries, TokenTreesView, TopSubtree};
+use tt_view::{TokenTreesView, TopSubtree};
 
 /// Builds a token tree by opening and closing subtrees. A contract sees the levels, the mark and the points that stand.
 #[derive(Drop, Debug)]
@@ -39,8 +39,6 @@ pub struct TopSubtreeBuilder {
     // how often parts and symbols are used in what is held
     parts: Counts<SpanPart>,
     symbols: Counts<Symbol>,
-    // where the values of each token held stand in both; what is not right is looked up where it is needed
-    entries: Vec<TokenEntries>,
     ghost part_counts: { CountsUses same_part (held_parts held.stack) parts.numbers.entries },
     ghost symbol_counts: { CountsUses bytes_eq (held_symbols held.stack) symbols.numbers.entries },
 }
@@ -56,26 +54,10 @@ impl Model for TopSubtreeBuilder {
     ghost view = { λ builder. builder.held };
 }
 
-// A header that is closed has another part.
-fn set_other(entries: &mut Vec<TokenEntries>, place: usize, index: usize) {
-    if let Some(found) = entries.get_mut(place) {
-        *found = entries_of(found.part as usize, Some(index));
-    }
-}
+// For so many different parts and symbols room is made at first.
+const FEW_PARTS: usize = 4;
 
-// A header goes.
-fn take_entries(entries: &mut Vec<TokenEntries>, place: usize) {
-    if place < entries.len() {
-        let _ = entries.remove(place);
-    }
-}
-
-// The same entries.
-fn copy_of(alloc: Global, entries: &[TokenEntries]) -> Result<Vec<TokenEntries>, AllocError> {
-    let mut copy = Vec::new(alloc);
-    copy.extend_from_slice(entries)?;
-    Ok(copy)
-}
+const FEW_SYMBOLS: usize = 14;
 
 impl TopSubtreeBuilder {
     ghost use Rattle.tt.specs.Points.{number_of, kinds_left};
@@ -87,9 +69,8 @@ impl TopSubtreeBuilder {
     {
         Ok(TopSubtreeBuilder {
             held: Held::new(alloc, top)?,
-            parts: Counts::new(alloc),
-            symbols: Counts::new(alloc),
-            entries: Vec::new(alloc),
+            parts: Counts::with_capacity(alloc, FEW_PARTS)?,
+            symbols: Counts::with_capacity(alloc, FEW_SYMBOLS)?,
         })
     }
 
@@ -102,10 +83,8 @@ impl TopSubtreeBuilder {
     {
         let part = SpanPart::from_span(&open_span);
         let index = self.parts.index_near(&part)?;
-        self.entries.reserve(1)?;
         self.held.open(kind, open_span)?;
         self.parts.add_at(index);
-        let _ = self.entries.push(entries_of(index, None));
         Ok(())
     }
 
@@ -130,16 +109,9 @@ impl TopSubtreeBuilder {
                 value: leaf,
             });
         };
-        if self.entries.reserve(1).is_err() {
-            return Err(Refused {
-                fault: TtFault::Memory,
-                value: leaf,
-            });
-        }
         self.held.push(leaf)?;
         self.parts.add_at(index);
         add_symbol(&mut self.symbols, symbol);
-        let _ = self.entries.push(entries_of(index, symbol));
         Ok(())
     }
 
@@ -153,10 +125,8 @@ impl TopSubtreeBuilder {
     {
         let part = SpanPart::from_span(&close_span);
         let index = self.parts.index_near(&part)?;
-        let place = self.held.before_innermost();
         self.held.close(close_span)?;
         self.parts.add_at(index);
-        set_other(&mut self.entries, place, index);
         Ok(())
     }
 
@@ -169,12 +139,7 @@ impl TopSubtreeBuilder {
         ensures err { OnErr result (self.new ≡ self.old) }
         ensures fault { IfErr result (λ fault. (fault ≡ Memory) ⊎ ((fault ≡ TooManyTokens) × ((given : List Leaf) × (next : Leaf) × (rest : I) × YieldsThen I.next_gives leaves given (Some next) rest × (most_held < tokens_held self.old.stack + suc (length given))))) }
     {
-        self.held.extend(
-            &mut self.parts,
-            &mut self.symbols,
-            &mut self.entries,
-            leaves,
-        )
+        self.held.extend(&mut self.parts, &mut self.symbols, leaves)
     }
 
     /// Appends trees; the mark stays.
@@ -184,7 +149,8 @@ impl TopSubtreeBuilder {
         ensures err { OnErr result (self.new ≡ self.old) }
         ensures fault { IfErr result (IsGrowthFault (size (trees_of trees.entry)) self.old) }
     {
-        self.held.extend_with_tt(&mut self.parts, &mut self.symbols, &mut self.entries, trees)
+        self.held
+            .extend_with_tt(&mut self.parts, &mut self.symbols, trees)
     }
 
     /// Appends trees, of which the last token becomes alone if it is a punct; the mark stays.
@@ -194,20 +160,16 @@ impl TopSubtreeBuilder {
         ensures err { OnErr result (self.new ≡ self.old) }
         ensures fault { IfErr result (IsGrowthFault (size (trees_of trees.entry)) self.old) }
     {
-        self.held.extend_with_tt_alone(&mut self.parts, &mut self.symbols, &mut self.entries, trees)
+        self.held
+            .extend_with_tt_alone(&mut self.parts, &mut self.symbols, trees)
     }
 
     /// If the marked subtree is invisible, its header goes and its children take its place; the mark goes in any case.
     pub fn remove_last_subtree_if_invisible(&mut self)
         ensures { self.new ≡ removed self.old }
     {
-        let place = self.held.before_mark();
-        let len = self.held.len();
         self.held
             .remove_last_subtree_if_invisible(&mut self.parts, &mut self.symbols);
-        if self.held.len() < len {
-            take_entries(&mut self.entries, place);
-        }
     }
 
     /// Takes a restore point, and clears the mark. It stands until a subtree that is open now is closed, or a standing
@@ -235,7 +197,8 @@ impl TopSubtreeBuilder {
         ensures state { self.new ≡ restored (number_of point) self.old }
     {
         let stands = self.held.restore(&mut self.parts, &mut self.symbols, point);
-        self.entries.truncate(self.held.len());
+        self.parts.drop_last_unused();
+        self.symbols.drop_last_unused();
         stands
     }
 
@@ -265,16 +228,14 @@ impl TopSubtreeBuilder {
             mut held,
             parts,
             symbols,
-            entries,
         } = self;
-        match held.build(&parts, &symbols, &entries) {
+        match held.build(&parts, &symbols) {
             Ok(tree) => Ok(tree),
             Err(fault) => {
                 let value = TopSubtreeBuilder {
                     held,
                     parts,
                     symbols,
-                    entries,
                 };
                 Err(Refused { fault, value })
             }
@@ -294,16 +255,14 @@ impl TopSubtreeBuilder {
             mut held,
             mut parts,
             symbols,
-            entries,
         } = self;
-        match held.build_skip_top_subtree(&mut parts, &symbols, &entries) {
+        match held.build_skip_top_subtree(&mut parts, &symbols) {
             Ok(tree) => Ok(tree),
             Err(fault) => {
                 let value = TopSubtreeBuilder {
                     held,
                     parts,
                     symbols,
-                    entries,
                 };
                 Err(Refused { fault, value })
             }
@@ -318,12 +277,10 @@ impl TopSubtreeBuilder {
         let held = self.held.clone()?;
         let parts = self.parts.clone()?;
         let symbols = self.symbols.clone()?;
-        let entries = copy_of(*self.entries.allocator(), &self.entries)?;
         Ok(TopSubtreeBuilder {
             held,
             parts,
             symbols,
-            entries,
         })
     }
 

@@ -86,35 +86,36 @@ fn spaced_text(
 {
     let mut text = String::new(alloc);
     let mut due = false;
-    // the innermost last; the trees themselves stand in nothing that is printed
-    let mut levels = Vec::new(alloc);
-    levels.push(Level {
+    // the trees themselves stand in nothing that is printed
+    let mut level = Level {
         rest: trees.iter(),
         kind: DelimiterKind::Invisible,
-    })?;
-    while let Some(mut level) = levels.pop() {
+    };
+    // what is left of those round it, the innermost last
+    let mut outer = Vec::new(alloc);
+    'tokens: loop {
         match level.rest.next() {
-            None => {
-                text.push_str(closing(level.kind))?;
-                due = true;
-            }
-            Some(TtElement::Leaf(leaf)) => {
-                levels.push(level)?;
-                due = write_leaf(&mut text, rule, due, leaf)?;
-            }
+            Some(TtElement::Leaf(leaf)) => due = write_leaf(&mut text, rule, due, leaf)?,
             Some(TtElement::Subtree(subtree, children)) => {
                 let kind = subtree.delimiter.kind;
-                levels.push(level)?;
-                levels.push(Level {
+                write!(text, "{}{}", space(due), opening(kind))?;
+                outer.push(level)?;
+                level = Level {
                     rest: children,
                     kind,
-                })?;
-                write!(text, "{}{}", space(due), opening(kind))?;
+                };
                 due = false;
+            }
+            None => {
+                text.push_str(closing(level.kind))?;
+                let Some(round) = outer.pop() else {
+                    return Ok(text);
+                };
+                level = round;
+                due = true;
             }
         }
     }
-    Ok(text)
 }
 
 // A line for each token.
@@ -123,26 +124,29 @@ fn token_lines(alloc: Global, trees: TokenTreesView<'_>) -> Result<String, Alloc
 {
     let mut text = String::new(alloc);
     let mut due = false;
-    // what is left of each subtree that was entered, the innermost last
-    let mut levels = Vec::new(alloc);
-    levels.push(trees.iter())?;
-    while let Some(mut level) = levels.pop() {
-        let depth = levels.len();
+    let mut level = trees.iter();
+    // what is left of the levels round it, the innermost last
+    let mut outer = Vec::new(alloc);
+    'tokens: loop {
         match level.next() {
-            // the level ends behind a line
-            None => due = true,
             Some(TtElement::Leaf(leaf)) => {
-                levels.push(level)?;
-                write_leaf_line(&mut text, due, depth, leaf)?;
+                write_leaf_line(&mut text, due, outer.len(), leaf)?;
                 due = true;
             }
             Some(TtElement::Subtree(subtree, children)) => {
-                levels.push(level)?;
-                levels.push(children)?;
-                write_header_line(&mut text, due, depth, subtree)?;
+                write_header_line(&mut text, due, outer.len(), subtree)?;
+                outer.push(level)?;
+                level = children;
+                due = true;
+            }
+            None => {
+                let Some(round) = outer.pop() else {
+                    return Ok(text);
+                };
+                level = round;
+                // the level ended behind a line
                 due = true;
             }
         }
     }
-    Ok(text)
 }

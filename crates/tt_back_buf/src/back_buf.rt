@@ -48,7 +48,7 @@ impl BackBuf {
         self.size - self.room
     }
 
-    /// Puts one byte before all.
+    /// Puts one byte before all. There is room for it: what was asked for is more than `len`.
     #[inline(always)]
     pub fn put_byte(&mut self, byte: u8)
         requires { 1 ≤ room_of self.old }
@@ -59,7 +59,7 @@ impl BackBuf {
         self.region.put(self.room, byte);
     }
 
-    /// Puts two bytes before all.
+    /// Puts two bytes before all. There is room for them: what was asked for is at least two more than `len`.
     #[inline(always)]
     pub fn put_half(&mut self, half: u16)
         requires { 2 ≤ room_of self.old }
@@ -71,7 +71,7 @@ impl BackBuf {
         self.region.put_two(self.room, low, (half >> 8) as u8);
     }
 
-    /// Puts four bytes before all.
+    /// Puts four bytes before all. There is room for them: what was asked for is at least four more than `len`.
     #[inline(always)]
     pub fn put_word(&mut self, word: u32)
         requires { 4 ≤ room_of self.old }

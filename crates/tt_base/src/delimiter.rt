@@ -32,6 +32,7 @@ impl DelimSpan {
         DelimSpan::from_pair(span, span)
     }
 
+    /// The two spans.
     pub fn from_pair(open_span: Span, close: Span) -> Self
         ensures { result ≡ delim_span open_span close }
     {
@@ -68,6 +69,7 @@ impl Delimiter {
         }
     }
 
+    /// Both spans.
     pub fn delim_span(&self) -> DelimSpan
         ensures { result ≡ delim_span self.now.open_span self.now.close }
     {

@@ -19,12 +19,14 @@ impl IdentIsRaw {
     ghost use Rattle.tt_base.specs.LeafText.{raw_prefix};
     ghost use Rattle.tt_base.specs.Token.{rawness_of, without_raw_prefix};
 
+    /// Whether it is `Yes`.
     pub fn yes(self) -> bool
         ensures { IsTrue result ↔ (self ≡ IdentIsRaw.Yes) }
     {
         matches!(self, IdentIsRaw::Yes)
     }
 
+    /// Whether it is `No`.
     pub fn no(&self) -> bool
         ensures { IsTrue result ↔ (self.now ≡ IdentIsRaw.No) }
     {

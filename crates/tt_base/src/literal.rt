@@ -126,6 +126,7 @@ impl Literal {
         self
     }
 
+    /// The text without the suffix, and the suffix, which is empty where there is none.
     pub fn text_and_suffix(&self) -> (&str, &str)
         ensures text { result.0.now ≡ text_of self.now }
         ensures suffix { result.1.now ≡ suffix_of self.now }
@@ -141,6 +142,7 @@ impl Literal {
         self.text_and_suffix().0
     }
 
+    /// The suffix, which is empty where there is none.
     pub fn suffix(&self) -> &str
         ensures { result.now ≡ suffix_of self.now }
     {
@@ -154,12 +156,14 @@ impl Literal {
         &self.symbol
     }
 
+    /// Where it stands.
     pub fn span(&self) -> &Span
         ensures { result.now ≡ span_of self.now }
     {
         &self.span
     }
 
+    /// Its kind.
     pub fn kind(&self) -> LitKind
         ensures { result ≡ kind_of self.now }
     {

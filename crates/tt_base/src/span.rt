@@ -58,6 +58,7 @@ pub struct SpanPart {
 impl SpanPart {
     ghost use Rattle.tt_base.specs.Span.{part_of, span_in};
 
+    /// The part of a span.
     pub fn from_span(span: &Span) -> Self
         ensures { result ≡ part_of span.now }
     {

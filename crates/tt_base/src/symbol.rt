@@ -7,6 +7,7 @@ ghost use Rattle.std.specs.Hash as fed;
 use crate::fault::TtFault;
 use crate::text::Text;
 use std::alloc::{AllocError, Global};
+use std::cell::Cell;
 use std::fmt;
 use std::hash::{Hash, Hasher};
 use std::marker::Model;
@@ -16,7 +17,14 @@ use tt_shared::Shared;
 /// it takes no memory and cannot fail. A contract sees the text's bytes.
 #[derive(Drop)]
 pub struct Symbol {
-    text: Shared<Text>,
+    shared: Shared<SharedText>,
+}
+
+// What all clones of a symbol have in common: the text, and the place that was noted last.
+#[derive(Drop)]
+struct SharedText {
+    text: Text,
+    place: Cell<u32>,
 }
 
 impl Model for Symbol {
@@ -26,23 +34,39 @@ impl Model for Symbol {
 
     ghost Value = { List ℕ };
 
-    ghost view = { λ symbol. text_bytes (shared_value symbol.text) };
+    ghost view = { λ symbol. text_bytes (shared_value symbol.shared).text };
 }
 
 impl Symbol {
+    /// The symbol of a text, which is copied. The only fault is `Memory`.
     pub fn new(alloc: Global, text: &str) -> Result<Symbol, TtFault>
         ensures ok { IfOk result (λ symbol. symbol ≡ text.now) }
         ensures err { IfErr result (λ fault. fault ≡ TtFault.Memory) }
     {
         let text = Text::new(alloc, text)?;
-        let text = Shared::new(alloc, text)?;
-        Ok(Symbol { text })
+        let place = Cell::new(0);
+        let shared = Shared::new(alloc, SharedText { text, place })?;
+        Ok(Symbol { shared })
     }
 
+    /// Its text.
     pub fn as_str(&self) -> &str
         ensures { result.now ≡ self.now }
     {
-        self.text.get().as_str()
+        self.shared.get().text.as_str()
+    }
+
+    /// The place that was last noted of this symbol or of a clone of it; 0 if none was. No contract says more: whoever
+    /// looks for the symbol in a table may look there first, and has to see whether it is there.
+    #[inline(always)]
+    pub fn place(&self) -> u32 {
+        self.shared.get().place.get()
+    }
+
+    /// Notes where in a table this symbol stands, for all its clones.
+    #[inline(always)]
+    pub fn note_place(&self, place: u32) {
+        self.shared.get().place.set(place);
     }
 
     // Whether the texts are equal, wherever they are.
@@ -60,8 +84,8 @@ impl Clone for Symbol {
     ghost is_infallible = { λ _. ⊤ };
 
     fn clone(&self) -> Result<Symbol, AllocError> {
-        let text = self.text.share();
-        Ok(Symbol { text })
+        let shared = self.shared.share();
+        Ok(Symbol { shared })
     }
 }
 
@@ -73,7 +97,7 @@ impl PartialEq for Symbol {
     // Mostly equal symbols share their text, so that is tried in place, and the rest is a call.
     #[inline(always)]
     fn eq(&self, other: &Symbol) -> bool {
-        self.text.ptr_eq(&other.text) || self.has_text_of(other)
+        self.shared.ptr_eq(&other.shared) || self.has_text_of(other)
     }
 }
 

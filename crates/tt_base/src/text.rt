@@ -6,7 +6,7 @@ use arrayvec::ArrayString;
 use std::alloc::{AllocError, Global};
 
 // A text of up to so many bytes is short, as nearly all names are. With more, each block of a symbol would be larger.
-const SHORT_BYTES: usize = 16;
+const SHORT_BYTES: usize = 24;
 
 /// A text that stays as it is. A short one lies in the value itself, so that who reaches the value reaches the text.
 #[derive(Drop)]

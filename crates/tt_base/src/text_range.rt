@@ -10,12 +10,14 @@ pub struct TextSize {
 impl TextSize {
     ghost use Rattle.tt_base.specs.Span.{size_of};
 
+    /// A place, or a length, of so many bytes.
     pub fn new(raw: u32) -> Self
         ensures { size_of result ≡ raw }
     {
         TextSize { raw }
     }
 
+    /// How many bytes.
     pub fn raw(self) -> u32
         ensures { result ≡ size_of self }
     {
@@ -99,6 +101,7 @@ impl TextRange {
         TextRange::new(offset, offset)
     }
 
+    /// Where it begins.
     pub fn start(self) -> TextSize
         ensures value { size_of result ≡ start_of self }
         ensures ordered { start_of self ≤ end_of self }
@@ -106,6 +109,7 @@ impl TextRange {
         self.start
     }
 
+    /// Where it ends: the place behind its last byte.
     pub fn end(self) -> TextSize
         ensures value { size_of result ≡ end_of self }
         ensures ordered { start_of self ≤ end_of self }
@@ -113,12 +117,14 @@ impl TextRange {
         self.end
     }
 
+    /// How many bytes it has.
     pub fn len(self) -> TextSize
         ensures { start_of self + size_of result ≡ end_of self }
     {
         TextSize::new(self.end.raw - self.start.raw)
     }
 
+    /// Whether it ends where it begins.
     pub fn is_empty(self) -> bool
         ensures { IsTrue result ↔ (start_of self ≡ end_of self) }
     {

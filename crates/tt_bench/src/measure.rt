@@ -13,7 +13,7 @@ use std::alloc::Global;
 use std::fmt;
 use std::hash::{DefaultHasher, FoldHasher, Hash, Hasher};
 use std::time::{CpuClock, Duration};
-use tt::{TokenTree, TopSubtree, TransformTtAction, TtFault, transform_tt};
+use tt::{ErasedFileAstId, TokenTree, TopSubtree, TransformTtAction, TtFault, transform_tt};
 
 /// What was measured. Its text is one line: nanoseconds, sum, bytes, parts, symbols.
 #[derive(Clone, Copy, Debug, PartialEq, Eq)]
@@ -74,6 +74,7 @@ fn measure_rounds<R: CpuClock>(
         Mode::Pack => pack(watch, alloc, list, job.rounds),
         Mode::Build => build(watch, alloc, list, job.rounds),
         Mode::Rewrite => rewrite(watch, alloc, twins, job.rounds),
+        Mode::Ids => ids(watch, alloc, twins, job.rounds),
         Mode::Expand => expand(watch, alloc, twins, job.rounds),
         Mode::Walk(way) => walk(watch, alloc, twins, way, job.rounds),
         Mode::Print(text) => print(watch, alloc, twins, text, job.rounds),
@@ -131,6 +132,22 @@ fn rewrite<R: CpuClock>(
     watch.start()?;
     for _ in 0..rounds {
         transform_tt(alloc, &mut copy, |_| TransformTtAction::Keep)?;
+    }
+    watch.stop()?;
+    Ok(0)
+}
+
+// Each round gives all spans of the same copy of a tree another id, and different ids stay different.
+fn ids<R: CpuClock>(
+    watch: &mut Stopwatch<R>,
+    alloc: Global,
+    twins: &Twins,
+    rounds: u32,
+) -> Result<u64, BenchError> {
+    let mut copy = twins.at(0).clone(alloc)?;
+    watch.start()?;
+    for _ in 0..rounds {
+        copy.change_every_ast_id(alloc, |id| ErasedFileAstId(id.0.wrapping_add(1)))?;
     }
     watch.stop()?;
     Ok(0)

@@ -13,6 +13,8 @@ pub enum Mode {
     Build,
     /// Rewriting a tree by a callback that keeps each token.
     Rewrite,
+    /// Giving the spans of a tree new ids.
+    Ids,
     /// Expanding a rule of ten variables.
     Expand,
     /// Reading a tree.
@@ -39,6 +41,7 @@ impl FromStr for Mode {
             "pack" => Ok(Mode::Pack),
             "build" => Ok(Mode::Build),
             "rewrite" => Ok(Mode::Rewrite),
+            "ids" => Ok(Mode::Ids),
             "expand" => Ok(Mode::Expand),
             "flat" => Ok(Mode::Walk(Walk::Flat)),
             "flat_whole" => Ok(Mode::Walk(Walk::FlatWhole)),

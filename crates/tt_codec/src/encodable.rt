@@ -20,13 +20,14 @@ pub trait Encodable: Copy {
     /// The value that bytes spell.
     ghost value_of: { List ℕ → Self };
 
-    /// Fills the slice with the value's bytes.
+    /// Fills the slice with the value's bytes. Its length has to be `SIZE`.
     fn write(self, into: &mut [u8])
         requires { length into.old ≡ SIZE }
         ensures bytes { into.new ≡ bytes_of self }
         ensures value { IsValue self };
 
-    /// The value whose bytes these are.
+    /// The value whose bytes these are. The length has to be `SIZE`, and the bytes have to be those of a value: of `u8`, `u16`
+    /// and `u32` all are, and of `char` those of a number that `char::from_u32` takes.
     fn read(from: &[u8]) -> Self
         requires size { length from.now ≡ SIZE }
         requires written { (value : Self) × IsValue value × (from.now ≡ bytes_of value) }

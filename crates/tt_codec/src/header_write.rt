@@ -39,7 +39,7 @@ pub(crate) fn control(form: u8, kind: DelimiterKind, high: u8) -> u8
 }
 
 impl HeaderEntry {
-    /// The top's header, whose two parts have the two indices from `part` on, and which holds so many bytes.
+    /// The top's header, whose two parts have the two indices from `part` on, both below 2^28, and which holds so many bytes.
     pub fn of_top(part: u32, top: Subtree, child_bytes: u32) -> HeaderEntry
         requires { part + 1 < 2 ^ 28 }
         ensures value { result ≡ top_entry part top.delimiter top.len child_bytes }
@@ -160,7 +160,8 @@ impl HeaderEntry {
         self.opening.write(into, PLAIN, false)
     }
 
-    /// Puts the fourth format before the bytes, with both spans in three words where `heavy` demands them.
+    /// Puts the fourth format before the bytes, with both spans in three words where `heavy` demands them. The indices of its
+    /// parts have to be below 2^28, its spans have to end below 2^32, and there has to be room for 33 bytes, as `BackBuf::with_room` asks for it.
     pub fn write_in_full(self, into: &mut BackBuf, heavy: bool)
         requires fits { HeaderFits self }
         requires room { 33 ≤ room_of into.old }

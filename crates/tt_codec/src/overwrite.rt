@@ -42,7 +42,8 @@ impl SpanNumbers {
 }
 
 impl HeaderEntry {
-    /// Puts the header in full, with both spans in three words, over the first 33 bytes.
+    /// Puts the header in full, with both spans in three words, over the first 33 bytes, of which there have to be so many. The
+    /// indices of its parts have to be below 2^28, and its spans have to end below 2^32.
     pub fn overwrite(self, bytes: &mut [u8])
         requires fits { HeaderFits self }
         requires room { 33 ≤ length bytes.old }

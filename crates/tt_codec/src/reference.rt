@@ -35,7 +35,8 @@ pub struct Reference {
 }
 
 impl Reference {
-    /// Puts the reference's bytes before the others.
+    /// Puts the reference's bytes before the others. The index has to be below 2^29 and the tag 0 or 1, and there has to be room
+    /// for four bytes, as `BackBuf::with_room` asks for it.
     #[tactic(auto, unfolding(crate::specs::Reference::reference_bytes))]
     pub fn write(self, into: &mut BackBuf)
         requires index { self.index < 2 ^ 29 }

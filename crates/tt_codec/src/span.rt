@@ -75,7 +75,7 @@ pub(crate) struct Spanned {
 }
 
 impl SpanNumbers {
-    /// The numbers of a span whose part has that index.
+    /// The numbers of a span whose part has that index, which has to be below 2^28.
     pub fn of_span(part: u32, span: &Span) -> SpanNumbers
         requires { part < 2 ^ 28 }
         ensures value { result ≡ span_numbers part span.now }
@@ -187,7 +187,8 @@ impl SpanNumbers {
     }
 
     /// Puts the bytes of the span before the others, in three words where `heavy` demands them.
-    /// Most spans take one word or two, so these are put in place, and three by a call.
+    /// The index of the part has to be below 2^28 and the extra bits below 4, and there has to be room for 12 bytes, as
+    /// `BackBuf::with_room` asks for it. Most spans take one word or two, so these are put in place, and three by a call.
     #[inline(always)]
     #[tactic(auto, unfolding(crate::specs::SpanNumbers::span_bytes))]
     pub fn write(self, into: &mut BackBuf, extra: u32, heavy: bool)

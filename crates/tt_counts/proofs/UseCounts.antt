@@ -1,5 +1,5 @@
 -- Numbers of uses that change by one use, and how many values have uses.
-use Rattle.std.proofs.Common.{◌≡◌, ℕ, zero, suc, ◌+◌, ◌<◌, ◌≤◌, Bool, true, false, cond, ◌⊎◌, inl, inr, Option, Some, None, is_some, List, [], ◌∷◌, ◌++◌, length, filter, not, nat_lt, slice_get, get_or, position, Result, Ok, Err, OnOk, OnErr, refl, ap, ap₂, sym, ◌∙◌, subst, true≢false, arith}
+use Rattle.std.proofs.Common.{◌≡◌, ℕ, zero, suc, ◌+◌, ◌<◌, ◌≤◌, Bool, true, false, cond, ◌⊎◌, inl, inr, Option, Some, None, is_some, List, [], ◌∷◌, ◌++◌, length, drop, take, filter, not, nat_lt, slice_get, get_or, position, Result, Ok, Err, OnOk, OnErr, refl, ap, ap₂, sym, ◌∙◌, subst, true≢false, arith}
 use Rattle.std.proofs.lemmas.Bool.{lt-ltb, ltb-true}
 use Rattle.std.proofs.lemmas.List.Quantifiers.{position-Some}
 use Rattle.std.proofs.lemmas.List.Sums.{sum_by-cons, sum_by-append, count_by-le-length}
@@ -293,6 +293,43 @@ module _ {X : Type 0} (same : X → X → Bool) (laws : IsEquivalence same) (sou
       complete : (x : X) → same x x ≡ true
       complete x = laws.refl x
 
+-- ---- entries of no uses behind all others
+
+module _ {X : Type 0} (same : X → X → Bool) where
+  -- Where no entry has uses, no value has.
+  number_none : (counts : List (X × ℕ)) (x : X) → AllByRecursion (λ number. number ≡ 0) (values_of counts) → number_in same counts x ≡ 0
+  number_none [] x none = refl
+  number_none (entry ∷ counts) x none = by_test (same x entry.0) (number_none counts x none.1)
+    where
+      by_test : (t : Bool) → number_in same counts x ≡ 0 → unwrap_or (cond t (Some entry.1) (lookup (same x) counts)) 0 ≡ 0
+      by_test true behind = none.0
+      by_test false behind = behind
+
+  -- Without them each value has the number that it had.
+  pub number_front : (counts : List (X × ℕ)) (len : ℕ) (x : X) → AllByRecursion (λ number. number ≡ 0) (drop len (values_of counts)) → number_in same (take len counts) x ≡ number_in same counts x
+  number_front [] zero x none = refl
+  number_front [] (suc len) x none = refl
+  number_front (entry ∷ counts) zero x none = sym (number_none (entry ∷ counts) x none)
+  number_front (entry ∷ counts) (suc len) x none = by_test (same x entry.0) (number_front counts len x none)
+    where
+      by_test : (t : Bool) → number_in same (take len counts) x ≡ number_in same counts x
+          → unwrap_or (cond t (Some entry.1) (lookup (same x) (take len counts))) 0 ≡ unwrap_or (cond t (Some entry.1) (lookup (same x) counts)) 0
+      by_test true behind = refl
+      by_test false behind = behind
+
+used_none : {X : Type 0} (counts : List (X × ℕ)) → AllByRecursion (λ number. number ≡ 0) (values_of counts) → used_count counts ≡ 0
+used_none [] none = refl
+used_none (entry ∷ counts) none =
+    omega (arith, sum_by-cons (λ e. one_if (nat_lt 0 e.1)) entry counts, ap (λ n. one_if (nat_lt 0 n)) none.0, used_none counts none.1)
+
+-- And as many values have uses.
+pub used_front : {X : Type 0} (counts : List (X × ℕ)) (len : ℕ) → AllByRecursion (λ number. number ≡ 0) (drop len (values_of counts)) → used_count (take len counts) ≡ used_count counts
+used_front [] zero none = refl
+used_front [] (suc len) none = refl
+used_front (entry ∷ counts) zero none = sym (used_none (entry ∷ counts) none)
+used_front (entry ∷ counts) (suc len) none =
+    omega (arith, sum_by-cons (λ e. one_if (nat_lt 0 e.1)) entry (take len counts), sum_by-cons (λ e. one_if (nat_lt 0 e.1)) entry counts, used_front counts len none)
+
 -- ---- where a value stands
 
 -- An entry has a key and a number.
@@ -324,6 +361,49 @@ stands_inserted same sound (entry ∷ entries) x n = by_test (same x entry.0) re
     by_test true e later = ap Some (sym (sound x entry.0 e))
     by_test false e later = later
 
+-- A number that is put back behind an insertion leaves the counts as they were.
+pub put_back : {X : Type 0} (same : X → X → Bool) (entries : List (X × ℕ)) (x : X) (n m : ℕ) → lookup (same x) entries ≡ Some n
+    → set_value_at (insert_entry same entries x m) (index_in (same x) (keys_of entries)) n ≡ entries
+put_back same [] x n m found = absurd (cc found)
+put_back same (entry ∷ entries) x n m found = by_test (same x entry.0) found (put_back same entries x n m)
+  where
+    by_test : (t : Bool) → cond t (Some entry.1) (lookup (same x) entries) ≡ Some n
+        → (lookup (same x) entries ≡ Some n → set_value_at (insert_entry same entries x m) (index_in (same x) (keys_of entries)) n ≡ entries)
+        → set_value_at (cond t ((entry.0, m) ∷ entries) (entry ∷ insert_entry same entries x m)) (cond t 0 (suc (index_in (same x) (keys_of entries)))) n ≡ entry ∷ entries
+    by_test true there later = ap (λ k. (entry.0, k) ∷ entries) (cc there)
+    by_test false there later = ap (λ rest. entry ∷ rest) (later there)
+
+-- A value that has a number stands where it is found first.
+pub stands_there : {X : Type 0} (same : X → X → Bool) → ((x y : X) → same x y ≡ true → x ≡ y) → (entries : List (X × ℕ)) (x : X) (n : ℕ) → lookup (same x) entries ≡ Some n
+    → slice_get (keys_of entries) (index_in (same x) (keys_of entries)) ≡ Some x
+stands_there same sound [] x n found = absurd (cc found)
+stands_there same sound (entry ∷ entries) x n found = by_test (same x entry.0) refl found (stands_there same sound entries x n)
+  where
+    by_test : (t : Bool) → same x entry.0 ≡ t → cond t (Some entry.1) (lookup (same x) entries) ≡ Some n
+        → (lookup (same x) entries ≡ Some n → slice_get (keys_of entries) (index_in (same x) (keys_of entries)) ≡ Some x)
+        → slice_get (keys_of (entry ∷ entries)) (cond t 0 (suc (index_in (same x) (keys_of entries)))) ≡ Some x
+    by_test true e there later = ap Some (sym (sound x entry.0 e))
+    by_test false e there later = later there
+
+-- A copy of a value was inserted with no uses, and stands at the index.
+module _ {X : Type 0} (same : X → X → Bool) (sound : (x y : X) → same x y ≡ true → x ≡ y) (before now : List (X × ℕ)) (key value : X) (index : ℕ)
+    (copy : key ≡ value) (inserted : now ≡ insert_entry same before key 0) (place : index ≡ index_in (same key) (keys_of before)) where
+  -- The value stands there.
+  pub index_inserted : slice_get (keys_of now) index ≡ Some value
+  index_inserted = ap₂ (λ entries i. slice_get (keys_of entries) i) inserted place ∙ stands_inserted same sound before key 0 ∙ ap Some copy
+
+  -- Where it had an entry, its number is put back there.
+  pub all_put_back : (uses : ℕ) → lookup (same key) before ≡ Some uses → set_value_at now index uses ≡ before
+  all_put_back uses found = ap₂ (λ entries i. set_value_at entries i uses) inserted place ∙ put_back same before key uses 0 found
+
+  -- Then it stands there still.
+  pub index_put_back : (uses : ℕ) → lookup (same key) before ≡ Some uses → slice_get (keys_of (set_value_at now index uses)) index ≡ Some value
+  index_put_back uses found = ap₂ (λ entries i. slice_get (keys_of entries) i) (all_put_back uses found) place ∙ stands_there same sound before key uses found ∙ ap Some copy
+
+  -- Where it had none, as many values have uses as before.
+  pub used_inserted : lookup (same key) before ≡ None → used_count before ≡ used_count now
+  used_inserted absent = sym (ap used_count inserted ∙ used_new same before key absent)
+
 -- What is not there is `None`.
 pub none_there : {X : Type 0} (found : Option X) → is_some found ≡ false → found ≡ None
 none_there None e = refl
@@ -343,6 +423,13 @@ module _ {X : Type 0} (same : X → X → Bool) where
   -- Numbers that stay.
   pub counts_same : (uses : List X) (old now : List (X × ℕ)) → CountsUses same uses old → CountsMore same [] old now → CountsUses same uses now
   counts_same uses old now right stay x = omega (arith, stay x, right x, none)
+    where
+      none : uses_of same [] x ≡ 0
+      none = refl
+
+  -- The same counts have the same numbers.
+  pub counts_unchanged : (counts : List (X × ℕ)) → CountsMore same [] counts counts
+  counts_unchanged counts x = omega (arith, none)
     where
       none : uses_of same [] x ≡ 0
       none = refl

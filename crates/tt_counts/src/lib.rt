@@ -1,8 +1,9 @@
 //! Numbers of uses, kept while uses come and go.
 #![tactic(auto)]
 
-ghost use Rattle.std.specs.Prelude.{◌≡◌, ◌+◌, ◌<◌, ◌^◌, [], ◌∷◌, true, List, Some, length, slice_get, IfOk, OnOk, OnErr};
+ghost use Rattle.std.specs.Prelude.{◌≡◌, ◌+◌, ◌<◌, ◌^◌, [], ◌∷◌, true, List, Some, drop, length, slice_get, IfOk, OnOk, OnErr};
 ghost use Rattle.std.specs.Bool.{OnTrue};
+ghost use Rattle.std.specs.List.{AllByRecursion};
 ghost use Rattle.indexmap.specs.IndexMap.{keys};
 ghost use Rattle.tt_tables.specs.TableOrder.{different};
 ghost use Rattle.tt_tables.specs.Counts.{number_in, used_count, CountsUses, CountsMore};
@@ -23,6 +24,19 @@ fn is_at<T: Eq>(values: &[T], index: usize, value: &T) -> bool
     values[index] == *value
 }
 
+// How many numbers stand up to the last that is not 0.
+fn len_to_last_used(numbers: &[usize]) -> usize
+    ensures { AllByRecursion (λ number. number ≡ 0) (drop result numbers.now) }
+{
+    for unused in 0..numbers.len() {
+        let len = numbers.len() - unused;
+        if numbers[len - 1] != 0 {
+            return len;
+        }
+    }
+    0
+}
+
 /// The numbers of uses of values. A value may have an entry and no uses.
 #[derive(Drop, Debug)]
 pub struct Counts<T: Eq + Hash> {
@@ -35,18 +49,19 @@ pub struct Counts<T: Eq + Hash> {
 }
 
 impl<T: Eq + Hash + Clone + Drop> Counts<T> {
-    /// Nothing is used.
-    pub fn new(alloc: Global) -> Counts<T>
-        ensures { result.numbers.entries ≡ [] }
+    /// Nothing is used, and there is room for so many values.
+    pub fn with_capacity(alloc: Global, capacity: usize) -> Result<Counts<T>, AllocError>
+        ensures { IfOk result (λ counts. counts.numbers.entries ≡ []) }
     {
-        Counts {
-            numbers: IndexMap::new(alloc),
+        Ok(Counts {
+            numbers: IndexMap::with_capacity(alloc, capacity)?,
             used: 0,
             last: 0,
-        }
+        })
     }
 
-    /// The index of a value. One that is new gets an entry of no uses.
+    /// The index of a value. One that is new gets an entry of no uses; the number of another is put back, so that its text
+    /// is hashed once in either case.
     #[inline(never)]
     pub fn index_of(&mut self, value: &T) -> Result<usize, AllocError>
         requires copies { (x y : T) → T.is_clone x y → y ≡ x }
@@ -54,11 +69,25 @@ impl<T: Eq + Hash + Clone + Drop> Counts<T> {
         ensures stays { CountsMore T.eq [] self.old.numbers.entries self.new.numbers.entries }
         ensures index { IfOk result (λ index. slice_get (keys self.new.numbers) index ≡ Some value.now) }
     {
-        if let Some(index) = self.numbers.get_index_of(value) {
+        let (index, before) = self.numbers.insert_full(value.clone()?, 0)?;
+        if let Some(uses) = before {
+            self.numbers[index] = uses;
+        }
+        Ok(index)
+    }
+
+    /// The same, but it is first looked for at an index.
+    #[inline(always)]
+    pub fn index_at(&mut self, index: usize, value: &T) -> Result<usize, AllocError>
+        requires copies { (x y : T) → T.is_clone x y → y ≡ x }
+        requires same { (x y : T) → T.eq x y ≡ true → x ≡ y }
+        ensures stays { CountsMore T.eq [] self.old.numbers.entries self.new.numbers.entries }
+        ensures index { IfOk result (λ found. slice_get (keys self.new.numbers) found ≡ Some value.now) }
+    {
+        if is_at(self.numbers.keys().as_slice(), index, value) {
             return Ok(index);
         }
-        let (index, _) = self.numbers.insert_full(value.clone()?, 0)?;
-        Ok(index)
+        self.index_of(value)
     }
 
     /// The same, but it is first looked for where one was found last.
@@ -69,10 +98,7 @@ impl<T: Eq + Hash + Clone + Drop> Counts<T> {
         ensures stays { CountsMore T.eq [] self.old.numbers.entries self.new.numbers.entries }
         ensures index { IfOk result (λ index. slice_get (keys self.new.numbers) index ≡ Some value.now) }
     {
-        if is_at(self.numbers.keys().as_slice(), self.last, value) {
-            return Ok(self.last);
-        }
-        let index = self.index_of(value)?;
+        let index = self.index_at(self.last, value)?;
         self.last = index;
         Ok(index)
     }
@@ -127,6 +153,7 @@ impl<T: Eq + Hash + Clone + Drop> Counts<T> {
         requires room { (x : T) → number_in T.eq self.old.numbers.entries x + 1 < 2 ^ 64 }
         ensures ok { OnOk result (CountsMore T.eq (value.now ∷ []) self.old.numbers.entries self.new.numbers.entries) }
         ensures err { OnErr result (CountsMore T.eq [] self.old.numbers.entries self.new.numbers.entries) }
+        ensures index { IfOk result (λ index. slice_get (keys self.new.numbers) index ≡ Some value.now) }
     {
         let index = self.index_near(value)?;
         self.add_at(index);
@@ -164,6 +191,14 @@ impl<T: Eq + Hash + Clone + Drop> Counts<T> {
     {
         let index = self.index_of_used(value);
         self.add_at(index);
+    }
+
+    /// The entries of no uses behind all others go, so that a value that comes next stands behind one that is used.
+    pub fn drop_last_unused(&mut self)
+        ensures { CountsMore T.eq [] self.old.numbers.entries self.new.numbers.entries }
+    {
+        let len = len_to_last_used(self.numbers.values().as_slice());
+        self.numbers.truncate(len);
     }
 
     /// The number of uses of a value.

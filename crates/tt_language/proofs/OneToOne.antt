@@ -1,5 +1,5 @@
 -- No two values are spelled alike.
-use Rattle.std.proofs.Common.{◌≡◌, ℕ, ◌^◌, ◌<◌, ◌≤◌, List, [], get_or, take, drop, refl, sym, ap, ◌∙◌, lit<, arith}
+use Rattle.std.proofs.Common.{◌≡◌, ◌++◌, ℕ, ◌^◌, ◌<◌, ◌≤◌, List, [], get_or, take, drop, refl, sym, ap, ◌∙◌, lit<, arith}
 use Rattle.std.specs.Prelude.{codes, encode_utf8, if◌then◌else◌}
 use Rattle.std.specs.Char.{IsScalar}
 use Rattle.std.specs.Fmt.{decimal}
@@ -26,8 +26,7 @@ use Rattle.tt_language.specs.Token.{kind_word, spacing_word, raw_word, literal_k
 use Rattle.tt_language.specs.Verb.{verb_word, view_word}
 use Rattle.tt_language.specs.WordLaws.{own, spaceless_byte, spaceless_kind, spaceless_spacing, spaceless_rawness, spaceless_literal_kind, spaceless_span}
 use Rattle.tt_language.proofs.Cutting.{words_same}
-use Rattle.tt_language.proofs.Spans.{Begins, after_file, after_ast, after_start, past_file, past_ast, past_start, past_end}
-use Rattle.tt_base.proofs.SpanTexts.{span_text-from_left}
+use Rattle.tt_language.proofs.Spans.{Begins, after_file, after_ast, after_start, from_left, past_file, past_ast, past_start, past_end}
 
 -- values that fit are equal where they are spelled alike
 abbrev pub IsOneToOne : {A : Type 0} → (A → List ℕ) → (A → Type 0) → Type 0
@@ -117,15 +116,17 @@ one_character c d p q e = (encode_same c d [] [] (append-nil _ ∙ e ∙ sym (ap
 
 pub one_span : IsOneToOne span_text SpanFits
 one_span a b p q e =
-    let file : Begins 58 (span_text a) a.anchor.file_id.0 (after_file a) = (span_text-from_left a, p.file) in
-    let ast : Begins 64 (after_file a) a.anchor.ast_id.0 (after_ast a) = (refl, p.ast) in
-    let start : Begins 46 (after_ast a) (start_of a.range) (after_start a) = (refl, p.start) in
-    let end : Begins 35 (drop 1 (after_start a)) (end_of a.range) (decimal a.ctx.0) = (refl, p.end) in
-    let starts = (past_start b q e file ast start).0 in
-    let (ends, ctx) = past_end b q e file ast start refl end in
+    let same : span_text a ≡ span_text b ++ [] = e ∙ sym (append-nil (span_text b)) in
+    let file : Begins 58 (span_text a) a.anchor.file_id.0 (after_file a []) = (sym (append-nil (span_text a)) ∙ from_left a [], p.file) in
+    let ast : Begins 64 (after_file a []) a.anchor.ast_id.0 (after_ast a []) = (refl, p.ast) in
+    let start : Begins 46 (after_ast a []) (start_of a.range) (after_start a []) = (refl, p.start) in
+    let end : Begins 35 (drop 1 (after_start a [])) (end_of a.range) (decimal a.ctx.0 ++ []) = (refl, p.end) in
+    let starts = (past_start b [] q same file ast start).0 in
+    let (ends, behind) = past_end b [] q same file ast start refl end in
+    let ctx : decimal a.ctx.0 ≡ decimal b.ctx.0 = sym (append-nil (decimal a.ctx.0)) ∙ behind ∙ append-nil (decimal b.ctx.0) in
     λ i. record {
       range = same_range a.range b.range starts ends i;
-      anchor = record { file_id = record { 0 = (past_file b q e file).0 i }; ast_id = record { 0 = (past_ast b q e file ast).0 i } };
+      anchor = record { file_id = record { 0 = (past_file b [] q same file).0 i }; ast_id = record { 0 = (past_ast b [] q same file ast).0 i } };
       ctx = record { 0 = one_number a.ctx.0 b.ctx.0 p.ctx q.ctx ctx i };
     }
 

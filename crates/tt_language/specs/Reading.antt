@@ -1,5 +1,5 @@
 -- What it is to read a text.
-use Rattle.std.specs.Prelude.{◌≡◌, ◌≢◌, ℕ, List, [], ◌∷◌, ◌++◌, Option, None, Some, All}
+use Rattle.std.specs.Prelude.{◌≡◌, ◌≢◌, ◌⊎◌, ◌<◌, ℕ, List, [], ◌∷◌, ◌++◌, Option, None, Some, All}
 use Rattle.std.specs.Borrow.{Bor}
 
 -- no byte of the text is this one
@@ -41,6 +41,16 @@ ReadsPieces pieces Fits text result = Reads (λ value. spaced (pieces value)) Fi
 abbrev pub ReadsBefore : {A : Type 0} → ℕ → (A → List ℕ) → (A → Type 0) → List ℕ → Option (A × Bor (List ℕ)) → Type 0
 ReadsBefore byte spelling Fits text (Some found) = (text ≡ spelling found.0 ++ byte ∷ found.1.now) × Fits found.0
 ReadsBefore {A} byte spelling Fits text None = (value : A) (rest : List ℕ) → Fits value → text ≢ spelling value ++ byte ∷ rest
+
+-- the text is empty or begins with another byte than a digit
+abbrev pub BeginsWithNoDigit : List ℕ → Type 0
+BeginsWithNoDigit [] = Unit {0}
+BeginsWithNoDigit (b ∷ rest) = b < 48 ⊎ 57 < b
+
+-- the result is what the text begins with, up to a place where no digit follows, or nothing where nothing that fits stands so
+abbrev pub ReadsFront : {A : Type 0} → (A → List ℕ) → (A → Type 0) → List ℕ → Option (A × Bor (List ℕ)) → Type 0
+ReadsFront spelling Fits text (Some found) = (text ≡ spelling found.0 ++ found.1.now) × Fits found.0 × BeginsWithNoDigit found.1.now
+ReadsFront {A} spelling Fits text None = (value : A) (rest : List ℕ) → Fits value → BeginsWithNoDigit rest → text ≢ spelling value ++ rest
 
 -- the result is the first piece behind a space, and the text from the next space on, or nothing where no word that fits stands so
 abbrev pub ReadsNext : {A : Type 0} → (A → List ℕ) → (A → Type 0) → List ℕ → Option (A × Bor (List ℕ)) → Type 0

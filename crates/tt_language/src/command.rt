@@ -4,6 +4,7 @@ ghost use Rattle.tt_base.specs.declared.fault.TtFault.TheVariants.{Memory};
 ghost use Rattle.tt_language.specs.Reading.{IsOneLine, Reads};
 
 mod action;
+mod front;
 mod kinds;
 mod numbers;
 mod part;
@@ -15,9 +16,12 @@ mod word;
 
 use crate::many::Many;
 use crate::slot::Slot;
+use crate::texts::Texts;
 pub use action::Action;
+use front::after_item;
 use part::Part;
 use std::alloc::Global;
+use tokens::token;
 use tt_base::{Delimiter, DelimiterKind, Leaf, Span, TokenTree, TtFault};
 use verb::Verb;
 pub use view::View;
@@ -83,15 +87,16 @@ pub enum Command {
 
 // What follows the first word, read as the values of a command.
 macro_rules! read {
-    ($alloc:expr, $rest:expr; $make:expr) => {
-        Ok(Part::read($alloc, $rest)?.map($make))
+    ($texts:expr, $rest:expr; $make:expr) => {
+        Ok(Part::read($texts, $rest)?.map($make))
     };
 }
 
 impl Command {
     ghost use Rattle.tt_language.specs.Command.{CommandFits, IsNoCommand, StandsFor, spell};
 
-    /// The command that the line stands for, if there is one. The line is given without its line feed.
+    /// The command that the line stands for, if there is one. The line is given without its line feed. The only fault is
+    /// that of memory.
     pub fn parse(alloc: Global, line: &[u8]) -> Result<Option<Command>, TtFault>
         ensures reads { IfOk result (λ found. MatchOption found (IsNoCommand line.now) (StandsFor line.now)) }
         ensures one_line { IfOk result (λ found. IfSome found (λ _. IsOneLine line.now)) }
@@ -101,11 +106,25 @@ impl Command {
         if cut(line, b'\n').is_some() {
             return Ok(None);
         }
-        Command::read(alloc, line)
+        let mut texts = Texts::apart(alloc);
+        Command::parse_with(&mut texts, line)
+    }
+
+    /// The same of a line that holds no line feed, which is not looked for again. Texts come from those.
+    #[inline(always)]
+    pub fn parse_with(texts: &mut Texts, line: &[u8]) -> Result<Option<Command>, TtFault>
+        requires one_line { IsOneLine line.now }
+        ensures reads { IfOk result (λ found. MatchOption found (IsNoCommand line.now) (StandsFor line.now)) }
+        ensures err { IfErr result (λ fault. fault ≡ Memory) }
+    {
+        if let Some(rest) = after_item(line) {
+            return Ok(token(texts, rest)?.map(Command::Item));
+        }
+        Command::read(texts, line)
     }
 
     // The first word tells how the rest is read.
-    fn read(alloc: Global, line: &[u8]) -> Result<Option<Command>, TtFault>
+    fn read(texts: &mut Texts, line: &[u8]) -> Result<Option<Command>, TtFault>
         ensures reads { IfOk result (Reads spell CommandFits line.now) }
         ensures err { IfErr result (λ fault. fault ≡ Memory) }
     {
@@ -114,38 +133,38 @@ impl Command {
             return Ok(None);
         };
         match verb {
-            Verb::Item => read!(alloc, rest; Command::Item),
-            Verb::Clear => read!(alloc, rest; |()| Command::Clear),
-            Verb::List => read!(alloc, rest; |(slot, ())| Command::List(slot)),
-            Verb::New => read!(alloc, rest; |(kind, (open_span, (close, ())))| {
+            Verb::Item => read!(texts, rest; Command::Item),
+            Verb::Clear => read!(texts, rest; |()| Command::Clear),
+            Verb::List => read!(texts, rest; |(slot, ())| Command::List(slot)),
+            Verb::New => read!(texts, rest; |(kind, (open_span, (close, ())))| {
                 Command::New(Delimiter { open_span, close, kind })
             }),
-            Verb::Open => read!(alloc, rest; |(kind, (span, ()))| Command::Open(kind, span)),
-            Verb::Push => read!(alloc, rest; Command::Push),
-            Verb::Close => read!(alloc, rest; |(span, ())| Command::Close(span)),
-            Verb::Append => read!(alloc, rest; |(slot, ())| Command::Append(slot)),
-            Verb::Alone => read!(alloc, rest; |(slot, ())| Command::Alone(slot)),
-            Verb::Unwrap => read!(alloc, rest; |()| Command::Unwrap),
-            Verb::Point => read!(alloc, rest; |()| Command::Point),
-            Verb::Restore => read!(alloc, rest; |(number, ())| Command::Restore(number)),
-            Verb::Expected => read!(alloc, rest; |()| Command::Expected),
-            Verb::Counts => read!(alloc, rest; |()| Command::Counts),
-            Verb::Build => read!(alloc, rest; |(slot, ())| Command::Build(slot)),
-            Verb::Skip => read!(alloc, rest; |(slot, ())| Command::Skip(slot)),
-            Verb::Copy => read!(alloc, rest; |(to, (from, ()))| Command::Copy(to, from)),
-            Verb::Kind => read!(alloc, rest; |(slot, (kind, ()))| Command::Kind(slot, kind)),
+            Verb::Open => read!(texts, rest; |(kind, (span, ()))| Command::Open(kind, span)),
+            Verb::Push => read!(texts, rest; Command::Push),
+            Verb::Close => read!(texts, rest; |(span, ())| Command::Close(span)),
+            Verb::Append => read!(texts, rest; |(slot, ())| Command::Append(slot)),
+            Verb::Alone => read!(texts, rest; |(slot, ())| Command::Alone(slot)),
+            Verb::Unwrap => read!(texts, rest; |()| Command::Unwrap),
+            Verb::Point => read!(texts, rest; |()| Command::Point),
+            Verb::Restore => read!(texts, rest; |(number, ())| Command::Restore(number)),
+            Verb::Expected => read!(texts, rest; |()| Command::Expected),
+            Verb::Counts => read!(texts, rest; |()| Command::Counts),
+            Verb::Build => read!(texts, rest; |(slot, ())| Command::Build(slot)),
+            Verb::Skip => read!(texts, rest; |(slot, ())| Command::Skip(slot)),
+            Verb::Copy => read!(texts, rest; |(to, (from, ()))| Command::Copy(to, from)),
+            Verb::Kind => read!(texts, rest; |(slot, (kind, ()))| Command::Kind(slot, kind)),
             Verb::Spans =>
-                read!(alloc, rest; |(slot, (open, (close, ())))| Command::Spans(slot, open, close)),
+                read!(texts, rest; |(slot, (open, (close, ())))| Command::Spans(slot, open, close)),
             Verb::Set =>
-                read!(alloc, rest; |(slot, (place, leaf))| Command::Set(slot, place, leaf)),
-            Verb::Ids => read!(alloc, rest; |(slot, ids)| Command::Ids(slot, ids)),
-            Verb::Rewrite => read!(alloc, rest; |(slot, actions)| Command::Rewrite(slot, actions)),
-            Verb::Expand => read!(alloc, rest; |(pattern, (template, (input, (to, ()))))| {
+                read!(texts, rest; |(slot, (place, leaf))| Command::Set(slot, place, leaf)),
+            Verb::Ids => read!(texts, rest; |(slot, ids)| Command::Ids(slot, ids)),
+            Verb::Rewrite => read!(texts, rest; |(slot, actions)| Command::Rewrite(slot, actions)),
+            Verb::Expand => read!(texts, rest; |(pattern, (template, (input, (to, ()))))| {
                 Command::Expand(pattern, template, input, to)
             }),
-            Verb::View(view) => read!(alloc, rest; |(slot, ())| Command::View(view, slot)),
-            Verb::Split => read!(alloc, rest; |(slot, char)| Command::Split(slot, char)),
-            Verb::Equal => read!(alloc, rest; |(left, (right, ()))| Command::Equal(left, right)),
+            Verb::View(view) => read!(texts, rest; |(slot, ())| Command::View(view, slot)),
+            Verb::Split => read!(texts, rest; |(slot, char)| Command::Split(slot, char)),
+            Verb::Equal => read!(texts, rest; |(left, (right, ()))| Command::Equal(left, right)),
         }
     }
 }

@@ -6,8 +6,10 @@ mod command;
 mod many;
 mod slot;
 mod spelling;
+mod texts;
 
 pub use command::{Action, Command, View};
 pub use many::Many;
 pub use slot::Slot;
 pub use spelling::{Spelled, kind_name};
+pub use texts::Texts;

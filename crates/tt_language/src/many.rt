@@ -25,6 +25,7 @@ impl<T> Many<T> {
         Many { items }
     }
 
+    /// The values, in order.
     pub fn as_slice(&self) -> &[T]
         ensures { result.now ≡ self.now }
     {

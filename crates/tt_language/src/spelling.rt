@@ -121,6 +121,7 @@ impl fmt::Display for SpelledKind {
     }
 }
 
+/// The word that spells a kind of delimiter.
 pub fn kind_name(kind: DelimiterKind) -> &'static str
     ensures { result.now ≡ kind_word kind }
 {

@@ -1,13 +1,13 @@
--- How values with known numbers of uses are noted in the order of their first uses.
+-- How values with known numbers of uses are noted, where they stand in the order of their first uses.
 use Rattle.std.proofs.Common.{◌≡◌, ℕ, suc, zero, ◌+◌, ◌<◌, ◌≤◌, ◌⊎◌, inl, inr, Bool, true, false, cond, ◌||◌, Some, List, [], ◌∷◌, ◌++◌, map, fold, flat_map, get_or, set, take, length, length-append, position, slice_get, bytes_eq, refl, ap, ap₂, sym, subst, ◌∙◌, append-nil, append_assoc, true≢false, arith}
-use Rattle.std.proofs.lemmas.List.{take_more, length-set}
+use Rattle.std.proofs.lemmas.List.{take_more, take-map}
 use Rattle.std.proofs.lemmas.Map.Entries.{lookup_from_place}
 use Rattle.std.proofs.lemmas.List.Quantifiers.{position-Some}
 use Rattle.std.proofs.lemmas.List.Sums.{sum_by-cons}
-use Rattle.std.proofs.lemmas.Option.{slice_get_within, slice_get-get_or}
+use Rattle.std.proofs.lemmas.Option.{slice_get_within, slice_get-get_or, get_or_from_slice_get}
 use Rattle.std.specs.Cmp.{IsEquivalence}
 use Rattle.std.specs.List.{AllZip, AllByRecursion, IsDistinct, list_any}
-use Rattle.std.specs.Map.{keys_of, values_of}
+use Rattle.std.specs.Map.{keys_of, values_of, lookup}
 use Rattle.std.specs.Option.{unwrap_or}
 use Rattle.tt_base.specs.declared.span.SpanPart.{SpanPart}
 use Rattle.tt_base.specs.declared.token_tree.TokenTree.{TokenTree}
@@ -16,7 +16,6 @@ use Rattle.tt_tables.specs.TableOrder.{index_in, different, uses_of}
 use Rattle.tt_tables.specs.Uses.{same_part, token_parts, token_symbols}
 use Rattle.tt_pack.specs.declared.uses.TokenUses.{TokenUses}
 use Rattle.tt_pack.specs.Counted.{note_value}
-use Rattle.tt_pack.specs.Noted.{ArePlaces, AreUsed}
 use Rattle.tt_pack.specs.TablesOf.{StandsAt, AreUses}
 use Rattle.tt_pack.proofs.Different.{different-snoc}
 use Rattle.tt_pack.proofs.Kept.{uses_map}
@@ -51,100 +50,44 @@ module _ {X : Type 0} (same : X → X → Bool) where
   pub noted_new : (values : List X) (x : X) → list_any (λ y. same y x) values ≡ false → values ++ x ∷ [] ≡ note_value same values x
   noted_new values x new = sym (noted_by values x false new)
 
-  -- Where it is noted, it stands somewhere.
-  stands_somewhere : ((x y : X) → same x y ≡ true → x ≡ y) → (values : List X) (x : X) → list_any (λ y. same y x) values ≡ true → (i : ℕ) × (slice_get values i ≡ Some x)
-  stands_somewhere sound [] x e = absurd (true≢false (sym e))
-  stands_somewhere sound (y ∷ values) x e = by_test (same y x) refl e (stands_somewhere sound values x)
-    where
-      by_test : (t : Bool) → same y x ≡ t → (t || list_any (λ z. same z x) values) ≡ true
-          → (list_any (λ z. same z x) values ≡ true → (i : ℕ) × (slice_get values i ≡ Some x)) → (i : ℕ) × (slice_get (y ∷ values) i ≡ Some x)
-      by_test true is e later = (0, ap Some (sound y x is))
-      by_test false is e later = let (i, at) = later e in (suc i, at)
-
   -- Where a search among values ends, the value stands.
   pub found_at : ((x y : X) → same x y ≡ true → x ≡ y) → (values : List X) (i : ℕ) (x : X) → position (same x) values ≡ Some i → slice_get values i ≡ Some x
   found_at sound values i x found =
       let (within, passes, first) = position-Some (same x) values i x found in
       slice_get-get_or values i x within ∙ ap Some (sym (sound x (get_or values i x) passes))
 
-  -- Where an index is found, the value stands.
-  found_stands : ((x y : X) → same x y ≡ true → x ≡ y) → (all : List X) (x : X) → index_in (same x) all < length all → slice_get all (index_in (same x) all) ≡ Some x
-  found_stands sound [] x within = absurd (omega (arith, within))
-  found_stands sound (y ∷ all) x within = by_test (same x y) refl within (found_stands sound all x)
+  -- Where values differ, none in front of one is the same.
+  none_before : IsEquivalence same → (all : List X) (i : ℕ) (x : X) → IsDistinct same all → slice_get all i ≡ Some x → list_any (λ y. same y x) (take i all) ≡ false
+  unfolding IsDistinct
+  none_before laws [] i x distinct at = absurd (cc at)
+  none_before laws (y ∷ all) zero x distinct at = refl
+  none_before laws (y ∷ all) (suc i) x distinct at = ap₂ (λ s t. s || t) (apart all i distinct.0 at) (none_before laws all i x distinct.1 at)
     where
-      by_test : (t : Bool) → same x y ≡ t → cond t 0 (suc (index_in (same x) all)) < suc (length all)
-          → (index_in (same x) all < length all → slice_get all (index_in (same x) all) ≡ Some x)
-          → slice_get (y ∷ all) (cond t 0 (suc (index_in (same x) all))) ≡ Some x
-      by_test true is within later = ap Some (sym (sound x y is))
-      by_test false is within later = later (omega (arith, within))
-
-  -- The number of a value is the one beside it.
-  pub number_there : IsEquivalence same → (known : List (X × ℕ)) (i : ℕ) (x : X) (n : ℕ) → IsDistinct same (keys_of known) → slice_get (keys_of known) i ≡ Some x
-      → slice_get (values_of known) i ≡ Some n → n ≡ number_in same known x
-  number_there laws known i x n distinct key value =
-      sym (ap (λ found. unwrap_or found 0) (lookup_from_place laws known i x n distinct (beside known i key value)))
-    where
-      beside : (counts : List (X × ℕ)) (j : ℕ) → slice_get (keys_of counts) j ≡ Some x → slice_get (values_of counts) j ≡ Some n → slice_get counts j ≡ Some (x, n)
-      beside [] j k v = absurd (cc k)
-      beside (e ∷ counts) zero k v = ap₂ (λ a b. Some (a, b)) is_key is_value
+      apart : (others : List X) (j : ℕ) → AllByRecursion (λ z. same y z ≡ false) others → slice_get others j ≡ Some x → same y x ≡ false
+      apart [] j all here = absurd (cc here)
+      apart (z ∷ others) zero all here = subst (λ v. same y v ≡ false) (is here) all.0
         where
-          is_key : e.0 ≡ x
-          is_key = cc k
+          is : Some z ≡ Some x → z ≡ x
+          is e = cc e
+      apart (z ∷ others) (suc j) all here = apart others j all.1 here
 
-          is_value : e.1 ≡ n
-          is_value = cc v
-      beside (e ∷ counts) (suc j) k v = beside counts j k v
+  -- In front of a later place, a value stands where it stands.
+  pub stands_in_front : (all : List X) (seen i : ℕ) (x : X) → i < seen → slice_get all i ≡ Some x → slice_get (take seen all) i ≡ Some x
+  stands_in_front [] seen i x less at = absurd (cc at)
+  stands_in_front (y ∷ all) zero i x less at = absurd (omega (arith, less))
+  stands_in_front (y ∷ all) (suc seen) zero x less at = at
+  stands_in_front (y ∷ all) (suc seen) (suc i) x less at = stands_in_front all seen i x (omega (arith, less)) at
 
-  module _ (laws : IsEquivalence same) (sound : (x y : X) → same x y ≡ true → x ≡ y) (all values : List X) (places : List ℕ) (right : ArePlaces same all values places)
-      (distinct : IsDistinct same all) (index : ℕ) (x : X) (at : slice_get all index ≡ Some x) where
-    -- There is a place for each value of all.
-    pub place_within : index < length places
-    place_within = omega (arith, right.long, slice_get_within all index x at)
+  -- A value that was seen is noted.
+  pub seen_again : IsEquivalence same → (all : List X) (seen i : ℕ) (x : X) → i < seen → slice_get all i ≡ Some x → take seen all ≡ note_value same (take seen all) x
+  seen_again laws all seen i x less at = noted_there laws (take seen all) i x (stands_in_front all seen i x less at)
 
-    -- Where another value stands at the place that is kept for it, the value is new.
-    pub is_new : (place : ℕ) → slice_get places index ≡ Some place → (slice_get values place ≡ Some x → ⊥) → list_any (λ y. same y x) values ≡ false
-    is_new place kept other = by_test (list_any (λ y. same y x) values) refl
-      where
-        by_test : (t : Bool) → list_any (λ y. same y x) values ≡ t → list_any (λ y. same y x) values ≡ false
-        by_test false e = e
-        by_test true e =
-            let (k, stands) = stands_somewhere sound values x e in
-            let here : slice_get places index ≡ Some k = ap (slice_get places) (sym (index_in-distinct same laws all index x distinct at)) ∙ right.right k x stands in
-            let is : k ≡ place = cc (here, kept) in
-            absurd (other (ap (slice_get values) (sym is) ∙ stands))
-
-    -- Then its place is kept, and those of the others are as they were.
-    pub places_grow : list_any (λ y. same y x) values ≡ false → ArePlaces same all (values ++ x ∷ []) (set places index (length values))
-    places_grow new =
-        record {
-          long = length-set places index (length values) ∙ right.long;
-          right = λ k y stands. by_end k y (front_or_last values k y stands);
-        }
-      where
-        front_or_last : (xs : List X) (k : ℕ) (y : X) → slice_get (xs ++ x ∷ []) k ≡ Some y → (slice_get xs k ≡ Some y) ⊎ ((k ≡ length xs) × (x ≡ y))
-        front_or_last [] zero y stands = inr (refl, cc stands)
-        front_or_last [] (suc k) y stands = absurd (cc stands)
-        front_or_last (z ∷ xs) zero y stands = inl stands
-        front_or_last (z ∷ xs) (suc k) y stands = by_rest (front_or_last xs k y stands)
-          where
-            by_rest : (slice_get xs k ≡ Some y) ⊎ ((k ≡ length xs) × (x ≡ y)) → (slice_get xs k ≡ Some y) ⊎ ((suc k ≡ suc (length xs)) × (x ≡ y))
-            by_rest (inl front) = inl front
-            by_rest (inr last) = inr (ap suc last.0, last.1)
-
-        by_end : (k : ℕ) (y : X) → (slice_get values k ≡ Some y) ⊎ ((k ≡ length values) × (x ≡ y)) → slice_get (set places index (length values)) (index_in (same y) all) ≡ Some k
-        by_end k y (inl front) = slice_get-set_other places index (index_in (same y) all) (length values) apart ∙ right.right k y front
-          where
-            apart : index ≡ index_in (same y) all → ⊥
-            apart e = true≢false (sym (sym (ap (λ z. list_any (λ v. same v z) values) is) ∙ any_there laws values k y front) ∙ new)
-              where
-                there : slice_get all (index_in (same y) all) ≡ Some y
-                there = found_stands sound all y (omega (arith, right.long, slice_get_within places (index_in (same y) all) k (right.right k y front)))
-
-                is : y ≡ x
-                is = cc (there, at, e)
-        by_end k y (inr last) =
-            subst (λ i. slice_get (set places index (length values)) i ≡ Some k) (sym (ap (λ z. index_in (same z) all) (sym last.1) ∙ index_in-distinct same laws all index x distinct at))
-            (slice_get-set places index (length values) place_within ∙ ap Some (sym last.0))
+  -- The next one is noted last.
+  pub seen_next : IsEquivalence same → (all : List X) (i : ℕ) (x : X) → IsDistinct same all → slice_get all i ≡ Some x → take (i + 1) all ≡ note_value same (take i all) x
+  seen_next laws all i x distinct at =
+      take_more all i x (slice_get_within all i x at)
+      ∙ ap (λ y. take i all ++ y ∷ []) (get_or_from_slice_get all i x x at)
+      ∙ noted_new (take i all) x (none_before laws all i x distinct at)
 
   -- Noting a value leaves each where it stands.
   stays_noted : (values : List X) (x : X) (i : ℕ) (y : X) → slice_get values i ≡ Some y → slice_get (note_value same values x) i ≡ Some y
@@ -153,14 +96,6 @@ module _ {X : Type 0} (same : X → X → Bool) where
       by_test : (t : Bool) → slice_get (cond t values (values ++ x ∷ [])) i ≡ Some y
       by_test true = at
       by_test false = slice_get-front values x i y at
-
-  -- There is one more at most.
-  pub length-noted : (values : List X) (x : X) → length (note_value same values x) ≤ length values + 1
-  length-noted values x = by_test (list_any (λ z. same z x) values)
-    where
-      by_test : (t : Bool) → length (cond t values (values ++ x ∷ [])) ≤ length values + 1
-      by_test true = omega arith
-      by_test false = omega (arith, length-append values (x ∷ []))
 
   no_fewer_noted : (values : List X) (x : X) → length values ≤ length (note_value same values x)
   no_fewer_noted values x = by_test (list_any (λ z. same z x) values)
@@ -177,10 +112,33 @@ module _ {X : Type 0} (same : X → X → Bool) where
   stands_for_noted i y values [] at = at
   stands_for_noted i y values (x ∷ more) at = stands_for_noted i y (note_value same values x) more (stands_noted i y values x at)
 
--- Where the map counts the uses, the numbers that it has are those of the uses.
-pub numbers_are_uses : {X : Type 0} (same : X → X → Bool) (uses : List X) (known : List (X × ℕ)) (values : List X) → CountsUses same uses known
-    → map (number_in same known) values ≡ map (uses_of same uses) values
-numbers_are_uses same uses known values right = λ i. map (λ y. right y i) values
+-- ---- numbers
+
+module _ {X : Type 0} (same : X → X → Bool) (laws : IsEquivalence same) where
+  -- Where the keys differ, the numbers are those beside them.
+  numbers_beside : (known : List (X × ℕ)) → IsDistinct same (keys_of known) → values_of known ≡ map (number_in same known) (keys_of known)
+  unfolding IsDistinct
+  numbers_beside [] distinct = refl
+  numbers_beside (entry ∷ known) distinct =
+      ap₂ (λ n ns. n ∷ ns) (own (same entry.0 entry.0) (laws.refl entry.0)) (numbers_beside known distinct.1 ∙ others (keys_of known) distinct.0)
+    where
+      own : (t : Bool) → t ≡ true → entry.1 ≡ unwrap_or (cond t (Some entry.1) (lookup (same entry.0) known)) 0
+      own true e = refl
+      own false e = absurd (true≢false (sym e))
+
+      others : (values : List X) → AllByRecursion (λ z. same entry.0 z ≡ false) values → map (number_in same known) values ≡ map (number_in same (entry ∷ known)) values
+      others [] all = refl
+      others (x ∷ values) all = ap₂ (λ n ns. n ∷ ns) (one (same x entry.0) (laws.symm x entry.0 ∙ all.0)) (others values all.1)
+        where
+          one : (t : Bool) → t ≡ false → number_in same known x ≡ unwrap_or (cond t (Some entry.1) (lookup (same x) known)) 0
+          one true e = absurd (true≢false e)
+          one false e = refl
+
+  -- Where a map counts uses, the numbers in front are those of the values in front.
+  pub numbers_in_front : (uses : List X) (known : List (X × ℕ)) (seen : ℕ) → IsDistinct same (keys_of known) → CountsUses same uses known
+      → take seen (values_of known) ≡ map (uses_of same uses) (take seen (keys_of known))
+  numbers_in_front uses known seen distinct right =
+      ap (take seen) (numbers_beside known distinct) ∙ take-map (number_in same known) seen (keys_of known) ∙ (λ i. map (λ y. right y i) (take seen (keys_of known)))
 
 -- ---- the values of tokens
 
@@ -200,55 +158,6 @@ module _ {X : Type 0} (same : X → X → Bool) (laws : IsEquivalence same) wher
       g ∙ ap (λ values. fold (note_value same) values (f x)) e
       ∙ different_more (flat_map f (take i tokens)) (f x)
       ∙ ap (different same) (uses_grow f tokens i x (flat_map f (take i tokens)) (flat_map f (take i tokens) ++ f x) within here refl refl)
-
-  -- What a token uses is used in the list.
-  pub used_there : {A : Type 0} (f : A → List X) (tokens : List A) (i : ℕ) (x : A) (known : List (X × ℕ)) → i < length tokens → x ≡ get_or tokens i x
-      → CountsUses same (flat_map f tokens) known → AreUsed same known (f x)
-  used_there {A = A} f tokens i x known within here right = each (f x) (λ y used. omega (arith, right y, in_list tokens i within here y used)) (own_behind [] (f x))
-    where
-      each : (values : List X) → ((y : X) → 0 < uses_of same (f x) y → 0 < number_in same known y) → AllByRecursion (λ y. 0 < uses_of same (f x) y) values → AreUsed same known values
-      each [] h all = tt
-      each (y ∷ values) h all = (h y all.0, each values h all.1)
-
-      one : Bool → ℕ
-      one t = cond t 1 0
-
-      -- a value is used where it stands
-      own_behind : (front values : List X) → AllByRecursion (λ y. 0 < uses_of same (front ++ values) y) values
-      own_behind front [] = tt
-      own_behind front (y ∷ values) =
-          (first front, subst (λ l. AllByRecursion (λ z. 0 < uses_of same l z) values) (append_assoc front (y ∷ []) values) (own_behind (front ++ y ∷ []) values))
-        where
-          uses_more : (a : X) (l : List X) (b : X) → uses_of same (a ∷ l) b ≡ one (same b a) + uses_of same l b
-          uses_more a l b = sum_by-cons (λ z. one (same b z)) a l
-
-          first : (before : List X) → 0 < uses_of same (before ++ y ∷ values) y
-          first [] = omega (arith, uses_more y values y, ap one (laws.refl y))
-          first (z ∷ before) = omega (arith, uses_more z (before ++ y ∷ values) y, first before)
-
-      uses_joined : (front back : List X) (y : X) → uses_of same (front ++ back) y ≡ uses_of same front y + uses_of same back y
-      uses_joined [] back y = omega arith
-      uses_joined (z ∷ front) back y = omega (arith, uses_joined front back y, step (front ++ back), step front)
-        where
-          step : (l : List X) → uses_of same (z ∷ l) y ≡ one (same y z) + uses_of same l y
-          step l = sum_by-cons (λ v. one (same y v)) z l
-
-      in_list : (list : List A) (j : ℕ) → j < length list → x ≡ get_or list j x → (y : X) → 0 < uses_of same (f x) y → 0 < uses_of same (flat_map f list) y
-      in_list [] j within here y used = absurd (omega (arith, within))
-      in_list (t ∷ list) zero within here y used =
-          omega (arith, uses_joined (f t) (flat_map f list) y, ap (λ z. uses_of same (f z) y) here, used)
-      in_list (t ∷ list) (suc j) within here y used =
-          omega (arith, uses_joined (f t) (flat_map f list) y, in_list list j (omega (arith, within)) here y used)
-
-  -- There are no more different values than uses.
-  pub length-different : (uses : List X) → length (different same uses) ≤ length uses
-  length-different uses = grows [] uses (omega arith)
-    where
-      grows : (front rest : List X) → length (different same front) ≤ length front → length (different same (front ++ rest)) ≤ length (front ++ rest)
-      grows front [] le = subst (λ l. length (different same l) ≤ length l) (sym (append-nil front)) le
-      grows front (x ∷ rest) le =
-          subst (λ l. length (different same l) ≤ length l) (append_assoc front (x ∷ []) rest)
-          (grows (front ++ x ∷ []) rest (omega (arith, le, ap length (sym (different-snoc same laws front x)), length-noted same (different same front) x, length-append front (x ∷ []))))
 
 -- The uses of one more token are kept.
 pub kept_noted : (tokens : List TokenTree) (i : ℕ) (it : TokenTree) (kept : List TokenUses) (uses : TokenUses)

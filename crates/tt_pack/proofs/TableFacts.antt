@@ -8,7 +8,7 @@ use Rattle.std.specs.List.{AllByRecursion, IsDistinct}
 use Rattle.tt_tables.specs.TableOrder.{index_in, uses_of, IsEarlier, IsMoreUsed, Before, IsTable, different, falling, table}
 use Rattle.tt_tables.proofs.Cheapest.{distinct_order}
 use Rattle.tt_tables.proofs.TableOrder.{length-falling}
-use Rattle.tt_pack.specs.Counted.{counted, FindsAt}
+use Rattle.tt_pack.specs.Counted.{counted, new_index, LeadsTo}
 use Rattle.tt_pack.specs.TablesOf.{StandsAt, HasNewIndexAt}
 
 -- `same` tells whether two values are equal
@@ -64,10 +64,9 @@ module _ {X : Type 0} (same : X → X → Bool) where
                 none l = omega (arith, l)
             by_length false e = more (h.1 (leb-false _ _ e))
 
-    -- Where a value stood by first use, its new_index in the table is noted.
+    -- The new index of a value that stood by first use is its index in the table.
     pub new_index_noted : (short : ℕ) (uses values table : List X) (new_indices : List ℕ) (i : ℕ) (x : X) → IsTable same short uses table → length values ≤ 2 ^ 32
-        → ((index : ℕ) → index < length values → FindsAt values table new_indices index) → StandsAt values i x → HasNewIndexAt same table new_indices i x
-    new_index_noted short uses values table new_indices i x is few found stands =
+        → ((index : ℕ) → index < length values → LeadsTo values table new_indices index) → StandsAt values i x → HasNewIndexAt same table new_indices i x
+    new_index_noted short uses values table new_indices i x is few leads stands =
         let at : slice_get values i ≡ Some x = stands few in
-        let finds : FindsAt values table new_indices i = found i (slice_get_within values i x at) in
-        finds.1 ∙ ap Some (sym (index_in-distinct laws table finds.0 x (distinct_table short uses table is) (finds.2 ∙ at)))
+        sym (index_in-distinct laws table (new_index new_indices i) x (distinct_table short uses table is) (leads i (slice_get_within values i x at) ∙ at))

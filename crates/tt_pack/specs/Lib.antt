@@ -1,10 +1,10 @@
 -- What the codec's contracts speak of.
 pub mod Counted
 pub mod Known
-pub mod Noted
 pub mod Packed
 pub mod ReaderOf
 pub mod Room
+pub mod Seen
 pub mod StoredIn
 pub mod TablesOf
 pub mod TokenAt

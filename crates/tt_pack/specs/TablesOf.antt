@@ -13,7 +13,7 @@ use Rattle.std.specs.List.{AllZip}
 use Rattle.tt_tables.specs.Tables.{Tables, tables_from, part_table, symbol_table}
 use Rattle.tt_tables.specs.Uses.{same_part, part_uses, symbol_uses}
 use Rattle.tt_base.specs.Forest.{IsWhole}
-use Rattle.tt_pack.specs.Counted.{counted}
+use Rattle.tt_pack.specs.Counted.{counted, new_index}
 use Rattle.tt_pack.specs.declared.tables.ListTables.{ListTables}
 use Rattle.tt_base.specs.declared.leaf.Leaf.TheVariants as leaf
 use Rattle.tt_base.specs.declared.token_tree.TokenTree.TheVariants as token
@@ -22,9 +22,9 @@ use Rattle.tt_base.specs.declared.token_tree.TokenTree.TheVariants as token
 abbrev pub StandsAt : {X : Type 0} → List X → ℕ → X → Type 0
 StandsAt values index x = length values ≤ 2 ^ 32 → slice_get values index ≡ Some x
 
--- at the index stands the index that the value has in the table
+-- the new index at an index is the one that the value has in the table
 abbrev pub HasNewIndexAt : {X : Type 0} → (same : X → X → Bool) (table : List X) (new_indices : List ℕ) → ℕ → X → Type 0
-HasNewIndexAt same table new_indices index x = slice_get new_indices index ≡ Some (index_in (same x) table)
+HasNewIndexAt same table new_indices index x = new_index new_indices index ≡ index_in (same x) table
 
 -- what the token uses stands at its indices: `IsPart` and `IsSymbol` say of parts and symbols where they stand
 module _ (IsPart : ℕ → SpanPart → Type 0) (IsSymbol : ℕ → List ℕ → Type 0) where
@@ -61,7 +61,7 @@ pub record AreTables (part_list : List SpanPart) (symbol_list : List (List ℕ))
 abbrev pub tables_of : ListTables → Tables
 tables_of tables = tables_from tables.parts.values.items tables.symbols.values.items
 
--- at the indices of the token's uses stand the indices that what it uses has in the tables
+-- the new indices at those of the token's uses are the ones that what it uses has in the tables
 abbrev pub HasUses : ListTables → TokenTree → TokenUses → Type 0
 HasUses tables =
     AreUses (HasNewIndexAt same_part tables.parts.values.items tables.parts.new_indices.items)

@@ -1,178 +1,162 @@
-//! What a list of tokens uses, where the numbers of uses are known: each value is noted at its first use.
-ghost use Rattle.std.specs.Prelude.{◌≡◌, ◌+◌, ◌<◌, ◌^◌, List, [], ◌∷◌, ◌++◌, fold, length, IfOk, IfErr, OnOk, bytes_eq};
-ghost use Rattle.std.specs.List.{AllZip};
+//! What a list of tokens uses, where the numbers of uses are known, and the values stand in the order of their first uses.
+ghost use Rattle.std.specs.Prelude.{◌≡◌, ◌<◌, ◌≤◌, ◌^◌, [], true, fold, length, take, bytes_eq, slice_get, Some, IfOk, IfErr, IfSome};
+ghost use Rattle.std.specs.Bool.{OnTrue};
+ghost use Rattle.indexmap.specs.IndexMap.{keys, IsUnique};
+ghost use Rattle.tt_base.specs.declared.fault.TtFault.TheVariants.{Memory};
 ghost use Rattle.tt_tables.specs.Uses.{same_part, token_parts, token_symbols};
 ghost use Rattle.tt_pack.specs.Counted.{note_value};
-ghost use Rattle.tt_pack.specs.Known.{IsKnown};
-ghost use Rattle.tt_pack.specs.Noted.{IsNotedOf, AreUsed};
+ghost use Rattle.tt_pack.specs.Seen.{seen_parts, seen_symbols, AreSeen, HasSeen};
 ghost use Rattle.tt_pack.specs.Packed.{IsCountFault};
 ghost use Rattle.tt_pack.specs.Room.{HasRoomForAll};
-ghost use Rattle.tt_pack.specs.TablesOf.{StandsAt, AreUses, IsTallyOf};
+ghost use Rattle.tt_pack.specs.TablesOf.{StandsAt, AreUses};
 
-use crate::noted::Noted;
+use crate::counts::kept_index;
 use crate::room::most_bytes;
 use crate::uses::TokenUses;
 use indexmap::IndexMap;
-use std::alloc::{AllocError, Global};
+use std::alloc::Global;
+use std::hash::Hash;
 use tt_base::{Leaf, Levels, SpanPart, Symbol, TokenTree, TtFault};
-
-/// Where the values that a token uses stand in maps. Where it is not so, they are looked for.
-#[derive(Debug, Clone, Copy)]
-pub struct TokenEntries {
-    /// The part of a leaf, or the open part of a header.
-    pub part: u32,
-    /// The symbol of an ident or a literal, or the close part of a header. Of a punct it says nothing.
-    pub other: u32,
-}
 
 /// The numbers of uses of parts and of symbols, where they are known.
 #[derive(Clone, Copy)]
 pub(crate) struct Known<'a> {
     pub(crate) parts: &'a IndexMap<SpanPart, usize>,
     pub(crate) symbols: &'a IndexMap<Symbol, usize>,
-    /// Where the values of the tokens stand in both, as far as it is told.
-    pub(crate) entries: &'a [TokenEntries],
 }
 
-/// The different parts and symbols of a list of tokens with their numbers of uses, which are known, what each token uses,
-/// and how many bytes all can take.
+/// How many values in front of each map are used, what each token uses, and how many bytes all can take.
 #[derive(Drop)]
 pub(crate) struct KnownUses {
-    pub(crate) parts: Noted<SpanPart>,
-    pub(crate) symbols: Noted<Symbol>,
+    pub(crate) parts: usize,
+    pub(crate) symbols: usize,
     pub(crate) tokens: Vec<TokenUses>,
     pub(crate) room: usize,
 }
 
-// Notes what a token uses. Tokens side by side mostly have one part, so a part is first looked for where that of the token
-// before stands.
-fn note_token(
-    parts: &mut Noted<SpanPart>,
-    symbols: &mut Noted<Symbol>,
-    known: Known<'_>,
-    before: u32,
-    entries: TokenEntries,
-    token: &TokenTree,
-) -> Result<TokenUses, AllocError>
-    requires parts { IsNotedOf same_part known.parts.now.entries parts.old }
-    requires symbols { IsNotedOf bytes_eq known.symbols.now.entries symbols.old }
-    requires few_parts { length parts.old.values.items + 1 < 2 ^ 32 }
-    requires few_symbols { length symbols.old.values.items < 2 ^ 32 }
-    requires used_parts { AreUsed same_part known.parts.now.entries (token_parts token.now) }
-    requires used_symbols { AreUsed bytes_eq known.symbols.now.entries (token_symbols token.now) }
-    ensures parts { OnOk result (IsNotedOf same_part known.entry.parts.now.entries parts.new) }
-    ensures symbols { OnOk result (IsNotedOf bytes_eq known.entry.symbols.now.entries symbols.new) }
-    ensures all_parts { OnOk result (parts.new.values.items ≡ fold (note_value same_part) parts.old.values.items (token_parts token.now)) }
-    ensures all_symbols { OnOk result (symbols.new.values.items ≡ fold (note_value bytes_eq) symbols.old.values.items (token_symbols token.now)) }
-    ensures uses { IfOk result (AreUses (StandsAt parts.new.values.items) (StandsAt symbols.new.values.items) token.now) }
+// The index of a value, if the map has it. It is first looked for at the index of another.
+#[inline(always)]
+fn index_near<T: Eq + Hash>(known: &IndexMap<T, usize>, other: u32, value: &T) -> Option<usize>
+    requires { (x y : T) → T.eq x y ≡ true → x ≡ y }
+    ensures at { IfSome result (λ index. slice_get (keys known.now) index ≡ Some value.now) }
+    ensures unique { IsUnique T.eq known.now }
+    ensures fits { length (keys known.now) < 2 ^ 64 }
 {
-    match token {
-        TokenTree::Leaf(Leaf::Literal(literal)) => {
-            let value = SpanPart::from_span(literal.span());
-            let part = parts.note_near(known.parts, before, entries.part, &value)?;
-            let other = symbols.note(known.symbols, entries.other, literal.symbol())?;
-            Ok(TokenUses { part, other })
-        }
-        TokenTree::Leaf(Leaf::Punct(punct)) => {
-            let value = SpanPart::from_span(&punct.span);
-            let part = parts.note_near(known.parts, before, entries.part, &value)?;
-            Ok(TokenUses { part, other: part })
-        }
-        TokenTree::Leaf(Leaf::Ident(ident)) => {
-            let value = SpanPart::from_span(&ident.span);
-            let part = parts.note_near(known.parts, before, entries.part, &value)?;
-            let other = symbols.note(known.symbols, entries.other, &ident.sym)?;
-            Ok(TokenUses { part, other })
-        }
-        TokenTree::Subtree(subtree) => {
-            let opening = SpanPart::from_span(&subtree.delimiter.open_span);
-            let closing = SpanPart::from_span(&subtree.delimiter.close);
-            let part = parts.note_near(known.parts, before, entries.part, &opening)?;
-            let other = parts.note_near(known.parts, part, entries.other, &closing)?;
-            Ok(TokenUses { part, other })
-        }
+    let values = known.keys().as_slice();
+    let other = other as usize;
+    if other < values.len() && values[other] == *value {
+        return Some(other);
     }
+    known.get_index_of(value)
+}
+
+// The index of a value that is used next. Those in front that are used before are `seen`; there is none where it stands
+// behind others that are not.
+#[inline(always)]
+fn see<T: Eq + Hash>(
+    known: &IndexMap<T, usize>,
+    seen: &mut usize,
+    other: u32,
+    value: &T,
+) -> Option<u32>
+    requires { (x y : T) → T.eq x y ≡ true → x ≡ y }
+    ensures seen { IfSome result (λ index. take seen.new (keys known.now) ≡ note_value T.eq (take seen.old (keys known.now)) value.now) }
+    ensures within { seen.old ≤ length (keys known.now) → seen.new ≤ length (keys known.now) }
+    ensures index { IfSome result (λ index. StandsAt (take seen.new (keys known.now)) index value.now) }
+{
+    let index = index_near(known, other, value)?;
+    if index > *seen {
+        return None;
+    }
+    if index == *seen {
+        *seen += 1;
+    }
+    Some(kept_index(index))
 }
 
 impl KnownUses {
     // Nothing is used, and there is room for what so many tokens use.
-    fn new(alloc: Global, known: Known<'_>, tokens: usize) -> Result<KnownUses, AllocError>
-        ensures parts { IfOk result (λ uses. IsNotedOf same_part known.entry.parts.now.entries uses.parts) }
-        ensures symbols { IfOk result (λ uses. IsNotedOf bytes_eq known.entry.symbols.now.entries uses.symbols) }
-        ensures all_parts { IfOk result (λ uses. uses.parts.values.items ≡ []) }
-        ensures all_symbols { IfOk result (λ uses. uses.symbols.values.items ≡ []) }
+    fn new(alloc: Global, tokens: usize) -> Result<KnownUses, TtFault>
+        ensures parts { IfOk result (λ uses. uses.parts ≡ 0) }
+        ensures symbols { IfOk result (λ uses. uses.symbols ≡ 0) }
         ensures tokens { IfOk result (λ uses. uses.tokens.items ≡ []) }
+        ensures err { IfErr result (λ fault. fault ≡ Memory) }
     {
         Ok(KnownUses {
-            parts: Noted::new(alloc, known.parts)?,
-            symbols: Noted::new(alloc, known.symbols)?,
+            parts: 0,
+            symbols: 0,
             tokens: Vec::with_capacity(alloc, tokens)?,
             room: 0,
         })
     }
 
-    // Notes what one more token uses, and keeps where it stands. `before` is the part of the token before.
-    fn note(
-        &mut self,
-        known: Known<'_>,
-        before: u32,
-        entries: TokenEntries,
-        token: &TokenTree,
-    ) -> Result<TokenUses, AllocError>
-        requires parts { IsNotedOf same_part known.parts.now.entries self.old.parts }
-        requires symbols { IsNotedOf bytes_eq known.symbols.now.entries self.old.symbols }
-        requires few_parts { length self.old.parts.values.items + 1 < 2 ^ 32 }
-        requires few_symbols { length self.old.symbols.values.items < 2 ^ 32 }
-        requires used_parts { AreUsed same_part known.parts.now.entries (token_parts token.now) }
-        requires used_symbols { AreUsed bytes_eq known.symbols.now.entries (token_symbols token.now) }
-        ensures parts { OnOk result (IsNotedOf same_part known.entry.parts.now.entries self.new.parts) }
-        ensures symbols { OnOk result (IsNotedOf bytes_eq known.entry.symbols.now.entries self.new.symbols) }
-        ensures all_parts { OnOk result (self.new.parts.values.items ≡ fold (note_value same_part) self.old.parts.values.items (token_parts token.now)) }
-        ensures all_symbols { OnOk result (self.new.symbols.values.items ≡ fold (note_value bytes_eq) self.old.symbols.values.items (token_symbols token.now)) }
-        ensures uses { IfOk result (AreUses (StandsAt self.new.parts.values.items) (StandsAt self.new.symbols.values.items) token.now) }
-        ensures tokens { IfOk result (λ uses. self.new.tokens.items ≡ self.old.tokens.items ++ uses ∷ []) }
+    // What a token uses, if that stands in order. Tokens side by side mostly have one part, so a part is first looked for
+    // where that of the token before stands.
+    fn see_token(&mut self, known: Known<'_>, before: u32, token: &TokenTree) -> Option<TokenUses>
+        ensures parts { IfSome result (λ uses. seen_parts known.entry self.new ≡ fold (note_value same_part) (seen_parts known.entry self.old) (token_parts token.now)) }
+        ensures symbols { IfSome result (λ uses. seen_symbols known.entry self.new ≡ fold (note_value bytes_eq) (seen_symbols known.entry self.old) (token_symbols token.now)) }
+        ensures uses { IfSome result (AreUses (StandsAt (seen_parts known.entry self.new)) (StandsAt (seen_symbols known.entry self.new)) token.now) }
+        ensures few_parts { self.old.parts ≤ length (keys known.entry.parts.now) → self.new.parts ≤ length (keys known.entry.parts.now) }
+        ensures few_symbols { self.old.symbols ≤ length (keys known.entry.symbols.now) → self.new.symbols ≤ length (keys known.entry.symbols.now) }
+        ensures tokens { self.new.tokens ≡ self.old.tokens }
     {
-        let noted = note_token(
-            &mut self.parts,
-            &mut self.symbols,
-            known,
-            before,
-            entries,
-            token,
-        )?;
-        self.tokens.push(noted)?;
-        Ok(noted)
+        match token {
+            TokenTree::Leaf(Leaf::Literal(literal)) => {
+                let value = SpanPart::from_span(literal.span());
+                let part = see(known.parts, &mut self.parts, before, &value)?;
+                let symbol = literal.symbol();
+                let other = see(known.symbols, &mut self.symbols, symbol.place(), symbol)?;
+                Some(TokenUses { part, other })
+            }
+            TokenTree::Leaf(Leaf::Punct(punct)) => {
+                let value = SpanPart::from_span(&punct.span);
+                let part = see(known.parts, &mut self.parts, before, &value)?;
+                Some(TokenUses { part, other: part })
+            }
+            TokenTree::Leaf(Leaf::Ident(ident)) => {
+                let value = SpanPart::from_span(&ident.span);
+                let part = see(known.parts, &mut self.parts, before, &value)?;
+                let symbol = &ident.sym;
+                let other = see(known.symbols, &mut self.symbols, symbol.place(), symbol)?;
+                Some(TokenUses { part, other })
+            }
+            TokenTree::Subtree(subtree) => {
+                let opening = SpanPart::from_span(&subtree.delimiter.open_span);
+                let closing = SpanPart::from_span(&subtree.delimiter.close);
+                let part = see(known.parts, &mut self.parts, before, &opening)?;
+                let other = see(known.parts, &mut self.parts, part, &closing)?;
+                Some(TokenUses { part, other })
+            }
+        }
     }
 
-    // Notes what the tokens use, and sees in the same pass that they are a whole list, and how many bytes they can take.
-    // Nothing is used before.
-    fn note_list(
+    // Sees what the tokens use, that they are a whole list, and how many bytes they can take. The answer is whether all
+    // stands in order. Nothing is used before.
+    fn see_list(
         &mut self,
         alloc: Global,
         known: Known<'_>,
         tokens: &[TokenTree],
-    ) -> Result<(), TtFault>
-        requires known { IsKnown known tokens.now }
-        requires few { length tokens.now < 2 ^ 31 }
-        requires parts { IsNotedOf same_part known.parts.now.entries self.old.parts }
-        requires symbols { IsNotedOf bytes_eq known.symbols.now.entries self.old.symbols }
-        requires all_parts { self.old.parts.values.items ≡ [] }
-        requires all_symbols { self.old.symbols.values.items ≡ [] }
+    ) -> Result<bool, TtFault>
+        requires parts { self.old.parts ≡ 0 }
+        requires symbols { self.old.symbols ≡ 0 }
         requires tokens { self.old.tokens.items ≡ [] }
-        ensures tally { OnOk result (IsTallyOf self.new.parts.values.items self.new.parts.numbers.items self.new.symbols.values.items self.new.symbols.numbers.items tokens.now) }
-        ensures tokens { OnOk result (AllZip (AreUses (StandsAt self.new.parts.values.items) (StandsAt self.new.symbols.values.items)) tokens.now self.new.tokens.items) }
-        ensures room { OnOk result (HasRoomForAll tokens.now self.new.room) }
+        ensures seen { IfOk result (λ ordered. OnTrue ordered (AreSeen known.entry self.new tokens.now)) }
+        ensures tokens { IfOk result (λ ordered. OnTrue ordered (HasSeen known.entry self.new tokens.now)) }
+        ensures room { IfOk result (λ ordered. OnTrue ordered (HasRoomForAll tokens.now self.new.room)) }
         ensures err { IfErr result (IsCountFault tokens.now) }
     {
         let mut levels = Levels::new(alloc, tokens.len());
         let mut before = 0;
         let mut room: usize = 0;
-        for (place, token) in tokens.iter().enumerate() {
+        for token in tokens {
             if !levels.take(token)? {
                 return Err(TtFault::NotOneSubtree);
             }
-            let entries = entries_at(known.entries, place);
-            let found = self.note(known, before, entries, token)?;
+            let Some(found) = self.see_token(known, before, token) else {
+                return Ok(false);
+            };
+            self.tokens.push(found)?;
             before = found.part;
             room = room.saturating_add(most_bytes(token));
         }
@@ -180,32 +164,24 @@ impl KnownUses {
             return Err(TtFault::NotOneSubtree);
         }
         self.room = room;
-        Ok(())
+        Ok(true)
     }
 
-    /// What the tokens use, if they are a whole list.
+    /// What the tokens use, if they are a whole list, and if the values stand in the maps in the order of their first uses.
     pub(crate) fn of_tokens(
         alloc: Global,
         known: Known<'_>,
         tokens: &[TokenTree],
-    ) -> Result<KnownUses, TtFault>
-        requires known { IsKnown known tokens.now }
-        requires few { length tokens.now < 2 ^ 31 }
-        ensures tally { IfOk result (λ uses. IsTallyOf uses.parts.values.items uses.parts.numbers.items uses.symbols.values.items uses.symbols.numbers.items tokens.now) }
-        ensures tokens { IfOk result (λ uses. AllZip (AreUses (StandsAt uses.parts.values.items) (StandsAt uses.symbols.values.items)) tokens.now uses.tokens.items) }
-        ensures room { IfOk result (λ uses. HasRoomForAll tokens.now uses.room) }
+    ) -> Result<Option<KnownUses>, TtFault>
+        ensures seen { IfOk result (λ found. IfSome found (λ uses. AreSeen known.entry uses tokens.now)) }
+        ensures tokens { IfOk result (λ found. IfSome found (λ uses. HasSeen known.entry uses tokens.now)) }
+        ensures room { IfOk result (λ found. IfSome found (λ uses. HasRoomForAll tokens.now uses.room)) }
         ensures err { IfErr result (IsCountFault tokens.now) }
     {
-        let mut uses = KnownUses::new(alloc, known, tokens.len())?;
-        uses.note_list(alloc, known, tokens)?;
-        Ok(uses)
-    }
-}
-
-// Where the values of the token at that place stand, if it is told.
-fn entries_at(entries: &[TokenEntries], place: usize) -> TokenEntries {
-    match entries.get(place) {
-        Some(found) => *found,
-        None => TokenEntries { part: 0, other: 0 },
+        let mut uses = KnownUses::new(alloc, tokens.len())?;
+        if uses.see_list(alloc, known, tokens)? {
+            return Ok(Some(uses));
+        }
+        Ok(None)
     }
 }

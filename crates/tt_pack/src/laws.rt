@@ -24,7 +24,8 @@ const MOST_SPAN_BYTES: usize = 12;
 // No token takes more bytes.
 const MOST_TOKEN_BYTES: usize = 33;
 
-/// The bytes that name a symbol: its index in a table, and a tag bit.
+/// The bytes that name a symbol: its index in a table, and a tag bit. The index has to be below 2^29 and the tag 0 or 1,
+/// which is seen by comparing. The only fault is `Memory`.
 pub fn symbol_bytes(alloc: Global, index: u32, tag: u32) -> Result<Vec<u8>, TtFault>
     requires index { index < 2 ^ 29 }
     requires tag { tag < 2 }
@@ -38,7 +39,8 @@ pub fn symbol_bytes(alloc: Global, index: u32, tag: u32) -> Result<Vec<u8>, TtFa
 }
 
 /// The bytes of a span: the index of its part, its start and its length, with two extra bits.
-/// `heavy` demands the longest form.
+/// `heavy` demands the longest form. The part has to be below 2^28 and the extra bits below 4, which is seen by comparing,
+/// and `start.checked_add(length)` has to be `Some`. The only fault is `Memory`.
 pub fn span_bytes(
     alloc: Global,
     part: u32,
@@ -65,7 +67,8 @@ pub fn span_bytes(
 
 /// The bytes of a token below the top, or `None` where the tables do not have a part or a symbol that it uses.
 /// A header takes the shortest of the formats that can hold it.
-/// Of the tables only the first 2^28 parts and 2^29 symbols count. What a header holds takes `child_bytes` bytes.
+/// Of the tables only the first 2^28 parts and 2^29 symbols count. What a header holds takes `child_bytes` bytes. There is no
+/// condition, and the only fault is `Memory`.
 pub fn token_bytes(
     alloc: Global,
     token: &TokenTree,

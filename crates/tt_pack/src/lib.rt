@@ -4,7 +4,6 @@
 mod counts;
 mod known;
 pub mod laws;
-mod noted;
 mod pack;
 mod packed;
 mod reader;
@@ -15,7 +14,6 @@ mod token_reader;
 mod uses;
 mod writer;
 
-pub use known::TokenEntries;
 pub use packed::Packed;
 pub use reader::Reader;
 pub use tt_codec::Encodable;

@@ -28,10 +28,17 @@ pub(crate) fn write_tree(
     let tables = ListTables::of_tokens(alloc, below, known)?;
     let writer = Writer::write_all(alloc, &tables, below)?;
     let entry = HeaderEntry::of_top(tables.parts.values.len() as u32, top, writer.len() as u32);
-    let bytes = writer.finish(entry)?;
-    let ListTables { parts, symbols, .. } = tables;
+    let bytes = writer.finish(entry);
+    // What stands for each token is let go before the bytes are copied, so that the two never take memory at once.
+    let ListTables {
+        parts,
+        symbols,
+        uses,
+        ..
+    } = tables;
+    drop(uses);
+    let bytes = bytes.into_vec()?;
     let mut parts = parts.values;
-    parts.reserve_exact(2)?;
     parts.push(SpanPart::from_span(&top.delimiter.open_span))?;
     parts.push(SpanPart::from_span(&top.delimiter.close))?;
     Ok((bytes, parts, symbols.values))

@@ -18,9 +18,10 @@ ghost use Rattle.std.proofs.Common.{rules, ap};
 ghost use Rattle.std.specs.Cmp.Rules.{comparing};
 ghost use Rattle.tt_base.specs.Equality.{same_token-equivalence, same_root};
 
+mod ids;
 mod top;
 
-use crate::known::{Known, TokenEntries};
+use crate::known::Known;
 use crate::pack::write_tree;
 use indexmap::IndexMap;
 use std::alloc::Global;
@@ -28,6 +29,9 @@ use std::hash::{Hash, Hasher};
 use std::marker::Model;
 use tt_base::{Refused, SpanPart, Symbol, TokenTree, TtFault};
 use tt_tables::Tables;
+
+// The last parts are those of the top's two spans.
+const TOP_PARTS: usize = 2;
 
 /// A token tree as bytes and two tables. A contract sees the tree; its bytes and tables are a function of it
 /// (docs/FORMATS.md), so equal trees are stored alike.
@@ -90,7 +94,7 @@ impl Packed {
         ensures fault { IfErr result (λ refused. IsPackFault tokens.items refused.fault) }
         ensures list { IfErr result (λ refused. refused.value ≡ tokens) }
     {
-        match Packed::of_list_counted(alloc, &tokens, parts, symbols, &[]) {
+        match Packed::of_list_counted(alloc, &tokens, parts, symbols) {
             Ok(stored) => Ok(stored),
             Err(fault) => {
                 let value = tokens;
@@ -107,29 +111,19 @@ impl Packed {
         Packed::of_known(alloc, tokens, None)
     }
 
-    /// The same, where the numbers of uses are known, as in `pack_counted`. Of each token below the first, `entries` tells where
-    /// its values stand in the maps. What is not so there, or is not told, is looked up.
+    /// The same, where the numbers of uses are known, as in `pack_counted`.
     pub fn of_list_counted(
         alloc: Global,
         tokens: &[TokenTree],
         parts: &IndexMap<SpanPart, usize>,
         symbols: &IndexMap<Symbol, usize>,
-        entries: &[TokenEntries],
     ) -> Result<Packed, TtFault>
         requires parts { CountsUses same_part (part_uses (drop 1 tokens.now)) parts.now.entries }
         requires symbols { CountsUses bytes_eq (symbol_uses (drop 1 tokens.now)) symbols.now.entries }
         ensures ok { IfOk result (λ stored. (tokens.now ≡ flat_root stored) × (size stored.children ≤ most_tokens) × IsWithinLimits stored) }
         ensures err { IfErr result (IsPackFault tokens.now) }
     {
-        Packed::of_known(
-            alloc,
-            tokens,
-            Some(Known {
-                parts,
-                symbols,
-                entries,
-            }),
-        )
+        Packed::of_known(alloc, tokens, Some(Known { parts, symbols }))
     }
 
     // The tree of a flat list, whose numbers of uses are counted where they are not known.

@@ -1,8 +1,9 @@
 //! The two tables of a list of tokens, and tokens in numbers under them.
-ghost use Rattle.std.specs.Prelude.{◌≡◌, ◌+◌, ◌<◌, ◌≤◌, ◌^◌, Some, length, slice_get, IfOk, IfErr};
+ghost use Rattle.std.specs.Prelude.{◌≡◌, ◌+◌, ◌≤◌, length, IfOk, IfErr, IfSome};
 ghost use Rattle.tt_base.specs.Forest.{IsWhole};
 ghost use Rattle.tt_tables.specs.Stored.{most_parts, most_symbols};
 ghost use Rattle.tt_tables.specs.Tables.{Knows, part_table, symbol_table};
+ghost use Rattle.tt_pack.specs.Counted.{new_index};
 ghost use Rattle.tt_pack.specs.Known.{IsKnown, AreKnown};
 ghost use Rattle.tt_pack.specs.Packed.{HasFewParts, HasFewSymbols, IsTableFault};
 ghost use Rattle.tt_pack.specs.Room.{HasRoomForAll};
@@ -13,10 +14,6 @@ use crate::uses::{TokenUses, Uses, tables_of};
 use std::alloc::Global;
 use tt_base::{Leaf, SpanPart, Subtree, Symbol, TokenTree, TtFault};
 use tt_codec::{Entry, HeaderEntry, LeafEntry, SpanNumbers};
-
-// A longer list is counted, so that a place among the values that are noted always fits four bytes: there are two parts a
-// token at most.
-const MOST_NOTED: usize = 1 << 31;
 
 /// The tables of a list of tokens, what each token uses, and how many bytes all can take.
 #[derive(Drop)]
@@ -29,12 +26,15 @@ pub(crate) struct ListTables {
     pub ghost few_symbols: { length symbols.values.items ≤ most_symbols },
 }
 
-// The index in the table that is noted at an index.
+// The index in the table that is noted at an index. Where none is, each value has stayed.
+#[inline(always)]
 fn new_index_at(new_indices: &[u32], index: u32) -> u32
-    requires { index < length new_indices.now }
-    ensures { slice_get new_indices.now index ≡ Some result }
+    ensures { result ≡ new_index new_indices.now index }
 {
-    new_indices[index as usize]
+    match new_indices.get(index as usize) {
+        Some(found) => *found,
+        None => index,
+    }
 }
 
 impl ListTables {
@@ -43,7 +43,8 @@ impl ListTables {
     ghost use Rattle.tt_pack.specs.TablesOf.{tables_of, HasUses, UsesTables};
 
     /// The tables of the tokens, where these are a whole list, their indices can be written and the parts leave room for
-    /// the top's two (docs/FORMATS.md). The numbers of uses are counted where they are not known.
+    /// the top's two (docs/FORMATS.md). The numbers of uses are counted where they are not known, or the values do not stand in
+    /// the order of their first uses.
     pub(crate) fn of_tokens(
         alloc: Global,
         below: &[TokenTree],
@@ -57,10 +58,12 @@ impl ListTables {
         ensures room { IfOk result (λ tables. HasRoomForAll below.now tables.room) }
         ensures err { IfErr result (IsTableFault below.now) }
     {
-        match known {
-            Some(known) if below.len() < MOST_NOTED => ListTables::of_known(alloc, below, known),
-            _ => ListTables::of_counted(alloc, below),
+        if let Some(known) = known {
+            if let Some(tables) = ListTables::of_known(alloc, below, known)? {
+                return Ok(tables);
+            }
         }
+        ListTables::of_counted(alloc, below)
     }
 
     // The same, where the numbers of uses are counted.
@@ -88,31 +91,36 @@ impl ListTables {
         })
     }
 
-    // The same, where they are known.
-    fn of_known(alloc: Global, below: &[TokenTree], known: Known<'_>) -> Result<ListTables, TtFault>
-        requires known { IsKnown known below.now }
-        requires few { length below.now < 2 ^ 31 }
-        ensures whole { IfOk result (λ tables. IsWhole below.now) }
-        ensures parts { IfOk result (λ tables. (tables.parts.values.items ≡ part_table below.now) × HasFewParts below.now) }
-        ensures symbols { IfOk result (λ tables. (tables.symbols.values.items ≡ symbol_table below.now) × HasFewSymbols below.now) }
-        ensures uses { IfOk result (λ tables. UsesTables tables below.now) }
-        ensures room { IfOk result (λ tables. HasRoomForAll below.now tables.room) }
+    // The same, where they are known. There is none where the values do not stand in the order of their first uses.
+    fn of_known(
+        alloc: Global,
+        below: &[TokenTree],
+        known: Known<'_>,
+    ) -> Result<Option<ListTables>, TtFault>
+        requires { IsKnown known below.now }
+        ensures whole { IfOk result (λ found. IfSome found (λ tables. IsWhole below.now)) }
+        ensures parts { IfOk result (λ found. IfSome found (λ tables. (tables.parts.values.items ≡ part_table below.now) × HasFewParts below.now)) }
+        ensures symbols { IfOk result (λ found. IfSome found (λ tables. (tables.symbols.values.items ≡ symbol_table below.now) × HasFewSymbols below.now)) }
+        ensures uses { IfOk result (λ found. IfSome found (λ tables. UsesTables tables below.now)) }
+        ensures room { IfOk result (λ found. IfSome found (λ tables. HasRoomForAll below.now tables.room)) }
         ensures err { IfErr result (IsTableFault below.now) }
     {
-        let uses = KnownUses::of_tokens(alloc, known, below)?;
+        let Some(uses) = KnownUses::of_tokens(alloc, known, below)? else {
+            return Ok(None);
+        };
         let (parts, symbols) = tables_of(
             alloc,
-            &uses.parts.values,
-            &uses.parts.numbers,
-            &uses.symbols.values,
-            &uses.symbols.numbers,
+            &known.parts.keys().as_slice()[..uses.parts],
+            &known.parts.values().as_slice()[..uses.parts],
+            &known.symbols.keys().as_slice()[..uses.symbols],
+            &known.symbols.values().as_slice()[..uses.symbols],
         )?;
-        Ok(ListTables {
+        Ok(Some(ListTables {
             parts,
             symbols,
             uses: uses.tokens,
             room: uses.room,
-        })
+        }))
     }
 
     // A leaf in numbers.

@@ -9,7 +9,7 @@ ghost use Rattle.tt_pack.specs.TablesOf.{StandsAt, AreUses, AreTables, IsCountOf
 ghost use Rattle.tt_pack.specs.Packed.{IsCountFault, IsTableFault};
 ghost use Rattle.tt_pack.specs.Room.{HasRoomForAll};
 
-use crate::counts::{count_near, count_use};
+use crate::counts::{count_near, count_symbol};
 use crate::room::most_bytes;
 use crate::table::Table;
 use indexmap::IndexMap;
@@ -21,8 +21,14 @@ use tt_codec::{MOST_PARTS, MOST_SYMBOLS};
 const SHORT_PARTS: usize = 15;
 // Up to so many symbols: a reference to one takes one byte.
 const SHORT_SYMBOLS: usize = 63;
-// The most parts below the top, whose own two need an index each.
-const MOST_PARTS_BELOW: usize = MOST_PARTS - 2;
+// The top has two parts of its own, which need an index each.
+const TOP_PARTS: usize = 2;
+// The most parts below the top.
+const MOST_PARTS_BELOW: usize = MOST_PARTS - TOP_PARTS;
+// A list mostly has no more parts.
+const FEW_PARTS: usize = 4;
+// The room that is made for symbols at first is for so many at most.
+const MOST_SYMBOLS_AT_FIRST: usize = 1 << 12;
 
 /// What a token uses, by indices in the order of first uses.
 #[derive(Debug, Clone, Copy, PartialEq)]
@@ -43,6 +49,11 @@ pub(crate) struct Uses {
     pub(crate) room: usize,
 }
 
+// For how many symbols room is made at first: about a third of the tokens of source are its different symbols.
+fn symbols_among(tokens: usize) -> usize {
+    (tokens / 3).min(MOST_SYMBOLS_AT_FIRST)
+}
+
 // Counts what a token uses. Tokens side by side mostly have one part, so a part is first looked for where that of the
 // token before stands.
 fn count_token(
@@ -60,7 +71,7 @@ fn count_token(
     match token {
         TokenTree::Leaf(Leaf::Literal(literal)) => {
             let part = count_near(parts, before, &SpanPart::from_span(literal.span()))?;
-            let other = count_use(symbols, literal.symbol())?;
+            let other = count_symbol(symbols, literal.symbol())?;
             Ok(TokenUses { part, other })
         }
         TokenTree::Leaf(Leaf::Punct(punct)) => {
@@ -69,7 +80,7 @@ fn count_token(
         }
         TokenTree::Leaf(Leaf::Ident(ident)) => {
             let part = count_near(parts, before, &SpanPart::from_span(&ident.span))?;
-            let other = count_use(symbols, &ident.sym)?;
+            let other = count_symbol(symbols, &ident.sym)?;
             Ok(TokenUses { part, other })
         }
         TokenTree::Subtree(subtree) => {
@@ -89,8 +100,8 @@ impl Uses {
         ensures tokens { IfOk result (λ uses. uses.tokens.items ≡ []) }
     {
         Ok(Uses {
-            parts: IndexMap::new(alloc),
-            symbols: IndexMap::new(alloc),
+            parts: IndexMap::with_capacity(alloc, tokens.min(FEW_PARTS))?,
+            symbols: IndexMap::with_capacity(alloc, symbols_among(tokens))?,
             tokens: Vec::with_capacity(alloc, tokens)?,
             room: 0,
         })
@@ -154,7 +165,7 @@ impl Uses {
 
 /// The two tables of what a list uses, where their indices can be written and the parts leave room for the top's two.
 /// More than 15 parts or 63 symbols go by falling number of uses, ties by first use (docs/FORMATS.md). Both are given by
-/// first use, each beside its number of uses.
+/// first use, each beside its number of uses. The table of parts has room for the top's two.
 pub(crate) fn tables_of(
     alloc: Global,
     parts: &[SpanPart],
@@ -173,7 +184,7 @@ pub(crate) fn tables_of(
     if symbols.len() > MOST_SYMBOLS {
         return Err(TtFault::TooManySymbols);
     }
-    let part_table = Table::of_counts(alloc, parts, part_uses, SHORT_PARTS)?;
-    let symbol_table = Table::of_counts(alloc, symbols, symbol_uses, SHORT_SYMBOLS)?;
+    let part_table = Table::of_counts(alloc, parts, part_uses, SHORT_PARTS, TOP_PARTS)?;
+    let symbol_table = Table::of_counts(alloc, symbols, symbol_uses, SHORT_SYMBOLS, 0)?;
     Ok((part_table, symbol_table))
 }

@@ -87,16 +87,15 @@ impl<'a> Writer<'a> {
         Ok(())
     }
 
-    /// All bytes, with a header before them that is written in full.
-    pub(crate) fn finish(self, top: HeaderEntry) -> Result<Vec<u8>, TtFault>
+    /// All bytes, with a header before them that is written in full. The sums are let go.
+    pub(crate) fn finish(self, top: HeaderEntry) -> BackBuf
         requires fits { HeaderFits top }
         requires room { 33 ≤ room_of self.bytes }
-        ensures ok { IfOk result (λ bytes. bytes.items ≡ format_4 true top ++ bytes_of self.entry.bytes) }
-        ensures err { IfErr result (λ fault. fault ≡ Memory) }
+        ensures { bytes_of result ≡ format_4 true top ++ bytes_of self.entry.bytes }
     {
         let Writer { mut bytes, .. } = self;
         top.write_in_full(&mut bytes, true);
-        Ok(bytes.into_vec()?)
+        bytes
     }
 
     /// How many bytes are written.

@@ -39,6 +39,7 @@ impl Answer {
     ghost use Rattle.tt_run.specs.Answer.{ok_line, empty_line, same_line, no_builder_line, none_open_line, still_open_line, yes_line, no_line, fault_line, no_match_line, rule_line};
     ghost use Rattle.tt_run.specs.Building.{point_line, counts_line};
 
+    /// The text of the answer, with the line feed at its end.
     pub fn as_bytes(&self) -> &[u8]
         ensures { result.now ≡ self.now }
     {

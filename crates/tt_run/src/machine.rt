@@ -56,6 +56,7 @@ impl Machine {
     }
 
     /// Carries out the command. One that runs out of memory answers `fault 1` and changes nothing.
+    #[inline(always)]
     pub fn step(&mut self, command: Command) -> Answer
         ensures { Step self.old command result self.new }
     {
@@ -91,6 +92,7 @@ impl Machine {
         }
     }
 
+    #[inline(always)]
     fn item(&mut self, token: TokenTree) -> Answer
         ensures { Step self.old (Command.Item token) result self.new }
     {

@@ -26,6 +26,7 @@ impl Model for Output {
 }
 
 impl Output {
+    /// Nothing is pending.
     pub fn new(alloc: Global) -> Output
         ensures { result ≡ [] }
     {

@@ -21,15 +21,17 @@ use std::io::{Read, Write};
 use std::marker::Model;
 use std::mem;
 use tt_base::TtFault;
-use tt_language::Command;
+use tt_language::{Command, Texts};
 
-// The machine, the line that began in an earlier block, how many lines were answered, and the answers.
+// The machine, the line that began in an earlier block, how many lines were answered, the answers, and the texts of the
+// lines, which are the same for all of them.
 #[derive(Drop)]
 struct Session {
     machine: Machine,
     begun: Vec<u8>,
     count: u64,
     output: Output,
+    texts: Texts,
     alloc: Global,
 }
 
@@ -55,6 +57,7 @@ impl Session {
             begun: Vec::new(alloc),
             count: 0,
             output: Output::new(alloc),
+            texts: Texts::shared(alloc),
             alloc,
         }
     }
@@ -95,6 +98,7 @@ impl Session {
         line: &[u8],
         writer: &mut Noted<W>,
     ) -> Result<Option<u64>, RunFault>
+        requires one_line { IsOneLine line.now }
         requires sound { noted_failed writer.old ≡ false }
         ensures answers { Answers
             (stage_of W.contents self.old writer.old) line.now result
@@ -102,7 +106,7 @@ impl Session {
         ensures begun { self.new.begun ≡ self.old.begun }
     {
         let number = self.count.saturating_add(1);
-        let Some(command) = command_of(self.alloc, line)? else {
+        let Some(command) = command_of(&mut self.texts, line)? else {
             let text = format!(in self.alloc; "bad line {number}\n")?;
             self.output.put(text.as_bytes(), writer)?;
             return Ok(Some(number));
@@ -115,6 +119,7 @@ impl Session {
 
     // Answers the line that has begun.
     fn answer_begun<W: Write>(&mut self, writer: &mut Noted<W>) -> Result<Option<u64>, RunFault>
+        requires one_line { IsOneLine self.old.begun }
         requires sound { noted_failed writer.old ≡ false }
         ensures answers { Answers
             (stage_of W.contents self.old writer.old) self.old.begun result
@@ -218,11 +223,13 @@ impl Session {
 }
 
 // The command that the line stands for, if there is one. Nothing but memory may be missing for that.
-fn command_of(alloc: Global, line: &[u8]) -> Result<Option<Command>, RunFault>
+#[inline(always)]
+fn command_of(texts: &mut Texts, line: &[u8]) -> Result<Option<Command>, RunFault>
+    requires one_line { IsOneLine line.now }
     ensures reads { IfOk result (λ found. MatchOption found (IsNoCommand line.now) (StandsFor line.now)) }
     ensures kind { IfErr result (λ fault. fault ≡ RunFault.Memory) }
 {
-    match Command::parse(alloc, line) {
+    match Command::parse_with(texts, line) {
         Ok(found) => Ok(found),
         Err(fault) => {
             prove!(fault == TtFault::Memory);

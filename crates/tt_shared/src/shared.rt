@@ -23,6 +23,7 @@ impl<T: Drop> Shared<T> {
 }
 
 impl<T> Shared<T> {
+    /// The value that the owners share.
     pub fn get(&self) -> &T
         ensures { result.now ≡ shared_value self.now }
     {

@@ -19,6 +19,7 @@ pub enum Growth {
     Push,
     Close,
     Extend,
+    ExtendByNames,
     Trees,
     TreesAlone,
     Point,
@@ -33,6 +34,7 @@ pub fn named(name: &str) -> Option<Growth> {
         "push" => Growth::Push,
         "close" => Growth::Close,
         "extend" => Growth::Extend,
+        "extend_by_names" => Growth::ExtendByNames,
         "extend_with_tt" => Growth::Trees,
         "extend_with_tt_alone" => Growth::TreesAlone,
         "restore_point" => Growth::Point,
@@ -50,6 +52,7 @@ pub fn ends<R: Print>(rt: &R, alloc: Global, growth: Growth) -> Result<Outcome, 
         before: builder_for(alloc, growth)?,
         after: held(alloc, growth)?,
         trees: flat_tree(alloc, &ten())?,
+        names: names_twice(alloc)?,
     };
     call_ends(rt, &mut call)
 }
@@ -65,6 +68,9 @@ const NEW_ID: u32 = 20;
 
 // The idents, and the id of each.
 const IDENTS: [(&str, u32); 2] = [("a", 1), ("b", 2)];
+
+// Names that it does not have.
+const NEW_NAMES: [&str; 10] = ["k", "l", "m", "n", "o", "p", "q", "r", "s", "t"];
 
 // How many restore points it has taken.
 const TAKEN: u64 = 5;
@@ -167,8 +173,25 @@ fn held(alloc: Global, growth: Growth) -> Result<TopSubtree, TtFault> {
         Growth::Push => with(alloc, None, &[plus(1)]),
         Growth::Close => with_close(alloc, None, &of_new_parts(), NEW_ID),
         Growth::Extend | Growth::Trees => with(alloc, None, &ten()),
+        Growth::ExtendByNames => with(alloc, None, &new_names(alloc)?),
         Growth::TreesAlone => with(alloc, None, &ten_of_which_the_last_is_alone()),
     }
+}
+
+// Ten idents of one span part, which the builder uses, and of names that it does not use.
+fn new_names(alloc: Global) -> Result<Vec<Leaf>, TtFault> {
+    let mut leaves = Vec::new(alloc);
+    for name in NEW_NAMES {
+        leaves.push(ident(alloc, name, 1)?)?;
+    }
+    Ok(leaves)
+}
+
+fn names_twice(alloc: Global) -> Result<Vec<Vec<Leaf>>, TtFault> {
+    let mut both = Vec::new(alloc);
+    both.push(new_names(alloc)?)?;
+    both.push(new_names(alloc)?)?;
+    Ok(both)
 }
 
 fn ten_of_which_the_last_is_alone() -> [Leaf; 10] {
@@ -177,7 +200,8 @@ fn ten_of_which_the_last_is_alone() -> [Leaf; 10] {
     leaves
 }
 
-// A call of a builder, the builder before it, the tree that it makes behind it, and what is appended.
+// A call of a builder, the builder before it, the tree that it makes behind it, and what is appended: trees, or new names, which
+// are there twice, since a call that is refused has taken them.
 #[derive(Drop)]
 struct Growing {
     growth: Growth,
@@ -186,6 +210,7 @@ struct Growing {
     before: TopSubtreeBuilder,
     after: TopSubtree,
     trees: TopSubtree,
+    names: Vec<Vec<Leaf>>,
 }
 
 impl Call for Growing {
@@ -198,6 +223,7 @@ impl Call for Growing {
             Growth::Push => return push(&mut self.builder),
             Growth::Close => close_at(&mut self.builder, span(NEW_ID))?,
             Growth::Extend => self.builder.extend(ten().into_iter())?,
+            Growth::ExtendByNames => return extend_by_names(&mut self.builder, self.names.pop()),
             Growth::Trees => self.builder.extend_with_tt(trees)?,
             Growth::TreesAlone => self.builder.extend_with_tt_alone(trees)?,
             Growth::Point => return point(&mut self.builder),
@@ -273,6 +299,17 @@ fn push(builder: &mut TopSubtreeBuilder) -> Result<bool, TtFault> {
         Err(refused) if refused.value == plus(1) => Err(refused.fault),
         Err(_) => Ok(false),
     }
+}
+
+fn extend_by_names(
+    builder: &mut TopSubtreeBuilder,
+    names: Option<Vec<Leaf>>,
+) -> Result<bool, TtFault> {
+    let Some(names) = names else {
+        return Ok(false);
+    };
+    builder.extend(names.into_iter())?;
+    Ok(true)
 }
 
 fn point(builder: &mut TopSubtreeBuilder) -> Result<bool, TtFault> {

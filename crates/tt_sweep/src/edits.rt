@@ -1,10 +1,11 @@
 //! Calls that change a tree.
 use crate::call::{Call, Outcome, ends as call_ends};
 use crate::error::SweepError;
-use crate::tokens::{flat_tree, long_list, long_tree, plus, punct, tree_of};
+use crate::tokens::{delimiter, flat_tree, header, long_list, long_tree, plus, punct, tree_of};
 use std::alloc::Global;
 use tt::{
-    ErasedFileAstId, Leaf, Spacing, TokenTree, TopSubtree, TransformTtAction, TtFault, transform_tt,
+    DelimiterKind, ErasedFileAstId, Leaf, Spacing, TokenTree, TopSubtree, TransformTtAction,
+    TtFault, transform_tt,
 };
 
 /// A call that changes a tree.
@@ -12,6 +13,7 @@ use tt::{
 pub enum Edit {
     SetToken,
     ChangeIds,
+    JoinIds,
     Transform,
 }
 
@@ -20,6 +22,7 @@ pub fn named(name: &str) -> Option<Edit> {
     match name {
         "set_token" => Some(Edit::SetToken),
         "change_every_ast_id" => Some(Edit::ChangeIds),
+        "change_every_ast_id_joined" => Some(Edit::JoinIds),
         "transform_tt" => Some(Edit::Transform),
         _ => None,
     }
@@ -44,6 +47,11 @@ const SHIFT: u32 = 100;
 // The place of the last token of the tree, a plus.
 const LAST: usize = 24;
 
+// The place of the first bracket, and the id that its two spans get where they become one.
+const FIRST: usize = 1;
+
+const JOINED: u32 = 2 + SHIFT;
+
 // What is put for the last plus, and twice for each plus.
 fn minus() -> Leaf {
     punct('-', Spacing::Alone, 0)
@@ -63,6 +71,13 @@ fn edited(alloc: Global, edit: Edit) -> Result<TopSubtree, TtFault> {
             tree_of(alloc, list)
         }
         Edit::ChangeIds => tree_of(alloc, long_list(alloc, 1 + SHIFT, &[plus(0)])?),
+        Edit::JoinIds => {
+            let mut list = long_list(alloc, 1 + SHIFT, &[plus(0)])?;
+            if let Some(first) = list.get_mut(FIRST) {
+                *first = header(delimiter(DelimiterKind::Bracket, JOINED, JOINED), 2);
+            }
+            tree_of(alloc, list)
+        }
         Edit::Transform => tree_of(alloc, long_list(alloc, 1, &minuses())?),
     }
 }
@@ -82,7 +97,7 @@ impl Call for Editing {
     fn make(&mut self) -> Result<bool, TtFault> {
         match self.edit {
             Edit::SetToken => self.set_token(),
-            Edit::ChangeIds => self.change_ids(),
+            Edit::ChangeIds | Edit::JoinIds => self.change_ids(),
             Edit::Transform => self.transform(),
         }
     }
@@ -109,12 +124,13 @@ impl Editing {
     fn change_ids(&mut self) -> Result<bool, TtFault> {
         let mut rest = self.before.span_part_table();
         let mut in_order = true;
+        let edit = self.edit;
         let changed = self.tree.change_every_ast_id(self.alloc, |id| {
             match rest.split_first() {
                 Some((part, others)) if part.anchor.ast_id == id => rest = others,
                 _ => in_order = false,
             }
-            new_id(id)
+            new_id(edit, id)
         });
         asked(changed, in_order, rest.is_empty())
     }
@@ -138,10 +154,11 @@ impl Editing {
 }
 
 // The id that stands for an id. Those of the top and of the pluses stay.
-fn new_id(id: ErasedFileAstId) -> ErasedFileAstId {
-    match id.0 {
-        0 => id,
-        number => ErasedFileAstId(number.saturating_add(SHIFT)),
+fn new_id(edit: Edit, id: ErasedFileAstId) -> ErasedFileAstId {
+    match (edit, id.0) {
+        (_, 0) => id,
+        (Edit::JoinIds, 1) => ErasedFileAstId(JOINED),
+        (_, number) => ErasedFileAstId(number.saturating_add(SHIFT)),
     }
 }
 

@@ -1,17 +1,20 @@
-//! Calls that take a list, and hand it back where they are refused.
+//! Calls that take a list, and hand it back where they are refused; and calls that are lent one.
 use crate::call::{Call, Outcome, ends as call_ends};
 use crate::error::SweepError;
 use crate::tokens::{long_list, plus};
 use std::alloc::Global;
 use std::mem;
-use tt::{TokenTree, TopSubtree, TtFault};
+use tt::{TokenTree, TopSubtree, TtFault, is_one_subtree};
 use tt_pack::{Packed, Reader};
 
-/// A call that takes a list.
+/// A call that takes a list, or is lent one.
 #[derive(Clone, Copy, Debug)]
 pub enum Packing {
     FromSerialized,
     Pack,
+    OfList,
+    FromTokens,
+    IsOneSubtree,
 }
 
 /// The call of that name.
@@ -19,6 +22,9 @@ pub fn named(name: &str) -> Option<Packing> {
     match name {
         "from_serialized" => Some(Packing::FromSerialized),
         "pack" => Some(Packing::Pack),
+        "of_list" => Some(Packing::OfList),
+        "from_tokens" => Some(Packing::FromTokens),
+        "is_one_subtree" => Some(Packing::IsOneSubtree),
         _ => None,
     }
 }
@@ -34,7 +40,7 @@ pub fn ends<R: Print>(rt: &R, alloc: Global, packing: Packing) -> Result<Outcome
     call_ends(rt, &mut call)
 }
 
-// A call that takes a list, of which there is a copy.
+// A call that takes a list or is lent one, of which there is a copy.
 #[derive(Drop)]
 struct OfList {
     packing: Packing,
@@ -48,6 +54,9 @@ impl Call for OfList {
         match self.packing {
             Packing::FromSerialized => self.from_serialized(),
             Packing::Pack => self.pack(),
+            Packing::OfList => Ok(is_stored(&Packed::of_list(self.alloc, &self.list)?, &self.copy)),
+            Packing::FromTokens => self.from_tokens(),
+            Packing::IsOneSubtree => Ok(is_one_subtree(self.alloc, &self.list)?),
         }
     }
 
@@ -55,8 +64,12 @@ impl Call for OfList {
         Ok(self.list.as_slice() == self.copy.as_slice())
     }
 
+    // What is lent stays.
     fn is_as_after(&self) -> Result<bool, TtFault> {
-        Ok(self.list.is_empty())
+        match self.packing {
+            Packing::FromSerialized | Packing::Pack => Ok(self.list.is_empty()),
+            _ => self.is_as_before(),
+        }
     }
 }
 
@@ -72,6 +85,11 @@ impl OfList {
         }
     }
 
+    fn from_tokens(&self) -> Result<bool, TtFault> {
+        let tree = TopSubtree::from_tokens(self.alloc, &self.list)?;
+        Ok(is_of(&tree, &self.copy))
+    }
+
     fn pack(&mut self) -> Result<bool, TtFault> {
         let list = mem::replace(&mut self.list, Vec::new(self.alloc));
         match Packed::pack(self.alloc, list) {
@@ -84,8 +102,8 @@ impl OfList {
     }
 }
 
-// Whether flat reading gives that list.
-fn is_of(tree: &TopSubtree, list: &[TokenTree]) -> bool {
+/// Whether flat reading gives that list.
+pub fn is_of(tree: &TopSubtree, list: &[TokenTree]) -> bool {
     let mut rest = list;
     for token in tree.as_token_trees().iter_flat_tokens() {
         match rest.split_first() {
@@ -96,8 +114,8 @@ fn is_of(tree: &TopSubtree, list: &[TokenTree]) -> bool {
     rest.is_empty()
 }
 
-// Whether a reader gives that list.
-fn is_stored(packed: &Packed, list: &[TokenTree]) -> bool {
+/// Whether a reader gives that list.
+pub fn is_stored(packed: &Packed, list: &[TokenTree]) -> bool {
     let mut reader = Reader::start(packed);
     for token in list {
         if reader.advance().as_ref() != Some(token) {

@@ -9,8 +9,11 @@ mod alike;
 mod builders;
 mod builds;
 mod call;
+mod counted;
 mod edits;
 mod error;
+mod faulty;
+mod levels;
 mod lists;
 mod made;
 mod prepared;
@@ -57,6 +60,9 @@ fn named<R: Print + AllocGlobal>(rt: &R, name: &str) -> Result<Outcome, SweepErr
     if let Some(call) = lists::named(name) {
         return lists::ends(rt, rt.alloc(), call);
     }
+    if let Some(call) = counted::named(name) {
+        return counted::ends(rt, rt.alloc(), call);
+    }
     if let Some(call) = edits::named(name) {
         return edits::ends(rt, rt.alloc(), call);
     }
@@ -72,8 +78,14 @@ fn named<R: Print + AllocGlobal>(rt: &R, name: &str) -> Result<Outcome, SweepErr
     if let Some(ruling) = rules::named(name) {
         return rules::ends(rt, rt.alloc(), ruling);
     }
+    if name == "Levels::take" {
+        return levels::ends(rt, rt.alloc());
+    }
     if let Some(group) = quiet::named(name) {
         return quiet::ends(rt, rt.alloc(), group);
+    }
+    if let Some(flaw) = faulty::named(name) {
+        return faulty::ends(rt, rt.alloc(), flaw);
     }
     Err(SweepError::NoCall)
 }

@@ -2,9 +2,11 @@
 use crate::call::{Call, Outcome, ends as call_ends};
 use crate::error::SweepError;
 use crate::prepared::Prepared;
+use crate::tokens::{long_list, plus};
 use crate::{quiet_builders, quiet_stored, quiet_tokens, quiet_views};
 use std::alloc::Global;
 use tt::{TopSubtreeBuilder, TtFault};
+use tt_pack::Packed;
 
 /// A group of calls that take no memory.
 #[derive(Clone, Copy, Debug)]
@@ -51,16 +53,18 @@ pub fn ends<R: Print>(rt: &R, alloc: Global, group: Group) -> Result<Outcome, Sw
         group,
         given: Prepared::new(alloc)?,
         builder: quiet_builders::builder(alloc)?,
+        spare: Some(Packed::of_list(alloc, &long_list(alloc, 1, &[plus(0)])?)?),
     };
     call_ends(rt, &mut call)
 }
 
-// A group of calls, and what they are given.
+// A group of calls, and what they are given. What is stored of the long tree is there once more, to be taken.
 #[derive(Drop)]
 struct Quiet {
     group: Group,
     given: Prepared,
     builder: TopSubtreeBuilder,
+    spare: Option<Packed>,
 }
 
 impl Call for Quiet {
@@ -76,7 +80,10 @@ impl Call for Quiet {
                 &mut self.given.long.packed,
                 &mut self.given.long.tree,
             ),
-            Group::Trees => quiet_views::trees(given),
+            Group::Trees => {
+                quiet_views::trees(given)
+                    && quiet_stored::is_made(self.spare.take(), &given.long.tree)
+            }
             Group::Texts => quiet_views::texts(given, &self.builder),
             Group::Views => quiet_views::views(given),
             Group::Siblings => quiet_views::siblings(given.short.sum.iter()),

@@ -47,6 +47,14 @@ fn is_read(packed: &Packed) -> bool {
         && (reader.steps(), below.steps()) == (1, 2)
 }
 
+/// Whether a tree that is made of what is stored is that tree.
+pub fn is_made(stored: Option<Packed>, tree: &TopSubtree) -> bool {
+    match stored {
+        Some(packed) => TopSubtree::from_packed(packed) == *tree,
+        None => false,
+    }
+}
+
 /// The kind and the spans of the top, changed in place and changed back.
 pub fn set(packed: &mut Packed, tree: &mut TopSubtree) -> bool {
     let other = DelimSpan::from_single(span(9));

@@ -1,5 +1,7 @@
 -- What new ids give on small trees.
-use Rattle.std.proofs.Common.{◌≡◌, ℕ, [], ◌∷◌, refl, le-add_right}
+use Rattle.std.proofs.Common.{◌≡◌, ℕ, [], ◌∷◌, get_or, refl, ap, le-add_right, arith}
+use Rattle.std.proofs.lemmas.Bool.{true≢false}
+use Rattle.std.specs.List.{IsDistinct}
 use Rattle.tt_base.specs.declared.delimiter.DelimiterKind.TheVariants.{Parenthesis}
 use Rattle.tt_base.specs.declared.leaf.Leaf.{Leaf}
 use Rattle.tt_base.specs.declared.leaf.Leaf.TheVariants as leaf_of
@@ -7,7 +9,9 @@ use Rattle.tt_base.specs.declared.punct.Spacing.TheVariants.{Alone}
 use Rattle.tt_base.specs.declared.span.Span.{Span}
 use Rattle.tt_base.specs.Token.{delimiter}
 use Rattle.tt_base.specs.Forest.{end, leaf, Root}
-use Rattle.tt_tables.specs.AstIds.{stored_ids, ids_changed}
+use Rattle.tt_codec.specs.SpanNumbers.{span_bytes}
+use Rattle.tt_tables.specs.AstIds.{stored_ids, ids_changed, KeepApart}
+use Rattle.tt_tables.specs.Stored.{bytes, packed}
 use Rattle.tt_tables.specs.TableOrder.{table}
 
 -- a span of an id, at 0..1
@@ -55,3 +59,26 @@ exchanged : ids_changed (record { 0 = 2 } ∷ record { 0 = 1 } ∷ record { 0 = 
     ≡ record { delimiter = delimiter Parenthesis (of_id 4) (of_id 3); children = leaf (semicolon 2) (leaf (semicolon 1) end) }
 unfolding two_parts table
 exchanged = refl
+
+-- each keeps apart from the other
+stays_apart : KeepApart (record { 0 = 2 } ∷ record { 0 = 1 } ∷ record { 0 = 4 } ∷ record { 0 = 3 } ∷ []) two_parts
+unfolding two_parts table IsDistinct
+stays_apart = ((refl, tt), (tt, tt))
+
+-- the bytes stay
+same_bytes : (packed (ids_changed (record { 0 = 2 } ∷ record { 0 = 1 } ∷ record { 0 = 4 } ∷ record { 0 = 3 } ∷ []) two_parts)).bytes ≡ (packed two_parts).bytes
+unfolding two_parts table packed bytes span_bytes
+same_bytes = refl
+
+-- where all become one, they do not keep apart
+becomes_one : KeepApart (record { 0 = 0 } ∷ record { 0 = 0 } ∷ record { 0 = 0 } ∷ record { 0 = 0 } ∷ []) two_parts → ⊥
+unfolding two_parts table IsDistinct
+becomes_one apart = true≢false apart.0.0
+
+-- and then the second names the first entry
+other_bytes : ((packed (ids_changed (record { 0 = 0 } ∷ record { 0 = 0 } ∷ record { 0 = 0 } ∷ record { 0 = 0 } ∷ []) two_parts)).bytes ≡ (packed two_parts).bytes) → ⊥
+unfolding two_parts table packed bytes span_bytes
+other_bytes same = absurd (omega (arith, index))
+  where
+    index : ◌≡◌ {A = ℕ} 65 69
+    index = ap (λ l. get_or l 38 0) same

@@ -302,14 +302,15 @@ module _ {X : Type 0} (same : X → X → Bool) (sound : (x y : X) → same x y 
           by_test true e = absurd (none x (subst (B x) (sym (sound x y e)) k.0))
           by_test false e = refl
 
-  not_before : (count : ℕ) (uses : List X) (x : X) → Before same 63 count uses x x → ⊥
-  not_before count uses x h = by_length (nat_le count 63) refl
+  -- No value stands before itself.
+  pub not_before : (short count : ℕ) (uses : List X) (x : X) → Before same short count uses x x → ⊥
+  not_before short count uses x h = by_length (nat_le count short) refl
     where
       more : IsMoreUsed same uses x x → ⊥
       more (inl k) = omega (arith, k)
       more (inr k) = omega (arith, k.1)
 
-      by_length : (few : Bool) → nat_le count 63 ≡ few → ⊥
+      by_length : (few : Bool) → nat_le count short ≡ few → ⊥
       by_length true e = omega (arith, h.0 (leb-true _ _ e))
       by_length false e = more (h.1 (leb-false _ _ e))
 
@@ -336,7 +337,7 @@ module _ {X : Type 0} (same : X → X → Bool) (sound : (x y : X) → same x y 
       record {
         has_all = is.has_all;
         has_no_other = is.has_no_other;
-        once = distinct_order (Before same 63 (length table) uses) (not_before (length table) uses) table is.in_order;
+        once = distinct_order (Before same 63 (length table) uses) (not_before 63 (length table) uses) table is.in_order;
       }
 
   -- Two orders of the same uses hold the same.

@@ -5,6 +5,7 @@ mod CostRows
 pub mod Finding
 pub mod Found
 pub mod HeaderFirst
+pub mod IdsStored
 pub mod Known
 pub mod Lengths
 pub mod Limits
@@ -13,6 +14,8 @@ pub mod Members
 mod MoveRows
 pub mod Naming
 pub mod Positions
+pub mod Renaming
+pub mod Respanned
 pub mod Shortest
 mod ShortestRows
 pub mod StoredAlike

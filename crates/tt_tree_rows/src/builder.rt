@@ -8,7 +8,8 @@ use tt::{
     TopSubtree, TopSubtreeBuilder, TtFault,
 };
 
-fn invisible(alloc: Global) -> Result<TopSubtreeBuilder, Fail> {
+/// A builder of an invisible top.
+pub(crate) fn invisible(alloc: Global) -> Result<TopSubtreeBuilder, Fail> {
     Ok(TopSubtreeBuilder::new(alloc, Delimiter::invisible_spanned(span(0)))?)
 }
 

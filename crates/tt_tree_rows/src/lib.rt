@@ -4,11 +4,15 @@
 #[cfg(test)]
 mod builder;
 #[cfg(test)]
+mod counts;
+#[cfg(test)]
 mod cursor;
 #[cfg(test)]
 mod edits;
 #[cfg(test)]
 mod elements;
+#[cfg(test)]
+mod ids;
 #[cfg(test)]
 mod texts;
 #[cfg(test)]

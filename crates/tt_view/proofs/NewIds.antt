@@ -1,6 +1,5 @@
 -- The flat list of a tree whose spans took new ids.
 use Rattle.std.proofs.Common.{◌≡◌, ℕ, suc, ◌+◌, ◌-◌, ◌<◌, ◌≤◌, Bool, true, false, cond, List, [], ◌∷◌, ◌++◌, map, length, take, get_or, Option, Some, unwrap_or, refl, ap, ap₂, sym, ◌∙◌, subst, arith}
-use Rattle.std.proofs.Math.Seq.{take-append_seam}
 use Rattle.std.proofs.lemmas.List.{map-append, length-map, get_or-append-add}
 use Rattle.std.specs.List.{AllByRecursion}
 use Rattle.tt_base.specs.declared.delimiter.Delimiter.{Delimiter}
@@ -12,35 +11,23 @@ use Rattle.tt_base.specs.declared.span.Span.{Span}
 use Rattle.tt_base.specs.declared.span.SpanPart.{SpanPart}
 use Rattle.tt_base.specs.declared.token_tree.TokenTree.TheVariants as token
 use Rattle.tt_base.specs.Asked.{AsksAll}
-use Rattle.tt_base.specs.Edits.{with_id, respanned_leaf, respanned_delimiter, respanned}
+use Rattle.tt_base.specs.Edits.{with_id, respanned_leaf, respanned}
 use Rattle.tt_base.specs.Forest.{Forest, Root, end, leaf, node, size, header, flat, flat_root}
 use Rattle.tt_base.specs.Literal.{IsLiteral, symbol_of, span_of, kind_of, suffix_len_of}
 use Rattle.tt_base.specs.Span.{part_of}
 use Rattle.tt_base.specs.Token.{delimiter}
 use Rattle.tt_base.proofs.Equality.{same_literal}
-use Rattle.tt_tables.specs.AstIds.{stored_ids, with_id_at, ids_changed}
+use Rattle.tt_tables.specs.AstIds.{stored_ids, with_id_at, ids_changed, respanned_token}
 use Rattle.tt_tables.specs.Stored.{root_parts}
 use Rattle.tt_tables.specs.TableOrder.{index_in, IsIn}
 use Rattle.tt_tables.specs.Tables.{Tables, Knows, part_table, tables_for}
 use Rattle.tt_tables.specs.Uses.{same_part}
+use Rattle.tt_tables.proofs.IdsStored.{parts_below}
 use Rattle.tt_tables.proofs.Known.{all_split, tables_for_know_trees}
+use Rattle.tt_tables.proofs.Respanned.{size-respanned, flat-respanned}
 use Rattle.tt_tables.proofs.StoredAlike.{length-root_parts}
 use Rattle.tt_tables.proofs.TokenTables.{part_sound}
-use Rattle.tt_view.specs.NewIds.{AnswersIds, id_for, span_with, respanned_token}
-
--- As many tokens as before.
-pub size-respanned : (f : Span → Span) (trees : Forest) → size (respanned f trees) ≡ size trees
-size-respanned f end = refl
-size-respanned f (leaf it rest) = ap suc (size-respanned f rest)
-size-respanned f (node d children rest) = ap₂ (λ m n. suc (m + n)) (size-respanned f children) (size-respanned f rest)
-
--- Token by token.
-pub flat-respanned : (f : Span → Span) (trees : Forest) → flat (respanned f trees) ≡ map (respanned_token f) (flat trees)
-flat-respanned f end = refl
-flat-respanned f (leaf it rest) = ap (λ l. token.Leaf (respanned_leaf f it) ∷ l) (flat-respanned f rest)
-flat-respanned f (node d children rest) =
-    ap₂ (λ n l. header (respanned_delimiter f d) n ∷ l) (size-respanned f children)
-    (ap₂ ◌++◌ (flat-respanned f children) (flat-respanned f rest) ∙ sym (map-append (respanned_token f) (flat children) (flat rest)))
+use Rattle.tt_view.specs.NewIds.{AnswersIds, id_for, span_with}
 
 module _ (tables : Tables) (f g : Span → Span) (same : (span : Span) → IsIn same_part tables.parts (part_of span) → f span ≡ g span) where
   leaf_alike : (it : Leaf) → Knows tables (token.Leaf it) → respanned_leaf f it ≡ respanned_leaf g it
@@ -76,14 +63,6 @@ id_found (entry ∷ parts) (id ∷ ids) part d long found = by_test (same_part p
         → unwrap_or (cond t (Some id) (id_for parts ids part)) d ≡ get_or (id ∷ ids) (cond t 0 (suc (index_in (same_part part) parts))) d
     by_test true found later = refl
     by_test false found later = later (omega arith)
-
--- A tree's parts are those below the top, and two more.
-pub parts_below : (root : Root) → take (length (root_parts root) - 2) (root_parts root) ≡ part_table (flat root.children)
-parts_below root =
-    ap (λ n. take n (root_parts root)) count ∙ take-append_seam (part_table (flat root.children)) (part_of root.delimiter.open_span ∷ part_of root.delimiter.close ∷ [])
-  where
-    count : length (root_parts root) - 2 ≡ length (part_table (flat root.children))
-    count = omega (arith, length-root_parts root)
 
 -- what a span below the top becomes
 abbrev respanned_by : (ids : List ErasedFileAstId) → Root → Span → Span

@@ -1,27 +1,22 @@
 -- New ids make no more span parts than there were, and leave the symbols.
-use Rattle.std.proofs.Common.{◌≡◌, ℕ, suc, ◌≤◌, Bool, true, false, not, cond, ◌⊎◌, inl, inr, List, [], ◌∷◌, ◌++◌, bytes_eq, filter, length, map, get_or, nat_le, refl, ap, ap₂, sym, ◌∙◌, arith}
-use Rattle.std.proofs.lemmas.List.{map-append, length-map}
+use Rattle.std.proofs.Common.{◌≡◌, ℕ, suc, ◌≤◌, Bool, true, false, not, cond, ◌⊎◌, inl, inr, List, [], ◌∷◌, bytes_eq, filter, length, map, nat_le, refl, ap, ap₂, sym, ◌∙◌, arith}
+use Rattle.std.proofs.lemmas.List.{length-map}
 use Rattle.tt_base.specs.declared.fault.TtFault.{TtFault}
 use Rattle.tt_base.specs.declared.fault.TtFault.TheVariants.{Memory, NotOneSubtree, NoSuchPlace, NotALeaf, SuffixTooLong, BadScan, TooManyTokens, TooManySpanParts, TooManySymbols, TooManyBytes, PointsSpent}
-use Rattle.tt_base.specs.declared.leaf.Leaf.TheVariants as leaf_of
 use Rattle.tt_base.specs.declared.span.ErasedFileAstId.{ErasedFileAstId}
-use Rattle.tt_base.specs.declared.span.Span.{Span}
 use Rattle.tt_base.specs.declared.span.SpanPart.{SpanPart}
-use Rattle.tt_base.specs.declared.token_tree.TokenTree.{TokenTree}
-use Rattle.tt_base.specs.declared.token_tree.TokenTree.TheVariants as token
 use Rattle.tt_base.specs.Forest.{Root, flat}
-use Rattle.tt_base.specs.Span.{part_of}
-use Rattle.tt_tables.specs.AstIds.{with_id_at, ids_changed}
+use Rattle.tt_tables.specs.AstIds.{ids_changed}
 use Rattle.tt_tables.specs.Stored.{root_parts, IsWithinLimits}
-use Rattle.tt_tables.specs.TableOrder.{index_in, different, falling, uses_of, table, IsEarlier}
+use Rattle.tt_tables.specs.TableOrder.{different, falling, uses_of, table, IsEarlier}
 use Rattle.tt_tables.specs.Tables.{part_table, symbol_table, short_parts, short_symbols}
-use Rattle.tt_tables.specs.Uses.{same_part, token_parts, token_symbols, part_uses, symbol_uses}
+use Rattle.tt_tables.specs.Uses.{same_part, part_uses, symbol_uses}
+use Rattle.tt_tables.proofs.Respanned.{flat-respanned, part_by, span_by, part_uses-respanned, symbol_uses-respanned}
 use Rattle.tt_tables.proofs.StoredAlike.{length-root_parts}
 use Rattle.tt_tables.proofs.TableOrder.{length-falling}
 use Rattle.tt_tables.proofs.TokenTables.{part_sound, part_complete}
-use Rattle.tt_view.specs.NewIds.{respanned_token}
 use Rattle.tt_view.specs.TreeFault.{IsTreeFault}
-use Rattle.tt_view.proofs.NewIds.{flat-respanned, size-ids_changed}
+use Rattle.tt_view.proofs.NewIds.{size-ids_changed}
 
 -- Two filters may change places.
 filters_swap : {X : Type 0} (p q : X → Bool) (xs : List X) → filter p (filter q xs) ≡ filter q (filter p xs)
@@ -119,42 +114,6 @@ length-table same sound complete short uses = by_test (nat_le (length (different
     by_test : (t : Bool) → length (cond t (different same uses) (falling same (uses_of same uses) (different same uses))) ≡ length (different same uses)
     by_test true = refl
     by_test false = length-falling same sound complete (uses_of same uses) (IsEarlier same uses) (different same uses)
-
--- the part with the id that is given for its entry
-abbrev part_by : (ids : List ErasedFileAstId) → (parts : List SpanPart) → SpanPart → SpanPart
-part_by ids parts part =
-    record {
-      anchor = record { file_id = part.anchor.file_id; ast_id = get_or ids (index_in (same_part part) parts) part.anchor.ast_id };
-      ctx = part.ctx;
-    }
-
--- what a span becomes, where such are the entries
-abbrev span_by : (ids : List ErasedFileAstId) → (parts : List SpanPart) → Span → Span
-span_by ids parts span = with_id_at ids (index_in (same_part (part_of span)) parts) span
-
-module _ (ids : List ErasedFileAstId) (parts : List SpanPart) where
-  parts_of_token : (it : TokenTree) → token_parts (respanned_token (span_by ids parts) it) ≡ map (part_by ids parts) (token_parts it)
-  parts_of_token (token.Leaf (leaf_of.Literal it)) = refl
-  parts_of_token (token.Leaf (leaf_of.Punct it)) = refl
-  parts_of_token (token.Leaf (leaf_of.Ident it)) = refl
-  parts_of_token (token.Subtree it) = refl
-
-  symbols_of_token : (it : TokenTree) → token_symbols (respanned_token (span_by ids parts) it) ≡ token_symbols it
-  symbols_of_token (token.Leaf (leaf_of.Literal it)) = refl
-  symbols_of_token (token.Leaf (leaf_of.Punct it)) = refl
-  symbols_of_token (token.Leaf (leaf_of.Ident it)) = refl
-  symbols_of_token (token.Subtree it) = refl
-
-  -- The parts that are used become others, each by itself.
-  part_uses-respanned : (tokens : List TokenTree) → part_uses (map (respanned_token (span_by ids parts)) tokens) ≡ map (part_by ids parts) (part_uses tokens)
-  part_uses-respanned [] = refl
-  part_uses-respanned (it ∷ tokens) =
-      ap₂ ◌++◌ (parts_of_token it) (part_uses-respanned tokens) ∙ sym (map-append (part_by ids parts) (token_parts it) (part_uses tokens))
-
-  -- The symbols that are used stay.
-  symbol_uses-respanned : (tokens : List TokenTree) → symbol_uses (map (respanned_token (span_by ids parts)) tokens) ≡ symbol_uses tokens
-  symbol_uses-respanned [] = refl
-  symbol_uses-respanned (it ∷ tokens) = ap₂ ◌++◌ (symbols_of_token it) (symbol_uses-respanned tokens)
 
 -- The table of span parts grows no longer.
 parts_no_more : (ids : List ErasedFileAstId) (root : Root) → length (root_parts (ids_changed ids root)) ≤ length (root_parts root)

@@ -3,11 +3,9 @@ use Rattle.std.specs.Prelude.{List, [], ◌∷◌, Option, Some, None, unwrap_or
 use Rattle.tt_base.specs.declared.span.ErasedFileAstId.{ErasedFileAstId}
 use Rattle.tt_base.specs.declared.span.Span.{Span}
 use Rattle.tt_base.specs.declared.span.SpanPart.{SpanPart}
-use Rattle.tt_base.specs.declared.token_tree.TokenTree.{TokenTree}
-use Rattle.tt_base.specs.declared.token_tree.TokenTree.TheVariants as token
 use Rattle.tt_base.specs.Asked.{AsksAll}
-use Rattle.tt_base.specs.Edits.{with_id, respanned_leaf, respanned_delimiter}
-use Rattle.tt_base.specs.Forest.{Root, header}
+use Rattle.tt_base.specs.Edits.{with_id}
+use Rattle.tt_base.specs.Forest.{Root}
 use Rattle.tt_base.specs.Span.{part_of}
 use Rattle.tt_tables.specs.AstIds.{stored_ids}
 use Rattle.tt_tables.specs.Uses.{same_part}
@@ -26,8 +24,3 @@ id_for (entry ∷ parts) (id ∷ ids) part = if same_part part entry then Some i
 -- the span takes the id that its part has, if it has one
 abbrev pub span_with : (SpanPart → Option ErasedFileAstId) → Span → Span
 span_with ids span = with_id (unwrap_or (ids (part_of span)) span.anchor.ast_id) span
-
--- so do all spans of a token
-abbrev pub respanned_token : (Span → Span) → TokenTree → TokenTree
-respanned_token f (token.Leaf it) = token.Leaf (respanned_leaf f it)
-respanned_token f (token.Subtree it) = header (respanned_delimiter f it.delimiter) it.len

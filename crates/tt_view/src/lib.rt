@@ -22,5 +22,4 @@ pub use iter::{TtElement, TtIter, TtIterSavepoint};
 pub use split::Split;
 pub use subtree_view::SubtreeView;
 pub use top_subtree::TopSubtree;
-pub use tt_pack::TokenEntries;
 pub use view::TokenTreesView;

@@ -34,7 +34,7 @@ use std::marker::Model;
 use tt_base::{
     DelimSpan, Delimiter, Leaf, Refused, Span, SpanPart, Subtree, Symbol, TokenTree, TtFault,
 };
-use tt_pack::{Packed, TokenEntries};
+use tt_pack::Packed;
 
 /// A token tree: a delimiter and the trees inside. A contract sees the tree. It is stored as bytes and two tables,
 /// which are a function of it (docs/FORMATS.md).
@@ -127,14 +127,12 @@ impl TopSubtree {
     }
 
     /// The same, where each map gives every value its number of uses in the list below the top. A value that is absent,
-    /// or has the number 0, has none. The maps say nothing of the order. Of each token below the top, `entries` tells where
-    /// its values stand in the maps; what is not so there, or is not told, is looked up.
+    /// or has the number 0, has none. The maps say nothing of the order.
     pub fn from_tokens_counted(
         alloc: Global,
         tokens: &[TokenTree],
         parts: &IndexMap<SpanPart, usize>,
         symbols: &IndexMap<Symbol, usize>,
-        entries: &[TokenEntries],
     ) -> Result<TopSubtree, TtFault>
         requires parts { CountsUses same_part (part_uses (drop 1 tokens.now)) parts.now.entries }
         requires symbols { CountsUses bytes_eq (symbol_uses (drop 1 tokens.now)) symbols.now.entries }
@@ -143,7 +141,7 @@ impl TopSubtree {
         ensures limits { IfOk result (λ tree. IsWithinLimits tree) }
         ensures err { IfErr result (IsPackFault tokens.now) }
     {
-        let packed = Packed::of_list_counted(alloc, tokens, parts, symbols, entries)?;
+        let packed = Packed::of_list_counted(alloc, tokens, parts, symbols)?;
         Ok(TopSubtree { packed })
     }
 

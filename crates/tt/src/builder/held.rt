@@ -31,7 +31,10 @@ use tt_base::{
     Delimiter, DelimiterKind, Leaf, Refused, Span, SpanPart, Subtree, Symbol, TokenTree, TtFault,
 };
 use tt_counts::Counts;
-use tt_view::{TokenEntries, TokenTreesView};
+use tt_view::TokenTreesView;
+
+// For how many tokens room is made at first, the top among them.
+const FEW_TOKENS: usize = 8;
 
 /// What a builder holds. A contract sees the levels, the mark and the points that stand.
 #[derive(Drop, Debug)]
@@ -68,7 +71,7 @@ impl Held {
         ensures ok { IfOk result (λ builder. builder ≡ empty_builder top) }
         ensures err { IfErr result (λ fault. fault ≡ Memory) }
     {
-        let mut tokens = Vec::new(alloc);
+        let mut tokens = Vec::with_capacity(alloc, FEW_TOKENS)?;
         tokens.push(TokenTree::Subtree(Subtree {
             delimiter: top,
             len: 0,
@@ -81,24 +84,6 @@ impl Held {
             taken: 0,
             alloc,
         })
-    }
-
-    /// How many tokens are held.
-    pub(crate) fn len(&self) -> usize {
-        self.tokens.len().saturating_sub(1)
-    }
-
-    /// How many tokens are held before the header of the innermost open subtree.
-    pub(crate) fn before_innermost(&self) -> usize {
-        match self.headers.last() {
-            Some(place) => place.saturating_sub(1),
-            None => 0,
-        }
-    }
-
-    /// How many tokens are held before the header of the marked subtree.
-    pub(crate) fn before_mark(&self) -> usize {
-        self.mark.unwrap_or(0).saturating_sub(1)
     }
 
     /// Opens a subtree, and clears the mark.
@@ -174,7 +159,6 @@ impl Held {
         &mut self,
         parts: &mut Counts<SpanPart>,
         symbols: &mut Counts<Symbol>,
-        entries: &mut Vec<TokenEntries>,
         leaves: I,
     ) -> Result<(), TtFault>
         requires can { I.can_next leaves }
@@ -190,7 +174,7 @@ impl Held {
         let len = self.tokens.len();
         match add_leaves(&mut self.tokens, leaves) {
             Ok(()) => {
-                if !add_new(&mut self.tokens, len, parts, symbols, entries) {
+                if !add_new(&mut self.tokens, len, parts, symbols) {
                     return Err(TtFault::Memory);
                 }
                 Ok(())
@@ -207,7 +191,6 @@ impl Held {
         &mut self,
         parts: &mut Counts<SpanPart>,
         symbols: &mut Counts<Symbol>,
-        entries: &mut Vec<TokenEntries>,
         trees: TokenTreesView<'_>,
     ) -> Result<(), TtFault>
         requires parts { CountsUses same_part (held_parts self.old.stack) parts.old.numbers.entries }
@@ -225,7 +208,7 @@ impl Held {
         if trees.len() > room {
             return Err(TtFault::TooManyTokens);
         }
-        if !add_trees_counted(&mut self.tokens, parts, symbols, entries, trees) {
+        if !add_trees_counted(&mut self.tokens, parts, symbols, trees) {
             return Err(TtFault::Memory);
         }
         Ok(())
@@ -236,7 +219,6 @@ impl Held {
         &mut self,
         parts: &mut Counts<SpanPart>,
         symbols: &mut Counts<Symbol>,
-        entries: &mut Vec<TokenEntries>,
         trees: TokenTreesView<'_>,
     ) -> Result<(), TtFault>
         requires parts { CountsUses same_part (held_parts self.old.stack) parts.old.numbers.entries }
@@ -254,7 +236,7 @@ impl Held {
         if trees.len() > room {
             return Err(TtFault::TooManyTokens);
         }
-        if !add_trees_alone_counted(&mut self.tokens, parts, symbols, entries, trees) {
+        if !add_trees_alone_counted(&mut self.tokens, parts, symbols, trees) {
             return Err(TtFault::Memory);
         }
         Ok(())

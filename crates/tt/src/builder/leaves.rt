@@ -1,5 +1,5 @@
 //! The symbol of a leaf among counts.
-ghost use Rattle.std.specs.Prelude.{◌≡◌, ◌+◌, ◌<◌, ◌^◌, [], List, ℕ, IfOk, bytes_eq};
+ghost use Rattle.std.specs.Prelude.{◌≡◌, ◌+◌, ◌<◌, ◌^◌, [], List, ℕ, Some, IfOk, bytes_eq, slice_get};
 ghost use Rattle.indexmap.specs.IndexMap.{keys};
 ghost use Rattle.tt_tables.specs.Counts.{number_in, CountsMore};
 ghost use Rattle.tt_tables.specs.Uses.{leaf_symbols};
@@ -8,7 +8,21 @@ ghost use Rattle.tt.specs.HeldUses.{StandAt};
 use std::alloc::AllocError;
 use tt_base::{Leaf, Symbol};
 use tt_counts::Counts;
-use tt_view::TokenEntries;
+
+// The index of a symbol, which is first looked for at the place that it notes, and noted where it is elsewhere. A new one
+// gets an entry of no uses.
+#[inline(always)]
+fn known_index(symbols: &mut Counts<Symbol>, symbol: &Symbol) -> Result<usize, AllocError>
+    ensures stays { CountsMore bytes_eq [] symbols.old.numbers.entries symbols.new.numbers.entries }
+    ensures index { IfOk result (λ index. slice_get (keys symbols.new.numbers) index ≡ Some symbol.now) }
+{
+    let place = symbol.place() as usize;
+    let index = symbols.index_at(place, symbol)?;
+    if index != place {
+        symbol.note_place(index.min(u32::MAX as usize) as u32);
+    }
+    Ok(index)
+}
 
 /// The index of the symbol of a leaf, if it has one. A new symbol gets an entry of no uses.
 pub(crate) fn symbol_index(
@@ -19,9 +33,9 @@ pub(crate) fn symbol_index(
     ensures index { IfOk result (λ index. StandAt (keys symbols.new.numbers) index (leaf_symbols leaf.now)) }
 {
     match leaf {
-        Leaf::Literal(literal) => Ok(Some(symbols.index_of(literal.symbol())?)),
+        Leaf::Literal(literal) => Ok(Some(known_index(symbols, literal.symbol())?)),
         Leaf::Punct(_) => Ok(None),
-        Leaf::Ident(ident) => Ok(Some(symbols.index_of(&ident.sym)?)),
+        Leaf::Ident(ident) => Ok(Some(known_index(symbols, &ident.sym)?)),
     }
 }
 
@@ -32,18 +46,5 @@ pub(crate) fn add_symbol(symbols: &mut Counts<Symbol>, index: Option<usize>)
 {
     if let Some(index) = index {
         symbols.add_at(index);
-    }
-}
-
-// An index as it is kept beside a token.
-fn kept(index: usize) -> u32 {
-    index.min(u32::MAX as usize) as u32
-}
-
-/// Where a part and another value stand. A punct has no other.
-pub(crate) fn entries_of(part: usize, other: Option<usize>) -> TokenEntries {
-    TokenEntries {
-        part: kept(part),
-        other: kept(other.unwrap_or(part)),
     }
 }

@@ -11,19 +11,14 @@ ghost use Rattle.tt.specs.HeldUses.{first_part};
 ghost use Rattle.tt_base.specs.declared.token_tree.TokenTree.{TokenTree};
 ghost use Rattle.tt_tables.specs.Uses.{same_part, token_parts, token_symbols, leaf_symbols, part_uses, symbol_uses};
 
-use crate::builder::leaves::{add_symbol, entries_of, symbol_index};
+use crate::builder::leaves::{add_symbol, symbol_index};
 use crate::builder::tokens::{add_trees, add_trees_alone};
 use tt_base::{Leaf, SpanPart, Symbol, TokenTree};
 use tt_counts::Counts;
-use tt_view::{TokenEntries, TokenTreesView};
+use tt_view::TokenTreesView;
 
-// One use more of what a token uses, if there is memory for the entries. Where its values stand is kept, as there is room.
-fn add_token(
-    parts: &mut Counts<SpanPart>,
-    symbols: &mut Counts<Symbol>,
-    entries: &mut Vec<TokenEntries>,
-    token: &TokenTree,
-) -> bool
+// One use more of what a token uses, if there is memory for the entries.
+fn add_token(parts: &mut Counts<SpanPart>, symbols: &mut Counts<Symbol>, token: &TokenTree) -> bool
     requires parts { (x : SpanPart) → number_in same_part parts.old.numbers.entries x + 2 < 2 ^ 64 }
     requires symbols { (x : List ℕ) → number_in bytes_eq symbols.old.numbers.entries x + 1 < 2 ^ 64 }
     ensures parts { CountsMore same_part (if result then token_parts token.now else []) parts.old.numbers.entries parts.new.numbers.entries }
@@ -39,20 +34,18 @@ fn add_token(
             };
             parts.add_at(part);
             add_symbol(symbols, symbol);
-            let _ = entries.push(entries_of(part, symbol));
             true
         }
         TokenTree::Subtree(header) => {
             let opening = SpanPart::from_span(&header.delimiter.open_span);
-            let Ok(part) = parts.add(&opening) else {
+            if parts.add(&opening).is_err() {
                 return false;
-            };
+            }
             let closing = SpanPart::from_span(&header.delimiter.close);
-            let Ok(other) = parts.add(&closing) else {
+            if parts.add(&closing).is_err() {
                 parts.take(&opening);
                 return false;
-            };
-            let _ = entries.push(entries_of(part, Some(other)));
+            }
             true
         }
     }
@@ -106,19 +99,14 @@ fn take_all(parts: &mut Counts<SpanPart>, symbols: &mut Counts<Symbol>, tokens: 
 }
 
 // One use more of all that the tokens use, if there is memory for the entries.
-fn add_all(
-    parts: &mut Counts<SpanPart>,
-    symbols: &mut Counts<Symbol>,
-    entries: &mut Vec<TokenEntries>,
-    tokens: &[TokenTree],
-) -> bool
+fn add_all(parts: &mut Counts<SpanPart>, symbols: &mut Counts<Symbol>, tokens: &[TokenTree]) -> bool
     requires parts { (x : SpanPart) → number_in same_part parts.old.numbers.entries x + 2 * length tokens.now < 2 ^ 64 }
     requires symbols { (x : List ℕ) → number_in bytes_eq symbols.old.numbers.entries x + length tokens.now < 2 ^ 64 }
     ensures parts { CountsMore same_part (if result then part_uses tokens.now else []) parts.old.numbers.entries parts.new.numbers.entries }
     ensures symbols { CountsMore bytes_eq (if result then symbol_uses tokens.now else []) symbols.old.numbers.entries symbols.new.numbers.entries }
 {
     for (place, token) in tokens.iter().enumerate() {
-        if !add_token(parts, symbols, entries, token) {
+        if !add_token(parts, symbols, token) {
             take_all(parts, symbols, &tokens[..place]);
             return false;
         }
@@ -132,7 +120,6 @@ pub(crate) fn add_new(
     len: usize,
     parts: &mut Counts<SpanPart>,
     symbols: &mut Counts<Symbol>,
-    entries: &mut Vec<TokenEntries>,
 ) -> bool
     requires within { len ≤ length tokens.old.items }
     requires parts { (x : SpanPart) → number_in same_part parts.old.numbers.entries x + 2 * length tokens.old.items < 2 ^ 64 }
@@ -141,13 +128,9 @@ pub(crate) fn add_new(
     ensures parts { CountsMore same_part (if result then part_uses (drop len tokens.old.items) else []) parts.old.numbers.entries parts.new.numbers.entries }
     ensures symbols { CountsMore bytes_eq (if result then symbol_uses (drop len tokens.old.items) else []) symbols.old.numbers.entries symbols.new.numbers.entries }
 {
-    let known = entries.len();
-    if entries.reserve(tokens.len() - len).is_ok() {
-        if add_all(parts, symbols, entries, &tokens[len..]) {
-            return true;
-        }
+    if add_all(parts, symbols, &tokens[len..]) {
+        return true;
     }
-    entries.truncate(known);
     tokens.truncate(len);
     false
 }
@@ -170,7 +153,6 @@ pub(crate) fn add_trees_counted(
     tokens: &mut Vec<TokenTree>,
     parts: &mut Counts<SpanPart>,
     symbols: &mut Counts<Symbol>,
-    entries: &mut Vec<TokenEntries>,
     trees: TokenTreesView<'_>,
 ) -> bool
     requires parts { (x : SpanPart) → number_in same_part parts.old.numbers.entries x + 2 * (length tokens.old.items + size (trees_of trees)) < 2 ^ 64 }
@@ -183,7 +165,7 @@ pub(crate) fn add_trees_counted(
     if !add_trees(tokens, trees) {
         return false;
     }
-    add_new(tokens, len, parts, symbols, entries)
+    add_new(tokens, len, parts, symbols)
 }
 
 /// The same, and the last of them becomes alone if it is a punct.
@@ -191,7 +173,6 @@ pub(crate) fn add_trees_alone_counted(
     tokens: &mut Vec<TokenTree>,
     parts: &mut Counts<SpanPart>,
     symbols: &mut Counts<Symbol>,
-    entries: &mut Vec<TokenEntries>,
     trees: TokenTreesView<'_>,
 ) -> bool
     requires parts { (x : SpanPart) → number_in same_part parts.old.numbers.entries x + 2 * (length tokens.old.items + size (trees_of trees)) < 2 ^ 64 }
@@ -204,7 +185,7 @@ pub(crate) fn add_trees_alone_counted(
     if !add_trees_alone(tokens, trees) {
         return false;
     }
-    add_new(tokens, len, parts, symbols, entries)
+    add_new(tokens, len, parts, symbols)
 }
 
 /// Takes away what the tokens from a length on use, but of each header at the places from a depth on, which is open and has

@@ -19,7 +19,7 @@ use indexmap::IndexMap;
 use std::alloc::Global;
 use tt_base::{DelimiterKind, Leaf, Spacing, Span, SpanPart, Symbol, TokenTree, TtFault};
 use tt_counts::Counts;
-use tt_view::{TokenEntries, TokenTreesView, TopSubtree};
+use tt_view::{TokenTreesView, TopSubtree};
 
 /// Takes out the token at a place.
 pub(crate) fn take_out(tokens: &mut Vec<TokenTree>, place: usize)
@@ -87,7 +87,6 @@ pub(crate) fn pack_list(
     tokens: &mut Vec<TokenTree>,
     parts: &IndexMap<SpanPart, usize>,
     symbols: &IndexMap<Symbol, usize>,
-    entries: &[TokenEntries],
 ) -> Result<TopSubtree, TtFault>
     requires parts { CountsUses same_part (part_uses (drop 1 tokens.old.items)) parts.now.entries }
     requires symbols { CountsUses bytes_eq (symbol_uses (drop 1 tokens.old.items)) symbols.now.entries }
@@ -100,7 +99,7 @@ pub(crate) fn pack_list(
 {
     let len = (tokens.len() - 1) as u32;
     set_len(tokens, len);
-    let packed = TopSubtree::from_tokens_counted(alloc, tokens.as_slice(), parts, symbols, entries);
+    let packed = TopSubtree::from_tokens_counted(alloc, tokens.as_slice(), parts, symbols);
     set_len(tokens, 0);
     packed
 }
@@ -112,7 +111,6 @@ pub(crate) fn pack_one_node(
     tokens: &[TokenTree],
     parts: &mut Counts<SpanPart>,
     symbols: &Counts<Symbol>,
-    entries: &[TokenEntries],
 ) -> Result<TopSubtree, TtFault>
     requires one { is_one_node tokens.now ≡ true }
     requires few { length tokens.now ≤ 4294967296 }
@@ -130,13 +128,7 @@ pub(crate) fn pack_one_node(
     let closing = parts.index_of_used(&SpanPart::from_span(&header.delimiter.close));
     parts.take_at(opening);
     parts.take_at(closing);
-    let packed = TopSubtree::from_tokens_counted(
-        alloc,
-        tokens,
-        &parts.numbers,
-        &symbols.numbers,
-        entries,
-    );
+    let packed = TopSubtree::from_tokens_counted(alloc, tokens, &parts.numbers, &symbols.numbers);
     parts.add_at(opening);
     parts.add_at(closing);
     packed

@@ -3,7 +3,10 @@ ghost use Rattle.tt_base.specs.Fits.{KindFits};
 ghost use Rattle.tt_language.specs.Token.{kind_word, spacing_word, raw_word, literal_kind_word};
 ghost use Rattle.tt_language.specs.WordLaws.{spaceless_kind, spaceless_spacing, spaceless_rawness, spaceless_literal_kind};
 
-use crate::command::word::{Word, is, named};
+use crate::command::front::{
+    after_alone, after_hidden, after_int, after_joint, after_plain, after_raw, after_str,
+};
+use crate::command::word::{Word, cut, is, named};
 use tt_base::{DelimiterKind, IdentIsRaw, LitKind, Spacing};
 
 impl Word for DelimiterKind {
@@ -37,6 +40,18 @@ impl Word for Spacing {
         )
     }
 
+    #[inline(always)]
+    fn read_before_space(text: &[u8]) -> Option<(Spacing, &[u8])> {
+        if let Some(rest) = after_alone(text) {
+            return Some((Spacing::Alone, rest));
+        }
+        if let Some(rest) = after_joint(text) {
+            return Some((Spacing::Joint, rest));
+        }
+        let rest = after_hidden(text)?;
+        Some((Spacing::JointHidden, rest))
+    }
+
     ghost has_no_space = { λ spacing _. spaceless_spacing spacing };
 }
 
@@ -50,6 +65,15 @@ impl Word for IdentIsRaw {
             b"plain" => IdentIsRaw::No,
             b"raw" => IdentIsRaw::Yes
         )
+    }
+
+    #[inline(always)]
+    fn read_before_space(text: &[u8]) -> Option<(IdentIsRaw, &[u8])> {
+        if let Some(rest) = after_plain(text) {
+            return Some((IdentIsRaw::No, rest));
+        }
+        let rest = after_raw(text)?;
+        Some((IdentIsRaw::Yes, rest))
     }
 
     ghost has_no_space = { λ is_raw _. spaceless_rawness is_raw };
@@ -80,6 +104,20 @@ impl Word for LitKind {
             b"cstr" => LitKind::CStr,
             b"err" => LitKind::Err(())
         )
+    }
+
+    // The kinds of most literals are told at once.
+    #[inline(always)]
+    fn read_before_space(text: &[u8]) -> Option<(LitKind, &[u8])> {
+        if let Some(rest) = after_int(text) {
+            return Some((LitKind::Integer, rest));
+        }
+        if let Some(rest) = after_str(text) {
+            return Some((LitKind::Str, rest));
+        }
+        let (word, rest) = cut(text, b' ')?;
+        let kind = LitKind::read(word)?;
+        Some((kind, rest))
     }
 
     ghost has_no_space = { spaceless_literal_kind };

@@ -9,7 +9,7 @@ ghost use Rattle.tt_language.specs.Token.{leaf_words, token_words};
 use crate::command::tokens::{character, leaf, token};
 use crate::command::word::{Word, next};
 use crate::many::Many;
-use std::alloc::Global;
+use crate::texts::Texts;
 use tt_base::{Leaf, TokenTree, TtFault};
 
 /// Values that the pieces behind the first word of a line spell.
@@ -19,7 +19,7 @@ pub trait Part: Sized {
     ghost fits: { Self → Type 0 };
 
     /// The values that the text spells, each piece behind a space.
-    fn read(alloc: Global, text: &[u8]) -> Result<Option<Self>, TtFault>
+    fn read(texts: &mut Texts, text: &[u8]) -> Result<Option<Self>, TtFault>
         ensures reads { IfOk result (ReadsPieces pieces fits text.now) }
         ensures err { IfErr result (λ fault. fault ≡ Memory) };
 }
@@ -30,7 +30,7 @@ impl Part for () {
 
     ghost fits = { λ _. Unit {0} };
 
-    fn read(_alloc: Global, text: &[u8]) -> Result<Option<()>, TtFault> {
+    fn read(_texts: &mut Texts, text: &[u8]) -> Result<Option<()>, TtFault> {
         if text.is_empty() {
             return Ok(Some(()));
         }
@@ -44,11 +44,11 @@ impl<W: Word + Drop, P: Part> Part for (W, P) {
 
     ghost fits = { λ p. W.fits p.0 × P.fits p.1 };
 
-    fn read(alloc: Global, text: &[u8]) -> Result<Option<(W, P)>, TtFault> {
+    fn read(texts: &mut Texts, text: &[u8]) -> Result<Option<(W, P)>, TtFault> {
         let Some((word, rest)) = next(text) else {
             return Ok(None);
         };
-        let Some(more) = P::read(alloc, rest)? else {
+        let Some(more) = P::read(texts, rest)? else {
             return Ok(None);
         };
         Ok(Some((word, more)))
@@ -61,8 +61,8 @@ impl<W: Word + Drop> Part for Many<W> {
 
     ghost fits = { All W.fits };
 
-    fn read(alloc: Global, text: &[u8]) -> Result<Option<Many<W>>, TtFault> {
-        let mut items = Vec::new(alloc);
+    fn read(texts: &mut Texts, text: &[u8]) -> Result<Option<Many<W>>, TtFault> {
+        let mut items = Vec::new(texts.alloc());
         let mut rest = text;
         while !rest.is_empty() {
             let Some((word, more)) = next(rest) else {
@@ -81,7 +81,7 @@ impl Part for char {
 
     ghost fits = { IsScalar };
 
-    fn read(_alloc: Global, text: &[u8]) -> Result<Option<char>, TtFault> {
+    fn read(_texts: &mut Texts, text: &[u8]) -> Result<Option<char>, TtFault> {
         let Some(text) = text.strip_prefix(b" ".as_slice()) else {
             return Ok(None);
         };
@@ -95,11 +95,11 @@ impl Part for Leaf {
 
     ghost fits = { LeafFits };
 
-    fn read(alloc: Global, text: &[u8]) -> Result<Option<Leaf>, TtFault> {
+    fn read(texts: &mut Texts, text: &[u8]) -> Result<Option<Leaf>, TtFault> {
         let Some(text) = text.strip_prefix(b" ".as_slice()) else {
             return Ok(None);
         };
-        leaf(alloc, text)
+        leaf(texts, text)
     }
 }
 
@@ -109,10 +109,10 @@ impl Part for TokenTree {
 
     ghost fits = { TokenFits };
 
-    fn read(alloc: Global, text: &[u8]) -> Result<Option<TokenTree>, TtFault> {
+    fn read(texts: &mut Texts, text: &[u8]) -> Result<Option<TokenTree>, TtFault> {
         let Some(text) = text.strip_prefix(b" ".as_slice()) else {
             return Ok(None);
         };
-        token(alloc, text)
+        token(texts, text)
     }
 }

@@ -8,36 +8,39 @@ ghost use Rattle.tt_base.specs.declared.token_tree.TokenTree.TheVariants as toke
 ghost use Rattle.tt_language.specs.Reading.{Reads};
 ghost use Rattle.tt_language.specs.Token.{placed_words, PlacedFits, punct_words, ident_words, literal_words, leaf_words, subtree_words, token_words};
 
+use crate::command::front::{after_ident, after_lit, after_punct, after_sub};
 use crate::command::numbers::number;
-use crate::command::word::{Word, first};
-use std::alloc::Global;
+use crate::command::word::Word;
+use crate::texts::Texts;
 use std::str::from_utf8;
 use tt_base::{Delimiter, Ident, Leaf, Literal, Punct, Span, Subtree, Symbol, TokenTree, TtFault};
 
 /// The token that the text spells.
-pub fn token(alloc: Global, text: &[u8]) -> Result<Option<TokenTree>, TtFault>
+#[inline(always)]
+pub fn token(texts: &mut Texts, text: &[u8]) -> Result<Option<TokenTree>, TtFault>
     ensures reads { IfOk result (Reads token_words TokenFits text.now) }
     ensures err { IfErr result (λ fault. fault ≡ Memory) }
 {
-    if let Some(rest) = text.strip_prefix(b"sub ".as_slice()) {
+    if let Some(rest) = after_sub(text) {
         return Ok(subtree(rest).map(TokenTree::Subtree));
     }
-    Ok(leaf(alloc, text)?.map(TokenTree::Leaf))
+    Ok(leaf(texts, text)?.map(TokenTree::Leaf))
 }
 
 /// The leaf that the text spells.
-pub fn leaf(alloc: Global, text: &[u8]) -> Result<Option<Leaf>, TtFault>
+#[inline(always)]
+pub fn leaf(texts: &mut Texts, text: &[u8]) -> Result<Option<Leaf>, TtFault>
     ensures reads { IfOk result (Reads leaf_words LeafFits text.now) }
     ensures err { IfErr result (λ fault. fault ≡ Memory) }
 {
-    if let Some(rest) = text.strip_prefix(b"punct ".as_slice()) {
+    if let Some(rest) = after_punct(text) {
         return Ok(punct(rest).map(Leaf::Punct));
     }
-    if let Some(rest) = text.strip_prefix(b"ident ".as_slice()) {
-        return Ok(ident(alloc, rest)?.map(Leaf::Ident));
+    if let Some(rest) = after_ident(text) {
+        return Ok(ident(texts, rest)?.map(Leaf::Ident));
     }
-    if let Some(rest) = text.strip_prefix(b"lit ".as_slice()) {
-        return Ok(literal(alloc, rest)?.map(Leaf::Literal));
+    if let Some(rest) = after_lit(text) {
+        return Ok(literal(texts, rest)?.map(Leaf::Literal));
     }
     Ok(None)
 }
@@ -46,9 +49,9 @@ pub fn leaf(alloc: Global, text: &[u8]) -> Result<Option<Leaf>, TtFault>
 fn subtree(text: &[u8]) -> Option<Subtree>
     ensures { Reads subtree_words (λ subtree. TokenFits (token.Subtree subtree)) text.now result }
 {
-    let (kind, rest) = first(text)?;
-    let (open_span, rest) = first(rest)?;
-    let (close, rest) = first(rest)?;
+    let (kind, rest) = Word::read_before_space(text)?;
+    let (open_span, rest) = Word::read_before_space(rest)?;
+    let (close, rest) = Word::read_before_space(rest)?;
     let len = number(rest)?;
     let delimiter = Delimiter {
         open_span,
@@ -62,8 +65,8 @@ fn subtree(text: &[u8]) -> Option<Subtree>
 fn punct(text: &[u8]) -> Option<Punct>
     ensures { Reads punct_words (λ punct. LeafFits (leaf.Punct punct)) text.now result }
 {
-    let (spacing, rest) = first(text)?;
-    let (span, rest) = first(rest)?;
+    let (spacing, rest) = Word::read_before_space(text)?;
+    let (span, rest) = Word::read_before_space(rest)?;
     let char = character(rest)?;
     Some(Punct {
         char,
@@ -83,46 +86,49 @@ pub fn character(text: &[u8]) -> Option<char>
 }
 
 // What follows `ident`.
-fn ident(alloc: Global, text: &[u8]) -> Result<Option<Ident>, TtFault>
+#[inline(always)]
+fn ident(texts: &mut Texts, text: &[u8]) -> Result<Option<Ident>, TtFault>
     ensures reads { IfOk result (Reads ident_words (λ ident. LeafFits (leaf.Ident ident)) text.now) }
     ensures err { IfErr result (λ fault. fault ≡ Memory) }
 {
-    let Some((is_raw, rest)) = first(text) else {
+    let Some((is_raw, rest)) = Word::read_before_space(text) else {
         return Ok(None);
     };
-    let Some((span, sym)) = placed(alloc, rest)? else {
+    let Some((span, sym)) = placed(texts, rest)? else {
         return Ok(None);
     };
     Ok(Some(Ident { sym, span, is_raw }))
 }
 
 // What follows `lit`.
-fn literal(alloc: Global, text: &[u8]) -> Result<Option<Literal>, TtFault>
+#[inline(always)]
+fn literal(texts: &mut Texts, text: &[u8]) -> Result<Option<Literal>, TtFault>
     ensures reads { IfOk result (Reads literal_words (λ literal. LeafFits (leaf.Literal literal)) text.now) }
     ensures err { IfErr result (λ fault. fault ≡ Memory) }
 {
-    let Some((kind, rest)) = first(text) else {
+    let Some((kind, rest)) = Word::read_before_space(text) else {
         return Ok(None);
     };
-    let Some((suffix_len, rest)) = first(rest) else {
+    let Some((suffix_len, rest)) = Word::read_before_space(rest) else {
         return Ok(None);
     };
-    let Some((span, symbol)) = placed(alloc, rest)? else {
+    let Some((span, symbol)) = placed(texts, rest)? else {
         return Ok(None);
     };
     Ok(Literal::from_parts(symbol, span, kind, suffix_len))
 }
 
 // A span, and all the rest as a text.
-fn placed(alloc: Global, text: &[u8]) -> Result<Option<(Span, Symbol)>, TtFault>
+#[inline(always)]
+fn placed(texts: &mut Texts, text: &[u8]) -> Result<Option<(Span, Symbol)>, TtFault>
     ensures reads { IfOk result (Reads placed_words PlacedFits text.now) }
     ensures err { IfErr result (λ fault. fault ≡ Memory) }
 {
-    let Some((span, rest)) = first(text) else {
+    let Some((span, rest)) = Word::read_before_space(text) else {
         return Ok(None);
     };
-    let Ok(rest) = from_utf8(rest) else {
+    let Some(symbol) = texts.symbol(rest)? else {
         return Ok(None);
     };
-    Ok(Some((span, Symbol::new(alloc, rest)?)))
+    Ok(Some((span, symbol)))
 }

@@ -13,15 +13,15 @@ pub trait Word: Sized {
         ensures { Reads spelling fits word.now result };
 
     ghost has_no_space: { (value : Self) → fits value → Lacks 32 (spelling value) };
-}
 
-/// The first word's value, and what follows the space after it.
-pub fn first<W: Word>(text: &[u8]) -> Option<(W, &[u8])>
-    ensures { ReadsBefore 32 W.spelling W.fits text.now result }
-{
-    let (word, rest) = cut(text, b' ')?;
-    let value = W::read(word)?;
-    Some((value, rest))
+    /// The first word's value, and what follows the space after it.
+    fn read_before_space(text: &[u8]) -> Option<(Self, &[u8])>
+        ensures { ReadsBefore 32 spelling fits text.now result }
+    {
+        let (word, rest) = cut(text, b' ')?;
+        let value = Self::read(word)?;
+        Some((value, rest))
+    }
 }
 
 /// The value of the word behind the space that the text begins with, and the text from the next space on.

@@ -3,15 +3,13 @@ ghost use Rattle.std.specs.Prelude.{◌≡◌};
 ghost use Rattle.tt_base.specs.Edits.{with_kind, with_spans};
 ghost use Rattle.tt_pack.specs.Packed.{with_top};
 
-use crate::packed::Packed;
+use crate::packed::{Packed, TOP_PARTS};
 use crate::reader::Reader;
 use tt_base::{DelimSpan, Delimiter, DelimiterKind, SpanPart, Subtree, TokenTree};
 use tt_codec::HeaderEntry;
 
 // How many bytes the top header takes.
 const TOP_BYTES: usize = 33;
-// The last parts are those of the top's two spans.
-const TOP_PARTS: usize = 2;
 
 impl Packed {
     /// Changes the kind of the top, in place. All other tokens read as before.

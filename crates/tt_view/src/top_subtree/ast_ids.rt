@@ -8,10 +8,10 @@ ghost use Rattle.tt_base.specs.declared.token_tree.TokenTree.TheVariants as toke
 ghost use Rattle.tt_base.specs.Asked.{AsksAll};
 ghost use Rattle.tt_base.specs.Edits.{with_id, respanned_leaf};
 ghost use Rattle.tt_base.specs.Forest.{flat};
-ghost use Rattle.tt_tables.specs.AstIds.{with_id_at, ids_changed};
-ghost use Rattle.tt_tables.specs.Stored.{root_parts, IsWithinLimits};
+ghost use Rattle.tt_tables.specs.AstIds.{with_id_at, ids_changed, respanned_token, parts_with_ids, under_parts, KeepApart};
+ghost use Rattle.tt_tables.specs.Stored.{packed as stored_for, root_parts, IsWithinLimits};
 ghost use Rattle.tt_tables.specs.Uses.{same_part};
-ghost use Rattle.tt_view.specs.NewIds.{AnswersIds, id_for, span_with, respanned_token};
+ghost use Rattle.tt_view.specs.NewIds.{AnswersIds, id_for, span_with};
 ghost use Rattle.tt_view.specs.TreeFault.{IsTreeFault};
 ghost use Rattle.tt_view.specs.Views.{trees_of};
 
@@ -154,9 +154,10 @@ fn new_list(
 impl TopSubtree {
     /// Changes the ids of all spans. The callback is asked once for the id of each entry of the table of span parts, in
     /// order, so for those of the top's open and close span last. A span takes the id that was answered for its entry.
-    /// The tree is then stored anew. Where that would take too many bytes, or memory is refused, it stays as it was. It has
-    /// no more span parts than before, and the symbols that it had, so nothing else can be too many. The callback may be
-    /// called with any id, as one without a `requires` may.
+    /// Where no two entries below the top become one, that is done in place: the entries take their ids, and all else that is
+    /// stored stays. Else the tree is stored anew. Where that would take too many bytes, or memory is refused, it stays as it
+    /// was. It has no more span parts than before, and the symbols that it had, so nothing else can be too many. The callback
+    /// may be called with any id, as one without a `requires` may.
     pub fn change_every_ast_id<F: FnMut(ErasedFileAstId) -> ErasedFileAstId>(
         &mut self,
         alloc: Global,
@@ -164,6 +165,7 @@ impl TopSubtree {
     ) -> Result<(), TtFault>
         requires { F.IsAlwaysCallable callback }
         ensures ok { OnOk result ((ids : List Id) × AnswersIds (λ p x y q. F.step p x y q) callback self.old ids × (self.new ≡ ids_changed ids self.old)) }
+        ensures stored { OnOk result ((ids : List Id) → self.new ≡ ids_changed ids self.old → KeepApart ids self.old → stored_for self.new ≡ under_parts (parts_with_ids ids (root_parts self.old)) (stored_for self.old)) }
         ensures limits { OnOk result (IsWithinLimits self.new) }
         ensures err { OnErr result (self.new ≡ self.old) }
         ensures fault { IfErr result (λ fault. (fault ≡ Memory) ⊎ ((ids : List Id) × AnswersIds (λ p x y q. F.step p x y q) callback self.old ids × IsTreeFault (ids_changed ids self.old) fault)) }
@@ -172,7 +174,22 @@ impl TopSubtree {
         // Their contract says that no count of the tree is too large.
         let _bytes = self.packed.bytes();
         let ids = ask_all(alloc, self.packed.parts(), callback)?;
-        self.packed = self.with_ids(alloc, &ids)?;
+        self.take_ids(alloc, &ids)
+    }
+
+    // Changes to these ids, in place where that serves.
+    fn take_ids(&mut self, alloc: Global, ids: &[ErasedFileAstId]) -> Result<(), TtFault>
+        requires { length ids.now ≡ length (root_parts self.old) }
+        ensures ok { OnOk result (self.new ≡ ids_changed ids.now self.old) }
+        ensures limits { OnOk result (IsWithinLimits self.new) }
+        ensures err { OnErr result (self.new ≡ self.old) }
+        ensures fault { IfErr result (IsTreeFault (ids_changed ids.now self.old)) }
+    {
+        if self.packed.ids_keep_apart(alloc, ids)? {
+            self.packed.set_ids(ids);
+            return Ok(());
+        }
+        self.packed = self.with_ids(alloc, ids)?;
         Ok(())
     }
 

@@ -11,15 +11,7 @@ use crate::builder::held::Held;
 use crate::builder::tokens::{is_one_node, pack_list, pack_one_node};
 use tt_base::{SpanPart, Symbol, TtFault};
 use tt_counts::Counts;
-use tt_view::{TokenEntries, TopSubtree};
-
-// All but the first, if there is one.
-fn behind_first(entries: &[TokenEntries]) -> &[TokenEntries] {
-    match entries.split_first() {
-        Some((_, others)) => others,
-        None => entries,
-    }
-}
+use tt_view::TopSubtree;
 
 impl Held {
     /// The tree, where no subtree is open, and the numbers of uses are known.
@@ -27,7 +19,6 @@ impl Held {
         &mut self,
         parts: &Counts<SpanPart>,
         symbols: &Counts<Symbol>,
-        entries: &[TokenEntries],
     ) -> Result<TopSubtree, TtFault>
         requires none { IsOpen self.old → ⊥ }
         requires parts { CountsUses same_part (held_parts self.old.stack) parts.now.numbers.entries }
@@ -42,7 +33,6 @@ impl Held {
             &mut self.tokens,
             &parts.numbers,
             &symbols.numbers,
-            entries,
         )
     }
 
@@ -51,7 +41,6 @@ impl Held {
         &mut self,
         parts: &mut Counts<SpanPart>,
         symbols: &Counts<Symbol>,
-        entries: &[TokenEntries],
     ) -> Result<TopSubtree, TtFault>
         requires none { IsOpen self.old → ⊥ }
         requires parts { CountsUses same_part (held_parts self.old.stack) parts.old.numbers.entries }
@@ -63,14 +52,8 @@ impl Held {
         ensures parts { CountsUses same_part (held_parts self.old.stack) parts.new.numbers.entries }
     {
         if !is_one_node(&self.tokens[1..]) {
-            return self.build(parts, symbols, entries);
+            return self.build(parts, symbols);
         }
-        pack_one_node(
-            self.alloc,
-            &self.tokens[1..],
-            parts,
-            symbols,
-            behind_first(entries),
-        )
+        pack_one_node(self.alloc, &self.tokens[1..], parts, symbols)
     }
 }

@@ -35,12 +35,11 @@ returns-clause-ok c =
     c.of_top-entry.ensures.value
     ∙ ap₂ (λ n m. top_entry n c.args.top.delimiter c.args.top.len m) (c.len.ensures ∙ counted ∙ ap length c.in_ok-tables.ensures.parts.0) c.len-2.ensures in
     let all : c.in_ok-bytes.bytes.items ≡ format_4 true c.of_top-entry.result ++ bytes_of c.in_ok-writer.writer.bytes = search rules in
-    let kept : c.reserve_exact.new.self.items ≡ part_table below = c.reserve_exact.ensures.items ∙ c.in_ok-tables.ensures.parts.0 in
-    let opened : c.push.new.self.items ≡ c.reserve_exact.new.self.items ++ part_of c.args.top.delimiter.open_span ∷ [] = search rules in
+    let opened : c.push.new.self.items ≡ tables.parts.values.items ++ part_of c.args.top.delimiter.open_span ∷ [] = search rules in
     let closed : c.push-2.new.self.items ≡ c.push.new.self.items ++ part_of c.args.top.delimiter.close ∷ [] = search rules in
     let with_top : c.push-2.new.self.items ≡ part_table below ++ part_of c.args.top.delimiter.open_span ∷ part_of c.args.top.delimiter.close ∷ [] =
     closed
-    ∙ ap (λ l. l ++ part_of c.args.top.delimiter.close ∷ []) (opened ∙ ap (λ l. l ++ part_of c.args.top.delimiter.open_span ∷ []) kept)
+    ∙ ap (λ l. l ++ part_of c.args.top.delimiter.close ∷ []) (opened ∙ ap (λ l. l ++ part_of c.args.top.delimiter.open_span ∷ []) c.in_ok-tables.ensures.parts.0)
     ∙ append_assoc (part_table below) (part_of c.args.top.delimiter.open_span ∷ []) (part_of c.args.top.delimiter.close ∷ []) in
     is_stored c.args.top below c.in_ok-tables.ensures.whole c.requires.counted _ _ _ _ _ _ _ _
     bound (ap tables_of written.0 ∙ made) c.in_ok-tables.ensures.parts.1 c.in_ok-tables.ensures.symbols.1 written.1 c.of_top-entry.ensures.range entry all with_top

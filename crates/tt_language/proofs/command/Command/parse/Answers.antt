@@ -1,13 +1,12 @@
 use Rattle.std.proofs.Common.{rules}
 use Rattle.tt_language.specs.Reading.{IsOneLine}
 use Rattle.tt_language.proofs.Cutting.{Lacks-apart}
-use Rattle.tt_language.proofs.Commands.{StandsFor-unique, line_read, one_line_read}
+use Rattle.tt_language.proofs.Commands.{StandsFor-unique, one_line_read}
 use Rattle.tt_language.proofs.command.Command.parse.Goals as goal
 
 pub returns-clause-reads : goal.returns-clause-reads
 returns-clause-reads c =
-    let one : IsOneLine c.args.line.now = search rules in
-    line_read _ _ one c.read.ensures.reads
+    c.parse_with.ensures.reads
 
 pub returns-clause-one_line : goal.returns-clause-one_line
 returns-clause-one_line c =

@@ -2,6 +2,7 @@ use Rattle.std.proofs.Common.{rules}
 use Rattle.std.proofs.KnownBytes.{Keeps-refl}
 use Rattle.std.proofs.lemmas.Result.{err_from_is_err_and}
 use Rattle.tt_run.proofs.Feeding.{Feeds-whole_line, Feeds-line, Breaks-none}
+use Rattle.tt_language.specs.WordLaws.{Lacks-append}
 use Rattle.tt_run.proofs.session.Session.end_line.Goals as goal
 
 pub returns-then-is_between_lines : goal.returns-then-is_between_lines
@@ -17,3 +18,6 @@ pub returns-in_err-keep : goal.returns-in_err-keep
 returns-in_err-keep g c =
     let p = err_from_is_err_and c.from_residual.result c.from_residual.ensures.1 in
     rw (p.1, p.2, c.in_err-keep.ensures.kind, c.in_err-keep.ensures.err) ((_, Breaks-none _ _ _ (Keeps-refl _)), c.requires.sound)
+
+pub answer_begun-requires-clause-one_line : goal.answer_begun-requires-clause-one_line
+answer_begun-requires-clause-one_line g c = rw c.in_ok-keep.ensures.ok (Lacks-append 10 _ _ c.requires.begun c.requires.one_line)

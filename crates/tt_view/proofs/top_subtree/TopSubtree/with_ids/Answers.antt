@@ -6,12 +6,12 @@ use Rattle.tt_base.specs.declared.span.SpanPart.{SpanPart}
 use Rattle.tt_base.specs.Forest.{size, header, flat, flat_root}
 use Rattle.tt_base.specs.Token.{delimiter}
 use Rattle.tt_base.specs.Unflat.{flat_root-injective}
-use Rattle.tt_tables.specs.AstIds.{with_id_at, ids_changed}
+use Rattle.tt_tables.specs.AstIds.{with_id_at, ids_changed, respanned_token}
 use Rattle.tt_tables.specs.PackFault.{IsPackFault}
 use Rattle.tt_tables.specs.Stored.{root_parts, packed}
 use Rattle.tt_tables.specs.Uses.{same_part}
 use Rattle.tt_tables.proofs.StoredAlike.{length-root_parts}
-use Rattle.tt_view.specs.NewIds.{id_for, span_with, respanned_token}
+use Rattle.tt_view.specs.NewIds.{id_for, span_with}
 use Rattle.tt_view.specs.TreeFault.{IsTreeFault}
 use Rattle.tt_view.specs.Views.{trees_of}
 use Rattle.tt_view.proofs.NewIds.{ids_list, size-ids_changed}

@@ -3,7 +3,8 @@ use Rattle.indexmap.specs.IndexMap.{get}
 use Rattle.tt_base.specs.declared.token_tree.TokenTree.TheVariants as token
 use Rattle.tt_base.specs.Forest.{flat}
 use Rattle.tt_tables.specs.Uses.{same_part}
-use Rattle.tt_view.specs.NewIds.{span_with, respanned_token}
+use Rattle.tt_tables.specs.AstIds.{respanned_token}
+use Rattle.tt_view.specs.NewIds.{span_with}
 use Rattle.tt_view.specs.SubtreeViews.{flat_rest}
 use Rattle.tt_view.specs.Views.{trees_of}
 use Rattle.tt_view.proofs.top_subtree.ast_ids.new_list.Given as goal

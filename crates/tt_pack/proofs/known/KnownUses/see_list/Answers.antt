@@ -1,0 +1,85 @@
+use Rattle.std.proofs.Common.{[], ◌∷◌, ◌++◌, ◌↔◌, ◌+◌, inr, bytes_eq, take, refl, sym, subst, ◌∙◌, ap, arith, rules}
+use Rattle.std.proofs.lemmas.List.{take_all}
+use Rattle.std.specs.List.{AllZip}
+use Rattle.indexmap.specs.IndexMap.{keys}
+use Rattle.tt_base.specs.contracts.span.SpanPartEq.TheImpl.Laws as part_eq
+use Rattle.tt_base.specs.contracts.symbol.SymbolEq.TheImpl.Laws as symbol_eq
+use Rattle.tt_base.specs.Forest.{IsWhole, AreLevels}
+use Rattle.tt_base.specs.Levels.{open_levels}
+use Rattle.tt_base.proofs.CutLists.{one_level, walk_on, walk_stops, walk_ends}
+use Rattle.tt_tables.specs.TableOrder.{different}
+use Rattle.tt_tables.specs.Uses.{same_part, token_parts, token_symbols, part_uses, symbol_uses}
+use Rattle.tt_pack.specs.Room.{HasRoomForAll}
+use Rattle.tt_pack.specs.Seen.{seen_parts, seen_symbols}
+use Rattle.tt_pack.specs.TablesOf.{StandsAt, AreUses}
+use Rattle.tt_pack.proofs.MostBytes.{room_more}
+use Rattle.tt_pack.proofs.Noting.{noted_token, kept_noted}
+use Rattle.tt_pack.proofs.known.KnownUses.see_list.Goals as goal
+
+pub loop-token-init : goal.loop-token-init
+loop-token-init c =
+    let one = one_level c.args.tokens.now in
+    record {
+      few_parts = omega (arith, c.requires.parts);
+      few_symbols = omega (arith, c.requires.symbols);
+      all_parts = ap (λ n. take n (keys c.args.known.parts.now)) c.requires.parts;
+      all_symbols = ap (λ n. take n (keys c.args.known.symbols.now)) c.requires.symbols;
+      whole = subst (λ levels. IsWhole c.args.tokens.now ↔ AreLevels c.args.tokens.now levels) (sym c.new-levels.ensures) (one.1, one.0);
+      uses = search rules;
+      room = λ small. omega arith;
+    }
+
+pub returns-then-not-branch-clause-err : goal.returns-then-not-branch-clause-err
+returns-then-not-branch-clause-err c =
+    let takes = rw c.if-not-branch.true at c.in_ok-take.ensures.ok in
+    inr (refl, walk_stops c.args.tokens.now c.loop-token.token-index c.token-item.result (open_levels c.loop-token.levels) (open_levels c.take.new.self) (search rules) c.token-item.is c.loop-token.invariant.whole takes)
+
+pub returns-then-not-is_done-clause-err : goal.returns-then-not-is_done-clause-err
+returns-then-not-is_done-clause-err c =
+    let whole = walk_ends c.args.tokens.now c.loop-token.token-index (open_levels c.loop-token.levels) c.is_done.result c.loop-token-test.false c.loop-token.invariant.whole c.is_done.ensures in
+    inr (refl, λ is. absurd (search (rules, whole.1 is, c.if-not-is_done.true)))
+
+pub loop-token-preserved : goal.loop-token-preserved
+loop-token-preserved c = record {
+  few_parts = c.in-Some.ensures.few_parts c.loop-token.invariant.few_parts;
+  few_symbols = c.in-Some.ensures.few_symbols c.loop-token.invariant.few_symbols;
+  all_parts =
+      noted_token same_part part_eq.lawful.laws token_parts c.args.tokens.now c.loop-token.token-index c.token-item.result _ _
+      c.loop-token-test.true c.token-item.is c.loop-token.invariant.all_parts c.in-Some.ensures.parts;
+  all_symbols =
+      noted_token bytes_eq symbol_eq.lawful.laws token_symbols c.args.tokens.now c.loop-token.token-index c.token-item.result _ _
+      c.loop-token-test.true c.token-item.is c.loop-token.invariant.all_symbols c.in-Some.ensures.symbols;
+  whole =
+      walk_on c.args.tokens.now c.loop-token.token-index c.token-item.result (open_levels c.loop-token.levels) (open_levels c.take.new.self)
+      c.loop-token-test.true c.token-item.is c.loop-token.invariant.whole (rw c.if-not-branch.false at c.in_ok-take.ensures.ok);
+  uses =
+      subst (AllZip (AreUses (StandsAt (seen_parts c.args.known c.see_token.new.self)) (StandsAt (seen_symbols c.args.known c.see_token.new.self))) (take (c.loop-token.token-index + 1) c.args.tokens.now))
+      (sym (c.in_ok-push.ensures.items ∙ ap (λ kept. kept.items ++ c.in-Some.found ∷ []) c.in-Some.ensures.tokens))
+      (kept_noted c.args.tokens.now c.loop-token.token-index c.token-item.result c.loop-token.self.tokens.items c.in-Some.found _ _ _ _
+      c.loop-token-test.true c.token-item.is c.in-Some.ensures.parts c.in-Some.ensures.symbols c.loop-token.invariant.uses c.in-Some.ensures.uses);
+  room =
+      room_more c.args.tokens.now c.loop-token.token-index c.token-item.result c.loop-token.room _ _
+      c.loop-token-test.true c.token-item.is c.loop-token.invariant.room c.most_bytes.ensures c.saturating_add-room.ensures;
+}
+
+pub returns-clause-seen : goal.returns-clause-seen
+returns-clause-seen c =
+    let whole = walk_ends c.args.tokens.now c.loop-token.token-index (open_levels c.loop-token.levels) c.is_done.result c.loop-token-test.false c.loop-token.invariant.whole c.is_done.ensures in
+    let all = take_all c.loop-token.token-index c.args.tokens.now (search (rules, arith, c.loop-token-test.false)) in
+    record {
+      whole = whole.0 c.if-not-is_done.false;
+      few_parts = c.loop-token.invariant.few_parts;
+      few_symbols = c.loop-token.invariant.few_symbols;
+      all_parts = c.loop-token.invariant.all_parts ∙ ap (λ tokens. different same_part (part_uses tokens)) all;
+      all_symbols = c.loop-token.invariant.all_symbols ∙ ap (λ tokens. different bytes_eq (symbol_uses tokens)) all;
+    }
+
+pub returns-clause-tokens : goal.returns-clause-tokens
+returns-clause-tokens c =
+    let all = take_all c.loop-token.token-index c.args.tokens.now (search (rules, arith, c.loop-token-test.false)) in
+    subst (λ tokens. AllZip (AreUses (StandsAt (seen_parts c.args.known c.loop-token.self)) (StandsAt (seen_symbols c.args.known c.loop-token.self))) tokens c.loop-token.self.tokens.items) all c.loop-token.invariant.uses
+
+pub returns-clause-room : goal.returns-clause-room
+returns-clause-room c =
+    let all = take_all c.loop-token.token-index c.args.tokens.now (search (rules, arith, c.loop-token-test.false)) in
+    subst (λ tokens. HasRoomForAll tokens c.loop-token.room) all c.loop-token.invariant.room

@@ -1,0 +1,49 @@
+//! The levels of a list, which take it token by token.
+use crate::call::{Call, Outcome, ends as call_ends};
+use crate::error::SweepError;
+use crate::tokens::{long_list, plus};
+use std::alloc::Global;
+use tt::{Levels, TokenTree, TtFault};
+
+/// How the taking of a whole list ends.
+pub fn ends<R: Print>(rt: &R, alloc: Global) -> Result<Outcome, SweepError> {
+    let list = long_list(alloc, 1, &[plus(0)])?;
+    let mut call = Taking {
+        list: &list,
+        levels: Levels::new(alloc, list.len()),
+        taken: 0,
+    };
+    call_ends(rt, &mut call)
+}
+
+// A list, its levels, and how many of its tokens they have taken.
+#[derive(Drop)]
+struct Taking<'a> {
+    list: &'a [TokenTree],
+    levels: Levels,
+    taken: usize,
+}
+
+impl Call for Taking<'_> {
+    // A token that is refused is not taken, and is offered again.
+    fn make(&mut self) -> Result<bool, TtFault> {
+        for _ in self.taken..self.list.len() {
+            let Some(token) = self.list.get(self.taken) else {
+                return Ok(false);
+            };
+            if !self.levels.take(token)? {
+                return Ok(false);
+            }
+            self.taken = self.taken.saturating_add(1);
+        }
+        Ok(true)
+    }
+
+    fn is_as_before(&self) -> Result<bool, TtFault> {
+        Ok(self.taken < self.list.len() && !self.levels.is_done())
+    }
+
+    fn is_as_after(&self) -> Result<bool, TtFault> {
+        Ok(self.levels.is_done())
+    }
+}
