@@ -193,7 +193,8 @@ impl<T: Eq + Hash + Clone + Drop> Counts<T> {
         self.add_at(index);
     }
 
-    /// The entries of no uses behind all others go, so that a value that comes next stands behind one that is used.
+    /// The entries of no uses behind all others go, so that a value that comes next stands behind one that is used. A contract
+    /// sees that no number changes, and not which entries go.
     pub fn drop_last_unused(&mut self)
         ensures { CountsMore T.eq [] self.old.numbers.entries self.new.numbers.entries }
     {
