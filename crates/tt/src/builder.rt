@@ -57,7 +57,7 @@ impl Model for TopSubtreeBuilder {
 // For so many different parts and symbols room is made at first.
 const FEW_PARTS: usize = 4;
 
-const FEW_SYMBOLS: usize = 14;
+const FEW_SYMBOLS: usize = 56;
 
 impl TopSubtreeBuilder {
     ghost use Rattle.tt.specs.Points.{number_of, kinds_left};

@@ -1,6 +1,7 @@
 -- Numbers of uses that change by one use, and how many values have uses.
-use Rattle.std.proofs.Common.{◌≡◌, ℕ, zero, suc, ◌+◌, ◌<◌, ◌≤◌, Bool, true, false, cond, ◌⊎◌, inl, inr, Option, Some, None, is_some, List, [], ◌∷◌, ◌++◌, length, drop, take, filter, not, nat_lt, slice_get, get_or, position, Result, Ok, Err, OnOk, OnErr, refl, ap, ap₂, sym, ◌∙◌, subst, true≢false, arith}
-use Rattle.std.proofs.lemmas.Bool.{lt-ltb, ltb-true}
+use Rattle.std.proofs.Common.{◌≡◌, ℕ, zero, suc, ◌+◌, ◌<◌, ◌≤◌, Bool, true, false, cond, ◌⊎◌, inl, inr, Option, Some, None, is_some, List, [], ◌∷◌, ◌++◌, length, drop, take, filter, not, nat_eq, nat_lt, slice_get, get_or, position, Result, Ok, Err, OnOk, OnErr, refl, ap, ap₂, sym, ◌∙◌, subst, true≢false, arith}
+use Rattle.std.proofs.Math.Nat.{eq-or-lt_of_le}
+use Rattle.std.proofs.lemmas.Bool.{eq-eqb, lt-ltb, ltb-true, ne_eqb}
 use Rattle.std.proofs.lemmas.List.Quantifiers.{position-Some}
 use Rattle.std.proofs.lemmas.List.Sums.{sum_by-cons, sum_by-append, count_by-le-length}
 use Rattle.std.proofs.lemmas.Map.Entries.{lookup_from_place}
@@ -16,6 +17,7 @@ use Rattle.tt_tables.specs.Counts.{number_in, used_count, CountsUses, CountsMore
 use Rattle.tt_tables.proofs.Cheapest.{length-same, distinct_order}
 use Rattle.tt_tables.proofs.Members.{Member, member-different}
 use Rattle.tt_tables.proofs.TableOrder.{by_first_use}
+use mir.Val.{bool_byte}
 
 -- one where the test holds
 abbrev pub one_if : Bool → ℕ
@@ -455,3 +457,13 @@ key_of (entry ∷ counts) (suc i) n at = key_of counts i n at
 pub either_way : {R E : Type 0} {A B P : Type 0} (result : Result R E) → OnOk result A → OnErr result B → (A → P) → (B → P) → P
 either_way (Ok v) a b f g = f a
 either_way (Err e) a b f g = g b
+
+-- A number is 0, and its use is the first, or it is not.
+pub first_or_more : (n : ℕ) → ((n ≡ 0) × (bool_byte (nat_eq n 0) ≡ 1)) ⊎ ((0 < n) × (bool_byte (nat_eq n 0) ≡ 0))
+first_or_more n = elim (eq-or-lt_of_le some) [
+    | inl none ↦ inl (sym none, ap bool_byte (eq-eqb n 0 (sym none)))
+    | inr more ↦ inr (more, ap bool_byte (ne_eqb n 0 (λ none. omega (arith, none, more))))
+  ]
+  where
+    some : 0 ≤ n
+    some = omega arith

@@ -115,11 +115,8 @@ impl<T: Eq + Hash + Clone + Drop> Counts<T> {
             return;
         }
         let uses = self.numbers[index];
-        if uses == 0 {
-            self.used += 1;
-            self.numbers[index] = 1;
-            return;
-        }
+        // No branch, since which value is new is not to be foreseen.
+        self.used += usize::from(uses == 0);
         self.numbers[index] = uses + 1;
     }
 

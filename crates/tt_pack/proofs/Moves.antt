@@ -10,10 +10,11 @@ use Rattle.tt_tables.specs.Stored.{most_parts, most_symbols, bytes, packed, IsIn
 use Rattle.tt_tables.specs.Meaning.{IsAhead}
 use Rattle.tt_base.specs.Moves.{first_token, step_after}
 use Rattle.tt_tables.specs.Tables.{Tables, tables_from}
-use Rattle.tt_tables.proofs.Ahead.{none_ahead, end_is_passed}
+use Rattle.tt_tables.proofs.Ahead.{none_ahead, end_is_passed, below_ahead}
 use Rattle.tt_tables.proofs.Naming.{bytes-end}
 use Rattle.tt_tables.proofs.StoredAlike.{ahead_is}
 use Rattle.tt_pack.specs.declared.reader.Reader.{Reader}
+use Rattle.tt_pack.specs.StoredIn.{bytes_for, tables_stored}
 use Rattle.tt_pack.specs.ReaderOf.{ahead_of, tables_of, bytes_of, offset_of, steps_of, ReadsSame, StepsTo}
 
 -- A reader stands in the bytes, or at their end.
@@ -109,3 +110,8 @@ start_is_ahead root all parts symbols range limits e f g = (
   limits,
   λ i. record { bytes = e i; parts = f i; symbols = g i; len = suc (size root.children) },
 )
+
+-- The trees below the top of a stored tree lie ahead behind its header.
+pub below_is_ahead : (root : Root) → IsInRange root → IsWithinLimits root → IsAhead (tables_stored root) (bytes_for root) 33 root.children
+below_is_ahead root range limits =
+    below_ahead (tables_stored root) (bytes_for root) root (start_is_ahead root (bytes_for root) _ _ range limits refl refl refl)

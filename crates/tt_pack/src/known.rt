@@ -12,7 +12,7 @@ ghost use Rattle.tt_pack.specs.TablesOf.{StandsAt, AreUses};
 
 use crate::counts::kept_index;
 use crate::room::most_bytes;
-use crate::uses::TokenUses;
+use crate::uses::{FirstRoom, TokenUses};
 use indexmap::IndexMap;
 use std::alloc::Global;
 use std::hash::Hash;
@@ -23,6 +23,16 @@ use tt_base::{Leaf, Levels, SpanPart, Symbol, TokenTree, TtFault};
 pub(crate) struct Known<'a> {
     pub(crate) parts: &'a IndexMap<SpanPart, usize>,
     pub(crate) symbols: &'a IndexMap<Symbol, usize>,
+}
+
+impl<'a> Known<'a> {
+    /// The room for all values that have a number, where the tokens are counted all the same.
+    pub(crate) fn first_room(self) -> FirstRoom {
+        FirstRoom {
+            parts: self.parts.len(),
+            symbols: self.symbols.len(),
+        }
+    }
 }
 
 /// How many values in front of each map are used, what each token uses, and how many bytes all can take.
@@ -68,9 +78,8 @@ fn see<T: Eq + Hash>(
     if index > *seen {
         return None;
     }
-    if index == *seen {
-        *seen += 1;
-    }
+    // No branch, since which value is new is not to be foreseen.
+    *seen = (*seen).max(index + 1);
     Some(kept_index(index))
 }
 

@@ -2,7 +2,7 @@
 ghost use Rattle.std.specs.Prelude.{◌≡◌, ◌≤◌, ◌⊎◌, ◌↔◌, length, drop, MatchOption, IfSome, Some, None, []};
 ghost use Rattle.tt_base.specs.Forest.{end, only};
 ghost use Rattle.tt_tables.specs.Meaning.{HasAhead, top_bytes};
-ghost use Rattle.tt_tables.specs.Stored.{packed as what_is_stored};
+ghost use Rattle.tt_tables.specs.Stored.{bytes, packed as what_is_stored};
 ghost use Rattle.tt_base.specs.Moves.{first_token, after_token, after_tree};
 ghost use Rattle.tt_tables.proofs.StoredAlike.{HasAhead-prop};
 ghost use Rattle.tt_tables.specs.Tables.{tables_from};
@@ -14,6 +14,9 @@ use tt_base::TokenTree;
 
 // Where the bytes of the top header stand.
 const TOP_HEADER: usize = 0;
+
+// How many they are.
+const TOP_BYTES: usize = 33;
 
 /// An offset in the bytes of a stored tree, from which its tokens are read one by one. A read decodes one token,
 /// takes no memory and searches nothing. A contract sees the trees ahead: at the start the whole tree, and
@@ -42,6 +45,25 @@ impl<'a> Reader<'a> {
         Reader {
             tree: Some(packed),
             offset: TOP_HEADER,
+            steps: 0,
+        }
+    }
+
+    /// Before the trees below the top, behind the bytes of its header, which is not decoded: it takes 33 bytes, whatever it
+    /// is (docs/FORMATS.md).
+    pub fn below_top(packed: &'a Packed) -> Reader<'a>
+        ensures ahead { ahead_of result ≡ packed.now.children }
+        ensures bytes { bytes_of result ≡ (what_is_stored packed.now).bytes }
+        ensures tables { tables_of result ≡ tables_from (what_is_stored packed.now).parts (what_is_stored packed.now).symbols }
+        ensures offset { offset_of result ≡ top_bytes }
+        ensures left { drop top_bytes (bytes_of result) ≡ bytes (tables_of result) (ahead_of result) }
+        ensures steps { steps_of result ≡ 0 }
+    {
+        // As for `start`: their contract says that no count of the tree is too large.
+        let _bytes = packed.bytes();
+        Reader {
+            tree: Some(packed),
+            offset: TOP_BYTES,
             steps: 0,
         }
     }

@@ -10,7 +10,7 @@ ghost use Rattle.tt_pack.specs.Room.{HasRoomForAll};
 
 use crate::known::{Known, KnownUses};
 use crate::table::Table;
-use crate::uses::{TokenUses, Uses, tables_of};
+use crate::uses::{FirstRoom, TokenUses, Uses, tables_of};
 use std::alloc::Global;
 use tt_base::{Leaf, SpanPart, Subtree, Symbol, TokenTree, TtFault};
 use tt_codec::{Entry, HeaderEntry, LeafEntry, SpanNumbers};
@@ -58,16 +58,22 @@ impl ListTables {
         ensures room { IfOk result (λ tables. HasRoomForAll below.now tables.room) }
         ensures err { IfErr result (IsTableFault below.now) }
     {
-        if let Some(known) = known {
-            if let Some(tables) = ListTables::of_known(alloc, below, known)? {
-                return Ok(tables);
-            }
+        let Some(known) = known else {
+            let room = FirstRoom::for_tokens(below.len());
+            return ListTables::of_counted(alloc, below, room);
+        };
+        if let Some(tables) = ListTables::of_known(alloc, below, known)? {
+            return Ok(tables);
         }
-        ListTables::of_counted(alloc, below)
+        ListTables::of_counted(alloc, below, known.first_room())
     }
 
     // The same, where the numbers of uses are counted.
-    fn of_counted(alloc: Global, below: &[TokenTree]) -> Result<ListTables, TtFault>
+    fn of_counted(
+        alloc: Global,
+        below: &[TokenTree],
+        room: FirstRoom,
+    ) -> Result<ListTables, TtFault>
         ensures whole { IfOk result (λ tables. IsWhole below.now) }
         ensures parts { IfOk result (λ tables. (tables.parts.values.items ≡ part_table below.now) × HasFewParts below.now) }
         ensures symbols { IfOk result (λ tables. (tables.symbols.values.items ≡ symbol_table below.now) × HasFewSymbols below.now) }
@@ -75,7 +81,7 @@ impl ListTables {
         ensures room { IfOk result (λ tables. HasRoomForAll below.now tables.room) }
         ensures err { IfErr result (IsTableFault below.now) }
     {
-        let uses = Uses::of_tokens(alloc, below)?;
+        let uses = Uses::of_tokens(alloc, below, room)?;
         let (parts, symbols) = tables_of(
             alloc,
             uses.parts.keys().as_slice(),

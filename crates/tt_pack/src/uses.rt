@@ -49,9 +49,21 @@ pub(crate) struct Uses {
     pub(crate) room: usize,
 }
 
-// For how many symbols room is made at first: about a third of the tokens of source are its different symbols.
-fn symbols_among(tokens: usize) -> usize {
-    (tokens / 3).min(MOST_SYMBOLS_AT_FIRST)
+/// For how many parts and symbols room is made at first. No contract speaks of it.
+#[derive(Clone, Copy)]
+pub(crate) struct FirstRoom {
+    pub(crate) parts: usize,
+    pub(crate) symbols: usize,
+}
+
+impl FirstRoom {
+    /// The room for so many tokens of which nothing is known: about a third of the tokens of source are its different symbols.
+    pub(crate) fn for_tokens(tokens: usize) -> FirstRoom {
+        FirstRoom {
+            parts: tokens.min(FEW_PARTS),
+            symbols: (tokens / 3).min(MOST_SYMBOLS_AT_FIRST),
+        }
+    }
 }
 
 // Counts what a token uses. Tokens side by side mostly have one part, so a part is first looked for where that of the
@@ -94,14 +106,14 @@ fn count_token(
 
 impl Uses {
     // Nothing is used, and there is room for what so many tokens use.
-    fn new(alloc: Global, tokens: usize) -> Result<Uses, AllocError>
+    fn new(alloc: Global, tokens: usize, room: FirstRoom) -> Result<Uses, AllocError>
         ensures parts { IfOk result (λ uses. uses.parts.entries ≡ []) }
         ensures symbols { IfOk result (λ uses. uses.symbols.entries ≡ []) }
         ensures tokens { IfOk result (λ uses. uses.tokens.items ≡ []) }
     {
         Ok(Uses {
-            parts: IndexMap::with_capacity(alloc, tokens.min(FEW_PARTS))?,
-            symbols: IndexMap::with_capacity(alloc, symbols_among(tokens))?,
+            parts: IndexMap::with_capacity(alloc, room.parts)?,
+            symbols: IndexMap::with_capacity(alloc, room.symbols)?,
             tokens: Vec::with_capacity(alloc, tokens)?,
             room: 0,
         })
@@ -151,13 +163,17 @@ impl Uses {
     }
 
     /// What the tokens use, if they are a whole list.
-    pub(crate) fn of_tokens(alloc: Global, tokens: &[TokenTree]) -> Result<Uses, TtFault>
+    pub(crate) fn of_tokens(
+        alloc: Global,
+        tokens: &[TokenTree],
+        room: FirstRoom,
+    ) -> Result<Uses, TtFault>
         ensures count { IfOk result (λ uses. IsCountOf uses tokens.now) }
         ensures tokens { IfOk result (λ uses. AllZip (AreUses (StandsAt (keys uses.parts)) (StandsAt (keys uses.symbols))) tokens.now uses.tokens.items) }
         ensures room { IfOk result (λ uses. HasRoomForAll tokens.now uses.room) }
         ensures err { IfErr result (IsCountFault tokens.now) }
     {
-        let mut uses = Uses::new(alloc, tokens.len())?;
+        let mut uses = Uses::new(alloc, tokens.len(), room)?;
         uses.count_list(alloc, tokens)?;
         Ok(uses)
     }

@@ -209,7 +209,7 @@ impl TopSubtree {
     pub fn token_trees(&self) -> TokenTreesView<'_>
         ensures { trees_of result ≡ self.now.children }
     {
-        self.view().token_trees()
+        TokenTreesView::below_top(&self.packed)
     }
 
     /// Its header.
@@ -224,7 +224,7 @@ impl TopSubtree {
     pub fn iter(&self) -> TtIter<'_>
         ensures { rest_of result ≡ self.now.children }
     {
-        self.view().iter()
+        self.token_trees().iter()
     }
 
     /// The stored bytes: 33 of the top header, and then 5 to 33 of each token below it. Of the formats that can hold

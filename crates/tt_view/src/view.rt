@@ -77,6 +77,16 @@ impl<'a> TokenTreesView<'a> {
         }
     }
 
+    // What a stored tree holds below its top, whose header is not decoded.
+    pub(crate) fn below_top(packed: &'a Packed) -> TokenTreesView<'a>
+        ensures { trees_of result ≡ packed.now.children }
+    {
+        TokenTreesView {
+            reader: Reader::below_top(packed),
+            len: packed.len() - 1,
+        }
+    }
+
     /// How many tokens the trees have, at any depth.
     pub fn len(&self) -> usize
         ensures { result ≡ size (trees_of self.now) }

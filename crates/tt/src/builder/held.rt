@@ -34,7 +34,7 @@ use tt_counts::Counts;
 use tt_view::TokenTreesView;
 
 // For how many tokens room is made at first, the top among them.
-const FEW_TOKENS: usize = 8;
+const FEW_TOKENS: usize = 32;
 
 /// What a builder holds. A contract sees the levels, the mark and the points that stand.
 #[derive(Drop, Debug)]
