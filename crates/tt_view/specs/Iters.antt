@@ -1,5 +1,5 @@
 -- What iterators and their elements hold, and what a call of `next` does.
-use Rattle.std.specs.Prelude.{◌≡◌, ℕ, Option, Some, None}
+use Rattle.std.specs.Prelude.{◌≡◌, ℕ, zero, suc, Option, Some, None}
 use Rattle.std.specs.Iterator.{YieldsFirstBy}
 use Rattle.tt_base.specs.declared.delimiter.Subtree.{Subtree}
 use Rattle.tt_base.specs.Forest.{Forest, end, leaf, node, size}
@@ -56,6 +56,11 @@ pub record GivesSibling (old : TtIter) (result : Option TtElement) (new : TtIter
 pub record PassesOne (old : TtIter) (new : TtIter) : Type 0 where
   pub rest : rest_of new ≡ after_tree (rest_of old)
   pub steps : steps_of_iter new ≡ step_after (steps_of_iter old) (rest_of old)
+
+-- the steps counted after so many trees, each of which is passed in one
+abbrev pub steps_after : ℕ → ℕ → Forest → ℕ
+steps_after zero steps trees = steps
+steps_after (suc n) steps trees = steps_after n (step_after steps trees) (after_tree trees)
 
 -- the header of the first tree, which is a node, and the trees that it holds
 abbrev pub IsFirstSubtree : Forest → Subtree → TtIter → Type 0

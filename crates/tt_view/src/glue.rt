@@ -1,8 +1,7 @@
 //! Puncts that stand together as one.
-ghost use Rattle.std.specs.Prelude.{◌≡◌, ◌∷◌, [], option_map, MatchOption, Some};
+ghost use Rattle.std.specs.Prelude.{◌≡◌, ◌∷◌, [], option_map, IfSome, MatchOption, Some};
 ghost use Rattle.std.specs.Result.{result_ok};
 ghost use Rattle.tt_base.specs.Gluing.{glued, glued_behind, glued_two, after_trees, passed_by, is_one_of, twos, threes};
-ghost use Rattle.tt_base.specs.Moves.{after_tree};
 
 use crate::iter::TtIter;
 use arrayvec::ArrayVec;
@@ -61,13 +60,14 @@ fn is_three(first: &Punct, second: &Punct, third: &Punct) -> bool
 }
 
 impl<'a> TtIter<'a> {
-    ghost use Rattle.tt_view.specs.Iters.{rest_of};
+    ghost use Rattle.tt_view.specs.Iters.{rest_of, steps_of_iter, steps_after, PassesOne};
 
     /// Takes the puncts that stand as one: two or three that the tables have, and else the first alone. No other is
     /// passed; an element that is no punct is, as by every expectation (docs/FORMATS.md, "Puncts that stand as one").
     pub fn expect_glued_punct(&mut self) -> Result<ArrayVec<Punct, MAX_GLUED_PUNCT_LEN>, ()>
         ensures answer { option_map (λ puncts. puncts.items) (result_ok result) ≡ glued (rest_of self.old) }
         ensures rest { rest_of self.new ≡ after_trees (passed_by (glued (rest_of self.old))) (rest_of self.old) }
+        ensures steps { steps_of_iter self.new ≡ steps_after (passed_by (glued (rest_of self.old))) (steps_of_iter self.old) (rest_of self.old) }
     {
         let first = self.expect_single_punct()?;
         let mut puncts = ArrayVec::new();
@@ -75,7 +75,7 @@ impl<'a> TtIter<'a> {
         if first.spacing == Spacing::Alone {
             return Ok(puncts);
         }
-        let mut behind = TtIter::over(self.remaining());
+        let mut behind = self.fork();
         let Ok(second) = behind.expect_single_punct() else {
             return Ok(puncts);
         };
@@ -95,12 +95,13 @@ impl<'a> TtIter<'a> {
 
     // Behind two puncts: a third that stands as one with them, and the iterator behind it.
     fn third_of(&self, first: &Punct, second: &Punct) -> Option<(Punct, TtIter<'a>)>
-        ensures { MatchOption result (glued_behind first.now (Some second.now) (rest_of self.now) ≡ glued_two first.now second.now) (λ found. (glued_behind first.now (Some second.now) (rest_of self.now) ≡ first.now ∷ second.now ∷ found.0 ∷ []) × (rest_of found.1 ≡ after_tree (rest_of self.now))) }
+        ensures third { MatchOption result (glued_behind first.now (Some second.now) (rest_of self.now) ≡ glued_two first.now second.now) (λ found. glued_behind first.now (Some second.now) (rest_of self.now) ≡ first.now ∷ second.now ∷ found.0 ∷ []) }
+        ensures passes { IfSome result (λ found. PassesOne self.now found.1) }
     {
         if second.spacing != Spacing::Joint {
             return None;
         }
-        let mut last = TtIter::over(self.remaining());
+        let mut last = self.fork();
         let third = last.expect_single_punct().ok()?;
         if is_three(first, second, &third) {
             Some((third, last))

@@ -80,6 +80,13 @@ impl<'a> TtIter<'a> {
         TtIter { inner }
     }
 
+    // A second iterator at the same place.
+    pub(crate) fn fork(&self) -> TtIter<'a>
+        ensures { result ≡ self.now }
+    {
+        TtIter { inner: self.inner }
+    }
+
     // `next`, with all that it promises as a clause.
     pub(crate) fn take_element(&mut self) -> Option<TtElement<'a>>
         ensures { GivesSibling self.old result self.new }
@@ -102,7 +109,7 @@ impl<'a> TtIter<'a> {
     pub fn peek(&self) -> Option<TtElement<'a>>
         ensures { IsFirstElement (rest_of self.now) result }
     {
-        TtIter { inner: self.inner }.take_element()
+        self.fork().take_element()
     }
 
     /// Whether no tree is left.
