@@ -1,9 +1,11 @@
 #!/usr/bin/env python3
-"""Times the packed form on made trees, or on any, alone or beside another program: compare.py [OPTION]..
+"""Times the packed form on one tree or on many in turn, alone or beside another program: compare.py [OPTION]..
 
 For each tree of items.py and each mode it runs `tt_bench MODE ROUNDS`, and prints the least time of all turns, in
-nanoseconds for a token (for a child of the top where the mode is skip). With --other the two programs take turns on
-the same trees, so that what disturbs one disturbs the other, and the ratio of their times is printed too.
+nanoseconds for a token (for a child of the top where the mode is skip). With --together the lists of all the files stand
+one after another, so that each round works on the next tree, and what is printed is for a token of all of them. With
+--other the two programs take turns on the same trees, so that what disturbs one disturbs the other, and the ratio of
+their times is printed too.
 
 The other program is given as a command, in which the words MODE, ROUNDS, SIZE and PROFILE stand for what is asked for:
 --other 'one MODE ROUNDS SIZE PROFILE'. Its standard input has the lines of the tree, which it need not read. It prints
@@ -29,15 +31,16 @@ CRATE = Path(__file__).resolve().parent.parent / "crates" / "tt_bench"
 OURS = CRATE / "out" / "tt_bench"
 
 
-class Tree(NamedTuple):
-    """A made tree, and the file that has its lines."""
+class Trees(NamedTuple):
+    """One tree, or many that are worked on in turn, and the file that has their lines."""
     profile: str
+    count: int
     size: int
     children: int
     path: Path
 
     def units(self, mode):
-        """What the time of a round is divided by."""
+        """What the time of a lap is divided by, which is a round on each tree."""
         return self.children if mode == "skip" else self.size
 
 
@@ -54,27 +57,28 @@ def tree(profile, size, folder):
     if not path.exists():
         text = "".join(line + "\n" for line in items.lines(size, profile))
         path.write_text(text, encoding="utf-8", newline="\n")
-    return Tree(profile, size, top_children(path), path)
+    return read_trees(profile, path)
 
 
-def read_tree(path):
-    """The tree of a file of `item` lines."""
-    with path.open("rb") as lines:
-        size = sum(1 for _ in lines)
-    return Tree(path.stem, size, top_children(path), path)
+def together(paths, folder):
+    """The trees of all the files, in one file."""
+    strung = folder / "together.items"
+    # a last line may have no line feed
+    strung.write_bytes(b"".join(path.read_bytes().rstrip(b"\n") + b"\n" for path in paths))
+    return read_trees("together", strung)
 
 
-def top_children(path):
-    """The number of the top's children: each is followed by as many tokens as it holds."""
-    children, place = -1, 0
+def read_trees(profile, path):
+    """The trees of a file of `item` lines: each token is followed by as many as it holds, and what they hold."""
+    count = size = children = tree_end = child_end = 0
     with path.open(encoding="utf-8", newline="\n") as lines:
-        for number, line in enumerate(lines):
-            if number == place:
-                children += 1
-                place += 1
-                if number > 0 and line.startswith("item sub "):
-                    place += int(line.rsplit(" ", 1)[1])
-    return children
+        for size, line in enumerate(lines, 1):
+            end = size + (int(line.rsplit(" ", 1)[1]) if line.startswith("item sub ") else 0)
+            if size > tree_end:
+                count, tree_end, child_end = count + 1, end, size
+            elif size > child_end:
+                children, child_end = children + 1, end
+    return Trees(profile, count, size, children, path)
 
 
 class Program:
@@ -109,37 +113,38 @@ class Program:
 def least_times(programs, mode, on, options):
     """The least time of each program for a unit, and whether their sums agree."""
     units = on.units(mode)
-    rounds = max(2, options.work // units)
+    laps = max(2, options.work // units)
+    rounds = laps * on.count
     answers = [[] for _ in programs]
     for _ in range(options.turns):
         for program, found in zip(programs, answers):
             found.append(program.answer(mode, rounds, on))
-    times = [None if None in found else min(it.nanos for it in found) / rounds / units for found in answers]
+    times = [None if None in found else min(it.nanos for it in found) / laps / units for found in answers]
     sums = {it.sum for found in answers for it in found if it is not None}
     return times, mode not in SUMS_AGREE or len(sums) < 2
 
 
 def counts(programs, mode, on):
-    """The instructions of each program for a unit: the difference of two numbers of rounds."""
+    """The instructions of each program for a unit: the difference of two numbers of laps."""
     few = max(2, FEW_TOKENS // on.size)
     many = 4 * few
     found = []
     for program in programs:
-        first, second = (program.instructions(mode, rounds, on) for rounds in (few, many))
+        first, second = (program.instructions(mode, laps * on.count, on) for laps in (few, many))
         wanted = first is not None and second is not None
         found.append((second - first) / (many - few) / on.units(mode) if wanted else None)
     return found
 
 
 def sizes_line(name, answer, on):
-    """What a program stores for a tree."""
+    """What a program stores for the trees."""
     stored, parts, symbols = answer.sizes
     return f"  {name}: {stored} bytes, {stored / on.size:.2f} a token, {parts} parts, {symbols} symbols"
 
 
 def report(programs, on, options):
-    """Prints the table of one tree."""
-    print(f"{on.profile}, {on.size} tokens")
+    """Prints the table of one tree, or of many in turn."""
+    print(f"{on.profile}, {on.size} tokens" + f" of {on.count} trees" * (on.count > 1))
     for name, program in zip(("tt_bench", "other"), programs):
         answer = program.answer("clone", 2, on)
         if answer is not None:
@@ -173,6 +178,7 @@ def parsed():
     options.add_argument("--profiles", default="mix many-parts deep", help="profiles of items.py")
     options.add_argument("--sizes", default="1000 100000", help="numbers of tokens")
     options.add_argument("--items", type=Path, nargs="+", help="files of item lines, in place of made trees")
+    options.add_argument("--together", type=Path, nargs="+", help="files of item lines, whose trees take turns")
     options.add_argument("--modes", default=MODES, help="modes of tt_bench")
     options.add_argument("--turns", type=int, default=3, help="how often each program is run")
     options.add_argument("--work", type=int, default=5_000_000, help="tokens of all rounds of a run")
@@ -182,6 +188,18 @@ def parsed():
     return options.parse_args()
 
 
+def asked_for(options, folder):
+    """The trees that the options name, or else made ones."""
+    for path in options.items or []:
+        yield read_trees(path.stem, path)
+    if options.together:
+        yield together(options.together, folder)
+    if not options.items and not options.together:
+        for profile in options.profiles.split():
+            for size in map(int, options.sizes.split()):
+                yield tree(profile, size, folder)
+
+
 def main():
     options = parsed()
     if options.ours == OURS and not OURS.exists():
@@ -189,16 +207,11 @@ def main():
     programs = [Program([str(options.ours), "MODE", "ROUNDS"] + ["apart"] * options.apart)]
     if options.other:
         programs.append(Program(options.other))
-    for path in options.items or []:
-        report(programs, read_tree(path), options)
-    if options.items:
-        return
     with tempfile.TemporaryDirectory() as passing:
         folder = options.keep or Path(passing)
         folder.mkdir(parents=True, exist_ok=True)
-        for profile in options.profiles.split():
-            for size in map(int, options.sizes.split()):
-                report(programs, tree(profile, size, folder), options)
+        for trees in asked_for(options, folder):
+            report(programs, trees, options)
 
 
 if __name__ == "__main__":

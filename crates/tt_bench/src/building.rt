@@ -1,4 +1,4 @@
-//! The calls of the builder that make a tree again.
+//! The calls of the builder that make trees again.
 use crate::error::BenchError;
 use std::alloc::Global;
 use tt::{Delimiter, DelimiterKind, Leaf, Span, TokenTree, TopSubtree, TopSubtreeBuilder, TtFault};
@@ -18,8 +18,20 @@ struct Opened {
     close: Span,
 }
 
-/// The calls that build what a list holds below its top, and the top's delimiter.
-pub fn calls(alloc: Global, list: &[TokenTree]) -> Result<(Delimiter, Vec<Call>), BenchError> {
+/// Of each list the top's delimiter, and the calls that build what it holds below its top.
+pub fn all_calls(
+    alloc: Global,
+    lists: &[Vec<TokenTree>],
+) -> Result<Vec<(Delimiter, Vec<Call>)>, BenchError> {
+    let mut all = Vec::new(alloc);
+    for list in lists {
+        all.push(calls(alloc, list)?).map_err(TtFault::from)?;
+    }
+    Ok(all)
+}
+
+// The calls of one list, and the delimiter of its top.
+fn calls(alloc: Global, list: &[TokenTree]) -> Result<(Delimiter, Vec<Call>), BenchError> {
     let Some((TokenTree::Subtree(top), below)) = list.split_first() else {
         return Err(BenchError::Fault(TtFault::NotOneSubtree));
     };

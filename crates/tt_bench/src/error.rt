@@ -9,7 +9,7 @@ use tt_mbe::RuleFault;
 pub enum BenchError {
     /// The arguments ask for nothing that there is.
     #[error("usage: tt_bench MODE ROUNDS [apart] < ITEMS\n\
-        MODE: pack build rewrite expand flat flat_whole skip siblings siblings_whole walk show display pretty debug equal fold sip clone drop")]
+        MODE: pack build rewrite ids expand flat flat_whole skip siblings siblings_whole walk show display pretty debug equal fold sip clone drop")]
     Usage,
     /// That line, counted from 1, is no `item` line.
     #[error("line {0} is no item")]

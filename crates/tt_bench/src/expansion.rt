@@ -18,8 +18,18 @@ pub struct Expansion {
 }
 
 impl Expansion {
-    /// The rule and the input of a tree.
-    pub fn new(alloc: Global, tree: &TopSubtree) -> Result<Expansion, BenchError> {
+    /// The rules and the inputs of the trees.
+    pub fn all(alloc: Global, trees: &[TopSubtree]) -> Result<Vec<Expansion>, BenchError> {
+        let mut all = Vec::new(alloc);
+        for tree in trees {
+            all.push(Expansion::new(alloc, tree)?)
+                .map_err(TtFault::from)?;
+        }
+        Ok(all)
+    }
+
+    // The rule and the input of one tree.
+    fn new(alloc: Global, tree: &TopSubtree) -> Result<Expansion, BenchError> {
         Ok(Expansion {
             pattern: pattern(alloc, tree)?,
             template: template(alloc)?,
@@ -27,14 +37,38 @@ impl Expansion {
         })
     }
 
-    /// The rule. It has a fault where the tree holds a `$`.
-    pub fn rule(&self, alloc: Global) -> Result<Rule<'_>, BenchError> {
-        Ok(Rule::new(alloc, self.pattern.view(), self.template.view())?)
+    // The rule, and its input.
+    fn instance(&self, alloc: Global) -> Result<Instance<'_>, BenchError> {
+        Ok(Instance {
+            rule: Rule::new(alloc, self.pattern.view(), self.template.view())?,
+            input: &self.input,
+        })
+    }
+}
+
+/// A rule, and an input that is an instance of its pattern.
+#[derive(Drop)]
+pub struct Instance<'a> {
+    rule: Rule<'a>,
+    input: &'a TopSubtree,
+}
+
+impl<'a> Instance<'a> {
+    /// The rules, each with its input. A rule has a fault where its tree holds a `$`.
+    pub fn all(
+        alloc: Global,
+        expansions: &'a [Expansion],
+    ) -> Result<Vec<Instance<'a>>, BenchError> {
+        let mut all = Vec::new(alloc);
+        for expansion in expansions {
+            all.push(expansion.instance(alloc)?).map_err(TtFault::from)?;
+        }
+        Ok(all)
     }
 
-    /// What comes of the input. Where the rule is another, the input may be no instance of it.
-    pub fn expand(&self, alloc: Global, rule: &Rule<'_>) -> Result<TopSubtree, BenchError> {
-        match rule.expand(alloc, self.input.token_trees())? {
+    /// What comes of the input.
+    pub fn expand(&self, alloc: Global) -> Result<TopSubtree, BenchError> {
+        match self.rule.expand(alloc, self.input.token_trees())? {
             Some(tree) => Ok(tree),
             None => Err(BenchError::NoMatch),
         }

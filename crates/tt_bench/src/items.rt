@@ -1,10 +1,11 @@
 //! From `item` lines to tokens.
 use crate::error::BenchError;
 use crate::interner::Interner;
+use crate::lists::Lists;
 use memchr::memchr;
 use std::alloc::Global;
 use std::str::FromStr;
-use tt::{TokenTree, TtFault};
+use tt::TokenTree;
 use tt_language::Command;
 
 /// Whether tokens of one text share the block of memory that holds it.
@@ -27,10 +28,10 @@ impl FromStr for Texts {
     }
 }
 
-/// The tokens of the `item` lines of a text, or the number of the first line that is no such line.
-pub fn items(alloc: Global, text: &[u8], texts: Texts) -> Result<Vec<TokenTree>, BenchError> {
+/// The lists that the `item` lines of a text spell one after another, or the number of the first line that is no such line.
+pub fn items(alloc: Global, text: &[u8], texts: Texts) -> Result<Vec<Vec<TokenTree>>, BenchError> {
     let mut interner = Interner::new(alloc);
-    let mut list = Vec::new(alloc);
+    let mut lists = Lists::new(alloc);
     let mut rest = text;
     for number in 1..u64::MAX {
         if rest.is_empty() {
@@ -45,9 +46,9 @@ pub fn items(alloc: Global, text: &[u8], texts: Texts) -> Result<Vec<TokenTree>,
             Texts::Shared => interner.token(token)?,
             Texts::Apart => token,
         };
-        list.push(token).map_err(TtFault::from)?;
+        lists.push(alloc, token)?;
     }
-    Ok(list)
+    Ok(lists.into_vec())
 }
 
 // The first line, without its line feed, and what comes behind it.

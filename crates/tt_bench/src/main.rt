@@ -1,7 +1,10 @@
-//! Times the calls of `tt`, and an expansion by `tt_mbe`, on one tree: `tt_bench MODE ROUNDS [apart] < ITEMS`.
+//! Times the calls of `tt`, and an expansion by `tt_mbe`, on one tree or on many in turn:
+//! `tt_bench MODE ROUNDS [apart] < ITEMS`.
 //!
-//! Standard input spells the tree's flat list, as `item` lines (docs/LANGUAGE.md). The line that is printed has the
-//! nanoseconds of all rounds, a sum to know the answer by, and how many bytes, span parts and symbols are stored.
+//! Standard input spells the flat lists of the trees one after another, as `item` lines (docs/LANGUAGE.md). The first line
+//! of each list is its top, whose count says how many lines belong to it. Each round works on the next tree, and after the
+//! last one on the first again. The line that is printed has the nanoseconds of all rounds, a sum to know the answers by,
+//! and how many bytes, span parts and symbols are stored for all trees together.
 #![tactic(auto)]
 
 mod building;
@@ -10,11 +13,13 @@ mod expansion;
 mod interner;
 mod items;
 mod job;
+mod lists;
 mod look;
 mod measure;
 mod mode;
 mod stopwatch;
 mod texts;
+mod turns;
 mod twins;
 mod walk;
 

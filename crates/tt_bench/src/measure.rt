@@ -1,13 +1,14 @@
 //! One measurement, from a job to its line of numbers.
 use crate::building;
 use crate::error::BenchError;
-use crate::expansion::Expansion;
+use crate::expansion::{Expansion, Instance};
 use crate::items::items;
 use crate::job::Job;
 use crate::mode::Mode;
 use crate::stopwatch::Stopwatch;
 use crate::texts::Text;
-use crate::twins::{Twins, packed};
+use crate::turns::Turns;
+use crate::twins::{Twins, copies, packed};
 use crate::walk::Walk;
 use std::alloc::Global;
 use std::fmt;
@@ -20,14 +21,15 @@ use tt::{ErasedFileAstId, TokenTree, TopSubtree, TransformTtAction, TtFault, tra
 pub struct Measured {
     /// The processor time of all rounds.
     pub time: Duration,
-    /// What to know the answer by: of a walk the sum of the last round, of `equal` the number of rounds that found the
+    /// What to know the answers by: of a walk, a text and an expansion what the rounds of the last lap answered, added up
+    /// (a lap is a round on each tree; of one tree it is the last round), of `equal` the number of rounds that found the
     /// twins equal, of a hash its value, and else 0.
     pub sum: u64,
-    /// How many bytes are stored.
+    /// How many bytes are stored for all trees.
     pub bytes: usize,
-    /// How many span parts are stored.
+    /// How many span parts are stored for all trees.
     pub parts: usize,
-    /// How many symbols are stored.
+    /// How many symbols are stored for all trees.
     pub symbols: usize,
 }
 
@@ -42,24 +44,41 @@ impl fmt::Display for Measured {
     }
 }
 
-/// Times the job on the tree that `item` lines spell.
+impl Measured {
+    // Nothing is counted yet.
+    fn new(time: Duration, sum: u64) -> Measured {
+        Measured {
+            time,
+            sum,
+            bytes: 0,
+            parts: 0,
+            symbols: 0,
+        }
+    }
+
+    // Adds what is stored for a tree.
+    fn add(&mut self, tree: &TopSubtree) {
+        self.bytes = self.bytes.saturating_add(tree.packed_bytes().len());
+        self.parts = self.parts.saturating_add(tree.span_part_table().len());
+        self.symbols = self.symbols.saturating_add(tree.symbol_table().len());
+    }
+}
+
+/// Times the job on the trees that `item` lines spell.
 pub fn measure<R: CpuClock + AllocGlobal>(
     rt: &R,
     job: Job,
     lines: &[u8],
 ) -> Result<Measured, BenchError> {
-    let list = items(rt.alloc(), lines, job.texts)?;
-    let twins = Twins::new(rt.alloc(), &list, lines, job.texts)?;
+    let lists = items(rt.alloc(), lines, job.texts)?;
+    let twins = Twins::new(rt.alloc(), &lists, lines, job.texts)?;
     let mut watch = Stopwatch::new(rt);
-    let sum = measure_rounds(&mut watch, rt.alloc(), job, &list, &twins)?;
-    let tree = twins.at(0);
-    Ok(Measured {
-        time: watch.total(),
-        sum,
-        bytes: tree.packed_bytes().len(),
-        parts: tree.span_part_table().len(),
-        symbols: tree.symbol_table().len(),
-    })
+    let sum = measure_rounds(&mut watch, rt.alloc(), job, lists, &twins)?;
+    let mut measured = Measured::new(watch.total(), sum);
+    for tree in twins.trees() {
+        measured.add(tree);
+    }
+    Ok(measured)
 }
 
 // Runs all rounds, and answers the sum.
@@ -67,34 +86,35 @@ fn measure_rounds<R: CpuClock>(
     watch: &mut Stopwatch<R>,
     alloc: Global,
     job: Job,
-    list: &[TokenTree],
+    lists: Vec<Vec<TokenTree>>,
     twins: &Twins,
 ) -> Result<u64, BenchError> {
     match job.mode {
-        Mode::Pack => pack(watch, alloc, list, job.rounds),
-        Mode::Build => build(watch, alloc, list, job.rounds),
+        Mode::Pack => pack(watch, alloc, lists, job.rounds),
+        Mode::Build => build(watch, alloc, &lists, job.rounds),
         Mode::Rewrite => rewrite(watch, alloc, twins, job.rounds),
         Mode::Ids => ids(watch, alloc, twins, job.rounds),
         Mode::Expand => expand(watch, alloc, twins, job.rounds),
         Mode::Walk(way) => walk(watch, alloc, twins, way, job.rounds),
         Mode::Print(text) => print(watch, alloc, twins, text, job.rounds),
-        Mode::Equal => equal(watch, twins, job.rounds),
-        Mode::Fold => hash(watch, twins, FoldHasher::default(), job.rounds),
-        Mode::Sip => hash(watch, twins, DefaultHasher::default(), job.rounds),
+        Mode::Equal => equal(watch, alloc, twins, job.rounds),
+        Mode::Fold => hash(watch, alloc, twins, FoldHasher::default(), job.rounds),
+        Mode::Sip => hash(watch, alloc, twins, DefaultHasher::default(), job.rounds),
         Mode::Clone => clone(watch, alloc, twins, job.rounds),
         Mode::Drop => let_go(watch, alloc, twins, job.rounds),
     }
 }
 
-// Each round packs a copy of the list, which is made before the watch starts.
+// Each round packs a copy of a list, which is made before the watch starts.
 fn pack<R: CpuClock>(
     watch: &mut Stopwatch<R>,
     alloc: Global,
-    list: &[TokenTree],
+    lists: Vec<Vec<TokenTree>>,
     rounds: u32,
 ) -> Result<u64, BenchError> {
+    let mut turns = Turns::new(lists);
     for _ in 0..rounds {
-        let copy = list.to_vec(alloc).map_err(TtFault::from)?;
+        let copy = turns.next()?.to_vec(alloc).map_err(TtFault::from)?;
         watch.start()?;
         let tree = packed(alloc, copy)?;
         watch.stop()?;
@@ -103,18 +123,19 @@ fn pack<R: CpuClock>(
     Ok(0)
 }
 
-// Each round makes the same calls, of which a copy is made before the watch starts.
+// Each round makes the calls of a list, of which a copy is made before the watch starts.
 fn build<R: CpuClock>(
     watch: &mut Stopwatch<R>,
     alloc: Global,
-    list: &[TokenTree],
+    lists: &[Vec<TokenTree>],
     rounds: u32,
 ) -> Result<u64, BenchError> {
-    let (top, calls) = building::calls(alloc, list)?;
+    let mut turns = Turns::new(building::all_calls(alloc, lists)?);
     for _ in 0..rounds {
+        let (top, calls) = turns.next()?;
         let copy = calls.to_vec(alloc).map_err(TtFault::from)?;
         watch.start()?;
-        let tree = building::build(alloc, top, copy)?;
+        let tree = building::build(alloc, *top, copy)?;
         watch.stop()?;
         drop(tree);
     }
@@ -128,10 +149,10 @@ fn rewrite<R: CpuClock>(
     twins: &Twins,
     rounds: u32,
 ) -> Result<u64, BenchError> {
-    let mut copy = twins.at(0).clone(alloc)?;
+    let mut turns = Turns::new(copies(alloc, twins.trees())?);
     watch.start()?;
     for _ in 0..rounds {
-        transform_tt(alloc, &mut copy, |_| TransformTtAction::Keep)?;
+        transform_tt(alloc, turns.next()?, |_| TransformTtAction::Keep)?;
     }
     watch.stop()?;
     Ok(0)
@@ -144,32 +165,34 @@ fn ids<R: CpuClock>(
     twins: &Twins,
     rounds: u32,
 ) -> Result<u64, BenchError> {
-    let mut copy = twins.at(0).clone(alloc)?;
+    let mut turns = Turns::new(copies(alloc, twins.trees())?);
     watch.start()?;
     for _ in 0..rounds {
-        copy.change_every_ast_id(alloc, |id| ErasedFileAstId(id.0.wrapping_add(1)))?;
+        let tree = turns.next()?;
+        tree.change_every_ast_id(alloc, |id| ErasedFileAstId(id.0.wrapping_add(1)))?;
     }
     watch.stop()?;
     Ok(0)
 }
 
-// Each round expands the same input by the same rule. The sum is the number of tokens that come of it.
+// Each round expands the input of a tree by the tree's rule. A tree that comes of it is let go after the watch stopped.
 fn expand<R: CpuClock>(
     watch: &mut Stopwatch<R>,
     alloc: Global,
     twins: &Twins,
     rounds: u32,
 ) -> Result<u64, BenchError> {
-    let expansion = Expansion::new(alloc, twins.at(0))?;
-    let rule = expansion.rule(alloc)?;
-    let mut sum = 0;
+    let expansions = Expansion::all(alloc, twins.trees())?;
+    let mut turns = Turns::new(Instance::all(alloc, &expansions)?);
+    let mut lap = twins.lap();
     for _ in 0..rounds {
+        let instance = turns.next()?;
         watch.start()?;
-        let tree = expansion.expand(alloc, &rule)?;
+        let tree = instance.expand(alloc)?;
         watch.stop()?;
-        sum = tree.as_token_trees().len() as u64;
+        lap.add(tree.as_token_trees().len() as u64);
     }
-    Ok(sum)
+    Ok(lap.sum())
 }
 
 fn walk<R: CpuClock>(
@@ -179,16 +202,17 @@ fn walk<R: CpuClock>(
     way: Walk,
     rounds: u32,
 ) -> Result<u64, BenchError> {
-    let mut sum = 0;
+    let mut turns = twins.in_turn(alloc)?;
+    let mut lap = twins.lap();
     watch.start()?;
-    for round in 0..rounds {
-        sum = way.sum(alloc, twins.at(round))?;
+    for _ in 0..rounds {
+        lap.add(way.sum(alloc, turns.next()?.tree)?);
     }
     watch.stop()?;
-    Ok(sum)
+    Ok(lap.sum())
 }
 
-// Each round prints a tree, and lets the text go. The sum is the length of a text.
+// Each round prints a tree, and lets the text go. The sum is of the lengths.
 fn print<R: CpuClock>(
     watch: &mut Stopwatch<R>,
     alloc: Global,
@@ -196,43 +220,48 @@ fn print<R: CpuClock>(
     text: Text,
     rounds: u32,
 ) -> Result<u64, BenchError> {
-    let mut sum = 0;
+    let mut turns = twins.in_turn(alloc)?;
+    let mut lap = twins.lap();
     watch.start()?;
-    for round in 0..rounds {
-        sum = text.len(alloc, twins.at(round))?;
+    for _ in 0..rounds {
+        lap.add(text.len(alloc, turns.next()?.tree)?);
     }
     watch.stop()?;
-    Ok(sum)
+    Ok(lap.sum())
 }
 
-// Counts the rounds in which the twins are equal. The count picks the second twin, which comes to the same as picking it
-// by the round. The compiler cannot know that: each round needs the one before it, and no comparison is left out.
+// Counts the rounds that find a tree equal to its twin.
 fn equal<R: CpuClock>(
     watch: &mut Stopwatch<R>,
+    alloc: Global,
     twins: &Twins,
     rounds: u32,
 ) -> Result<u64, BenchError> {
-    let mut count = 0u32;
+    let mut turns = twins.in_turn(alloc)?;
+    let mut count = 0u64;
     watch.start()?;
-    for round in 0..rounds {
-        if twins.at(round) == twins.at(count.wrapping_add(1)) {
+    for _ in 0..rounds {
+        let pair = turns.next()?;
+        if pair.tree == pair.twin {
             count = count.wrapping_add(1);
         }
     }
     watch.stop()?;
-    Ok(count as u64)
+    Ok(count)
 }
 
 // One hasher takes the trees of all rounds.
 fn hash<R: CpuClock, H: Hasher + Drop>(
     watch: &mut Stopwatch<R>,
+    alloc: Global,
     twins: &Twins,
     mut hasher: H,
     rounds: u32,
 ) -> Result<u64, BenchError> {
+    let mut turns = twins.in_turn(alloc)?;
     watch.start()?;
-    for round in 0..rounds {
-        twins.at(round).hash(&mut hasher);
+    for _ in 0..rounds {
+        turns.next()?.tree.hash(&mut hasher);
     }
     watch.stop()?;
     Ok(hasher.finish())
@@ -245,9 +274,11 @@ fn clone<R: CpuClock>(
     twins: &Twins,
     rounds: u32,
 ) -> Result<u64, BenchError> {
-    for round in 0..rounds {
+    let mut turns = twins.in_turn(alloc)?;
+    for _ in 0..rounds {
+        let tree = turns.next()?.tree;
         watch.start()?;
-        let copy = twins.at(round).clone(alloc)?;
+        let copy = tree.clone(alloc)?;
         watch.stop()?;
         drop(copy);
     }
@@ -261,8 +292,9 @@ fn let_go<R: CpuClock>(
     twins: &Twins,
     rounds: u32,
 ) -> Result<u64, BenchError> {
-    for round in 0..rounds {
-        let copy = twins.at(round).clone(alloc)?;
+    let mut turns = twins.in_turn(alloc)?;
+    for _ in 0..rounds {
+        let copy = turns.next()?.tree.clone(alloc)?;
         watch.start()?;
         drop(copy);
         watch.stop()?;

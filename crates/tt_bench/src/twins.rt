@@ -1,41 +1,93 @@
-//! Two equal trees.
+//! Trees, and trees that equal them.
 use crate::error::BenchError;
 use crate::items::{Texts, items};
+use crate::turns::{LapSum, Turns};
 use std::alloc::Global;
 use tt::{TokenTree, TopSubtree, TtFault};
 
-/// Two equal trees, which are used in turn, so that no round finds just what the one before it left in the caches.
+/// Two equal trees of each list, which are used in turn, so that no round finds just what the one before it left in the
+/// caches.
 #[derive(Drop)]
 pub struct Twins {
-    first: TopSubtree,
-    second: TopSubtree,
+    first: Vec<TopSubtree>,
+    second: Vec<TopSubtree>,
+}
+
+/// A tree, and one that equals it.
+#[derive(Clone, Copy)]
+pub struct Pair<'a> {
+    pub tree: &'a TopSubtree,
+    pub twin: &'a TopSubtree,
 }
 
 impl Twins {
-    /// The tree of the list, twice. The twins share no block but those of their texts, and these only where texts are
-    /// shared; else the lines of the list are read once more.
+    /// The trees of the lists, twice. Twins share no block but those of their texts, and these only where texts are shared;
+    /// else the lines of the lists are read once more. `NotOneSubtree` where there are no lists.
     pub fn new(
         alloc: Global,
-        list: &[TokenTree],
+        lists: &[Vec<TokenTree>],
         lines: &[u8],
         texts: Texts,
     ) -> Result<Twins, BenchError> {
-        let first = packed(alloc, list.to_vec(alloc).map_err(TtFault::from)?)?;
+        if lists.is_empty() {
+            return Err(BenchError::Fault(TtFault::NotOneSubtree));
+        }
+        let first = packed_all(alloc, lists)?;
         let second = match texts {
-            Texts::Shared => first.clone(alloc)?,
-            Texts::Apart => packed(alloc, items(alloc, lines, texts)?)?,
+            Texts::Shared => copies(alloc, &first)?,
+            Texts::Apart => packed_all(alloc, &items(alloc, lines, texts)?)?,
         };
         Ok(Twins { first, second })
     }
 
-    /// The tree of that round.
-    pub fn at(&self, round: u32) -> &TopSubtree {
-        if round % 2 == 0 {
-            &self.first
-        } else {
-            &self.second
-        }
+    /// One tree of each list.
+    pub fn trees(&self) -> &[TopSubtree] {
+        &self.first
     }
+
+    /// The sum of a lap over the lists.
+    pub fn lap(&self) -> LapSum {
+        LapSum::new(self.first.len())
+    }
+
+    /// The first tree of each list with its twin, and then the second with its.
+    pub fn in_turn(&self, alloc: Global) -> Result<Turns<Pair<'_>>, BenchError> {
+        let mut pairs = Vec::new(alloc);
+        push_pairs(&mut pairs, &self.first, &self.second)?;
+        push_pairs(&mut pairs, &self.second, &self.first)?;
+        Ok(Turns::new(pairs))
+    }
+}
+
+// Each tree with its twin, behind what is there.
+fn push_pairs<'a>(
+    pairs: &mut Vec<Pair<'a>>,
+    trees: &'a [TopSubtree],
+    twins: &'a [TopSubtree],
+) -> Result<(), TtFault> {
+    for (tree, twin) in trees.iter().zip(twins.iter()) {
+        pairs.push(Pair { tree, twin })?;
+    }
+    Ok(())
+}
+
+/// A copy of each tree.
+pub fn copies(alloc: Global, trees: &[TopSubtree]) -> Result<Vec<TopSubtree>, TtFault> {
+    let mut copies = Vec::new(alloc);
+    for tree in trees {
+        copies.push(tree.clone(alloc)?)?;
+    }
+    Ok(copies)
+}
+
+// The trees of the lists, or why one is refused.
+fn packed_all(alloc: Global, lists: &[Vec<TokenTree>]) -> Result<Vec<TopSubtree>, BenchError> {
+    let mut trees = Vec::new(alloc);
+    for list in lists {
+        let copy = list.to_vec(alloc).map_err(TtFault::from)?;
+        trees.push(packed(alloc, copy)?).map_err(TtFault::from)?;
+    }
+    Ok(trees)
 }
 
 /// The tree of a list, or why the list is refused.
