@@ -193,44 +193,34 @@ fn stand_for_heads(rt: HostRuntime) -> Result<(), Fail> {
         (
             "item sub paren 1:2@3..3#4 1:2@3..3#4 0",
             DelimiterKind::Parenthesis,
-            small_span(),
             0,
         ),
         (
             "item sub brace 1:2@3..3#4 1:2@3..3#4 10",
             DelimiterKind::Brace,
-            small_span(),
             10,
         ),
         (
             "item sub bracket 1:2@3..3#4 1:2@3..3#4 1",
             DelimiterKind::Bracket,
-            small_span(),
             1,
         ),
         (
             "item sub invisible 1:2@3..3#4 1:2@3..3#4 1",
             DelimiterKind::Invisible,
-            small_span(),
             1,
         ),
         (
             "item sub opaque 1:2@3..3#4 1:2@3..3#4 1",
             DelimiterKind::InvisibleOpaque,
-            small_span(),
             1,
         ),
-        (
-            LARGEST_HEAD,
-            DelimiterKind::Parenthesis,
-            large_span(),
-            u32::MAX,
-        ),
     ];
-    for (line, kind, close, len) in rows {
-        stands_for(&rt, rt.alloc(), line, head(kind, close, len))?;
+    for (line, kind, len) in rows {
+        stands_for(&rt, rt.alloc(), line, head(kind, small_span(), len))?;
     }
-    Ok(())
+    let largest = head(DelimiterKind::Parenthesis, large_span(), u32::MAX);
+    stands_for(&rt, rt.alloc(), LARGEST_HEAD, largest)
 }
 
 #[test]
