@@ -1,14 +1,14 @@
 //! Trees as texts. What is left of each subtree that was entered is kept in memory, so a tree may be as deep as that holds.
 ghost use Rattle.std.specs.Prelude.{◌≡◌, ◌++◌, false, IfOk, IfErr, OnOk, string_bytes};
 ghost use Rattle.tt_base.specs.DebugText.{break_if, debug, header_line, indent, leaf_line, lines_text};
-ghost use Rattle.tt_base.specs.LeafText.{leaf_text};
-ghost use Rattle.tt_base.specs.TreeText.{display, pretty, siblings_text, space_after, space_if};
+ghost use Rattle.tt_base.specs.LeafText.{ident_text, leaf_text};
+ghost use Rattle.tt_base.specs.TreeText.{display, opening_text, pretty, siblings_text, space_after, space_if};
 ghost use Rattle.tt_base.specs.declared.fault.TtFault.TheVariants.{Memory};
 ghost use Rattle.tt_view.specs.SpaceRules.{lets_of};
 ghost use Rattle.tt_view.specs.Views.{trees_of};
 
 use std::alloc::{AllocError, Global};
-use tt_base::{DelimiterKind, HeaderLine, Indent, Leaf, LeafLine, Subtree, TtFault, line_break};
+use tt_base::{DelimiterKind, HeaderLine, Ident, Indent, Leaf, LeafLine, Subtree, TtFault, line_break};
 use tt_view::text::{SpaceRule, closing, leaf_lets_space, opening, space};
 use tt_view::{TokenTreesView, TtElement, TtIter};
 
@@ -46,13 +46,41 @@ pub fn debug_text(alloc: Global, trees: TokenTreesView<'_>) -> Result<String, Tt
     Ok(text)
 }
 
+// Adds an ident.
+fn write_ident(text: &mut String, ident: &Ident) -> Result<(), AllocError>
+    ensures { OnOk result (string_bytes text.new ≡ string_bytes text.old ++ ident_text ident.now) }
+{
+    text.push_str(ident.is_raw.as_str())?;
+    text.push_str(ident.sym.as_str())
+}
+
+// Adds the text of the leaf. Most are puncts and idents, which need no formatter.
+fn write_text(text: &mut String, leaf: &Leaf) -> Result<(), AllocError>
+    ensures { OnOk result (string_bytes text.new ≡ string_bytes text.old ++ leaf_text leaf.now) }
+{
+    match leaf {
+        Leaf::Literal(literal) => write!(text, "{literal}"),
+        Leaf::Punct(punct) => text.push(punct.char),
+        Leaf::Ident(ident) => write_ident(text, ident),
+    }
+}
+
 // Adds the leaf, behind a space if one is due, and tells whether a space may stand behind it.
 fn write_leaf(text: &mut String, rule: SpaceRule, due: bool, leaf: Leaf) -> Result<bool, AllocError>
     ensures written { OnOk result (string_bytes text.new ≡ string_bytes text.old ++ (space_if due ++ leaf_text leaf)) }
     ensures due { IfOk result (λ next. next ≡ space_after (lets_of rule) leaf) }
 {
-    write!(text, "{}{leaf}", space(due))?;
+    text.push_str(space(due))?;
+    write_text(text, &leaf)?;
     Ok(leaf_lets_space(rule, &leaf))
+}
+
+// Adds what opens a subtree of that kind, behind a space if one is due.
+fn write_opening(text: &mut String, due: bool, kind: DelimiterKind) -> Result<(), AllocError>
+    ensures { OnOk result (string_bytes text.new ≡ string_bytes text.old ++ (space_if due ++ opening_text kind)) }
+{
+    text.push_str(space(due))?;
+    text.push_str(opening(kind))
 }
 
 // Adds the line of the leaf, behind a line feed if one is due.
@@ -98,7 +126,7 @@ fn spaced_text(
             Some(TtElement::Leaf(leaf)) => due = write_leaf(&mut text, rule, due, leaf)?,
             Some(TtElement::Subtree(subtree, children)) => {
                 let kind = subtree.delimiter.kind;
-                write!(text, "{}{}", space(due), opening(kind))?;
+                write_opening(&mut text, due, kind)?;
                 outer.push(level)?;
                 level = Level {
                     rest: children,

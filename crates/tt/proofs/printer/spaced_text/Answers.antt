@@ -40,7 +40,7 @@ tokens-preserved-in-Some-Subtree c =
     let pushed : c.push.new.self.items ≡ c.tokens.outer.items ++ next ∷ [] = search rules in
     let first : IsFirstElement (rest_of level.rest) (Some (element.Subtree subtree children)) = search rules in
     let rest : rest_of c.next.new.self ≡ after_tree (rest_of level.rest) = search rules in
-    let wrote : string_bytes c.write.new.self ≡ string_bytes c.tokens.text ++ piece = search rules in
+    let wrote : string_bytes c.write_opening.new.text ≡ string_bytes c.tokens.text ++ piece = search rules in
     goes_on _ _ piece _ (text_left lets c.tokens.due (level ∷ outer)) _ wrote
     (text_subtree lets c.tokens.due level next below outer subtree children first rest refl refl refl
     ∙ ap (λ items. piece ++ text_left lets false (below ∷ items)) (sym (ap reverse pushed ∙ reverse-append c.tokens.outer.items (next ∷ []))))
