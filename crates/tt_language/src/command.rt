@@ -85,10 +85,12 @@ pub enum Command {
     Equal(Slot, Slot),
 }
 
-// What follows the first word, read as the values of a command.
+// For each verb, what follows it, read as the values of its command.
 macro_rules! read {
-    ($texts:expr, $rest:expr; $make:expr) => {
-        Ok(Part::read($texts, $rest)?.map($make))
+    ($texts:expr, $rest:expr, $verb:expr; $($pattern:pat => $make:expr),+) => {
+        match $verb {
+            $($pattern => Ok(Part::read($texts, $rest)?.map($make)),)+
+        }
     };
 }
 
@@ -132,39 +134,35 @@ impl Command {
         let Some(verb) = Verb::read(word) else {
             return Ok(None);
         };
-        match verb {
-            Verb::Item => read!(texts, rest; Command::Item),
-            Verb::Clear => read!(texts, rest; |()| Command::Clear),
-            Verb::List => read!(texts, rest; |(slot, ())| Command::List(slot)),
-            Verb::New => read!(texts, rest; |(kind, (open_span, (close, ())))| {
-                Command::New(Delimiter { open_span, close, kind })
-            }),
-            Verb::Open => read!(texts, rest; |(kind, (span, ()))| Command::Open(kind, span)),
-            Verb::Push => read!(texts, rest; Command::Push),
-            Verb::Close => read!(texts, rest; |(span, ())| Command::Close(span)),
-            Verb::Append => read!(texts, rest; |(slot, ())| Command::Append(slot)),
-            Verb::Alone => read!(texts, rest; |(slot, ())| Command::Alone(slot)),
-            Verb::Unwrap => read!(texts, rest; |()| Command::Unwrap),
-            Verb::Point => read!(texts, rest; |()| Command::Point),
-            Verb::Restore => read!(texts, rest; |(number, ())| Command::Restore(number)),
-            Verb::Expected => read!(texts, rest; |()| Command::Expected),
-            Verb::Counts => read!(texts, rest; |()| Command::Counts),
-            Verb::Build => read!(texts, rest; |(slot, ())| Command::Build(slot)),
-            Verb::Skip => read!(texts, rest; |(slot, ())| Command::Skip(slot)),
-            Verb::Copy => read!(texts, rest; |(to, (from, ()))| Command::Copy(to, from)),
-            Verb::Kind => read!(texts, rest; |(slot, (kind, ()))| Command::Kind(slot, kind)),
-            Verb::Spans =>
-                read!(texts, rest; |(slot, (open, (close, ())))| Command::Spans(slot, open, close)),
-            Verb::Set =>
-                read!(texts, rest; |(slot, (place, leaf))| Command::Set(slot, place, leaf)),
-            Verb::Ids => read!(texts, rest; |(slot, ids)| Command::Ids(slot, ids)),
-            Verb::Rewrite => read!(texts, rest; |(slot, actions)| Command::Rewrite(slot, actions)),
-            Verb::Expand => read!(texts, rest; |(pattern, (template, (input, (to, ()))))| {
-                Command::Expand(pattern, template, input, to)
-            }),
-            Verb::View(view) => read!(texts, rest; |(slot, ())| Command::View(view, slot)),
-            Verb::Split => read!(texts, rest; |(slot, char)| Command::Split(slot, char)),
-            Verb::Equal => read!(texts, rest; |(left, (right, ()))| Command::Equal(left, right)),
-        }
+        read!(texts, rest, verb;
+            Verb::Item => Command::Item,
+            Verb::Clear => |()| Command::Clear,
+            Verb::List => |(slot, ())| Command::List(slot),
+            Verb::New => |(kind, (open_span, (close, ())))|
+                Command::New(Delimiter { open_span, close, kind }),
+            Verb::Open => |(kind, (span, ()))| Command::Open(kind, span),
+            Verb::Push => Command::Push,
+            Verb::Close => |(span, ())| Command::Close(span),
+            Verb::Append => |(slot, ())| Command::Append(slot),
+            Verb::Alone => |(slot, ())| Command::Alone(slot),
+            Verb::Unwrap => |()| Command::Unwrap,
+            Verb::Point => |()| Command::Point,
+            Verb::Restore => |(number, ())| Command::Restore(number),
+            Verb::Expected => |()| Command::Expected,
+            Verb::Counts => |()| Command::Counts,
+            Verb::Build => |(slot, ())| Command::Build(slot),
+            Verb::Skip => |(slot, ())| Command::Skip(slot),
+            Verb::Copy => |(to, (from, ()))| Command::Copy(to, from),
+            Verb::Kind => |(slot, (kind, ()))| Command::Kind(slot, kind),
+            Verb::Spans => |(slot, (open, (close, ())))| Command::Spans(slot, open, close),
+            Verb::Set => |(slot, (place, leaf))| Command::Set(slot, place, leaf),
+            Verb::Ids => |(slot, ids)| Command::Ids(slot, ids),
+            Verb::Rewrite => |(slot, actions)| Command::Rewrite(slot, actions),
+            Verb::Expand => |(pattern, (template, (input, (to, ()))))|
+                Command::Expand(pattern, template, input, to),
+            Verb::View(view) => |(slot, ())| Command::View(view, slot),
+            Verb::Split => |(slot, char)| Command::Split(slot, char),
+            Verb::Equal => |(left, (right, ()))| Command::Equal(left, right)
+        )
     }
 }
