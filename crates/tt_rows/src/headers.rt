@@ -80,49 +80,34 @@ fn parentheses_around_nothing(rt: HostRuntime) -> Result<(), Fail> {
     Ok(())
 }
 
+// What kind a header is of, where it opens and closes, how many tokens it holds, in how many bytes, and its own bytes.
+const AROUND_SOME: [(DelimiterKind, (Spot, Spot), (u32, u32), &[u8]); 3] = [
+    (
+        DelimiterKind::Brace,
+        ((0, 5, 9), (0, 5, 9)),
+        (1, 5),
+        b"\x00\x81\x02\x00\x09\x01\x05",
+    ),
+    (
+        DelimiterKind::Parenthesis,
+        (SHORT, (0, 1, 2)),
+        (51, 255),
+        b"\x40\x00\x00\x00\x00\x33\xff",
+    ),
+    (
+        DelimiterKind::Parenthesis,
+        (SHORT, (0, 1, 2)),
+        (52, 260),
+        b"\x40\x00\x00\x00\x02\x01\x34\x40\x10",
+    ),
+];
+
 #[test]
 fn what_a_header_holds(rt: HostRuntime) -> Result<(), Fail> {
     let alloc = rt.alloc();
     let tables = Tables::new(alloc, 1, &[])?;
-    let round = DelimiterKind::Parenthesis;
-    // The kind, where it opens and closes, how many tokens it holds, in how many bytes, and the bytes of the header.
-    let cases: [(DelimiterKind, Spot, Spot, u32, u32, &[u8]); 3] = [
-        (
-            DelimiterKind::Brace,
-            (0, 5, 9),
-            (0, 5, 9),
-            1,
-            5,
-            b"\x00\x81\x02\x00\x09\x01\x05",
-        ),
-        (
-            round,
-            (0, 0, 1),
-            (0, 1, 2),
-            51,
-            255,
-            b"\x40\x00\x00\x00\x00\x33\xff",
-        ),
-        (
-            round,
-            (0, 0, 1),
-            (0, 1, 2),
-            52,
-            260,
-            b"\x40\x00\x00\x00\x02\x01\x34\x40\x10",
-        ),
-    ];
-    for (kind, opening, closing, len, child_bytes, bytes) in cases {
-        let children = (len, child_bytes);
-        has_bytes(
-            &rt,
-            alloc,
-            &tables,
-            kind,
-            (opening, closing),
-            children,
-            bytes,
-        )?;
+    for (kind, spans, children, bytes) in AROUND_SOME {
+        has_bytes(&rt, alloc, &tables, kind, spans, children, bytes)?;
     }
     Ok(())
 }

@@ -1,5 +1,5 @@
 //! Trees of flat lists: what is stored for them, and when two are equal.
-use crate::lists::{braces, braces_over, header, ident, punct, top, with_below};
+use crate::lists::{braces, braces_over, header, ident, pack, punct, top, with_below};
 use crate::tables::span;
 use std::alloc::Global;
 use std::hash::{DefaultHasher, FoldHasher, Hash, Hasher};
@@ -342,6 +342,11 @@ fn braces_tree(alloc: Global) -> Result<TopSubtree, Fail> {
     Ok(tree_of(alloc, braces(alloc)?)?)
 }
 
+// The tree of what is stored for the braces.
+fn packed_braces(alloc: Global) -> Result<TopSubtree, Fail> {
+    Ok(TopSubtree::from_packed(pack(alloc, braces(alloc)?)?))
+}
+
 // A copy of the tree is equal to it, and stored alike.
 fn is_copied(rt: &impl Abort, alloc: Global, tree: &TopSubtree) -> Result<(), Fail> {
     let copy = tree.clone(alloc)?;
@@ -363,6 +368,7 @@ fn equal_trees(rt: HostRuntime) -> Result<(), Fail> {
     let alloc = rt.alloc();
     let tree = braces_tree(alloc)?;
     are_stored_alike(&rt, &tree, &braces_tree(alloc)?);
+    are_stored_alike(&rt, &tree, &packed_braces(alloc)?);
     is_copied(&rt, alloc, &tree)
 }
 
