@@ -8,7 +8,9 @@ ghost use Rattle.tt_view.specs.SpaceRules.{lets_of};
 ghost use Rattle.tt_view.specs.Views.{trees_of};
 
 use std::alloc::{AllocError, Global};
-use tt_base::{DelimiterKind, HeaderLine, Ident, Indent, Leaf, LeafLine, Subtree, TtFault, line_break};
+use tt_base::{
+    DelimiterKind, HeaderLine, Ident, Indent, Leaf, LeafLine, Subtree, TtFault, line_break,
+};
 use tt_view::text::{SpaceRule, closing, leaf_lets_space, opening, space};
 use tt_view::{TokenTreesView, TtElement, TtIter};
 

@@ -461,9 +461,9 @@ either_way (Err e) a b f g = g b
 -- A number is 0, and its use is the first, or it is not.
 pub first_or_more : (n : ℕ) → ((n ≡ 0) × (bool_byte (nat_eq n 0) ≡ 1)) ⊎ ((0 < n) × (bool_byte (nat_eq n 0) ≡ 0))
 first_or_more n = elim (eq-or-lt_of_le some) [
-    | inl none ↦ inl (sym none, ap bool_byte (eq-eqb n 0 (sym none)))
-    | inr more ↦ inr (more, ap bool_byte (ne_eqb n 0 (λ none. omega (arith, none, more))))
-  ]
+  | inl none ↦ inl (sym none, ap bool_byte (eq-eqb n 0 (sym none)))
+  | inr more ↦ inr (more, ap bool_byte (ne_eqb n 0 (λ none. omega (arith, none, more))))
+]
   where
     some : 0 ≤ n
     some = omega arith

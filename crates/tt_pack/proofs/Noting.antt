@@ -1,9 +1,7 @@
 -- How values with known numbers of uses are noted, where they stand in the order of their first uses.
-use Rattle.std.proofs.Common.{◌≡◌, ℕ, suc, zero, ◌+◌, ◌<◌, ◌≤◌, ◌⊎◌, inl, inr, Bool, true, false, cond, ◌||◌, Some, List, [], ◌∷◌, ◌++◌, map, fold, flat_map, get_or, set, take, length, length-append, position, slice_get, bytes_eq, refl, ap, ap₂, sym, subst, ◌∙◌, append-nil, append_assoc, true≢false, arith}
+use Rattle.std.proofs.Common.{◌≡◌, ℕ, suc, zero, ◌+◌, ◌<◌, ◌≤◌, Bool, true, false, cond, ◌||◌, Some, List, [], ◌∷◌, ◌++◌, map, fold, flat_map, get_or, take, length, length-append, position, slice_get, bytes_eq, refl, ap, ap₂, sym, subst, ◌∙◌, append-nil, append_assoc, true≢false, arith}
 use Rattle.std.proofs.lemmas.List.{take_more, take-map}
-use Rattle.std.proofs.lemmas.Map.Entries.{lookup_from_place}
 use Rattle.std.proofs.lemmas.List.Quantifiers.{position-Some}
-use Rattle.std.proofs.lemmas.List.Sums.{sum_by-cons}
 use Rattle.std.proofs.lemmas.Option.{slice_get_within, slice_get-get_or, get_or_from_slice_get}
 use Rattle.std.specs.Cmp.{IsEquivalence}
 use Rattle.std.specs.List.{AllZip, AllByRecursion, IsDistinct, list_any}
@@ -12,7 +10,7 @@ use Rattle.std.specs.Option.{unwrap_or}
 use Rattle.tt_base.specs.declared.span.SpanPart.{SpanPart}
 use Rattle.tt_base.specs.declared.token_tree.TokenTree.{TokenTree}
 use Rattle.tt_tables.specs.Counts.{number_in, CountsUses}
-use Rattle.tt_tables.specs.TableOrder.{index_in, different, uses_of}
+use Rattle.tt_tables.specs.TableOrder.{different, uses_of}
 use Rattle.tt_tables.specs.Uses.{same_part, token_parts, token_symbols}
 use Rattle.tt_pack.specs.declared.uses.TokenUses.{TokenUses}
 use Rattle.tt_pack.specs.Counted.{note_value}
@@ -20,8 +18,7 @@ use Rattle.tt_pack.specs.TablesOf.{StandsAt, AreUses}
 use Rattle.tt_pack.proofs.Different.{different-snoc}
 use Rattle.tt_pack.proofs.Kept.{uses_map}
 use Rattle.tt_pack.proofs.Paired.{paired-snoc, paired_map}
-use Rattle.tt_pack.proofs.RowOrder.{slice_get-front, slice_get-set, slice_get-set_other}
-use Rattle.tt_pack.proofs.TableFacts.{index_in-distinct}
+use Rattle.tt_pack.proofs.RowOrder.{slice_get-front}
 use Rattle.tt_pack.proofs.UsesGrow.{uses_grow}
 
 -- ---- one value

@@ -58,8 +58,9 @@ impl Packed {
         are_apart(alloc, &self.parts[..below], ids)
     }
 
-    /// Changes the ids of all spans in place, where no two entries of the table below the top become one. Each span takes the id
-    /// that is given for its entry. The entries are then the old ones with their new ids, and the bytes and the symbols stay.
+    /// Changes the ids of all spans in place, where there is one id for each entry of the table and no two entries below the top
+    /// become one, of which `ids_keep_apart` tells. Each span takes the id that is given for its entry. The entries are then
+    /// the old ones with their new ids, and the bytes and the symbols stay.
     pub fn set_ids(&mut self, ids: &[ErasedFileAstId])
         requires count { length ids.now ≡ length (root_parts self.old) }
         requires apart { KeepApart ids.now self.old }

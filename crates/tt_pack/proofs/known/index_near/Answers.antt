@@ -1,4 +1,4 @@
-use Rattle.std.proofs.Common.{◌≡◌, ℕ, Option, Some, None, IfSome, length, slice_get, refl, ap, sym, subst, ◌∙◌, arith}
+use Rattle.std.proofs.Common.{◌≡◌, ℕ, Option, Some, None, IfSome, length, slice_get, refl, ap, sym, ◌∙◌, arith}
 use Rattle.indexmap.specs.IndexMap.{keys}
 use Rattle.tt_pack.proofs.Noting.{found_at}
 use Rattle.tt_pack.proofs.known.index_near.Goals as goal

@@ -1,6 +1,5 @@
-use Rattle.std.proofs.Common.{◌≡◌, refl, drop, rules}
+use Rattle.std.proofs.Common.{rules}
 use Rattle.tt_tables.specs.Meaning.{IsAhead}
-use Rattle.tt_tables.specs.Stored.{bytes}
 use Rattle.tt_tables.proofs.StoredAlike.{ahead_is}
 use Rattle.tt_pack.specs.StoredIn.{bytes_for, tables_stored}
 use Rattle.tt_pack.proofs.Moves.{below_is_ahead}
