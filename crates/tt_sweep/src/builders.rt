@@ -66,8 +66,11 @@ const OPEN_ID: u32 = 3;
 // The id of a span whose part the builder does not use.
 const NEW_ID: u32 = 20;
 
-// The idents, and the id of each.
+// The idents in the innermost one, and the id of each.
 const IDENTS: [(&str, u32); 2] = [("a", 1), ("b", 2)];
+
+// How many puncts follow them. With these the builder has 32 tokens, for which it makes room at first.
+const PUNCTS: usize = 24;
 
 // Names that it does not have.
 const NEW_NAMES: [&str; 10] = ["k", "l", "m", "n", "o", "p", "q", "r", "s", "t"];
@@ -75,8 +78,8 @@ const NEW_NAMES: [&str; 10] = ["k", "l", "m", "n", "o", "p", "q", "r", "s", "t"]
 // How many restore points it has taken.
 const TAKEN: u64 = 5;
 
-// A builder of braces over an empty invisible subtree and four open brackets, and in the innermost two idents. Of its five
-// restore points the second does not stand. So it has eight tokens, four open subtrees and four points, and no room for
+// A builder of braces over an empty invisible subtree and four open brackets, and in the innermost two idents and the puncts. Of
+// its five restore points the second does not stand. So it has 32 tokens, four open subtrees and four points, and no room for
 // one more of any.
 fn builder(alloc: Global) -> Result<TopSubtreeBuilder, TtFault> {
     let mut builder = TopSubtreeBuilder::new(alloc, braces())?;
@@ -85,7 +88,7 @@ fn builder(alloc: Global) -> Result<TopSubtreeBuilder, TtFault> {
     builder.restore_point()?;
     close(&mut builder)?;
     open_brackets(&mut builder)?;
-    push_idents(alloc, &mut builder)?;
+    push_leaves(alloc, &mut builder)?;
     builder.restore_point()?;
     builder.restore_point()?;
     builder.restore_point()?;
@@ -114,23 +117,38 @@ fn open_brackets(builder: &mut TopSubtreeBuilder) -> Result<(), TtFault> {
     Ok(())
 }
 
-fn push_idents(alloc: Global, builder: &mut TopSubtreeBuilder) -> Result<(), TtFault> {
-    for (name, id) in IDENTS {
-        builder.push(ident(alloc, name, id)?)?;
+fn push_leaves(alloc: Global, builder: &mut TopSubtreeBuilder) -> Result<(), TtFault> {
+    for leaf in first_leaves(alloc)? {
+        builder.push(leaf)?;
     }
     Ok(())
 }
 
-// The idents, that token and these leaves: what the innermost bracket holds.
+// The idents and the puncts.
+fn first_leaves(alloc: Global) -> Result<Vec<Leaf>, TtFault> {
+    let mut leaves = Vec::new(alloc);
+    for (name, id) in IDENTS {
+        leaves.push(ident(alloc, name, id)?)?;
+    }
+    add_puncts(&mut leaves)?;
+    Ok(leaves)
+}
+
+fn add_puncts(leaves: &mut Vec<Leaf>) -> Result<(), TtFault> {
+    for _ in 0..PUNCTS {
+        leaves.push(plus(1))?;
+    }
+    Ok(())
+}
+
+// The idents and the puncts, that token and these leaves: what the innermost bracket holds.
 fn inside(
     alloc: Global,
     more: Option<TokenTree>,
     leaves: &[Leaf],
 ) -> Result<Vec<TokenTree>, TtFault> {
     let mut below = Vec::new(alloc);
-    for (name, id) in IDENTS {
-        below.push(ident(alloc, name, id)?.into())?;
-    }
+    push_all(&mut below, &first_leaves(alloc)?)?;
     below.extend(more.into_iter())?;
     push_all(&mut below, leaves)?;
     Ok(below)
