@@ -1,7 +1,7 @@
-//! Reading what is stored, token by token and sibling by sibling.
+//! Reading what is stored, token by token, and what a header holds in one step.
 ghost use Rattle.std.specs.Prelude.{◌≤◌, ◌<◌, ◌-◌};
 
-use crate::lists::{braces, gives, header, ident, is_at_end, is_read, pack, punct, stored, top};
+use crate::lists::{braces, gives, header, ident, is_at_end, is_read, pack, punct, stored};
 use std::alloc::Global;
 use std::process::Abort;
 use std::test::Fail;
@@ -143,71 +143,4 @@ fn a_long_list(rt: HostRuntime) -> Result<(), Fail> {
     let tree = stored(alloc, tokens.as_slice())?;
     assert_eq!(rt; tree.len(), 100000);
     is_read(&rt, &tree, tokens.as_slice())
-}
-
-// Parentheses over parentheses over eight leaves, as the ten tokens of that group.
-fn push_group(alloc: Global, tokens: &mut Vec<TokenTree>, group: u32) -> Result<(), Fail>
-    requires { group < 200 }
-{
-    tokens.push(parentheses(group * 10, 9)?)?;
-    tokens.push(parentheses(group * 10 + 1, 8)?)?;
-    for index in 2..10u32 {
-        tokens.push(leaf(alloc, group * 10 + index)?)?;
-    }
-    Ok(())
-}
-
-// A top over 200 groups.
-fn groups(alloc: Global) -> Result<Vec<TokenTree>, Fail> {
-    let mut tokens = vec![in alloc; top(2000)?]?;
-    for group in 0..200u32 {
-        push_group(alloc, &mut tokens, group)?;
-    }
-    Ok(tokens)
-}
-
-// The reader passes the parentheses of that group.
-fn skips_outer<'a>(rt: &impl Abort, reader: &mut Reader<'a>, group: u32) -> Result<Reader<'a>, Fail>
-    requires { group < 200 }
-{
-    let outer = parentheses(group * 10, 9)?;
-    skips_to(rt, reader, &outer)
-}
-
-// The reader gives the parentheses that those of that group hold.
-fn gives_inner(rt: &impl Abort, below: &mut Reader<'_>, group: u32) -> Result<(), Fail>
-    requires { group < 200 }
-{
-    let inner = parentheses(group * 10 + 1, 8)?;
-    gives(rt, below, &inner)
-}
-
-// The reader passes that group in one step, and inside of it the first token takes one more.
-fn skips(rt: &impl Abort, reader: &mut Reader<'_>, group: u32) -> Result<(), Fail>
-    requires { group < 200 }
-{
-    assert_eq!(rt; reader.steps(), group as u64 + 1);
-    let mut below = skips_outer(rt, reader, group)?;
-    gives_inner(rt, &mut below, group)?;
-    assert_eq!(rt; below.steps(), group as u64 + 3);
-    Ok(())
-}
-
-// A reader passes the top, each of the groups in one step, and nothing else.
-fn skips_all(rt: &impl Abort, tree: &Packed) -> Result<(), Fail> {
-    let mut reader = Reader::start(tree);
-    gives(rt, &mut reader, &top(2000)?)?;
-    for group in 0..200u32 {
-        skips(rt, &mut reader, group)?;
-    }
-    assert!(rt; reader.advance_skip().is_none());
-    is_at_end(rt, &mut reader, tree.bytes().len(), 201);
-    Ok(())
-}
-
-#[test]
-fn siblings_are_skipped(rt: HostRuntime) -> Result<(), Fail> {
-    let alloc = rt.alloc();
-    let tree = pack(alloc, groups(alloc)?)?;
-    skips_all(&rt, &tree)
 }

@@ -1,13 +1,13 @@
-//! Trees of flat lists: what is stored for them, and when two are equal.
-use crate::lists::{braces, braces_over, header, ident, pack, punct, top, with_below};
+//! Trees of flat lists: what is stored for them, and which hash alike.
+use crate::lists::{braces, braces_over, header, ident, punct, top, with_below};
 use crate::tables::span;
 use std::alloc::Global;
 use std::hash::{DefaultHasher, FoldHasher, Hash, Hasher};
 use std::process::Abort;
 use std::test::Fail;
 use tt::{
-    DelimSpan, DelimiterKind, Leaf, Punct, Refused, Spacing, SpanPart, Symbol, SyntaxContext,
-    TokenTree, TopSubtree, TtFault,
+    DelimSpan, DelimiterKind, Leaf, Punct, Spacing, SpanPart, Symbol, SyntaxContext, TokenTree,
+    TopSubtree, TtFault,
 };
 
 // The tree of the list.
@@ -22,58 +22,6 @@ fn files(alloc: Global, parts: &[SpanPart]) -> Result<Vec<u32>, Fail> {
         found.push(part.anchor.file_id.0)?;
     }
     Ok(found)
-}
-
-// Headers with those counts.
-fn headers(alloc: Global, counts: &[u32]) -> Result<Vec<TokenTree>, Fail> {
-    let mut tokens = Vec::new(alloc);
-    for count in counts {
-        tokens.push(top(*count)?)?;
-    }
-    Ok(tokens)
-}
-
-// A semicolon from 0 to 1, or a comma from 1 to 2.
-fn placed(char: char) -> Result<TokenTree, Fail> {
-    match char {
-        ',' => punct(char, (0, 1, 2)),
-        _ => punct(char, (0, 0, 1)),
-    }
-}
-
-// Headers with those counts, and those puncts behind them.
-fn headers_and_puncts(alloc: Global, counts: &[u32], puncts: &str) -> Result<Vec<TokenTree>, Fail> {
-    let mut tokens = headers(alloc, counts)?;
-    for char in puncts.chars() {
-        tokens.push(placed(char)?)?;
-    }
-    Ok(tokens)
-}
-
-// Why no tree is made of the list, with what comes back.
-fn refusal(alloc: Global, tokens: Vec<TokenTree>) -> Result<Refused<Vec<TokenTree>>, Fail> {
-    let made = TopSubtree::from_serialized(alloc, tokens);
-    Ok(made.err().ok_or("the list is accepted")?)
-}
-
-// The list is refused as one that is not one subtree, and is handed back: the same tokens as the copy has.
-fn is_handed_back(
-    rt: &impl Abort,
-    alloc: Global,
-    tokens: Vec<TokenTree>,
-    copy: &[TokenTree],
-) -> Result<(), Fail> {
-    let refused = refusal(alloc, tokens)?;
-    assert!(rt; refused.fault == TtFault::NotOneSubtree);
-    assert!(rt; refused.value.as_slice() == copy);
-    Ok(())
-}
-
-// The list of these headers and puncts is refused as one that is not one subtree, and is handed back.
-fn is_refused(rt: &impl Abort, alloc: Global, counts: &[u32], puncts: &str) -> Result<(), Fail> {
-    let copy = headers_and_puncts(alloc, counts, puncts)?;
-    let tokens = headers_and_puncts(alloc, counts, puncts)?;
-    is_handed_back(rt, alloc, tokens, copy.as_slice())
 }
 
 // What the hashers start from.
@@ -326,50 +274,9 @@ fn tables_of_symbols(rt: HostRuntime) -> Result<(), Fail> {
     Ok(())
 }
 
-#[test]
-fn lists_that_are_not_one_subtree(rt: HostRuntime) -> Result<(), Fail> {
-    let alloc = rt.alloc();
-    is_refused(&rt, alloc, &[], "")?;
-    is_refused(&rt, alloc, &[], ";")?;
-    is_refused(&rt, alloc, &[2, 2], ";")?;
-    is_refused(&rt, alloc, &[1], ";,")?;
-    is_refused(&rt, alloc, &[0, 0], "")?;
-    is_refused(&rt, alloc, &[4294967295], ";")
-}
-
 // The tree of the braces.
 fn braces_tree(alloc: Global) -> Result<TopSubtree, Fail> {
     Ok(tree_of(alloc, braces(alloc)?)?)
-}
-
-// The tree of what is stored for the braces.
-fn packed_braces(alloc: Global) -> Result<TopSubtree, Fail> {
-    Ok(TopSubtree::from_packed(pack(alloc, braces(alloc)?)?))
-}
-
-// A copy of the tree is equal to it, and stored alike.
-fn is_copied(rt: &impl Abort, alloc: Global, tree: &TopSubtree) -> Result<(), Fail> {
-    let copy = tree.clone(alloc)?;
-    are_stored_alike(rt, &copy, tree);
-    Ok(())
-}
-
-// The trees are equal, and stored alike.
-fn are_stored_alike(rt: &impl Abort, left: &TopSubtree, right: &TopSubtree) {
-    assert!(rt; left == right);
-    assert!(rt; left.packed_bytes() == right.packed_bytes());
-    assert!(rt; left.span_part_table() == right.span_part_table());
-    assert!(rt; left.symbol_table() == right.symbol_table());
-    assert_eq!(rt; left.as_token_trees().len(), right.as_token_trees().len());
-}
-
-#[test]
-fn equal_trees(rt: HostRuntime) -> Result<(), Fail> {
-    let alloc = rt.alloc();
-    let tree = braces_tree(alloc)?;
-    are_stored_alike(&rt, &tree, &braces_tree(alloc)?);
-    are_stored_alike(&rt, &tree, &packed_braces(alloc)?);
-    is_copied(&rt, alloc, &tree)
 }
 
 // The first two trees are equal and hash alike, and the other one is told apart from them.

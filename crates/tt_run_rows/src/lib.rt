@@ -8,8 +8,6 @@ mod fakes;
 #[cfg(test)]
 mod good_lines;
 #[cfg(test)]
-mod long_runs;
-#[cfg(test)]
 mod runs;
 #[cfg(test)]
 mod texts;

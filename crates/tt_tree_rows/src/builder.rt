@@ -1,11 +1,11 @@
-//! The builder: points of a copy, leaves that an iterator gives; and trees that are made of parts of others.
-use crate::tokens::{ident, ident_leaf, is_under, parentheses, punct, span, tree_of, under};
+//! The builder: a point of another builder; and what other rows do with one.
+use crate::tokens::{ident, ident_leaf, is_under, span};
 use std::alloc::Global;
 use std::process::Abort;
 use std::test::Fail;
 use tt::{
-    Delimiter, DelimiterKind, Leaf, Spacing, SubtreeBuilderRestorePoint, TokenTree, TokenTreesView,
-    TopSubtree, TopSubtreeBuilder, TtFault,
+    Delimiter, DelimiterKind, Leaf, SubtreeBuilderRestorePoint, TokenTree, TopSubtree,
+    TopSubtreeBuilder, TtFault,
 };
 
 /// A builder of an invisible top.
@@ -50,25 +50,6 @@ pub(crate) fn build(builder: TopSubtreeBuilder) -> Result<TopSubtree, Fail> {
     }
 }
 
-// Each of these points, by its number, and whether it stands when it is restored.
-fn restores(rt: &impl Abort, builder: &mut TopSubtreeBuilder, rows: &[(u64, bool)]) {
-    for (number, stands) in rows {
-        let point = SubtreeBuilderRestorePoint::from_number(*number);
-        assert_eq!(rt; builder.restore(point), *stands, "{number}");
-    }
-}
-
-// The next point has that number.
-fn next_point(rt: &impl Abort, builder: &mut TopSubtreeBuilder, number: u64) -> Result<(), Fail> {
-    assert_eq!(rt; builder.restore_point()?.number(), number);
-    Ok(())
-}
-
-// The subtree opened last is of that kind.
-fn is_open_for(rt: &impl Abort, builder: &TopSubtreeBuilder, kind: Option<DelimiterKind>) {
-    assert_eq!(rt; builder.expected_delimiters().next(), kind);
-}
-
 // The builder has no open subtree, and makes the tree of these tokens under an invisible delimiter.
 fn builds(
     rt: &impl Abort,
@@ -78,45 +59,6 @@ fn builds(
 ) -> Result<(), Fail> {
     let tree = build(builder)?;
     is_under(rt, alloc, &tree, below)
-}
-
-// An open brace over the ident `b`.
-fn open_brace(alloc: Global, builder: &mut TopSubtreeBuilder) -> Result<(), Fail> {
-    builder.open(DelimiterKind::Brace, span(2))?;
-    push_ident(alloc, builder, "b", 3)
-}
-
-// A point before and one behind the ident `a`, and then an open brace over the ident `b`.
-fn take_two_points(
-    rt: &impl Abort,
-    alloc: Global,
-    builder: &mut TopSubtreeBuilder,
-) -> Result<(), Fail> {
-    next_point(rt, builder, 0)?;
-    push_ident(alloc, builder, "a", 1)?;
-    next_point(rt, builder, 1)?;
-    open_brace(alloc, builder)
-}
-
-// A builder with these points.
-fn with_two_points(rt: &impl Abort, alloc: Global) -> Result<TopSubtreeBuilder, Fail> {
-    let mut builder = invisible(alloc)?;
-    take_two_points(rt, alloc, &mut builder)?;
-    Ok(builder)
-}
-
-// A copy has the points that stood.
-fn goes_back_as_a_copy(rt: &impl Abort, builder: &mut TopSubtreeBuilder) {
-    is_open_for(rt, builder, Some(DelimiterKind::Brace));
-    restores(rt, builder, &[(1, true)]);
-}
-
-#[test]
-fn points_of_a_copy(rt: HostRuntime) -> Result<(), Fail> {
-    let alloc = rt.alloc();
-    let mut copy = with_two_points(&rt, alloc)?.clone()?;
-    goes_back_as_a_copy(&rt, &mut copy);
-    builds(&rt, alloc, copy, &[ident(alloc, "a", 1)?])
 }
 
 // The first point of a builder that is not used any more.
@@ -164,63 +106,5 @@ pub(crate) fn open_and_restore(
     let point = builder.restore_point()?;
     builder.open(DelimiterKind::Bracket, span(5))?;
     assert!(rt; builder.restore(point));
-    Ok(())
-}
-
-// The idents `a` and `b` at the end.
-fn extend(alloc: Global, builder: &mut TopSubtreeBuilder) -> Result<(), Fail> {
-    let leaves = [ident_leaf(alloc, "a", 1)?, ident_leaf(alloc, "b", 2)?];
-    builder.extend(leaves.into_iter())?;
-    Ok(())
-}
-
-#[test]
-fn leaves_at_the_end(rt: HostRuntime) -> Result<(), Fail> {
-    let alloc = rt.alloc();
-    let mut builder = invisible(alloc)?;
-    extend(alloc, &mut builder)?;
-    builds_straight(&rt, alloc, builder)
-}
-
-// Parentheses over a plus.
-fn over_a_plus() -> [TokenTree; 2] {
-    [parentheses(1, 2, 1), punct('+', Spacing::Alone)]
-}
-
-// The tree is made of the one subtree of these trees.
-fn is_of_subtree(
-    rt: &impl Abort,
-    alloc: Global,
-    tree: &TopSubtree,
-    trees: TokenTreesView<'_>,
-) -> Result<(), Fail> {
-    let subtree = trees.try_into_subtree().ok_or("no subtree")?;
-    let expected = TopSubtree::from_subtree(alloc, subtree)?;
-    assert!(rt; *tree == expected);
-    Ok(())
-}
-
-// The tree of these parentheses alone.
-fn alone(alloc: Global) -> Result<TopSubtree, Fail> {
-    let [header, plus] = over_a_plus();
-    Ok(tree_of(alloc, vec![in alloc; header, plus]?)?)
-}
-
-#[test]
-fn a_tree_of_a_subtree(rt: HostRuntime) -> Result<(), Fail> {
-    let alloc = rt.alloc();
-    let outer = under(alloc, &over_a_plus())?;
-    let alone = alone(alloc)?;
-    is_of_subtree(&rt, alloc, &alone, outer.token_trees())
-}
-
-#[test]
-fn a_tree_of_a_view(rt: HostRuntime) -> Result<(), Fail> {
-    let alloc = rt.alloc();
-    let tokens = over_a_plus();
-    let alone = under(alloc, &tokens)?;
-    let top = Delimiter::invisible_spanned(span(0));
-    let again = TopSubtree::from_token_trees(alloc, top, alone.token_trees())?;
-    assert!(rt; again == alone);
     Ok(())
 }

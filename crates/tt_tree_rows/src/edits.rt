@@ -1,4 +1,4 @@
-//! Trees that are changed: rewritten by a callback, with another leaf, or another delimiter.
+//! Trees that are changed: rewritten by a callback, or with another delimiter.
 use crate::builder::{build, close, open_and_restore, push, push_ident};
 use crate::tokens::{header, ident, punct, punct_leaf, span, span_with, tree_of};
 use std::alloc::Global;
@@ -6,8 +6,8 @@ use std::hash::{FoldHasher, Hash, Hasher};
 use std::process::Abort;
 use std::test::Fail;
 use tt::{
-    DelimSpan, Delimiter, DelimiterKind, Leaf, Refused, Spacing, SyntaxContext, TokenTree,
-    TopSubtree, TopSubtreeBuilder, TransformTtAction, TtFault, transform_tt,
+    DelimSpan, Delimiter, DelimiterKind, Spacing, SyntaxContext, TokenTree, TopSubtree,
+    TopSubtreeBuilder, TransformTtAction, TtFault, transform_tt,
 };
 
 // The kind of delimiter that opens so.
@@ -192,44 +192,6 @@ fn trees_rewritten(rt: HostRuntime) -> Result<(), Fail> {
     let bracket = tree(alloc, "[1b")?;
     let pair = tree(alloc, "$2xy")?;
     are_rewritten(&rt, alloc, &bracket, &pair)
-}
-
-// No leaf is set at that place, and it comes back.
-fn is_not_set(
-    rt: &impl Abort,
-    alloc: Global,
-    changed: &mut TopSubtree,
-    row: (usize, TtFault),
-) -> Result<(), Fail> {
-    let (place, fault) = row;
-    let refused = refusal(alloc, changed, place).ok_or("a leaf is set")?;
-    assert!(rt; refused.fault == fault);
-    assert!(rt; is_comma(&refused.value));
-    Ok(())
-}
-
-// What comes back where no comma is set at that place.
-fn refusal(alloc: Global, changed: &mut TopSubtree, place: usize) -> Option<Refused<Leaf>> {
-    let comma = punct_leaf(',', Spacing::Alone);
-    changed.set_token(alloc, place, comma).err()
-}
-
-// Whether the leaf is a comma at offset 0.
-fn is_comma(leaf: &Leaf) -> bool {
-    match leaf {
-        Leaf::Punct(punct) => punct.char == ',' && punct.span == span(0),
-        _ => false,
-    }
-}
-
-#[test]
-fn a_leaf_that_is_not_set(rt: HostRuntime) -> Result<(), Fail> {
-    let alloc = rt.alloc();
-    let mut changed = tree(alloc, "(2a;")?;
-    for row in [(0, TtFault::NotALeaf), (3, TtFault::NoSuchPlace)] {
-        is_not_set(&rt, alloc, &mut changed, row)?;
-    }
-    is_spelled(&rt, alloc, &changed, "(2a;")
 }
 
 // What a tree feeds to a hasher that always starts alike.

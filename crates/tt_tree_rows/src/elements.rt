@@ -186,3 +186,50 @@ fn single_elements(rt: HostRuntime) -> Result<(), Fail> {
     are_told_apart(&rt, tree.iter());
     Ok(())
 }
+
+// How many steps it takes to expect puncts that stand as one.
+fn steps_of_glued(siblings: TtIter<'_>) -> u64 {
+    let mut siblings = siblings;
+    let start = siblings.steps();
+    let _found = siblings.expect_glued_punct();
+    siblings.steps().wrapping_sub(start)
+}
+
+// A joint punct of each of these characters.
+fn joint(alloc: Global, chars: &str) -> Result<Vec<TokenTree>, Fail> {
+    let mut tokens = Vec::new(alloc);
+    for char in chars.chars() {
+        tokens.push(punct(char, Spacing::Joint))?;
+    }
+    Ok(tokens)
+}
+
+// Behind that many steps the puncts that stand as one are passed.
+fn takes_steps(
+    rt: &impl Abort,
+    alloc: Global,
+    below: &[TokenTree],
+    steps: u64,
+) -> Result<(), Fail> {
+    let tree = under(alloc, below)?;
+    assert_eq!(rt; steps_of_glued(tree.iter()), steps);
+    Ok(())
+}
+
+// A step for each punct that is passed, and one for another element; what is only looked at counts for nothing.
+#[test]
+fn steps_of_puncts_that_stand_as_one(rt: HostRuntime) -> Result<(), Fail> {
+    let alloc = rt.alloc();
+    let rows = [
+        ("", 0),
+        ("-", 1),
+        ("-,", 1),
+        ("->", 2),
+        ("..,", 2),
+        ("..=", 3),
+    ];
+    for (chars, steps) in rows {
+        takes_steps(&rt, alloc, joint(alloc, chars)?.as_slice(), steps)?;
+    }
+    takes_steps(&rt, alloc, &[ident(alloc, "a", 0)?], 1)
+}

@@ -1,46 +1,11 @@
-//! Views: pieces, tops that give way, the last span, leaves under a delimiter, and one step for each sibling.
+//! Views: pieces, the last span, and one step for each sibling and each level.
 ghost use Rattle.std.specs.Prelude.{◌≡◌};
 
-use crate::tokens::{
-    header, ident, ident_leaf, is_under, parentheses, punct, punct_leaf, span, tree_of, under,
-};
+use crate::tokens::{ident, parentheses, punct, span, under};
 use std::alloc::Global;
 use std::process::Abort;
 use std::test::Fail;
-use tt::{
-    DelimSpan, DelimiterKind, Leaf, Spacing, TokenTree, TokenTreesView, TopSubtree, TtElement,
-    TtIter,
-};
-
-// The tree of a top of that kind over a comma.
-fn over_a_comma(alloc: Global, kind: DelimiterKind) -> Result<TopSubtree, Fail> {
-    let tokens = vec![in alloc; header(kind, 1, 2, 1), punct(',', Spacing::Alone)]?;
-    Ok(tree_of(alloc, tokens)?)
-}
-
-// So many tokens are left of the tree without an invisible top.
-fn strips_to(rt: &impl Abort, tree: &TopSubtree, len: usize) {
-    assert_eq!(rt; tree.view().strip_invisible().len(), len);
-    assert_eq!(rt; tree.as_token_trees().strip_invisible().len(), len);
-}
-
-// The trees are different, with different bytes, and only the first one's top gives way.
-fn are_told_apart(rt: &impl Abort, invisible: &TopSubtree, opaque: &TopSubtree) {
-    assert!(rt; invisible != opaque);
-    assert!(rt; invisible.packed_bytes() != opaque.packed_bytes());
-    strips_to(rt, invisible, 1);
-    strips_to(rt, opaque, 2);
-}
-
-// An invisible top gives way, and an opaque one does not; the two make different trees with different bytes.
-#[test]
-fn tops_that_are_not_printed(rt: HostRuntime) -> Result<(), Fail> {
-    let alloc = rt.alloc();
-    let invisible = over_a_comma(alloc, DelimiterKind::Invisible)?;
-    let opaque = over_a_comma(alloc, DelimiterKind::InvisibleOpaque)?;
-    are_told_apart(&rt, &invisible, &opaque);
-    Ok(())
-}
+use tt::{Spacing, TokenTree, TokenTreesView, TopSubtree, TtElement, TtIter};
 
 // The lengths of the pieces of a view whose siblings are in turn a separator and none.
 fn piece_lengths_by_turns(alloc: Global, trees: TokenTreesView<'_>) -> Result<Vec<usize>, Fail> {
@@ -91,27 +56,6 @@ fn last_spans(rt: HostRuntime) -> Result<(), Fail> {
     ends_at(&rt, alloc, &[parentheses(1, 9, 0)], 9)?;
     assert_eq!(rt; TokenTreesView::empty().last_span(), None);
     Ok(())
-}
-
-// A tree that is made of leaves alone.
-fn of_leaves(alloc: Global) -> Result<TopSubtree, Fail> {
-    let leaves = [ident_leaf(alloc, "a", 1)?, punct_leaf(',', Spacing::Alone)];
-    Ok(TopSubtree::invisible_from_leaves(alloc, span(0), leaves)?)
-}
-
-// The tokens of that tree.
-fn is_of_leaves(rt: &impl Abort, alloc: Global, tree: &TopSubtree) -> Result<(), Fail> {
-    let tokens = [ident(alloc, "a", 1)?, punct(',', Spacing::Alone)];
-    is_under(rt, alloc, tree, &tokens)
-}
-
-// What the makers give that take no list, beside the trees of lists.
-#[test]
-fn trees_without_a_list(rt: HostRuntime) -> Result<(), Fail> {
-    let alloc = rt.alloc();
-    let empty = TopSubtree::empty(alloc, DelimSpan::from_single(span(0)))?;
-    is_under(&rt, alloc, &empty, &[])?;
-    is_of_leaves(&rt, alloc, &of_leaves(alloc)?)
 }
 
 // So many parentheses over an ident and a punct.
