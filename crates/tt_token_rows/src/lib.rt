@@ -2,8 +2,6 @@
 #![tactic(auto)]
 
 #[cfg(test)]
-mod flat_lists;
-#[cfg(test)]
 mod headers;
 #[cfg(test)]
 mod leaves;

@@ -2,7 +2,7 @@
 ghost use Rattle.std.specs.Prelude.{◌≡◌};
 
 use std::alloc::Global;
-use std::collections::{HashSet, VecDeque};
+use std::collections::HashSet;
 use std::mem::size_of;
 use std::process::Abort;
 use std::test::Fail;
@@ -76,25 +76,9 @@ fn two_tokens(alloc: Global) -> Result<[TokenTree; 2], TtFault> {
 fn tokens_are_copied(rt: HostRuntime) -> Result<(), Fail> {
     let tokens = two_tokens(rt.alloc())?;
     assert!(rt; is_copied(&tokens));
-    let mut copies = VecDeque::new(rt.alloc());
-    for _ in 0..1000u32 {
-        for token in &tokens {
-            copies.push_back(copy_of(token))?;
-        }
+    for token in &tokens {
+        assert!(rt; copy_of(token) == *token);
     }
-    drop(tokens);
-    for turn in 0..2000u32 {
-        let gone = if turn % 3 == 0 {
-            copies.pop_front()
-        } else {
-            copies.pop_back()
-        };
-        if let Some(copy) = gone {
-            let printed = format!(in rt.alloc(); "{copy:?}")?;
-            assert!(rt; printed.contains("\"struct\"") || printed.contains("\"7u8\""));
-        }
-    }
-    assert!(rt; copies.is_empty());
     Ok(())
 }
 

@@ -5,9 +5,9 @@ use std::alloc::Global;
 use std::process::Abort;
 use std::test::Fail;
 use tt_base::{
-    DelimSpan, Delimiter, DelimiterKind, ErasedFileAstId, FileId, Ident, IdentIsRaw, Leaf, Lit,
-    LitKind, Literal, Punct, Refused, Spacing, Span, SpanAnchor, SpanPart, Subtree, Symbol,
-    SyntaxContext, TextRange, TextSize, TokenTree, TtFault,
+    DelimSpan, Delimiter, DelimiterKind, ErasedFileAstId, FileId, Ident, IdentIsRaw, Leaf, LitKind,
+    Literal, Punct, Refused, Spacing, Span, SpanAnchor, SpanPart, Subtree, Symbol, SyntaxContext,
+    TextRange, TextSize, TokenTree, TtFault,
 };
 
 fn range(start: u32, end: u32) -> TextRange
@@ -68,16 +68,20 @@ fn spans_and_delimiters(rt: HostRuntime) {
 // The numbers that the formats give to kinds.
 #[test]
 fn numbers_of_kinds(rt: HostRuntime) {
-    assert_eq!(rt; DelimiterKind::Parenthesis as u8, 0);
-    assert_eq!(rt; DelimiterKind::Brace as u8, 1);
-    assert_eq!(rt; DelimiterKind::Bracket as u8, 2);
-    assert_eq!(rt; DelimiterKind::Invisible as u8, 3);
-    assert_eq!(rt; DelimiterKind::InvisibleOpaque as u8, 4);
-    assert_eq!(rt; Spacing::Alone as u8, 0);
-    assert_eq!(rt; Spacing::Joint as u8, 1);
-    assert_eq!(rt; Spacing::JointHidden as u8, 2);
-    assert_eq!(rt; IdentIsRaw::No as u8, 0);
-    assert_eq!(rt; IdentIsRaw::Yes as u8, 1);
+    let delimiters = [
+        DelimiterKind::Parenthesis as u8,
+        DelimiterKind::Brace as u8,
+        DelimiterKind::Bracket as u8,
+        DelimiterKind::Invisible as u8,
+        DelimiterKind::InvisibleOpaque as u8,
+    ];
+    let spacings = [
+        Spacing::Alone as u8,
+        Spacing::Joint as u8,
+        Spacing::JointHidden as u8,
+    ];
+    assert!(rt; delimiters == [0, 1, 2, 3, 4] && spacings == [0, 1, 2]);
+    assert!(rt; [IdentIsRaw::No as u8, IdentIsRaw::Yes as u8] == [0, 1]);
 }
 
 // The fault has that number and is shown so.
@@ -175,48 +179,10 @@ fn puncts(rt: HostRuntime) -> Result<(), Fail> {
     is_leaf(&rt, rt.alloc(), &Leaf::from(arrow), "\u{2192}")
 }
 
-// The text of a literal `a` of that kind, where nothing follows it.
-fn text_of(rt: &impl Abort, alloc: Global, kind: LitKind) -> Result<String, Fail> {
-    let literal = Literal::new_no_suffix(alloc, "a", span(0, 1), kind)?;
-    assert!(rt; literal.kind() == kind);
-    Ok(literal.to_string(alloc)?)
-}
-
-// The text of one with the suffix `u8`.
-fn text_before_suffix(alloc: Global, kind: LitKind) -> Result<String, Fail> {
-    let literal = Literal::new(alloc, "a", span(0, 1), kind, "u8")?;
-    Ok(Leaf::from(literal).to_string(alloc)?)
-}
-
-// A literal `a` of that kind has that text, and so has one before its suffix `u8`.
-fn has_text(rt: &impl Abort, alloc: Global, kind: LitKind, text: &str) -> Result<(), Fail> {
-    assert_eq!(rt; text_of(rt, alloc, kind)?.as_str(), text);
-    let shown = text_before_suffix(alloc, kind)?;
-    assert_eq!(rt; shown.as_str().strip_suffix("u8"), Some(text));
-    Ok(())
-}
-
 #[test]
-fn texts_of_literals(rt: HostRuntime) -> Result<(), Fail> {
-    let cases = [
-        (LitKind::Byte, "b'a'"),
-        (LitKind::Char, "'a'"),
-        (LitKind::Integer, "a"),
-        (LitKind::Float, "a"),
-        (LitKind::Str, "\"a\""),
-        (LitKind::StrRaw(0), "r\"a\""),
-        (LitKind::StrRaw(1), "r#\"a\"#"),
-        (LitKind::StrRaw(2), "r##\"a\"##"),
-        (LitKind::ByteStr, "b\"a\""),
-        (LitKind::ByteStrRaw(0), "br\"a\""),
-        (LitKind::CStr, "c\"a\""),
-        (LitKind::CStrRaw(1), "cr#\"a\"#"),
-        (LitKind::Err(()), "a"),
-    ];
-    for (kind, text) in cases {
-        has_text(&rt, rt.alloc(), kind, text)?;
-    }
-    Ok(())
+fn a_raw_text_before_its_suffix(rt: HostRuntime) -> Result<(), Fail> {
+    let literal = Literal::new(rt.alloc(), "a", span(0, 6), LitKind::StrRaw(1), "u8")?;
+    is_leaf(&rt, rt.alloc(), &Leaf::from(literal), "r#\"a\"#u8")
 }
 
 // A suffix may begin at that byte from the end of `1é`, or not.
@@ -224,17 +190,6 @@ fn is_suffix(rt: &impl Abort, alloc: Global, suffix_len: u8, fits: bool) -> Resu
     let symbol = Symbol::new(alloc, "1\u{e9}")?;
     let made = Literal::from_parts(symbol, span(0, 3), LitKind::Integer, suffix_len);
     assert_eq!(rt; made.is_some(), fits, "{suffix_len}");
-    Ok(())
-}
-
-#[test]
-fn parts_of_literals(rt: HostRuntime) -> Result<(), Fail> {
-    let literal = Literal::new(rt.alloc(), "1", span(0, 3), LitKind::Integer, "u8")?;
-    assert!(rt; literal.text_and_suffix() == ("1", "u8"));
-    assert!(rt; literal.text() == "1" && literal.suffix() == "u8");
-    assert!(rt; literal.symbol().as_str() == "1u8" && literal.suffix_len() == 2);
-    let moved = literal.clone()?.with_span(span(4, 7));
-    assert!(rt; *moved.span() == span(4, 7) && moved != literal);
     Ok(())
 }
 
@@ -267,20 +222,5 @@ fn suffix_of(alloc: Global, count: u32) -> Result<Result<u8, TtFault>, Fail> {
 fn long_suffixes(rt: HostRuntime) -> Result<(), Fail> {
     assert_eq!(rt; suffix_of(rt.alloc(), 255)?, Ok(255));
     assert_eq!(rt; suffix_of(rt.alloc(), 256)?, Err(TtFault::SuffixTooLong));
-    Ok(())
-}
-
-#[test]
-fn clones_are_equal(rt: HostRuntime) -> Result<(), Fail> {
-    let symbol = Symbol::new(rt.alloc(), "a")?;
-    let lit = Lit {
-        kind: LitKind::Str,
-        symbol: symbol.clone()?,
-        suffix: Some(symbol),
-    };
-    assert!(rt; lit.clone()? == lit);
-    let token = TokenTree::from(Leaf::from(Ident::new(rt.alloc(), "r#a", span(0, 1))?));
-    assert!(rt; token.clone()? == token);
-    assert_eq!(rt; token.first_span(), span(0, 1));
     Ok(())
 }
