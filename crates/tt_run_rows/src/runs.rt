@@ -1,9 +1,10 @@
-//! Runs over whole scripts, and over readers and writers that fail.
+//! Runs over whole scripts, and over readers and writers that fail; the texts of faults.
 use crate::fakes::{FakeReader, FakeWriter, WriteFailure};
 use std::alloc::{AllocError, Global};
 use std::io::ErrorKind;
 use std::process::Abort;
 use std::test::Fail;
+use tt_mbe::RuleFault;
 use tt_run::{End, Noted, RunFault, run};
 
 // The first run of `docs/LANGUAGE.md`.
@@ -129,6 +130,34 @@ list 0
     for (input, text) in cases {
         answers(&rt, rt.alloc(), input, End::Clean, text);
     }
+}
+
+// The fault is told so, under that number.
+fn is_told_as(
+    rt: &impl Abort,
+    alloc: Global,
+    fault: RuleFault,
+    number: u8,
+    text: &str,
+) -> Result<(), Fail> {
+    assert_eq!(rt; fault.number(), number);
+    assert_eq!(rt; fault.to_string(alloc)?.as_str(), text);
+    Ok(())
+}
+
+#[test]
+fn rule_fault_texts(rt: HostRuntime) -> Result<(), Fail> {
+    let rows = [
+        (RuleFault::BadPattern, 1, "bad pattern"),
+        (RuleFault::BadTemplate, 2, "bad template"),
+        (RuleFault::DuplicateName, 3, "duplicate name"),
+        (RuleFault::UnknownName, 4, "unknown name"),
+        (RuleFault::Memory, 5, "out of memory"),
+    ];
+    for (fault, number, text) in rows {
+        is_told_as(&rt, rt.alloc(), fault, number, text)?;
+    }
+    Ok(())
 }
 
 #[test]
