@@ -9,7 +9,7 @@ use tt::TokenTree;
 use tt_language::Command;
 
 /// Whether tokens of one text share the block of memory that holds it.
-#[derive(Clone, Copy, Debug, PartialEq, Eq)]
+#[derive(Clone, Copy)]
 pub enum Texts {
     /// Equal texts share one block.
     Shared,

@@ -6,7 +6,7 @@ use std::env;
 use std::rt::Env;
 
 /// What the arguments ask for.
-#[derive(Clone, Copy, Debug)]
+#[derive(Clone, Copy)]
 pub struct Job {
     pub mode: Mode,
     pub rounds: u32,

@@ -17,7 +17,7 @@ use std::time::{CpuClock, Duration};
 use tt::{ErasedFileAstId, TokenTree, TopSubtree, TransformTtAction, TtFault, transform_tt};
 
 /// What was measured. Its text is one line: nanoseconds, sum, bytes, parts, symbols.
-#[derive(Clone, Copy, Debug, PartialEq, Eq)]
+#[derive(Clone, Copy)]
 pub struct Measured {
     /// The processor time of all rounds.
     pub time: Duration,

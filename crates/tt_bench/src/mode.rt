@@ -5,7 +5,7 @@ use crate::walk::Walk;
 use std::str::FromStr;
 
 /// What is timed.
-#[derive(Clone, Copy, Debug, PartialEq, Eq)]
+#[derive(Clone, Copy)]
 pub enum Mode {
     /// Packing a list, and letting the list go.
     Pack,

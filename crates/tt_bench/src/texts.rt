@@ -4,7 +4,7 @@ use std::alloc::Global;
 use tt::{TopSubtree, TtFault, debug_text, display_text, pretty};
 
 /// A way to print a tree.
-#[derive(Clone, Copy, Debug, PartialEq, Eq)]
+#[derive(Clone, Copy)]
 pub enum Text {
     /// The Display text, as the program shows it.
     Show,

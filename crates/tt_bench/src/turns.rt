@@ -33,7 +33,7 @@ impl<T> Turns<T> {
 }
 
 /// Adds up what the rounds of one lap answer. A lap is a round on each tree.
-#[derive(Clone, Copy, Debug)]
+#[derive(Clone, Copy)]
 pub struct LapSum {
     // the number of rounds of a lap
     trees: usize,

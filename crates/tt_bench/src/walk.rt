@@ -8,7 +8,7 @@ use tt::{TopSubtree, TtElement, TtFault, TtIter};
 const MOST_DEPTH: u32 = 4096;
 
 /// A way to read a tree.
-#[derive(Clone, Copy, Debug, PartialEq, Eq)]
+#[derive(Clone, Copy)]
 pub enum Walk {
     /// Each token in the order of the flat list.
     Flat,

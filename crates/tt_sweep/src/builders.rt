@@ -11,7 +11,7 @@ use tt::{
 };
 
 /// A call of a builder, or one that makes one.
-#[derive(Clone, Copy, Debug, PartialEq, Eq)]
+#[derive(Clone, Copy, PartialEq)]
 pub enum Growth {
     New,
     Clone,

@@ -7,7 +7,7 @@ use std::alloc::Global;
 use tt::{DelimiterKind, TopSubtree, TopSubtreeBuilder, TtFault};
 
 /// A call that takes a builder.
-#[derive(Clone, Copy, Debug)]
+#[derive(Clone, Copy)]
 pub enum Build {
     Whole,
     SkipTop,

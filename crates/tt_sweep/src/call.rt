@@ -16,7 +16,7 @@ pub trait Call {
 }
 
 /// How a call ended.
-#[derive(Clone, Copy, Debug)]
+#[derive(Clone, Copy)]
 pub enum Outcome {
     /// It did what it has to.
     Done,

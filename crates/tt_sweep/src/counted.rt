@@ -14,7 +14,7 @@ use tt_counts::Counts;
 use tt_pack::Packed;
 
 /// A call that is told how often each value is used.
-#[derive(Clone, Copy, Debug)]
+#[derive(Clone, Copy)]
 pub enum Told {
     Pack,
     OfList,

@@ -9,7 +9,7 @@ use tt::{
 };
 
 /// A call that changes a tree.
-#[derive(Clone, Copy, Debug)]
+#[derive(Clone, Copy)]
 pub enum Edit {
     SetToken,
     ChangeIds,

@@ -6,7 +6,7 @@ use std::alloc::Global;
 use tt::{DelimSpan, TokenTree, TopSubtree, TtFault};
 
 /// What is wrong with a call.
-#[derive(Clone, Copy, Debug)]
+#[derive(Clone, Copy)]
 pub enum Flaw {
     /// It changes its list before it asks for memory, and leaves it so where that is refused.
     ForgetsToUndo,

@@ -8,7 +8,7 @@ use tt::{TokenTree, TopSubtree, TtFault, is_one_subtree};
 use tt_pack::{Packed, Reader};
 
 /// A call that takes a list, or is lent one.
-#[derive(Clone, Copy, Debug)]
+#[derive(Clone, Copy)]
 pub enum Packing {
     FromSerialized,
     Pack,

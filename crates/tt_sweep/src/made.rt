@@ -11,7 +11,7 @@ use tt::{
 use tt_pack::laws;
 
 /// A call that makes something new.
-#[derive(Clone, Copy, Debug)]
+#[derive(Clone, Copy)]
 pub enum Maker {
     Symbol,
     Ident,

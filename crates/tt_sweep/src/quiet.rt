@@ -9,7 +9,7 @@ use tt::{TopSubtreeBuilder, TtFault};
 use tt_pack::Packed;
 
 /// A group of calls that take no memory.
-#[derive(Clone, Copy, Debug)]
+#[derive(Clone, Copy)]
 pub enum Group {
     Ranges,
     Tokens,

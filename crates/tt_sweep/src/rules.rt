@@ -7,7 +7,7 @@ use tt::{Leaf, Spacing, TopSubtree, TtFault};
 use tt_mbe::{Rule, RuleFault};
 
 /// A call that makes a rule, or uses one.
-#[derive(Clone, Copy, Debug)]
+#[derive(Clone, Copy)]
 pub enum Ruling {
     New,
     Expand,

@@ -7,7 +7,7 @@ use tt::buffer::Cursor;
 use tt::{TokenTree, TopSubtree, TtFault};
 
 /// A call that goes one place on.
-#[derive(Clone, Copy, Debug)]
+#[derive(Clone, Copy)]
 pub enum Step {
     Bump,
     BumpOrEnd,
