@@ -32,6 +32,7 @@ impl Levels {
     }
 
     // Goes back to the innermost subtree with tokens to come, if there is one.
+    #[inline(always)]
     fn go_back(&mut self) -> bool
         ensures levels { GoesBack (open_levels self.old) (open_levels self.new) result }
         ensures room { OnTrue result (0 < self.new.left) }
@@ -63,7 +64,8 @@ impl Levels {
     }
 
     /// Takes the next token, and answers whether it fits. Where memory is refused, the token is not taken, and may be
-    /// offered again.
+    /// offered again. In the place of the call, so that the kind of a token is not asked again where it is known.
+    #[inline(always)]
     pub fn take(&mut self, token: &TokenTree) -> Result<bool, AllocError>
         ensures ok { IfOk result (TakesToken (open_levels self.old) token.now (open_levels self.new)) }
         ensures err { OnErr result (IsSameQuestion (open_levels self.old) (open_levels self.new)) }

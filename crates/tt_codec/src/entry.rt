@@ -40,7 +40,9 @@ pub enum Entry {
 impl Entry {
     /// Puts the token's bytes before the others. Its indices of parts have to be below 2^28, that of its symbol below 2^29, and
     /// each span has to end below 2^32, as `Tables::entry` gives them;
-    /// there has to be room for 33 bytes, as `BackBuf::with_room` asks for it.
+    /// there has to be room for 33 bytes, as `BackBuf::with_room` asks for it. In the place of the call, so that the kind of
+    /// a token is not asked again where it was just put in numbers.
+    #[inline(always)]
     pub fn write(self, into: &mut BackBuf)
         requires fits { EntryFits self }
         requires room { 33 ≤ room_of into.old }

@@ -107,6 +107,7 @@ fn write_ident(into: &mut BackBuf, symbol: u32, is_raw: IdentIsRaw, numbers: Spa
 
 impl LeafEntry {
     /// Puts the leaf's bytes before the others.
+    #[inline(always)]
     pub(crate) fn write(self, into: &mut BackBuf)
         requires fits { LeafEntryFits self }
         requires room { 19 ≤ room_of into.old }
