@@ -1,13 +1,17 @@
 -- How the most bytes that tokens can take grow by one more token.
-use Rattle.std.proofs.Common.{◌≡◌, ℕ, ◌+◌, ◌-◌, ◌<◌, ◌≤◌, ◌^◌, List, [], ◌∷◌, ◌++◌, length, get_or, take, min, ap, sym, refl, ◌∙◌, arith}
+use Rattle.std.proofs.Common.{◌≡◌, ◌↔◌, ℕ, ◌+◌, ◌<◌, ◌≤◌, List, [], ◌∷◌, ◌++◌, length, get_or, take, drop, inl, inr, ap, sym, refl, ◌∙◌, arith}
 use Rattle.std.proofs.lemmas.List.{take_more}
 use Rattle.std.proofs.lemmas.List.Sums.{sum_by-append}
+use Rattle.tt_base.specs.declared.fault.TtFault.{TtFault}
 use Rattle.tt_base.specs.declared.leaf.Leaf.TheVariants as leaf
 use Rattle.tt_base.specs.declared.token_tree.TokenTree.{TokenTree}
 use Rattle.tt_base.specs.declared.token_tree.TokenTree.TheVariants as token
+use Rattle.tt_base.specs.Forest.{IsWhole, AreLevels}
+use Rattle.tt_base.proofs.CutLists.{walk_stops}
 use Rattle.tt_codec.specs.Entry.{most_entry_bytes}
 use Rattle.tt_tables.specs.Tables.{Tables, entry_of}
-use Rattle.tt_pack.specs.Room.{most_token_bytes, most_list_bytes, HasRoomForAll}
+use Rattle.tt_pack.specs.Packed.{IsCountFault}
+use Rattle.tt_pack.specs.Room.{most_token_bytes, most_list_bytes, HasRoomForAll, TakesRoom, IsTakeFault}
 
 -- One more token can take as much as it can alone.
 pub most_more : (tokens : List TokenTree) (i : ℕ) (it : TokenTree) → i < length tokens → it ≡ get_or tokens i it
@@ -19,13 +23,19 @@ most_more tokens i it within here =
     ap most_list_bytes more ∙ two ∙ ap (λ n. most_list_bytes (take i tokens) + n) one
 
 -- The sum that stops at the largest number is room for one more token.
-pub room_more : (tokens : List TokenTree) (i : ℕ) (it : TokenTree) (size most size' : ℕ) → i < length tokens → it ≡ get_or tokens i it
-    → HasRoomForAll (take i tokens) size → most ≡ most_token_bytes it → size' ≡ min (size + most) (2 ^ 64 - 1) → HasRoomForAll (take (i + 1) tokens) size'
-room_more tokens i it size most size' within here room is sum small =
+pub room_more : (tokens : List TokenTree) (i : ℕ) (it : TokenTree) (size size' : ℕ) → i < length tokens → it ≡ get_or tokens i it
+    → HasRoomForAll (take i tokens) size → TakesRoom it size size' → HasRoomForAll (take (i + 1) tokens) size'
+room_more tokens i it size size' within here room sum small =
     let more = most_more tokens i it within here in
-    let whole : size' ≡ size + most = omega (arith, sum, small) in
+    let whole : size' ≡ size + most_token_bytes it = omega (arith, sum, small) in
     let before : most_list_bytes (take i tokens) ≤ size = room (omega (arith, whole, small)) in
-    omega (arith, more, whole, before, is)
+    omega (arith, more, whole, before)
+
+-- Where a token cannot be counted, the uses of the list cannot.
+pub stops_fault : (tokens : List TokenTree) (i : ℕ) (it : TokenTree) (levels : List ℕ) (fault : TtFault) → i < length tokens → it ≡ get_or tokens i it
+    → (IsWhole tokens ↔ AreLevels (drop i tokens) levels) → IsTakeFault levels it fault → IsCountFault tokens fault
+stops_fault tokens i it levels fault within here whole (inl memory) = inl memory
+stops_fault tokens i it levels fault within here whole (inr (is, stops)) = inr (is, walk_stops tokens i it levels [] within here whole stops)
 
 -- A token takes no more in numbers, whatever they are.
 pub most_in_numbers : (tables : Tables) (it : TokenTree) (child_bytes : ℕ) → most_entry_bytes (entry_of tables it child_bytes) ≡ most_token_bytes it

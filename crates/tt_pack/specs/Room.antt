@@ -1,9 +1,12 @@
 -- The most bytes that tokens can take, for which room is asked before they are written.
-use Rattle.std.specs.Prelude.{ℕ, ◌<◌, ◌≤◌, ◌^◌, List}
+use Rattle.std.specs.Prelude.{◌≡◌, ◌⊎◌, ℕ, ◌+◌, ◌-◌, ◌<◌, ◌≤◌, ◌^◌, List, [], min, false}
 use Rattle.std.specs.List.{sum_by}
+use Rattle.tt_base.specs.declared.fault.TtFault.{TtFault}
+use Rattle.tt_base.specs.declared.fault.TtFault.TheVariants.{Memory, NotOneSubtree}
 use Rattle.tt_base.specs.declared.leaf.Leaf.TheVariants as leaf
 use Rattle.tt_base.specs.declared.token_tree.TokenTree.{TokenTree}
 use Rattle.tt_base.specs.declared.token_tree.TokenTree.TheVariants as token
+use Rattle.tt_base.specs.Levels.{TakesToken}
 use Rattle.tt_codec.specs.Leaf.{most_punct_bytes}
 
 -- the most bytes that a token can take, whatever its tables are
@@ -20,3 +23,11 @@ most_list_bytes tokens = sum_by most_token_bytes tokens
 -- the tokens have room in a block of this size, or no block is so large
 abbrev pub HasRoomForAll : List TokenTree → ℕ → Type 0
 HasRoomForAll tokens size = size < 2 ^ 63 → most_list_bytes tokens ≤ size
+
+-- the room grows by the most bytes that the token can take, and stops at the largest number
+abbrev pub TakesRoom : TokenTree → (old new : ℕ) → Type 0
+TakesRoom token old new = new ≡ min (old + most_token_bytes token) (2 ^ 64 - 1)
+
+-- why a token is not counted: memory is refused, or it does not fit the levels
+abbrev pub IsTakeFault : (levels : List ℕ) → TokenTree → TtFault → Type 0
+IsTakeFault levels token fault = (fault ≡ Memory) ⊎ ((fault ≡ NotOneSubtree) × TakesToken levels token [] false)

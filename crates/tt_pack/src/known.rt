@@ -1,5 +1,5 @@
 //! What a list of tokens uses, where the numbers of uses are known, and the values stand in the order of their first uses.
-ghost use Rattle.std.specs.Prelude.{◌≡◌, ◌<◌, ◌≤◌, ◌^◌, [], true, fold, length, take, bytes_eq, slice_get, Some, IfOk, IfErr, IfSome};
+ghost use Rattle.std.specs.Prelude.{◌≡◌, ◌<◌, ◌≤◌, ◌^◌, [], true, fold, length, take, bytes_eq, slice_get, Some, IfOk, OnOk, IfErr, IfSome};
 ghost use Rattle.std.specs.Bool.{OnTrue};
 ghost use Rattle.indexmap.specs.IndexMap.{keys, IsUnique};
 ghost use Rattle.tt_base.specs.declared.fault.TtFault.TheVariants.{Memory};
@@ -11,12 +11,12 @@ ghost use Rattle.tt_pack.specs.Room.{HasRoomForAll};
 ghost use Rattle.tt_pack.specs.TablesOf.{StandsAt, AreUses};
 
 use crate::counts::kept_index;
-use crate::room::most_bytes;
+use crate::room::{MOST_HEADER_BYTES, MOST_IDENT_BYTES, MOST_LITERAL_BYTES, most_punct_bytes};
 use crate::uses::{FirstRoom, TokenUses};
 use indexmap::IndexMap;
 use std::alloc::Global;
 use std::hash::Hash;
-use tt_base::{Leaf, Levels, SpanPart, Symbol, TokenTree, TtFault};
+use tt_base::{Leaf, Levels, SpanPart, Subtree, Symbol, TokenTree, TtFault};
 
 /// The numbers of uses of parts and of symbols, where they are known.
 #[derive(Clone, Copy)]
@@ -84,6 +84,10 @@ fn see<T: Eq + Hash>(
 }
 
 impl KnownUses {
+    ghost use Rattle.tt_base.specs.declared.token_tree.TokenTree.TheVariants as token;
+    ghost use Rattle.tt_base.specs.Levels.{open_levels, TakesToken};
+    ghost use Rattle.tt_pack.specs.Room.{TakesRoom, IsTakeFault};
+
     // Nothing is used, and there is room for what so many tokens use.
     fn new(alloc: Global, tokens: usize) -> Result<KnownUses, TtFault>
         ensures parts { IfOk result (λ uses. uses.parts ≡ 0) }
@@ -99,42 +103,94 @@ impl KnownUses {
         })
     }
 
-    // What a token uses, if that stands in order. Tokens side by side mostly have one part, so a part is first looked for
-    // where that of the token before stands.
-    fn see_token(&mut self, known: Known<'_>, before: u32, token: &TokenTree) -> Option<TokenUses>
-        ensures parts { IfSome result (λ uses. seen_parts known.entry self.new ≡ fold (note_value same_part) (seen_parts known.entry self.old) (token_parts token.now)) }
-        ensures symbols { IfSome result (λ uses. seen_symbols known.entry self.new ≡ fold (note_value bytes_eq) (seen_symbols known.entry self.old) (token_symbols token.now)) }
-        ensures uses { IfSome result (AreUses (StandsAt (seen_parts known.entry self.new)) (StandsAt (seen_symbols known.entry self.new)) token.now) }
+    // What a leaf uses, if that stands in order, and the most bytes that it can take. Tokens side by side mostly have one
+    // part, so a part is first looked for where that of the token before stands, which is `before`.
+    #[inline(always)]
+    fn see_leaf(&mut self, known: Known<'_>, before: u32, leaf: &Leaf) -> Option<TokenUses>
+        ensures parts { IfSome result (λ uses. seen_parts known.entry self.new ≡ fold (note_value same_part) (seen_parts known.entry self.old) (token_parts (token.Leaf leaf.now))) }
+        ensures symbols { IfSome result (λ uses. seen_symbols known.entry self.new ≡ fold (note_value bytes_eq) (seen_symbols known.entry self.old) (token_symbols (token.Leaf leaf.now))) }
+        ensures uses { IfSome result (AreUses (StandsAt (seen_parts known.entry self.new)) (StandsAt (seen_symbols known.entry self.new)) (token.Leaf leaf.now)) }
         ensures few_parts { self.old.parts ≤ length (keys known.entry.parts.now) → self.new.parts ≤ length (keys known.entry.parts.now) }
         ensures few_symbols { self.old.symbols ≤ length (keys known.entry.symbols.now) → self.new.symbols ≤ length (keys known.entry.symbols.now) }
+        ensures room { IfSome result (λ uses. TakesRoom (token.Leaf leaf.now) self.old.room self.new.room) }
         ensures tokens { self.new.tokens ≡ self.old.tokens }
     {
-        match token {
-            TokenTree::Leaf(Leaf::Literal(literal)) => {
+        match leaf {
+            Leaf::Literal(literal) => {
+                self.room = self.room.saturating_add(MOST_LITERAL_BYTES);
                 let value = SpanPart::from_span(literal.span());
                 let part = see(known.parts, &mut self.parts, before, &value)?;
                 let symbol = literal.symbol();
                 let other = see(known.symbols, &mut self.symbols, symbol.place(), symbol)?;
                 Some(TokenUses { part, other })
             }
-            TokenTree::Leaf(Leaf::Punct(punct)) => {
+            Leaf::Punct(punct) => {
+                self.room = self.room.saturating_add(most_punct_bytes(punct.char));
                 let value = SpanPart::from_span(&punct.span);
                 let part = see(known.parts, &mut self.parts, before, &value)?;
                 Some(TokenUses { part, other: part })
             }
-            TokenTree::Leaf(Leaf::Ident(ident)) => {
+            Leaf::Ident(ident) => {
+                self.room = self.room.saturating_add(MOST_IDENT_BYTES);
                 let value = SpanPart::from_span(&ident.span);
                 let part = see(known.parts, &mut self.parts, before, &value)?;
                 let symbol = &ident.sym;
                 let other = see(known.symbols, &mut self.symbols, symbol.place(), symbol)?;
                 Some(TokenUses { part, other })
             }
-            TokenTree::Subtree(subtree) => {
-                let opening = SpanPart::from_span(&subtree.delimiter.open_span);
-                let closing = SpanPart::from_span(&subtree.delimiter.close);
-                let part = see(known.parts, &mut self.parts, before, &opening)?;
-                let other = see(known.parts, &mut self.parts, part, &closing)?;
-                Some(TokenUses { part, other })
+        }
+    }
+
+    // What a header uses, if that stands in order, and the most bytes that it can take.
+    #[inline(always)]
+    fn see_header(&mut self, known: Known<'_>, before: u32, header: Subtree) -> Option<TokenUses>
+        ensures parts { IfSome result (λ uses. seen_parts known.entry self.new ≡ fold (note_value same_part) (seen_parts known.entry self.old) (token_parts (token.Subtree header))) }
+        ensures symbols { self.new.symbols ≡ self.old.symbols }
+        ensures uses { IfSome result (AreUses (StandsAt (seen_parts known.entry self.new)) (StandsAt (seen_symbols known.entry self.new)) (token.Subtree header)) }
+        ensures few_parts { self.old.parts ≤ length (keys known.entry.parts.now) → self.new.parts ≤ length (keys known.entry.parts.now) }
+        ensures room { IfSome result (λ uses. TakesRoom (token.Subtree header) self.old.room self.new.room) }
+        ensures tokens { self.new.tokens ≡ self.old.tokens }
+    {
+        self.room = self.room.saturating_add(MOST_HEADER_BYTES);
+        let opening = SpanPart::from_span(&header.delimiter.open_span);
+        let closing = SpanPart::from_span(&header.delimiter.close);
+        let part = see(known.parts, &mut self.parts, before, &opening)?;
+        let other = see(known.parts, &mut self.parts, part, &closing)?;
+        Some(TokenUses { part, other })
+    }
+
+    // What one more token uses, if it fits behind those before it; there is nothing where that does not stand in order. Its
+    // kind is asked once, so each arm asks the levels.
+    #[inline(always)]
+    fn see_token(
+        &mut self,
+        known: Known<'_>,
+        levels: &mut Levels,
+        before: u32,
+        token: &TokenTree,
+    ) -> Result<Option<TokenUses>, TtFault>
+        ensures levels { OnOk result (TakesToken (open_levels levels.old) token.now (open_levels levels.new) true) }
+        ensures parts { IfOk result (λ found. IfSome found (λ uses. seen_parts known.entry self.new ≡ fold (note_value same_part) (seen_parts known.entry self.old) (token_parts token.now))) }
+        ensures symbols { IfOk result (λ found. IfSome found (λ uses. seen_symbols known.entry self.new ≡ fold (note_value bytes_eq) (seen_symbols known.entry self.old) (token_symbols token.now))) }
+        ensures uses { IfOk result (λ found. IfSome found (AreUses (StandsAt (seen_parts known.entry self.new)) (StandsAt (seen_symbols known.entry self.new)) token.now)) }
+        ensures few_parts { self.old.parts ≤ length (keys known.entry.parts.now) → self.new.parts ≤ length (keys known.entry.parts.now) }
+        ensures few_symbols { self.old.symbols ≤ length (keys known.entry.symbols.now) → self.new.symbols ≤ length (keys known.entry.symbols.now) }
+        ensures room { IfOk result (λ found. IfSome found (λ uses. TakesRoom token.now self.old.room self.new.room)) }
+        ensures tokens { self.new.tokens ≡ self.old.tokens }
+        ensures err { IfErr result (IsTakeFault (open_levels levels.old) token.now) }
+    {
+        match token {
+            TokenTree::Leaf(leaf) => {
+                if !levels.take(token)? {
+                    return Err(TtFault::NotOneSubtree);
+                }
+                Ok(self.see_leaf(known, before, leaf))
+            }
+            TokenTree::Subtree(header) => {
+                if !levels.take(token)? {
+                    return Err(TtFault::NotOneSubtree);
+                }
+                Ok(self.see_header(known, before, *header))
             }
         }
     }
@@ -157,22 +213,16 @@ impl KnownUses {
     {
         let mut levels = Levels::new(alloc, tokens.len());
         let mut before = 0;
-        let mut room: usize = 0;
         for token in tokens {
-            if !levels.take(token)? {
-                return Err(TtFault::NotOneSubtree);
-            }
-            let Some(found) = self.see_token(known, before, token) else {
+            let Some(found) = self.see_token(known, &mut levels, before, token)? else {
                 return Ok(false);
             };
             self.tokens.push(found)?;
             before = found.part;
-            room = room.saturating_add(most_bytes(token));
         }
         if !levels.is_done() {
             return Err(TtFault::NotOneSubtree);
         }
-        self.room = room;
         Ok(true)
     }
 

@@ -130,6 +130,7 @@ impl ListTables {
     }
 
     // A leaf in numbers.
+    #[inline(always)]
     fn leaf_entry(&self, leaf: &Leaf, uses: TokenUses) -> LeafEntry
         requires known { Knows (tables_of self.now) (token.Leaf leaf.now) }
         requires uses { HasUses self.now (token.Leaf leaf.now) uses }
@@ -155,6 +156,7 @@ impl ListTables {
     }
 
     // A header in numbers, where what it holds takes so many bytes.
+    #[inline(always)]
     fn header_entry(&self, subtree: Subtree, uses: TokenUses, child_bytes: u32) -> HeaderEntry
         requires known { Knows (tables_of self.now) (token.Subtree subtree) }
         requires uses { HasUses self.now (token.Subtree subtree) uses }
@@ -172,7 +174,9 @@ impl ListTables {
         }
     }
 
-    /// A token in numbers, which has these uses. What it holds takes so many bytes; a leaf holds nothing.
+    /// A token in numbers, which has these uses. What it holds takes so many bytes; a leaf holds nothing. In the place of the
+    /// call, so that its kind is asked once until its bytes are written.
+    #[inline(always)]
     pub(crate) fn entry(&self, token: &TokenTree, uses: TokenUses, child_bytes: u32) -> Entry
         requires known { Knows (tables_of self.now) token.now }
         requires uses { HasUses self.now token.now uses }

@@ -1,5 +1,5 @@
 //! What a list of tokens uses: its different parts and symbols, how often each is used, and which of them each token uses.
-ghost use Rattle.std.specs.Prelude.{◌≡◌, List, [], ◌∷◌, ◌++◌, fold, length, IfOk, IfErr, OnOk, bytes_eq};
+ghost use Rattle.std.specs.Prelude.{◌≡◌, true, List, [], ◌∷◌, ◌++◌, fold, length, IfOk, IfErr, OnOk, bytes_eq};
 ghost use Rattle.std.specs.List.{AllZip};
 ghost use Rattle.indexmap.specs.IndexMap.{keys};
 ghost use Rattle.tt_base.specs.declared.token_tree.TokenTree.{TokenTree};
@@ -10,11 +10,11 @@ ghost use Rattle.tt_pack.specs.Packed.{IsCountFault, IsTableFault};
 ghost use Rattle.tt_pack.specs.Room.{HasRoomForAll};
 
 use crate::counts::{count_near, count_symbol};
-use crate::room::most_bytes;
+use crate::room::{MOST_HEADER_BYTES, MOST_IDENT_BYTES, MOST_LITERAL_BYTES, most_punct_bytes};
 use crate::table::Table;
 use indexmap::IndexMap;
 use std::alloc::{AllocError, Global};
-use tt_base::{Leaf, Levels, SpanPart, Symbol, TokenTree, TtFault};
+use tt_base::{Leaf, Levels, SpanPart, Subtree, Symbol, TokenTree, TtFault};
 use tt_codec::{MOST_PARTS, MOST_SYMBOLS};
 
 // Up to so many parts stand by first use: an index of theirs has four bits.
@@ -66,45 +66,11 @@ impl FirstRoom {
     }
 }
 
-// Counts what a token uses. Tokens side by side mostly have one part, so a part is first looked for where that of the
-// token before stands.
-fn count_token(
-    parts: &mut IndexMap<SpanPart, usize>,
-    symbols: &mut IndexMap<Symbol, usize>,
-    before: u32,
-    token: &TokenTree,
-) -> Result<TokenUses, AllocError>
-    requires parts { HasRoomFor 2 parts.old.entries }
-    requires symbols { HasRoomFor 1 symbols.old.entries }
-    ensures parts { OnOk result (parts.new.entries ≡ fold (count_use same_part) parts.old.entries (token_parts token.now)) }
-    ensures symbols { OnOk result (symbols.new.entries ≡ fold (count_use bytes_eq) symbols.old.entries (token_symbols token.now)) }
-    ensures uses { IfOk result (AreUses (StandsAt (keys parts.new)) (StandsAt (keys symbols.new)) token.now) }
-{
-    match token {
-        TokenTree::Leaf(Leaf::Literal(literal)) => {
-            let part = count_near(parts, before, &SpanPart::from_span(literal.span()))?;
-            let other = count_symbol(symbols, literal.symbol())?;
-            Ok(TokenUses { part, other })
-        }
-        TokenTree::Leaf(Leaf::Punct(punct)) => {
-            let part = count_near(parts, before, &SpanPart::from_span(&punct.span))?;
-            Ok(TokenUses { part, other: part })
-        }
-        TokenTree::Leaf(Leaf::Ident(ident)) => {
-            let part = count_near(parts, before, &SpanPart::from_span(&ident.span))?;
-            let other = count_symbol(symbols, &ident.sym)?;
-            Ok(TokenUses { part, other })
-        }
-        TokenTree::Subtree(subtree) => {
-            let delimiter = &subtree.delimiter;
-            let part = count_near(parts, before, &SpanPart::from_span(&delimiter.open_span))?;
-            let other = count_near(parts, part, &SpanPart::from_span(&delimiter.close))?;
-            Ok(TokenUses { part, other })
-        }
-    }
-}
-
 impl Uses {
+    ghost use Rattle.tt_base.specs.declared.token_tree.TokenTree.TheVariants as token;
+    ghost use Rattle.tt_base.specs.Levels.{open_levels, TakesToken};
+    ghost use Rattle.tt_pack.specs.Room.{TakesRoom, IsTakeFault};
+
     // Nothing is used, and there is room for what so many tokens use.
     fn new(alloc: Global, tokens: usize, room: FirstRoom) -> Result<Uses, AllocError>
         ensures parts { IfOk result (λ uses. uses.parts.entries ≡ []) }
@@ -119,18 +85,93 @@ impl Uses {
         })
     }
 
-    // Counts what one more token uses, and keeps where it stands. `before` is the part of the token before.
-    fn count(&mut self, before: u32, token: &TokenTree) -> Result<TokenUses, AllocError>
+    // Counts what a leaf uses, and the most bytes that it can take. Tokens side by side mostly have one part, so a part is
+    // first looked for where that of the token before stands, which is `before`.
+    #[inline(always)]
+    fn count_leaf(&mut self, before: u32, leaf: &Leaf) -> Result<TokenUses, AllocError>
         requires parts { HasRoomFor 2 self.old.parts.entries }
         requires symbols { HasRoomFor 1 self.old.symbols.entries }
+        ensures parts { OnOk result (self.new.parts.entries ≡ fold (count_use same_part) self.old.parts.entries (token_parts (token.Leaf leaf.now))) }
+        ensures symbols { OnOk result (self.new.symbols.entries ≡ fold (count_use bytes_eq) self.old.symbols.entries (token_symbols (token.Leaf leaf.now))) }
+        ensures uses { IfOk result (AreUses (StandsAt (keys self.new.parts)) (StandsAt (keys self.new.symbols)) (token.Leaf leaf.now)) }
+        ensures room { OnOk result (TakesRoom (token.Leaf leaf.now) self.old.room self.new.room) }
+        ensures tokens { self.new.tokens ≡ self.old.tokens }
+    {
+        match leaf {
+            Leaf::Literal(literal) => {
+                self.room = self.room.saturating_add(MOST_LITERAL_BYTES);
+                let value = SpanPart::from_span(literal.span());
+                let part = count_near(&mut self.parts, before, &value)?;
+                let other = count_symbol(&mut self.symbols, literal.symbol())?;
+                Ok(TokenUses { part, other })
+            }
+            Leaf::Punct(punct) => {
+                self.room = self.room.saturating_add(most_punct_bytes(punct.char));
+                let value = SpanPart::from_span(&punct.span);
+                let part = count_near(&mut self.parts, before, &value)?;
+                Ok(TokenUses { part, other: part })
+            }
+            Leaf::Ident(ident) => {
+                self.room = self.room.saturating_add(MOST_IDENT_BYTES);
+                let value = SpanPart::from_span(&ident.span);
+                let part = count_near(&mut self.parts, before, &value)?;
+                let other = count_symbol(&mut self.symbols, &ident.sym)?;
+                Ok(TokenUses { part, other })
+            }
+        }
+    }
+
+    // Counts what a header uses, and the most bytes that it can take.
+    #[inline(always)]
+    fn count_header(&mut self, before: u32, header: Subtree) -> Result<TokenUses, AllocError>
+        requires parts { HasRoomFor 2 self.old.parts.entries }
+        ensures parts { OnOk result (self.new.parts.entries ≡ fold (count_use same_part) self.old.parts.entries (token_parts (token.Subtree header))) }
+        ensures symbols { self.new.symbols ≡ self.old.symbols }
+        ensures uses { IfOk result (AreUses (StandsAt (keys self.new.parts)) (StandsAt (keys self.new.symbols)) (token.Subtree header)) }
+        ensures room { OnOk result (TakesRoom (token.Subtree header) self.old.room self.new.room) }
+        ensures tokens { self.new.tokens ≡ self.old.tokens }
+    {
+        self.room = self.room.saturating_add(MOST_HEADER_BYTES);
+        let delimiter = &header.delimiter;
+        let opening = SpanPart::from_span(&delimiter.open_span);
+        let closing = SpanPart::from_span(&delimiter.close);
+        let part = count_near(&mut self.parts, before, &opening)?;
+        let other = count_near(&mut self.parts, part, &closing)?;
+        Ok(TokenUses { part, other })
+    }
+
+    // Counts one more token, if it fits behind those before it. Its kind is asked once, so each arm asks the levels.
+    #[inline(always)]
+    fn count(
+        &mut self,
+        levels: &mut Levels,
+        before: u32,
+        token: &TokenTree,
+    ) -> Result<TokenUses, TtFault>
+        requires parts { HasRoomFor 2 self.old.parts.entries }
+        requires symbols { HasRoomFor 1 self.old.symbols.entries }
+        ensures levels { OnOk result (TakesToken (open_levels levels.old) token.now (open_levels levels.new) true) }
         ensures parts { OnOk result (self.new.parts.entries ≡ fold (count_use same_part) self.old.parts.entries (token_parts token.now)) }
         ensures symbols { OnOk result (self.new.symbols.entries ≡ fold (count_use bytes_eq) self.old.symbols.entries (token_symbols token.now)) }
         ensures uses { IfOk result (AreUses (StandsAt (keys self.new.parts)) (StandsAt (keys self.new.symbols)) token.now) }
-        ensures tokens { IfOk result (λ uses. self.new.tokens.items ≡ self.old.tokens.items ++ uses ∷ []) }
+        ensures room { OnOk result (TakesRoom token.now self.old.room self.new.room) }
+        ensures tokens { self.new.tokens ≡ self.old.tokens }
+        ensures err { IfErr result (IsTakeFault (open_levels levels.old) token.now) }
     {
-        let uses = count_token(&mut self.parts, &mut self.symbols, before, token)?;
-        self.tokens.push(uses)?;
-        Ok(uses)
+        match token {
+            TokenTree::Leaf(leaf) => {
+                if !levels.take(token)? {
+                    return Err(TtFault::NotOneSubtree);
+                }
+                Ok(self.count_leaf(before, leaf)?)
+            }
+            TokenTree::Subtree(header) => {
+                if !levels.take(token)? {
+                    return Err(TtFault::NotOneSubtree);
+                }
+                Ok(self.count_header(before, *header)?)
+            }
+        }
     }
 
     // Counts what the tokens use, and sees in the same pass that they are a whole list, and how many bytes they can take.
@@ -146,19 +187,14 @@ impl Uses {
     {
         let mut levels = Levels::new(alloc, tokens.len());
         let mut before = 0;
-        let mut room: usize = 0;
         for token in tokens {
-            if !levels.take(token)? {
-                return Err(TtFault::NotOneSubtree);
-            }
-            let found = self.count(before, token)?;
+            let found = self.count(&mut levels, before, token)?;
+            self.tokens.push(found)?;
             before = found.part;
-            room = room.saturating_add(most_bytes(token));
         }
         if !levels.is_done() {
             return Err(TtFault::NotOneSubtree);
         }
-        self.room = room;
         Ok(())
     }
 

@@ -50,6 +50,7 @@ impl<'a> Writer<'a> {
     }
 
     // How many bytes the token holds that comes next.
+    #[inline(always)]
     fn child_bytes(&self, tokens: &[TokenTree], index: usize) -> u32
         requires index { index < length tokens.now }
         requires whole { IsWhole (drop index tokens.now) }
@@ -76,8 +77,8 @@ impl<'a> Writer<'a> {
         ensures room { OnOk result (most_list_bytes (take index tokens.now) + 33 ≤ room_of self.new.bytes) }
         ensures err { IfErr result (λ fault. (fault ≡ Memory) ⊎ ((fault ≡ TooManyBytes) × (most_bytes < byte_count (tables_of self.old.tables.now) (drop index tokens.now)))) }
     {
-        let child_bytes = self.child_bytes(tokens, index);
         let uses = self.tables.uses[index];
+        let child_bytes = self.child_bytes(tokens, index);
         let entry = self.tables.entry(&tokens[index], uses, child_bytes);
         entry.write(&mut self.bytes);
         if self.bytes.len() > MOST_BYTES {

@@ -1,4 +1,4 @@
-use Rattle.std.proofs.Common.{[], ◌∷◌, ◌++◌, ◌↔◌, ◌+◌, inr, bytes_eq, take, refl, sym, subst, ◌∙◌, ap, arith, rules}
+use Rattle.std.proofs.Common.{◌≡◌, [], ◌∷◌, ◌++◌, ◌↔◌, ◌+◌, Err, inr, bytes_eq, take, refl, sym, subst, ◌∙◌, ap, arith, rules}
 use Rattle.std.proofs.lemmas.List.{take_all}
 use Rattle.std.specs.List.{AllZip}
 use Rattle.indexmap.specs.IndexMap.{keys}
@@ -6,13 +6,13 @@ use Rattle.tt_base.specs.contracts.span.SpanPartEq.TheImpl.Laws as part_eq
 use Rattle.tt_base.specs.contracts.symbol.SymbolEq.TheImpl.Laws as symbol_eq
 use Rattle.tt_base.specs.Forest.{IsWhole, AreLevels}
 use Rattle.tt_base.specs.Levels.{open_levels}
-use Rattle.tt_base.proofs.CutLists.{one_level, walk_on, walk_stops, walk_ends}
+use Rattle.tt_base.proofs.CutLists.{one_level, walk_on, walk_ends}
 use Rattle.tt_tables.specs.TableOrder.{different}
 use Rattle.tt_tables.specs.Uses.{same_part, token_parts, token_symbols, part_uses, symbol_uses}
-use Rattle.tt_pack.specs.Room.{HasRoomForAll}
+use Rattle.tt_pack.specs.Room.{HasRoomForAll, IsTakeFault}
 use Rattle.tt_pack.specs.Seen.{seen_parts, seen_symbols}
 use Rattle.tt_pack.specs.TablesOf.{StandsAt, AreUses}
-use Rattle.tt_pack.proofs.MostBytes.{room_more}
+use Rattle.tt_pack.proofs.MostBytes.{room_more, stops_fault}
 use Rattle.tt_pack.proofs.Noting.{noted_token, kept_noted}
 use Rattle.tt_pack.proofs.known.KnownUses.see_list.Goals as goal
 
@@ -29,10 +29,11 @@ loop-token-init c =
       room = λ small. omega arith;
     }
 
-pub returns-then-not-branch-clause-err : goal.returns-then-not-branch-clause-err
-returns-then-not-branch-clause-err c =
-    let takes = rw c.if-not-branch.true at c.in_ok-take.ensures.ok in
-    inr (refl, walk_stops c.args.tokens.now c.loop-token.token-index c.token-item.result (open_levels c.loop-token.levels) (open_levels c.take.new.self) (search rules) c.token-item.is c.loop-token.invariant.whole takes)
+pub returns-in_err-found-clause-err : goal.returns-in_err-found-clause-err
+returns-in_err-found-clause-err c =
+    let is : c.from_residual.result ≡ Err c.in_err-found.field-0.0 = search rules in
+    let told : IsTakeFault (open_levels c.loop-token.levels) c.token-item.result c.in_err-found.field-0.0 = search rules in
+    rw is (stops_fault c.args.tokens.now c.loop-token.token-index c.token-item.result (open_levels c.loop-token.levels) c.in_err-found.field-0.0 c.loop-token-test.true c.token-item.is c.loop-token.invariant.whole told)
 
 pub returns-then-not-is_done-clause-err : goal.returns-then-not-is_done-clause-err
 returns-then-not-is_done-clause-err c =
@@ -41,25 +42,25 @@ returns-then-not-is_done-clause-err c =
 
 pub loop-token-preserved : goal.loop-token-preserved
 loop-token-preserved c = record {
-  few_parts = c.in-Some.ensures.few_parts c.loop-token.invariant.few_parts;
-  few_symbols = c.in-Some.ensures.few_symbols c.loop-token.invariant.few_symbols;
+  few_parts = c.in_ok-found.ensures.few_parts c.loop-token.invariant.few_parts;
+  few_symbols = c.in_ok-found.ensures.few_symbols c.loop-token.invariant.few_symbols;
   all_parts =
       noted_token same_part part_eq.lawful.laws token_parts c.args.tokens.now c.loop-token.token-index c.token-item.result _ _
-      c.loop-token-test.true c.token-item.is c.loop-token.invariant.all_parts c.in-Some.ensures.parts;
+      c.loop-token-test.true c.token-item.is c.loop-token.invariant.all_parts (rw c.in-Some.is at c.in_ok-found.ensures.parts);
   all_symbols =
       noted_token bytes_eq symbol_eq.lawful.laws token_symbols c.args.tokens.now c.loop-token.token-index c.token-item.result _ _
-      c.loop-token-test.true c.token-item.is c.loop-token.invariant.all_symbols c.in-Some.ensures.symbols;
+      c.loop-token-test.true c.token-item.is c.loop-token.invariant.all_symbols (rw c.in-Some.is at c.in_ok-found.ensures.symbols);
   whole =
-      walk_on c.args.tokens.now c.loop-token.token-index c.token-item.result (open_levels c.loop-token.levels) (open_levels c.take.new.self)
-      c.loop-token-test.true c.token-item.is c.loop-token.invariant.whole (rw c.if-not-branch.false at c.in_ok-take.ensures.ok);
+      walk_on c.args.tokens.now c.loop-token.token-index c.token-item.result (open_levels c.loop-token.levels) (open_levels c.see_token.new.levels)
+      c.loop-token-test.true c.token-item.is c.loop-token.invariant.whole c.in_ok-found.ensures.levels;
   uses =
       subst (AllZip (AreUses (StandsAt (seen_parts c.args.known c.see_token.new.self)) (StandsAt (seen_symbols c.args.known c.see_token.new.self))) (take (c.loop-token.token-index + 1) c.args.tokens.now))
-      (sym (c.in_ok-push.ensures.items ∙ ap (λ kept. kept.items ++ c.in-Some.found ∷ []) c.in-Some.ensures.tokens))
+      (sym (c.in_ok-push.ensures.items ∙ ap (λ kept. kept.items ++ c.in-Some.found ∷ []) c.in_ok-found.ensures.tokens))
       (kept_noted c.args.tokens.now c.loop-token.token-index c.token-item.result c.loop-token.self.tokens.items c.in-Some.found _ _ _ _
-      c.loop-token-test.true c.token-item.is c.in-Some.ensures.parts c.in-Some.ensures.symbols c.loop-token.invariant.uses c.in-Some.ensures.uses);
+      c.loop-token-test.true c.token-item.is (rw c.in-Some.is at c.in_ok-found.ensures.parts) (rw c.in-Some.is at c.in_ok-found.ensures.symbols) c.loop-token.invariant.uses (rw c.in-Some.is at c.in_ok-found.ensures.uses));
   room =
-      room_more c.args.tokens.now c.loop-token.token-index c.token-item.result c.loop-token.room _ _
-      c.loop-token-test.true c.token-item.is c.loop-token.invariant.room c.most_bytes.ensures c.saturating_add-room.ensures;
+      room_more c.args.tokens.now c.loop-token.token-index c.token-item.result c.loop-token.self.room c.see_token.new.self.room
+      c.loop-token-test.true c.token-item.is c.loop-token.invariant.room (rw c.in-Some.is at c.in_ok-found.ensures.room);
 }
 
 pub returns-clause-seen : goal.returns-clause-seen
@@ -82,4 +83,4 @@ returns-clause-tokens c =
 pub returns-clause-room : goal.returns-clause-room
 returns-clause-room c =
     let all = take_all c.loop-token.token-index c.args.tokens.now (search (rules, arith, c.loop-token-test.false)) in
-    subst (λ tokens. HasRoomForAll tokens c.loop-token.room) all c.loop-token.invariant.room
+    subst (λ tokens. HasRoomForAll tokens c.loop-token.self.room) all c.loop-token.invariant.room

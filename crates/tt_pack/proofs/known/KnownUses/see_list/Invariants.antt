@@ -21,5 +21,5 @@ invariant-loop-token l =
       all_symbols : seen_symbols l.known l.self ≡ different bytes_eq (symbol_uses (take l.token-index l.tokens));
       whole : IsWhole l.tokens ↔ AreLevels (drop l.token-index l.tokens) (open_levels l.levels);
       uses : AllZip (AreUses (StandsAt (seen_parts l.known l.self)) (StandsAt (seen_symbols l.known l.self))) (take l.token-index l.tokens) l.self.tokens.items;
-      room : HasRoomForAll (take l.token-index l.tokens) l.room;
+      room : HasRoomForAll (take l.token-index l.tokens) l.self.room;
     }

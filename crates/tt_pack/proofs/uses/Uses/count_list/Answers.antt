@@ -1,4 +1,4 @@
-use Rattle.std.proofs.Common.{◌≡◌, ◌↔◌, ◌+◌, ◌<◌, ◌^◌, inr, bytes_eq, length, take, refl, sym, subst, arith, rules}
+use Rattle.std.proofs.Common.{◌≡◌, ◌↔◌, ◌+◌, ◌<◌, ◌^◌, ◌++◌, ◌∷◌, [], Err, inr, bytes_eq, length, take, refl, ap, sym, subst, ◌∙◌, arith, rules}
 use Rattle.std.proofs.lemmas.List.{length-take, take_all}
 use Rattle.std.specs.List.{AllZip}
 use Rattle.indexmap.specs.IndexMap.{keys}
@@ -8,14 +8,14 @@ use Rattle.tt_base.specs.Forest.{IsWhole}
 use Rattle.tt_base.specs.Levels.{open_levels}
 use Rattle.tt_base.specs.Forest.{AreLevels}
 use Rattle.tt_tables.specs.Uses.{same_part, token_parts, token_symbols, part_uses, symbol_uses}
-use Rattle.tt_base.proofs.CutLists.{one_level, walk_on, walk_stops, walk_ends}
+use Rattle.tt_base.proofs.CutLists.{one_level, walk_on, walk_ends}
 use Rattle.tt_tables.proofs.TokenTables.{part_sound, text_sound}
 use Rattle.tt_pack.specs.Counted.{counted, HasRoomFor}
 use Rattle.tt_pack.specs.TablesOf.{StandsAt, AreUses}
 use Rattle.tt_pack.proofs.Counting.{room_counted, counted_token, few_parts, few_symbols}
-use Rattle.tt_pack.specs.Room.{HasRoomForAll}
+use Rattle.tt_pack.specs.Room.{HasRoomForAll, IsTakeFault}
 use Rattle.tt_pack.proofs.Kept.{kept_token}
-use Rattle.tt_pack.proofs.MostBytes.{room_more}
+use Rattle.tt_pack.proofs.MostBytes.{room_more, stops_fault}
 use Rattle.tt_pack.proofs.uses.Uses.count_list.Goals as goal
 
 pub count-requires-clause-parts : goal.count-requires-clause-parts
@@ -39,16 +39,16 @@ loop-token-preserved c = record {
       counted_token bytes_eq symbol_eq.lawful.laws text_sound token_symbols c.args.tokens.now c.loop-token.token-index c.token-item.result _ _
       c.loop-token-test.true c.token-item.is c.loop-token.invariant.symbols c.in_ok-found.ensures.symbols;
   whole =
-      walk_on c.args.tokens.now c.loop-token.token-index c.token-item.result (open_levels c.loop-token.levels) (open_levels c.take.new.self)
-      c.loop-token-test.true c.token-item.is c.loop-token.invariant.whole (rw c.if-not-branch.false at c.in_ok-take.ensures.ok);
+      walk_on c.args.tokens.now c.loop-token.token-index c.token-item.result (open_levels c.loop-token.levels) (open_levels c.count.new.levels)
+      c.loop-token-test.true c.token-item.is c.loop-token.invariant.whole c.in_ok-found.ensures.levels;
   uses =
       subst (AllZip (AreUses (StandsAt (keys c.count.new.self.parts)) (StandsAt (keys c.count.new.self.symbols))) (take (c.loop-token.token-index + 1) c.args.tokens.now))
-      (sym c.in_ok-found.ensures.tokens)
+      (sym (c.in_ok-push.ensures.items ∙ ap (λ kept. kept.items ++ c.in_ok-found.found ∷ []) c.in_ok-found.ensures.tokens))
       (kept_token c.args.tokens.now c.loop-token.token-index c.token-item.result c.loop-token.self.tokens.items c.in_ok-found.found _ _ _ _
       c.loop-token-test.true c.token-item.is c.in_ok-found.ensures.parts c.in_ok-found.ensures.symbols c.loop-token.invariant.uses c.in_ok-found.ensures.uses);
   room =
-      room_more c.args.tokens.now c.loop-token.token-index c.token-item.result c.loop-token.room _ _
-      c.loop-token-test.true c.token-item.is c.loop-token.invariant.room c.most_bytes.ensures c.saturating_add-room.ensures;
+      room_more c.args.tokens.now c.loop-token.token-index c.token-item.result c.loop-token.self.room c.count.new.self.room
+      c.loop-token-test.true c.token-item.is c.loop-token.invariant.room c.in_ok-found.ensures.room;
 }
 
 pub loop-token-init : goal.loop-token-init
@@ -62,10 +62,11 @@ loop-token-init c =
       room = λ small. omega arith;
     }
 
-pub returns-then-not-branch-clause-err : goal.returns-then-not-branch-clause-err
-returns-then-not-branch-clause-err c =
-    let takes = rw c.if-not-branch.true at c.in_ok-take.ensures.ok in
-    inr (refl, walk_stops c.args.tokens.now c.loop-token.token-index c.token-item.result (open_levels c.loop-token.levels) (open_levels c.take.new.self) (search rules) c.token-item.is c.loop-token.invariant.whole takes)
+pub returns-in_err-found-clause-err : goal.returns-in_err-found-clause-err
+returns-in_err-found-clause-err c =
+    let is : c.from_residual.result ≡ Err c.in_err-found.field-0.0 = search rules in
+    let told : IsTakeFault (open_levels c.loop-token.levels) c.token-item.result c.in_err-found.field-0.0 = search rules in
+    rw is (stops_fault c.args.tokens.now c.loop-token.token-index c.token-item.result (open_levels c.loop-token.levels) c.in_err-found.field-0.0 c.loop-token-test.true c.token-item.is c.loop-token.invariant.whole told)
 
 pub returns-then-not-is_done-clause-err : goal.returns-then-not-is_done-clause-err
 returns-then-not-is_done-clause-err c =
@@ -85,4 +86,4 @@ returns-clause-count c =
 pub returns-clause-room : goal.returns-clause-room
 returns-clause-room c =
     let all = take_all c.loop-token.token-index c.args.tokens.now (search (rules, arith, c.loop-token-test.false)) in
-    subst (λ tokens. HasRoomForAll tokens c.loop-token.room) all c.loop-token.invariant.room
+    subst (λ tokens. HasRoomForAll tokens c.loop-token.self.room) all c.loop-token.invariant.room

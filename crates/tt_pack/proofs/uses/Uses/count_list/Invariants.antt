@@ -19,5 +19,5 @@ invariant-loop-token l =
       symbols : l.self.symbols.entries ≡ counted bytes_eq (symbol_uses (take l.token-index l.tokens));
       whole : IsWhole l.tokens ↔ AreLevels (drop l.token-index l.tokens) (open_levels l.levels);
       uses : AllZip (AreUses (StandsAt (keys l.self.parts)) (StandsAt (keys l.self.symbols))) (take l.token-index l.tokens) l.self.tokens.items;
-      room : HasRoomForAll (take l.token-index l.tokens) l.room;
+      room : HasRoomForAll (take l.token-index l.tokens) l.self.room;
     }
