@@ -70,3 +70,7 @@ module _ {X : Type 0} (same : X → X → Bool) where
     new_index_noted short uses values table new_indices i x is few leads stands =
         let at : slice_get values i ≡ Some x = stands few in
         sym (index_in-distinct laws table (new_index new_indices i) x (distinct_table short uses table is) (leads i (slice_get_within values i x at) ∙ at))
+
+-- Where no new index is noted, each value has stayed.
+pub stays_there : {X : Type 0} (values table : List X) (new_indices : List ℕ) (index : ℕ) → table ≡ values → new_indices ≡ [] → LeadsTo values table new_indices index
+stays_there values table new_indices index same none = ap (λ l. slice_get table (new_index l index)) none ∙ ap (λ l. slice_get l index) same

@@ -1,5 +1,6 @@
 -- What the codec's contracts speak of.
 pub mod Counted
+pub mod Few
 pub mod Known
 pub mod Packed
 pub mod ReaderOf

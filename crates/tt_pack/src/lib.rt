@@ -2,6 +2,7 @@
 #![tactic(auto)]
 
 mod counts;
+mod few;
 mod known;
 pub mod laws;
 mod pack;

@@ -8,6 +8,7 @@ ghost use Rattle.tt_pack.specs.Known.{IsKnown, AreKnown};
 ghost use Rattle.tt_pack.specs.Packed.{HasFewParts, HasFewSymbols, IsTableFault};
 ghost use Rattle.tt_pack.specs.Room.{HasRoomForAll};
 
+use crate::few::{FEW_TOKENS, FewUses};
 use crate::known::{Known, KnownUses};
 use crate::table::Table;
 use crate::uses::{FirstRoom, TokenUses, Uses, tables_of};
@@ -58,6 +59,11 @@ impl ListTables {
         ensures room { IfOk result (λ tables. HasRoomForAll below.now tables.room) }
         ensures err { IfErr result (IsTableFault below.now) }
     {
+        if below.len() <= FEW_TOKENS {
+            if let Some(tables) = ListTables::of_few(alloc, below)? {
+                return Ok(tables);
+            }
+        }
         let Some(known) = known else {
             let room = FirstRoom::for_tokens(below.len());
             return ListTables::of_counted(alloc, below, room);
@@ -66,6 +72,26 @@ impl ListTables {
             return Ok(tables);
         }
         ListTables::of_counted(alloc, below, known.first_room())
+    }
+
+    // The same, where there are few parts and symbols. All stand by first use then, so nothing is counted.
+    fn of_few(alloc: Global, below: &[TokenTree]) -> Result<Option<ListTables>, TtFault>
+        ensures whole { IfOk result (λ found. IfSome found (λ tables. IsWhole below.now)) }
+        ensures parts { IfOk result (λ found. IfSome found (λ tables. (tables.parts.values.items ≡ part_table below.now) × HasFewParts below.now)) }
+        ensures symbols { IfOk result (λ found. IfSome found (λ tables. (tables.symbols.values.items ≡ symbol_table below.now) × HasFewSymbols below.now)) }
+        ensures uses { IfOk result (λ found. IfSome found (λ tables. UsesTables tables below.now)) }
+        ensures room { IfOk result (λ found. IfSome found (λ tables. HasRoomForAll below.now tables.room)) }
+        ensures err { IfErr result (IsTableFault below.now) }
+    {
+        let Some(uses) = FewUses::of_tokens(alloc, below)? else {
+            return Ok(None);
+        };
+        Ok(Some(ListTables {
+            parts: Table::by_first_use(alloc, uses.parts),
+            symbols: Table::by_first_use(alloc, uses.symbols),
+            uses: uses.tokens,
+            room: uses.room,
+        }))
     }
 
     // The same, where the numbers of uses are counted.

@@ -17,12 +17,12 @@ use std::alloc::{AllocError, Global};
 use tt_base::{Leaf, Levels, SpanPart, Subtree, Symbol, TokenTree, TtFault};
 use tt_codec::{MOST_PARTS, MOST_SYMBOLS};
 
-// Up to so many parts stand by first use: an index of theirs has four bits.
-const SHORT_PARTS: usize = 15;
+/// Up to so many parts stand by first use: an index of theirs has four bits.
+pub(crate) const SHORT_PARTS: usize = 15;
 // Up to so many symbols: a reference to one takes one byte.
 const SHORT_SYMBOLS: usize = 63;
-// The top has two parts of its own, which need an index each.
-const TOP_PARTS: usize = 2;
+/// The top has two parts of its own, which need an index each.
+pub(crate) const TOP_PARTS: usize = 2;
 // The most parts below the top.
 const MOST_PARTS_BELOW: usize = MOST_PARTS - TOP_PARTS;
 // A list mostly has no more parts.
