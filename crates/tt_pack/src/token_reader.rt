@@ -2,7 +2,6 @@
 ghost use Rattle.std.specs.Prelude.{◌≤◌, length};
 
 use crate::packed::Packed;
-use crate::room::MOST_LITERAL_BYTES;
 use tt_base::TokenTree;
 use tt_codec::{HeaderEntry, LeafEntry, Visitor, visit_token};
 
@@ -73,40 +72,15 @@ impl<'a> TokenReader<'a> {
         }
     }
 
-    // Decodes the token at the offset, if one lies ahead of it.
-    #[inline(always)]
-    fn decode_at(&mut self, offset: usize)
-        requires inside { offset ≤ length (bytes_for self.old.tree.now) }
-        requires new { self.old.token ≡ None }
-        ensures { DecodesAt self.old offset self.new }
-    {
-        let bytes = self.tree.bytes();
-        visit_token(self, &bytes[offset..]);
-    }
-
-    // The same, where few bytes are left.
-    #[inline(never)]
-    fn decode_near_end(&mut self, offset: usize)
-        requires inside { offset ≤ length (bytes_for self.old.tree.now) }
-        requires new { self.old.token ≡ None }
-        ensures { DecodesAt self.old offset self.new }
-    {
-        self.decode_at(offset);
-    }
-
     /// Decodes the token at the offset, if one lies ahead of it. Inlined, the token would be put together in pieces and
-    /// copied, so this is one call for each token. Where no leaf can reach the end of the bytes, the compiler leaves out all
-    /// tests but this one whether there are enough.
+    /// copied, so this is one call for each token.
     #[inline(never)]
     pub(crate) fn decode(&mut self, offset: usize)
         requires inside { offset ≤ length (bytes_for self.old.tree.now) }
         requires new { self.old.token ≡ None }
         ensures { DecodesAt self.old offset self.new }
     {
-        if self.tree.bytes().len() - offset < MOST_LITERAL_BYTES {
-            self.decode_near_end(offset);
-            return;
-        }
-        self.decode_at(offset);
+        let bytes = self.tree.bytes();
+        visit_token(self, &bytes[offset..]);
     }
 }

@@ -1,7 +1,7 @@
 use Rattle.std.proofs.Common.{drop, ap, ◌∙◌, arith, length-drop}
 use Rattle.std.proofs.lemmas.List.{take_all}
 use Rattle.tt_pack.proofs.Decoded.{decoded_at}
-use Rattle.tt_pack.proofs.token_reader.TokenReader.decode_at.Goals as goal
+use Rattle.tt_pack.proofs.token_reader.TokenReader.decode.Goals as goal
 
 pub returns : goal.returns
 returns c =
