@@ -110,17 +110,17 @@ symbol_fits stack old now right stay few x = omega (arith, symbols_room stack ol
     none = refl
 
 -- A leaf more.
-pub pushed_parts : (stack : Stack) (it : Leaf) (old mid now : List (SpanPart × ℕ)) → CountsUses same_part (held_parts stack) old → CountsMore same_part [] old mid
-    → CountsMore same_part (part_of (leaf_span it) ∷ []) mid now → CountsUses same_part (held_parts (append (leaf it end) stack)) now
-pushed_parts stack it old mid now right stay grown =
+pub pushed_parts : (stack : Stack) (it : Leaf) (old now : List (SpanPart × ℕ)) → CountsUses same_part (held_parts stack) old
+    → CountsMore same_part (part_of (leaf_span it) ∷ []) old now → CountsUses same_part (held_parts (append (leaf it end) stack)) now
+pushed_parts stack it old now right grown =
     subst (λ uses. CountsUses same_part uses now) (sym (held_parts-append stack (leaf it end)))
-    (counts_behind same_part (held_parts stack) (part_of (leaf_span it) ∷ []) mid now (counts_same same_part (held_parts stack) old mid right stay) grown)
+    (counts_behind same_part (held_parts stack) (part_of (leaf_span it) ∷ []) old now right grown)
 
-pub pushed_symbols : (stack : Stack) (it : Leaf) (old mid now : List (List ℕ × ℕ)) → CountsUses bytes_eq (held_symbols stack) old → CountsMore bytes_eq [] old mid
-    → CountsMore bytes_eq (leaf_symbols it) mid now → CountsUses bytes_eq (held_symbols (append (leaf it end) stack)) now
-pushed_symbols stack it old mid now right stay grown =
+pub pushed_symbols : (stack : Stack) (it : Leaf) (old now : List (List ℕ × ℕ)) → CountsUses bytes_eq (held_symbols stack) old
+    → CountsMore bytes_eq (leaf_symbols it) old now → CountsUses bytes_eq (held_symbols (append (leaf it end) stack)) now
+pushed_symbols stack it old now right grown =
     subst (λ uses. CountsUses bytes_eq uses now) (sym (held_symbols-append stack (leaf it end) ∙ ap (λ l. held_symbols stack ++ l) (append-nil (leaf_symbols it))))
-    (counts_behind bytes_eq (held_symbols stack) (leaf_symbols it) mid now (counts_same bytes_eq (held_symbols stack) old mid right stay) grown)
+    (counts_behind bytes_eq (held_symbols stack) (leaf_symbols it) old now right grown)
 
 -- A close span more.
 pub closed_counts : (stack : Stack) (close_span : Span) (old mid now : List (SpanPart × ℕ)) → IsAbove stack → CountsUses same_part (held_parts stack) old → CountsMore same_part [] old mid

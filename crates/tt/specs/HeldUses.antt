@@ -1,5 +1,5 @@
 -- The uses of span parts and symbols in what a builder holds: the top is left out, and so is the close of an open subtree.
-use Rattle.std.specs.Prelude.{List, ℕ, [], ◌∷◌, ◌++◌, ◌≡◌, Option, Some, None, slice_get, length, bytes_eq}
+use Rattle.std.specs.Prelude.{List, ℕ, ◌∷◌, ◌++◌, length, bytes_eq}
 use Rattle.tt_base.specs.declared.span.SpanPart.{SpanPart}
 use Rattle.tt_base.specs.Building.{Stack, lowest, above}
 use Rattle.tt_base.specs.Forest.{flat}
@@ -26,14 +26,6 @@ distinct_parts stack = length (different same_part (held_parts stack))
 -- how many different symbols are used
 abbrev pub distinct_symbols : Stack → ℕ
 distinct_symbols stack = length (different bytes_eq (held_symbols stack))
-
--- the symbols, of which there is one at most, stand at the index
-abbrev pub StandAt : List (List ℕ) → Option ℕ → List (List ℕ) → Type 0
-StandAt keys None [] = Unit {0}
-StandAt keys None (x ∷ xs) = ⊥
-StandAt keys (Some index) [] = ⊥
-StandAt keys (Some index) (x ∷ []) = slice_get keys index ≡ Some x
-StandAt keys (Some index) (x ∷ y ∷ xs) = ⊥
 
 -- the part with which a token begins
 abbrev pub first_part : TokenTree → SpanPart

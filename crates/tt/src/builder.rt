@@ -24,7 +24,6 @@ mod tokens;
 
 pub use expected::ExpectedDelimiters;
 use held::Held;
-use leaves::{add_symbol, symbol_index};
 pub use standing::SubtreeBuilderRestorePoint;
 use std::alloc::Global;
 use std::marker::Model;
@@ -96,23 +95,7 @@ impl TopSubtreeBuilder {
         ensures leaf { IfErr result (λ refused. refused.value ≡ leaf) }
         ensures fault { IfErr result (λ refused. IsGrowthFault 1 self.old refused.fault) }
     {
-        let part = SpanPart::from_span(leaf.span());
-        let Ok(index) = self.parts.index_near(&part) else {
-            return Err(Refused {
-                fault: TtFault::Memory,
-                value: leaf,
-            });
-        };
-        let Ok(symbol) = symbol_index(&mut self.symbols, &leaf) else {
-            return Err(Refused {
-                fault: TtFault::Memory,
-                value: leaf,
-            });
-        };
-        self.held.push(leaf)?;
-        self.parts.add_at(index);
-        add_symbol(&mut self.symbols, symbol);
-        Ok(())
+        self.held.push(&mut self.parts, &mut self.symbols, leaf)
     }
 
     /// Closes the innermost open subtree, and marks it. The points that were taken while it was open go.

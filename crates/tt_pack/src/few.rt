@@ -29,34 +29,48 @@ pub(crate) struct FewUses {
     pub(crate) room: usize,
 }
 
-// Where a value stands among others, if it does.
-fn find<T: Eq>(values: &[T], value: &T) -> Option<usize>
-    requires { (x y : T) → T.eq x y ≡ true → x ≡ y }
-    ensures at { IfSome result (λ index. slice_get values.now index ≡ Some value.now) }
-    ensures new { IfNone result (list_any (λ y. T.eq y value.now) values.now ≡ false) }
+// Where a part stands among others, if it does.
+fn find_part(parts: &[SpanPart], part: &SpanPart) -> Option<usize>
+    ensures at { IfSome result (λ index. slice_get parts.now index ≡ Some part.now) }
+    ensures new { IfNone result (list_any (λ other. same_part other part.now) parts.now ≡ false) }
 {
-    for index in 0..values.len() {
-        if values[index] == *value {
+    for index in 0..parts.len() {
+        if parts[index] == *part {
             return Some(index);
         }
     }
     None
 }
 
-// Where a value stands. One that is new goes last, if fewer than `most` stand there.
-#[inline(never)]
-fn note_elsewhere<T: Eq + Clone + Drop>(
+// Where a symbol stands among others, if it does. It is mostly none of them, so texts are compared at once.
+fn find_symbol(symbols: &[Symbol], symbol: &Symbol) -> Option<usize>
+    ensures at { IfSome result (λ index. slice_get symbols.now index ≡ Some symbol.now) }
+    ensures new { IfNone result (list_any (λ other. bytes_eq other symbol.now) symbols.now ≡ false) }
+{
+    let text = symbol.as_str();
+    for index in 0..symbols.len() {
+        if symbols[index].as_str() == text {
+            return Some(index);
+        }
+    }
+    None
+}
+
+// Where a value stands that was looked for. One that was not found goes last, if fewer than `most` stand there.
+fn put_last<T: Eq + Clone + Drop>(
     values: &mut Vec<T>,
     most: usize,
+    found: Option<usize>,
     value: &T,
 ) -> Result<Option<u32>, AllocError>
     requires copies { (x y : T) → T.is_clone x y → y ≡ x }
-    requires same { (x y : T) → T.eq x y ≡ true → x ≡ y }
+    requires at { IfSome found (λ index. slice_get values.old.items index ≡ Some value.now) }
+    requires new { IfNone found (list_any (λ other. T.eq other value.now) values.old.items ≡ false) }
     ensures values { IfOk result (λ found. IfSome found (λ index. values.new.items ≡ note_value T.eq values.old.items value.now)) }
     ensures index { IfOk result (λ found. IfSome found (λ index. StandsAt values.new.items index value.now)) }
     ensures few { length values.old.items ≤ most → length values.new.items ≤ most }
 {
-    if let Some(index) = find(values, value) {
+    if let Some(index) = found {
         return Ok(Some(kept_index(index)));
     }
     let index = values.len();
@@ -79,28 +93,27 @@ fn is_at<T: Eq>(values: &[T], index: usize, value: &T) -> bool
     values[index] == *value
 }
 
-// The same, but it is first looked for at the index of another use.
+// Where a part stands. One that is new goes last, if fewer than 15 stand there. It is first looked for at the index of another
+// use.
 #[inline(always)]
-fn note<T: Eq + Clone + Drop>(
-    values: &mut Vec<T>,
-    most: usize,
+fn note_part(
+    parts: &mut Vec<SpanPart>,
     other: u32,
-    value: &T,
+    part: &SpanPart,
 ) -> Result<Option<u32>, AllocError>
-    requires copies { (x y : T) → T.is_clone x y → y ≡ x }
-    requires same { (x y : T) → T.eq x y ≡ true → x ≡ y }
-    ensures values { IfOk result (λ found. IfSome found (λ index. values.new.items ≡ note_value T.eq values.old.items value.now)) }
-    ensures index { IfOk result (λ found. IfSome found (λ index. StandsAt values.new.items index value.now)) }
-    ensures few { length values.old.items ≤ most → length values.new.items ≤ most }
+    ensures parts { IfOk result (λ found. IfSome found (λ index. parts.new.items ≡ note_value same_part parts.old.items part.now)) }
+    ensures index { IfOk result (λ found. IfSome found (λ index. StandsAt parts.new.items index part.now)) }
+    ensures few { length parts.old.items ≤ 15 → length parts.new.items ≤ 15 }
 {
-    if is_at(values, other as usize, value) {
+    if is_at(parts, other as usize, part) {
         return Ok(Some(other));
     }
-    note_elsewhere(values, most, value)
+    let found = find_part(parts, part);
+    put_last(parts, SHORT_PARTS, found, part)
 }
 
-// Where a symbol stands, as `note` does it. It is first looked for at the place that it notes, and where it stands elsewhere
-// it notes that.
+// Where a symbol stands. One that is new goes last, if fewer than 16 stand there. It is first looked for at the place that it
+// notes, and where it stands elsewhere it notes that.
 #[inline(always)]
 fn note_symbol(symbols: &mut Vec<Symbol>, symbol: &Symbol) -> Result<Option<u32>, AllocError>
     ensures symbols { IfOk result (λ found. IfSome found (λ index. symbols.new.items ≡ note_value bytes_eq symbols.old.items symbol.now)) }
@@ -108,11 +121,25 @@ fn note_symbol(symbols: &mut Vec<Symbol>, symbol: &Symbol) -> Result<Option<u32>
     ensures few { length symbols.old.items ≤ 16 → length symbols.new.items ≤ 16 }
 {
     let place = symbol.place();
-    let found = note(symbols, FEW_SYMBOLS, place, symbol)?;
-    if let Some(index) = found {
+    if is_at(symbols, place as usize, symbol) {
+        return Ok(Some(place));
+    }
+    note_elsewhere(symbols, symbol)
+}
+
+// The same, where it is not at the place that it notes.
+#[inline(never)]
+fn note_elsewhere(symbols: &mut Vec<Symbol>, symbol: &Symbol) -> Result<Option<u32>, AllocError>
+    ensures symbols { IfOk result (λ found. IfSome found (λ index. symbols.new.items ≡ note_value bytes_eq symbols.old.items symbol.now)) }
+    ensures index { IfOk result (λ found. IfSome found (λ index. StandsAt symbols.new.items index symbol.now)) }
+    ensures few { length symbols.old.items ≤ 16 → length symbols.new.items ≤ 16 }
+{
+    let found = find_symbol(symbols, symbol);
+    let index = put_last(symbols, FEW_SYMBOLS, found, symbol)?;
+    if let Some(index) = index {
         symbol.note_place(index);
     }
-    Ok(found)
+    Ok(index)
 }
 
 impl FewUses {
@@ -150,7 +177,7 @@ impl FewUses {
             Leaf::Literal(literal) => {
                 self.room = self.room.saturating_add(MOST_LITERAL_BYTES);
                 let value = SpanPart::from_span(literal.span());
-                let Some(part) = note(&mut self.parts, SHORT_PARTS, before, &value)? else {
+                let Some(part) = note_part(&mut self.parts, before, &value)? else {
                     return Ok(None);
                 };
                 let Some(other) = note_symbol(&mut self.symbols, literal.symbol())? else {
@@ -161,7 +188,7 @@ impl FewUses {
             Leaf::Punct(punct) => {
                 self.room = self.room.saturating_add(most_punct_bytes(punct.char));
                 let value = SpanPart::from_span(&punct.span);
-                let Some(part) = note(&mut self.parts, SHORT_PARTS, before, &value)? else {
+                let Some(part) = note_part(&mut self.parts, before, &value)? else {
                     return Ok(None);
                 };
                 Ok(Some(TokenUses { part, other: part }))
@@ -169,7 +196,7 @@ impl FewUses {
             Leaf::Ident(ident) => {
                 self.room = self.room.saturating_add(MOST_IDENT_BYTES);
                 let value = SpanPart::from_span(&ident.span);
-                let Some(part) = note(&mut self.parts, SHORT_PARTS, before, &value)? else {
+                let Some(part) = note_part(&mut self.parts, before, &value)? else {
                     return Ok(None);
                 };
                 let Some(other) = note_symbol(&mut self.symbols, &ident.sym)? else {
@@ -193,10 +220,10 @@ impl FewUses {
         self.room = self.room.saturating_add(MOST_HEADER_BYTES);
         let opening = SpanPart::from_span(&header.delimiter.open_span);
         let closing = SpanPart::from_span(&header.delimiter.close);
-        let Some(part) = note(&mut self.parts, SHORT_PARTS, before, &opening)? else {
+        let Some(part) = note_part(&mut self.parts, before, &opening)? else {
             return Ok(None);
         };
-        let Some(other) = note(&mut self.parts, SHORT_PARTS, part, &closing)? else {
+        let Some(other) = note_part(&mut self.parts, part, &closing)? else {
             return Ok(None);
         };
         Ok(Some(TokenUses { part, other }))

@@ -59,19 +59,34 @@ impl ListTables {
         ensures room { IfOk result (λ tables. HasRoomForAll below.now tables.room) }
         ensures err { IfErr result (IsTableFault below.now) }
     {
+        let Some(known) = known else {
+            return ListTables::of_unknown(alloc, below, FirstRoom::for_tokens(below.len()));
+        };
+        if let Some(tables) = ListTables::of_known(alloc, below, known)? {
+            return Ok(tables);
+        }
+        ListTables::of_unknown(alloc, below, known.first_room())
+    }
+
+    // The same, where the numbers of uses are not known.
+    fn of_unknown(
+        alloc: Global,
+        below: &[TokenTree],
+        room: FirstRoom,
+    ) -> Result<ListTables, TtFault>
+        ensures whole { IfOk result (λ tables. IsWhole below.now) }
+        ensures parts { IfOk result (λ tables. (tables.parts.values.items ≡ part_table below.now) × HasFewParts below.now) }
+        ensures symbols { IfOk result (λ tables. (tables.symbols.values.items ≡ symbol_table below.now) × HasFewSymbols below.now) }
+        ensures uses { IfOk result (λ tables. UsesTables tables below.now) }
+        ensures room { IfOk result (λ tables. HasRoomForAll below.now tables.room) }
+        ensures err { IfErr result (IsTableFault below.now) }
+    {
         if below.len() <= FEW_TOKENS {
             if let Some(tables) = ListTables::of_few(alloc, below)? {
                 return Ok(tables);
             }
         }
-        let Some(known) = known else {
-            let room = FirstRoom::for_tokens(below.len());
-            return ListTables::of_counted(alloc, below, room);
-        };
-        if let Some(tables) = ListTables::of_known(alloc, below, known)? {
-            return Ok(tables);
-        }
-        ListTables::of_counted(alloc, below, known.first_room())
+        ListTables::of_counted(alloc, below, room)
     }
 
     // The same, where there are few parts and symbols. All stand by first use then, so nothing is counted.

@@ -16,6 +16,7 @@ ghost use Rattle.tt.specs.OneState.{HasState-prop};
 mod packing;
 
 use crate::builder::expected::ExpectedDelimiters;
+use crate::builder::leaves::add_leaf;
 use crate::builder::standing::{
     Standing, SubtreeBuilderRestorePoint, drop_deeper, drop_later, find,
 };
@@ -113,7 +114,18 @@ impl Held {
     }
 
     /// Appends a leaf; the mark stays.
-    pub(crate) fn push(&mut self, leaf: Leaf) -> Result<(), Refused<Leaf>>
+    pub(crate) fn push(
+        &mut self,
+        parts: &mut Counts<SpanPart>,
+        symbols: &mut Counts<Symbol>,
+        leaf: Leaf,
+    ) -> Result<(), Refused<Leaf>>
+        requires parts { CountsUses same_part (held_parts self.old.stack) parts.old.numbers.entries }
+        requires symbols { CountsUses bytes_eq (held_symbols self.old.stack) symbols.old.numbers.entries }
+        ensures parts_ok { OnOk result (CountsUses same_part (held_parts (pushed leaf self.old).stack) parts.new.numbers.entries) }
+        ensures symbols_ok { OnOk result (CountsUses bytes_eq (held_symbols (pushed leaf self.old).stack) symbols.new.numbers.entries) }
+        ensures parts_err { OnErr result (CountsUses same_part (held_parts self.old.stack) parts.new.numbers.entries) }
+        ensures symbols_err { OnErr result (CountsUses bytes_eq (held_symbols self.old.stack) symbols.new.numbers.entries) }
         ensures ok { OnOk result (self.new ≡ pushed leaf self.old) }
         ensures room { OnOk result (HasRoom 1 self.old) }
         ensures err { OnErr result (self.new ≡ self.old) }
@@ -127,6 +139,12 @@ impl Held {
             });
         }
         if self.tokens.reserve(1).is_err() {
+            return Err(Refused {
+                fault: TtFault::Memory,
+                value: leaf,
+            });
+        }
+        if !add_leaf(parts, symbols, &leaf) {
             return Err(Refused {
                 fault: TtFault::Memory,
                 value: leaf,

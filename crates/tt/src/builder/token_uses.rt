@@ -11,7 +11,7 @@ ghost use Rattle.tt.specs.HeldUses.{first_part};
 ghost use Rattle.tt_base.specs.declared.token_tree.TokenTree.{TokenTree};
 ghost use Rattle.tt_tables.specs.Uses.{same_part, token_parts, token_symbols, leaf_symbols, part_uses, symbol_uses};
 
-use crate::builder::leaves::{add_symbol, symbol_index};
+use crate::builder::leaves::add_leaf;
 use crate::builder::tokens::{add_trees, add_trees_alone};
 use tt_base::{Leaf, SpanPart, Symbol, TokenTree};
 use tt_counts::Counts;
@@ -25,17 +25,7 @@ fn add_token(parts: &mut Counts<SpanPart>, symbols: &mut Counts<Symbol>, token: 
     ensures symbols { CountsMore bytes_eq (if result then token_symbols token.now else []) symbols.old.numbers.entries symbols.new.numbers.entries }
 {
     match token {
-        TokenTree::Leaf(leaf) => {
-            let Ok(part) = parts.index_near(&SpanPart::from_span(leaf.span())) else {
-                return false;
-            };
-            let Ok(symbol) = symbol_index(symbols, leaf) else {
-                return false;
-            };
-            parts.add_at(part);
-            add_symbol(symbols, symbol);
-            true
-        }
+        TokenTree::Leaf(leaf) => add_leaf(parts, symbols, leaf),
         TokenTree::Subtree(header) => {
             let opening = SpanPart::from_span(&header.delimiter.open_span);
             if parts.add(&opening).is_err() {

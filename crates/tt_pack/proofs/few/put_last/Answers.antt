@@ -1,15 +1,15 @@
 use Rattle.std.proofs.Common.{◌≡◌, ◌++◌, ◌∷◌, ◌+◌, [], Some, length, length-append, slice_get, ap, ap₂, ◌∙◌, arith, rules}
 use Rattle.std.proofs.lemmas.Option.{slice_get_within}
 use Rattle.tt_pack.proofs.Noting.{noted_there, stands_last}
-use Rattle.tt_pack.proofs.few.note_elsewhere.Goals as goal
+use Rattle.tt_pack.proofs.few.put_last.Goals as goal
 
 pub returns-in-Some-clause-values : goal.returns-in-Some-clause-values
 returns-in-Some-clause-values g c =
-    noted_there g.T.PartialEq.eq g.met.T.Eq.laws c.args.values.now.items c.in-Some.index c.args.value.now (rw c.deref.ensures.value at c.in-Some.ensures.at)
+    noted_there g.T.PartialEq.eq g.met.T.Eq.laws c.args.values.now.items c.in-Some.index c.args.value.now (rw c.in-Some.is at c.requires.at)
 
 pub returns-in-Some-clause-index : goal.returns-in-Some-clause-index
 returns-in-Some-clause-index g c few =
-    let at : slice_get c.args.values.now.items c.in-Some.index ≡ Some c.args.value.now = rw c.deref.ensures.value at c.in-Some.ensures.at in
+    let at : slice_get c.args.values.now.items c.in-Some.index ≡ Some c.args.value.now = rw c.in-Some.is at c.requires.at in
     let kept : c.kept_index.result ≡ c.in-Some.index = c.kept_index.ensures (omega (arith, few, slice_get_within c.args.values.now.items c.in-Some.index c.args.value.now at)) in
     ap (slice_get c.args.values.now.items) kept ∙ at
 
