@@ -266,6 +266,7 @@ impl FewUses {
 
     // Notes what the tokens use, and sees in the same pass that they are a whole list, and how many bytes they can take. The
     // answer is whether there is a place for all. Nothing is used before.
+    #[inline(never)]
     fn note_list(&mut self, alloc: Global, tokens: &[TokenTree]) -> Result<bool, TtFault>
         requires parts { self.old.parts.items ≡ [] }
         requires symbols { self.old.symbols.items ≡ [] }

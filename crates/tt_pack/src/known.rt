@@ -197,6 +197,7 @@ impl KnownUses {
 
     // Sees what the tokens use, that they are a whole list, and how many bytes they can take. The answer is whether all
     // stands in order. Nothing is used before.
+    #[inline(never)]
     fn see_list(
         &mut self,
         alloc: Global,

@@ -176,6 +176,7 @@ impl Uses {
 
     // Counts what the tokens use, and sees in the same pass that they are a whole list, and how many bytes they can take.
     // Nothing is used before.
+    #[inline(never)]
     fn count_list(&mut self, alloc: Global, tokens: &[TokenTree]) -> Result<(), TtFault>
         requires parts { self.old.parts.entries ≡ [] }
         requires symbols { self.old.symbols.entries ≡ [] }

@@ -106,7 +106,9 @@ impl<'a> Writer<'a> {
         self.bytes.len()
     }
 
-    /// Writes all tokens, whose tables these are, from the last to the first.
+    /// Writes all tokens, whose tables these are, from the last to the first. As the passes before it this is a call, so that
+    /// each has the registers for itself.
+    #[inline(never)]
     pub(crate) fn write_all(
         alloc: Global,
         tables: &'a ListTables,
