@@ -15,7 +15,7 @@ use Rattle.tt_base.specs.Unflat.{flat-join, length-flat}
 use Rattle.tt_tables.specs.Counts.{number_in, CountsUses, CountsMore}
 use Rattle.tt_tables.specs.TableOrder.{uses_of}
 use Rattle.tt_tables.specs.Uses.{same_part, leaf_symbols, token_parts, token_symbols, part_uses, symbol_uses}
-use Rattle.tt_counts.proofs.UseCounts.{uses-append, uses-cons, uses-one, uses-le, counts_behind, counts_same}
+use Rattle.tt_counts.proofs.UseCounts.{uses-append, uses-cons, uses-one, uses-le, counts_behind}
 use Rattle.tt.specs.HeldUses.{held_parts, held_symbols}
 
 -- The uses of lists behind each other.

@@ -1,4 +1,4 @@
-use Rattle.std.proofs.Common.{◌≡◌, ◌<◌, true, Some, bytes_eq, length, slice_get, ap, ◌∙◌, arith, rules}
+use Rattle.std.proofs.Common.{◌≡◌, ◌<◌, true, Some, bytes_eq, length, ap, ◌∙◌, arith, rules}
 use Rattle.std.proofs.lemmas.Option.{slice_get_read}
 use Rattle.tt_tables.proofs.TokenTables.{text_sound}
 use Rattle.tt_pack.proofs.few.find_symbol.Goals as goal

@@ -1,4 +1,4 @@
-use Rattle.std.proofs.Common.{◌≡◌, bytes_eq, rules}
+use Rattle.std.proofs.Common.{bytes_eq, rules}
 use Rattle.tt_base.specs.contracts.symbol.SymbolEq.TheImpl.Laws as symbol_eq
 use Rattle.tt_pack.proofs.Noting.{noted_there}
 use Rattle.tt_pack.proofs.few.note_symbol.Goals as goal

@@ -1,4 +1,4 @@
-use Rattle.std.proofs.Common.{◌≡◌, ◌+◌, ◌≤◌, ◌^◌, ℕ, ◌<◌, List, [], bytes_eq, length, slice_get, refl, ap, sym, subst, ◌∙◌, arith}
+use Rattle.std.proofs.Common.{bytes_eq, length, ap, sym, subst, ◌∙◌, arith}
 use Rattle.tt_base.specs.contracts.span.SpanPartEq.TheImpl.Laws as part_eq
 use Rattle.tt_base.specs.contracts.symbol.SymbolEq.TheImpl.Laws as symbol_eq
 use Rattle.tt_tables.specs.TableOrder.{IsTable}
