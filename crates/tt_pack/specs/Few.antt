@@ -13,7 +13,7 @@ use Rattle.tt_pack.specs.declared.few.FewUses.{FewUses}
 pub record AreFew (uses : FewUses) (tokens : List TokenTree) : Type 0 where
   pub whole : IsWhole tokens
   pub few_parts : length uses.parts.items ≤ short_parts
-  pub few_symbols : length uses.symbols.items ≤ 16
+  pub few_symbols : length uses.symbols.items ≤ 24
   pub all_parts : uses.parts.items ≡ different same_part (part_uses tokens)
   pub all_symbols : uses.symbols.items ≡ different bytes_eq (symbol_uses tokens)
 

@@ -16,9 +16,9 @@ use std::alloc::{AllocError, Global};
 use tt_base::{Leaf, Levels, SpanPart, Subtree, Symbol, TokenTree, TtFault};
 
 /// A list of up to so many tokens is seen here first.
-pub(crate) const FEW_TOKENS: usize = 48;
+pub(crate) const FEW_TOKENS: usize = 64;
 // So many symbols are found by comparing as fast as by hashing. Up to 63 stand by first use.
-const FEW_SYMBOLS: usize = 16;
+const FEW_SYMBOLS: usize = 24;
 
 /// The different parts and symbols by first use, which of them each token uses, and how many bytes all can take.
 #[derive(Drop)]
@@ -112,13 +112,13 @@ fn note_part(
     put_last(parts, SHORT_PARTS, found, part)
 }
 
-// Where a symbol stands. One that is new goes last, if fewer than 16 stand there. It is first looked for at the place that it
+// Where a symbol stands. One that is new goes last, if fewer than 24 stand there. It is first looked for at the place that it
 // notes, and where it stands elsewhere it notes that.
 #[inline(always)]
 fn note_symbol(symbols: &mut Vec<Symbol>, symbol: &Symbol) -> Result<Option<u32>, AllocError>
     ensures symbols { IfOk result (λ found. IfSome found (λ index. symbols.new.items ≡ note_value bytes_eq symbols.old.items symbol.now)) }
     ensures index { IfOk result (λ found. IfSome found (λ index. StandsAt symbols.new.items index symbol.now)) }
-    ensures few { length symbols.old.items ≤ 16 → length symbols.new.items ≤ 16 }
+    ensures few { length symbols.old.items ≤ 24 → length symbols.new.items ≤ 24 }
 {
     let place = symbol.place();
     if is_at(symbols, place as usize, symbol) {
@@ -132,7 +132,7 @@ fn note_symbol(symbols: &mut Vec<Symbol>, symbol: &Symbol) -> Result<Option<u32>
 fn note_elsewhere(symbols: &mut Vec<Symbol>, symbol: &Symbol) -> Result<Option<u32>, AllocError>
     ensures symbols { IfOk result (λ found. IfSome found (λ index. symbols.new.items ≡ note_value bytes_eq symbols.old.items symbol.now)) }
     ensures index { IfOk result (λ found. IfSome found (λ index. StandsAt symbols.new.items index symbol.now)) }
-    ensures few { length symbols.old.items ≤ 16 → length symbols.new.items ≤ 16 }
+    ensures few { length symbols.old.items ≤ 24 → length symbols.new.items ≤ 24 }
 {
     let found = find_symbol(symbols, symbol);
     let index = put_last(symbols, FEW_SYMBOLS, found, symbol)?;
@@ -169,7 +169,7 @@ impl FewUses {
         ensures symbols { IfOk result (λ found. IfSome found (λ uses. self.new.symbols.items ≡ fold (note_value bytes_eq) self.old.symbols.items (token_symbols (token.Leaf leaf.now)))) }
         ensures uses { IfOk result (λ found. IfSome found (AreUses (StandsAt self.new.parts.items) (StandsAt self.new.symbols.items) (token.Leaf leaf.now))) }
         ensures few_parts { length self.old.parts.items ≤ 15 → length self.new.parts.items ≤ 15 }
-        ensures few_symbols { length self.old.symbols.items ≤ 16 → length self.new.symbols.items ≤ 16 }
+        ensures few_symbols { length self.old.symbols.items ≤ 24 → length self.new.symbols.items ≤ 24 }
         ensures room { IfOk result (λ found. IfSome found (λ uses. TakesRoom (token.Leaf leaf.now) self.old.room self.new.room)) }
         ensures tokens { self.new.tokens ≡ self.old.tokens }
     {
@@ -243,7 +243,7 @@ impl FewUses {
         ensures symbols { IfOk result (λ found. IfSome found (λ uses. self.new.symbols.items ≡ fold (note_value bytes_eq) self.old.symbols.items (token_symbols token.now))) }
         ensures uses { IfOk result (λ found. IfSome found (AreUses (StandsAt self.new.parts.items) (StandsAt self.new.symbols.items) token.now)) }
         ensures few_parts { length self.old.parts.items ≤ 15 → length self.new.parts.items ≤ 15 }
-        ensures few_symbols { length self.old.symbols.items ≤ 16 → length self.new.symbols.items ≤ 16 }
+        ensures few_symbols { length self.old.symbols.items ≤ 24 → length self.new.symbols.items ≤ 24 }
         ensures room { IfOk result (λ found. IfSome found (λ uses. TakesRoom token.now self.old.room self.new.room)) }
         ensures tokens { self.new.tokens ≡ self.old.tokens }
         ensures err { IfErr result (IsTakeFault (open_levels levels.old) token.now) }

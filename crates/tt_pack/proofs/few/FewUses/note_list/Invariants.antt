@@ -14,7 +14,7 @@ abbrev pub invariant-loop-token : goal.invariant-loop-token
 invariant-loop-token l =
     record {
       few_parts : length l.self.parts.items ≤ 15;
-      few_symbols : length l.self.symbols.items ≤ 16;
+      few_symbols : length l.self.symbols.items ≤ 24;
       all_parts : l.self.parts.items ≡ different same_part (part_uses (take l.token-index l.tokens));
       all_symbols : l.self.symbols.items ≡ different bytes_eq (symbol_uses (take l.token-index l.tokens));
       whole : IsWhole l.tokens ↔ AreLevels (drop l.token-index l.tokens) (open_levels l.levels);
