@@ -51,14 +51,31 @@ fn hold_the_same(left: &TopSubtreeBuilder, right: &TopSubtreeBuilder) -> Result<
     Ok(have_same_kinds(left, right) && closed(left)? == closed(right)?)
 }
 
-// A copy, with that point restored, and whether it stood.
-fn restored(
-    builder: &TopSubtreeBuilder,
+// A copy of a builder, with a point restored, and whether that stood.
+#[derive(Drop)]
+struct Restored {
+    builder: TopSubtreeBuilder,
+    stood: bool,
+}
+
+// The copy with the point of that number restored.
+fn restored(builder: &TopSubtreeBuilder, number: u64) -> Result<Restored, TtFault> {
+    let mut builder = builder.clone()?;
+    let stood = builder.restore(SubtreeBuilderRestorePoint::from_number(number));
+    Ok(Restored { builder, stood })
+}
+
+// Whether the point of that number does the same to a builder.
+fn restores_alike(
+    left: &Restored,
+    right: &TopSubtreeBuilder,
     number: u64,
-) -> Result<(TopSubtreeBuilder, bool), TtFault> {
-    let mut copy = builder.clone()?;
-    let stood = copy.restore(SubtreeBuilderRestorePoint::from_number(number));
-    Ok((copy, stood))
+) -> Result<bool, TtFault> {
+    let right = restored(right, number)?;
+    if left.stood != right.stood {
+        return Ok(false);
+    }
+    hold_the_same(&left.builder, &right.builder)
 }
 
 // Whether that point stands in both or in neither, and leads to the same.
@@ -67,9 +84,7 @@ fn restore_alike(
     right: &TopSubtreeBuilder,
     number: u64,
 ) -> Result<bool, TtFault> {
-    let (left, left_stood) = restored(left, number)?;
-    let (right, right_stood) = restored(right, number)?;
-    Ok(left_stood == right_stood && hold_the_same(&left, &right)?)
+    restores_alike(&restored(left, number)?, right, number)
 }
 
 // Whether they count the same.

@@ -45,15 +45,7 @@ pub fn named(name: &str) -> Option<Growth> {
 
 /// How the call ends.
 pub fn ends<R: Print>(rt: &R, alloc: Global, growth: Growth) -> Result<Outcome, SweepError> {
-    let mut call = Growing {
-        growth,
-        alloc,
-        builder: builder_for(alloc, growth)?,
-        before: builder_for(alloc, growth)?,
-        after: held(alloc, growth)?,
-        trees: flat_tree(alloc, &ten())?,
-        names: names_twice(alloc)?,
-    };
+    let mut call = Growing::new(alloc, growth)?;
     call_ends(rt, &mut call)
 }
 
@@ -218,48 +210,86 @@ fn ten_of_which_the_last_is_alone() -> [Leaf; 10] {
     leaves
 }
 
-// A call of a builder, the builder before it, the tree that it makes behind it, and what is appended: trees, or new names, which
-// are there twice, since a call that is refused has taken them.
+// A builder, and what it is before the call.
 #[derive(Drop)]
-struct Growing {
-    growth: Growth,
-    alloc: Global,
+struct Twins {
     builder: TopSubtreeBuilder,
     before: TopSubtreeBuilder,
-    after: TopSubtree,
+}
+
+fn twins(alloc: Global, growth: Growth) -> Result<Twins, TtFault> {
+    Ok(Twins {
+        builder: builder_for(alloc, growth)?,
+        before: builder_for(alloc, growth)?,
+    })
+}
+
+// What is appended: trees, or new names, which are there twice, since a call that is refused has taken them.
+#[derive(Drop)]
+struct Given {
     trees: TopSubtree,
     names: Vec<Vec<Leaf>>,
 }
 
+fn given(alloc: Global) -> Result<Given, TtFault> {
+    Ok(Given {
+        trees: flat_tree(alloc, &ten())?,
+        names: names_twice(alloc)?,
+    })
+}
+
+// A call of a builder, the tree that it makes behind it, and what is appended.
+#[derive(Drop)]
+struct Growing {
+    growth: Growth,
+    alloc: Global,
+    twins: Twins,
+    after: TopSubtree,
+    given: Given,
+}
+
+impl Growing {
+    fn new(alloc: Global, growth: Growth) -> Result<Growing, TtFault> {
+        Ok(Growing {
+            growth,
+            alloc,
+            twins: twins(alloc, growth)?,
+            after: held(alloc, growth)?,
+            given: given(alloc)?,
+        })
+    }
+}
+
 impl Call for Growing {
     fn make(&mut self) -> Result<bool, TtFault> {
-        let trees = self.trees.token_trees();
+        let builder = &mut self.twins.builder;
+        let trees = self.given.trees.token_trees();
         match self.growth {
-            Growth::New => self.builder = TopSubtreeBuilder::new(self.alloc, invisible())?,
-            Growth::Clone => self.builder = self.builder.clone()?,
-            Growth::Open => self.builder.open(DelimiterKind::Parenthesis, span(0))?,
-            Growth::Push => return push(&mut self.builder),
-            Growth::Close => close_at(&mut self.builder, span(NEW_ID))?,
-            Growth::Extend => self.builder.extend(ten().into_iter())?,
-            Growth::ExtendByNames => return extend_by_names(&mut self.builder, self.names.pop()),
-            Growth::Trees => self.builder.extend_with_tt(trees)?,
-            Growth::TreesAlone => self.builder.extend_with_tt_alone(trees)?,
-            Growth::Point => return point(&mut self.builder),
+            Growth::New => *builder = TopSubtreeBuilder::new(self.alloc, invisible())?,
+            Growth::Clone => *builder = builder.clone()?,
+            Growth::Open => builder.open(DelimiterKind::Parenthesis, span(0))?,
+            Growth::Push => return push(builder),
+            Growth::Close => close_at(builder, span(NEW_ID))?,
+            Growth::Extend => builder.extend(ten().into_iter())?,
+            Growth::ExtendByNames => return extend_by_names(builder, self.given.names.pop()),
+            Growth::Trees => builder.extend_with_tt(trees)?,
+            Growth::TreesAlone => builder.extend_with_tt_alone(trees)?,
+            Growth::Point => return point(builder),
         }
         Ok(true)
     }
 
     fn is_as_before(&self) -> Result<bool, TtFault> {
-        are_alike(&self.builder, &self.before)
+        are_alike(&self.twins.builder, &self.twins.before)
     }
 
     fn is_as_after(&self) -> Result<bool, TtFault> {
         let kinds = self.growth.open_kinds();
         let points = self.growth.points();
         Ok(
-            has_open(&self.builder, kinds)
-                && self.builder.points_taken() == points
-                && closed(&self.builder)? == self.after,
+            has_open(&self.twins.builder, kinds)
+                && self.twins.builder.points_taken() == points
+                && closed(&self.twins.builder)? == self.after,
         )
     }
 }
