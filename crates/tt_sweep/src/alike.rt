@@ -58,11 +58,13 @@ struct Restored {
     stood: bool,
 }
 
-// The copy with the point of that number restored.
-fn restored(builder: &TopSubtreeBuilder, number: u64) -> Result<Restored, TtFault> {
-    let mut builder = builder.clone()?;
-    let stood = builder.restore(SubtreeBuilderRestorePoint::from_number(number));
-    Ok(Restored { builder, stood })
+impl Restored {
+    // The copy with the point of that number restored.
+    fn of(builder: &TopSubtreeBuilder, number: u64) -> Result<Restored, TtFault> {
+        let mut builder = builder.clone()?;
+        let stood = builder.restore(SubtreeBuilderRestorePoint::from_number(number));
+        Ok(Restored { builder, stood })
+    }
 }
 
 // Whether the point of that number does the same to a builder.
@@ -71,7 +73,7 @@ fn restores_alike(
     right: &TopSubtreeBuilder,
     number: u64,
 ) -> Result<bool, TtFault> {
-    let right = restored(right, number)?;
+    let right = Restored::of(right, number)?;
     if left.stood != right.stood {
         return Ok(false);
     }
@@ -84,7 +86,7 @@ fn restore_alike(
     right: &TopSubtreeBuilder,
     number: u64,
 ) -> Result<bool, TtFault> {
-    restores_alike(&restored(left, number)?, right, number)
+    restores_alike(&Restored::of(left, number)?, right, number)
 }
 
 // Whether they count the same.

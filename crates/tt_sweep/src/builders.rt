@@ -217,11 +217,13 @@ struct Twins {
     before: TopSubtreeBuilder,
 }
 
-fn twins(alloc: Global, growth: Growth) -> Result<Twins, TtFault> {
-    Ok(Twins {
-        builder: builder_for(alloc, growth)?,
-        before: builder_for(alloc, growth)?,
-    })
+impl Twins {
+    fn new(alloc: Global, growth: Growth) -> Result<Twins, TtFault> {
+        Ok(Twins {
+            builder: builder_for(alloc, growth)?,
+            before: builder_for(alloc, growth)?,
+        })
+    }
 }
 
 // What is appended: trees, or new names, which are there twice, since a call that is refused has taken them.
@@ -231,11 +233,13 @@ struct Given {
     names: Vec<Vec<Leaf>>,
 }
 
-fn given(alloc: Global) -> Result<Given, TtFault> {
-    Ok(Given {
-        trees: flat_tree(alloc, &ten())?,
-        names: names_twice(alloc)?,
-    })
+impl Given {
+    fn new(alloc: Global) -> Result<Given, TtFault> {
+        Ok(Given {
+            trees: flat_tree(alloc, &ten())?,
+            names: names_twice(alloc)?,
+        })
+    }
 }
 
 // A call of a builder, the tree that it makes behind it, and what is appended.
@@ -249,13 +253,14 @@ struct Growing {
 }
 
 impl Growing {
+    // The builders come last: until then no way out lets them go.
     fn new(alloc: Global, growth: Growth) -> Result<Growing, TtFault> {
         Ok(Growing {
             growth,
             alloc,
-            twins: twins(alloc, growth)?,
             after: held(alloc, growth)?,
-            given: given(alloc)?,
+            given: Given::new(alloc)?,
+            twins: Twins::new(alloc, growth)?,
         })
     }
 }
