@@ -47,11 +47,6 @@ module _ {X : Type 0} (same : X → X → Bool) where
   pub noted_new : (values : List X) (x : X) → list_any (λ y. same y x) values ≡ false → values ++ x ∷ [] ≡ note_value same values x
   noted_new values x new = sym (noted_by values x false new)
 
-  -- One that is new stands last.
-  pub stands_last : (values : List X) (x : X) → slice_get (values ++ x ∷ []) (length values) ≡ Some x
-  stands_last [] x = refl
-  stands_last (y ∷ values) x = stands_last values x
-
   -- Where a search among values ends, the value stands.
   pub found_at : ((x y : X) → same x y ≡ true → x ≡ y) → (values : List X) (i : ℕ) (x : X) → position (same x) values ≡ Some i → slice_get values i ≡ Some x
   found_at sound values i x found =

@@ -2,6 +2,7 @@
 ghost use Rattle.std.specs.Prelude.{◌≡◌, ◌≤◌, [], true, false, fold, length, bytes_eq, slice_get, Some, IfOk, OnOk, IfErr, IfSome, IfNone};
 ghost use Rattle.std.specs.Bool.{OnTrue};
 ghost use Rattle.std.specs.List.{list_any};
+ghost use Rattle.tt_base.specs.Span.{part_of};
 ghost use Rattle.tt_tables.specs.Uses.{same_part, token_parts, token_symbols};
 ghost use Rattle.tt_pack.specs.Counted.{note_value};
 ghost use Rattle.tt_pack.specs.Few.{AreFew, HasFew};
@@ -13,7 +14,7 @@ use crate::counts::kept_index;
 use crate::room::{MOST_HEADER_BYTES, MOST_IDENT_BYTES, MOST_LITERAL_BYTES, most_punct_bytes};
 use crate::uses::{SHORT_PARTS, TOP_PARTS, TokenUses};
 use std::alloc::{AllocError, Global};
-use tt_base::{Leaf, Levels, SpanPart, Subtree, Symbol, TokenTree, TtFault};
+use tt_base::{Leaf, Levels, Span, SpanPart, Subtree, Symbol, TokenTree, TtFault};
 
 /// A list of up to so many tokens is seen here first.
 pub(crate) const FEW_TOKENS: usize = 64;
@@ -93,23 +94,20 @@ fn is_at<T: Eq>(values: &[T], index: usize, value: &T) -> bool
     values[index] == *value
 }
 
-// Where a part stands. One that is new goes last, if fewer than 15 stand there. It is first looked for at the index of another
-// use.
+// Where the part of a span stands. One that is new goes last, if fewer than 15 stand there. It is first looked for at the
+// index of another use.
 #[inline(always)]
-fn note_part(
-    parts: &mut Vec<SpanPart>,
-    other: u32,
-    part: &SpanPart,
-) -> Result<Option<u32>, AllocError>
-    ensures parts { IfOk result (λ found. IfSome found (λ index. parts.new.items ≡ note_value same_part parts.old.items part.now)) }
-    ensures index { IfOk result (λ found. IfSome found (λ index. StandsAt parts.new.items index part.now)) }
+fn note_part(parts: &mut Vec<SpanPart>, other: u32, span: &Span) -> Result<Option<u32>, AllocError>
+    ensures parts { IfOk result (λ found. IfSome found (λ index. parts.new.items ≡ note_value same_part parts.old.items (part_of span.now))) }
+    ensures index { IfOk result (λ found. IfSome found (λ index. StandsAt parts.new.items index (part_of span.now))) }
     ensures few { length parts.old.items ≤ 15 → length parts.new.items ≤ 15 }
 {
-    if is_at(parts, other as usize, part) {
+    let part = SpanPart::from_span(span);
+    if is_at(parts, other as usize, &part) {
         return Ok(Some(other));
     }
-    let found = find_part(parts, part);
-    put_last(parts, SHORT_PARTS, found, part)
+    let found = find_part(parts, &part);
+    put_last(parts, SHORT_PARTS, found, &part)
 }
 
 // Where a symbol stands. One that is new goes last, if fewer than 24 stand there. It is first looked for at the place that it
@@ -176,8 +174,7 @@ impl FewUses {
         match leaf {
             Leaf::Literal(literal) => {
                 self.room = self.room.saturating_add(MOST_LITERAL_BYTES);
-                let value = SpanPart::from_span(literal.span());
-                let Some(part) = note_part(&mut self.parts, before, &value)? else {
+                let Some(part) = note_part(&mut self.parts, before, literal.span())? else {
                     return Ok(None);
                 };
                 let Some(other) = note_symbol(&mut self.symbols, literal.symbol())? else {
@@ -187,16 +184,14 @@ impl FewUses {
             }
             Leaf::Punct(punct) => {
                 self.room = self.room.saturating_add(most_punct_bytes(punct.char));
-                let value = SpanPart::from_span(&punct.span);
-                let Some(part) = note_part(&mut self.parts, before, &value)? else {
+                let Some(part) = note_part(&mut self.parts, before, &punct.span)? else {
                     return Ok(None);
                 };
                 Ok(Some(TokenUses { part, other: part }))
             }
             Leaf::Ident(ident) => {
                 self.room = self.room.saturating_add(MOST_IDENT_BYTES);
-                let value = SpanPart::from_span(&ident.span);
-                let Some(part) = note_part(&mut self.parts, before, &value)? else {
+                let Some(part) = note_part(&mut self.parts, before, &ident.span)? else {
                     return Ok(None);
                 };
                 let Some(other) = note_symbol(&mut self.symbols, &ident.sym)? else {
@@ -218,12 +213,11 @@ impl FewUses {
         ensures tokens { self.new.tokens ≡ self.old.tokens }
     {
         self.room = self.room.saturating_add(MOST_HEADER_BYTES);
-        let opening = SpanPart::from_span(&header.delimiter.open_span);
-        let closing = SpanPart::from_span(&header.delimiter.close);
-        let Some(part) = note_part(&mut self.parts, before, &opening)? else {
+        let delimiter = &header.delimiter;
+        let Some(part) = note_part(&mut self.parts, before, &delimiter.open_span)? else {
             return Ok(None);
         };
-        let Some(other) = note_part(&mut self.parts, part, &closing)? else {
+        let Some(other) = note_part(&mut self.parts, part, &delimiter.close)? else {
             return Ok(None);
         };
         Ok(Some(TokenUses { part, other }))

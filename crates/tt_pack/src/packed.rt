@@ -30,9 +30,6 @@ use std::marker::Model;
 use tt_base::{Refused, SpanPart, Symbol, TokenTree, TtFault};
 use tt_tables::Tables;
 
-// The last parts are those of the top's two spans.
-const TOP_PARTS: usize = 2;
-
 /// A token tree as bytes and two tables. A contract sees the tree; its bytes and tables are a function of it
 /// (docs/FORMATS.md), so equal trees are stored alike.
 #[derive(Drop)]

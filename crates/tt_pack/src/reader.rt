@@ -15,8 +15,8 @@ use tt_base::TokenTree;
 // Where the bytes of the top header stand.
 const TOP_HEADER: usize = 0;
 
-// How many they are.
-const TOP_BYTES: usize = 33;
+/// How many they are.
+pub(crate) const TOP_BYTES: usize = 33;
 
 /// An offset in the bytes of a stored tree, from which its tokens are read one by one. A read decodes one token,
 /// takes no memory and searches nothing. A contract sees the trees ahead: at the start the whole tree, and

@@ -21,7 +21,7 @@ use tt_codec::{MOST_PARTS, MOST_SYMBOLS};
 pub(crate) const SHORT_PARTS: usize = 15;
 // Up to so many symbols: a reference to one takes one byte.
 const SHORT_SYMBOLS: usize = 63;
-/// The top has two parts of its own, which need an index each.
+/// The top has two parts of its own, which need an index each and stand last.
 pub(crate) const TOP_PARTS: usize = 2;
 // The most parts below the top.
 const MOST_PARTS_BELOW: usize = MOST_PARTS - TOP_PARTS;

@@ -3,13 +3,11 @@ ghost use Rattle.std.specs.Prelude.{◌≡◌};
 ghost use Rattle.tt_base.specs.Edits.{with_kind, with_spans};
 ghost use Rattle.tt_pack.specs.Packed.{with_top};
 
-use crate::packed::{Packed, TOP_PARTS};
-use crate::reader::Reader;
+use crate::packed::Packed;
+use crate::reader::{Reader, TOP_BYTES};
+use crate::uses::TOP_PARTS;
 use tt_base::{DelimSpan, Delimiter, DelimiterKind, SpanPart, Subtree, TokenTree};
 use tt_codec::HeaderEntry;
-
-// How many bytes the top header takes.
-const TOP_BYTES: usize = 33;
 
 impl Packed {
     /// Changes the kind of the top, in place. All other tokens read as before.

@@ -1,6 +1,7 @@
 use Rattle.std.proofs.Common.{◌≡◌, ◌++◌, ◌∷◌, ◌+◌, [], Some, length, length-append, slice_get, ap, ap₂, ◌∙◌, arith, rules}
 use Rattle.std.proofs.lemmas.Option.{slice_get_within}
-use Rattle.tt_pack.proofs.Noting.{noted_there, stands_last}
+use Rattle.tt_pack.proofs.Noting.{noted_there}
+use Rattle.tt_pack.proofs.RowOrder.{slice_get-snoc}
 use Rattle.tt_pack.proofs.few.put_last.Goals as goal
 
 pub returns-in-Some-clause-values : goal.returns-in-Some-clause-values
@@ -21,4 +22,4 @@ returns-clause-index g c few =
     let more : c.push.new.self.items ≡ values ++ value ∷ [] = c.in_ok-push.ensures.items ∙ ap (λ x. values ++ x ∷ []) copy in
     let long : length c.push.new.self.items ≡ length values + 1 = ap length more ∙ length-append values (value ∷ []) in
     let kept : c.kept_index-2.result ≡ length values = c.kept_index-2.ensures (omega (arith, few, long, c.len-index.ensures)) ∙ omega (arith, c.len-index.ensures) in
-    ap₂ slice_get more kept ∙ stands_last g.T.PartialEq.eq values value
+    ap₂ slice_get more kept ∙ slice_get-snoc values value
