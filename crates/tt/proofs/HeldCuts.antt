@@ -5,6 +5,7 @@ use Rattle.std.proofs.Math.Seq.{get_or-append_seam}
 use Rattle.std.specs.Cmp.{IsEquivalence}
 use Rattle.std.specs.List.{flat_map, remove}
 use Rattle.tt_base.specs.declared.delimiter.Delimiter.{Delimiter}
+use Rattle.tt_base.specs.contracts.span.SpanPartEq.TheImpl.Laws as part_eq
 use Rattle.tt_base.specs.declared.span.SpanPart.{SpanPart}
 use Rattle.tt_base.specs.declared.token_tree.TokenTree.{TokenTree}
 use Rattle.tt_base.specs.Building.{Stack, lowest, above, innermost, bottom, tokens_held, unwrap_innermost, Point, IsAbove}
@@ -12,7 +13,8 @@ use Rattle.tt_base.specs.Forest.{flat, header}
 use Rattle.tt_base.specs.Span.{part_of}
 use Rattle.tt_base.specs.Unflat.{length-flat}
 use Rattle.tt_tables.specs.Counts.{number_in, CountsMore}
-use Rattle.tt_tables.specs.TableOrder.{uses_of}
+use Rattle.tt_tables.proofs.Different.{different_twice}
+use Rattle.tt_tables.specs.TableOrder.{different, uses_of}
 use Rattle.tt_tables.specs.Uses.{same_part, token_parts, token_symbols, part_uses, symbol_uses}
 use Rattle.tt_counts.proofs.UseCounts.{one_if, uses-append, uses-cons, uses-one, uses-le}
 use Rattle.tt.specs.declared.builder.standing.Standing.{Standing}
@@ -103,6 +105,25 @@ written_parts top (above outer kind open_span trees) a =
       uses-one same_part part a,
     )
 
+-- The top's header comes first.
+first_written : (top : Delimiter) (stack : Stack) → written top stack ≡ header top 0 ∷ drop 1 (written top stack)
+first_written top (lowest trees) = refl
+first_written top (above outer kind open_span trees) =
+    let more = open_header kind open_span ∷ flat trees in
+    let all : written top outer ++ more ≡ header top 0 ∷ (drop 1 (written top outer) ++ more) = ap (λ l. l ++ more) (first_written top outer) in
+    all ∙ ap (λ l. header top 0 ∷ l) (sym (ap (drop 1) all))
+
+-- Below it stand the uses held, and for each open subtree its open part in place of the close.
+pub below_parts : (top : Delimiter) (stack : Stack) (a : SpanPart)
+    → uses_of same_part (part_uses (drop 1 (written top stack))) a ≡ uses_of same_part (held_parts stack) a + uses_of same_part (open_parts stack) a
+below_parts top stack a =
+    omega (
+      arith,
+      written_parts top stack a,
+      ap (λ l. uses_of same_part (part_uses l) a) (first_written top stack),
+      uses-append same_part (token_parts (header top 0)) (part_uses (drop 1 (written top stack))) a,
+    )
+
 -- The parts at the places of the open headers.
 pub opened_parts : (top : Delimiter) (stack : Stack) (more : List TokenTree) (d : TokenTree)
     → map (λ place. first_part (get_or (written top stack ++ more) place d)) (places stack) ≡ open_parts stack
@@ -158,6 +179,35 @@ written_symbols : (top : Delimiter) (stack : Stack) → symbol_uses (written top
 written_symbols top (lowest trees) = refl
 written_symbols top (above outer kind open_span trees) =
     uses_joined token_symbols (written top outer) (open_header kind open_span ∷ flat trees) ∙ ap (λ l. l ++ symbol_uses (flat trees)) (written_symbols top outer)
+
+-- So have the tokens below the top.
+pub below_symbols : (top : Delimiter) (stack : Stack) → symbol_uses (drop 1 (written top stack)) ≡ held_symbols stack
+below_symbols top stack = sym (ap symbol_uses (first_written top stack)) ∙ written_symbols top stack
+
+-- The open part of an open subtree stands twice, one behind the other, and is one of the different parts.
+pub below_different : (top : Delimiter) (stack : Stack) (more : List SpanPart)
+    → different same_part (part_uses (drop 1 (written top stack)) ++ more) ≡ different same_part (held_parts stack ++ more)
+below_different top (lowest trees) more = refl
+below_different top (above outer kind open_span trees) more =
+    ap (different same_part) (ap (λ l. l ++ more) below ∙ append_assoc before (part ∷ part ∷ inside) more)
+    ∙ below_different top outer (part ∷ part ∷ (inside ++ more))
+    ∙ different_twice same_part part_eq.lawful.laws (held_parts outer) part (inside ++ more)
+    ∙ ap (different same_part) (sym (append_assoc (held_parts outer) (part ∷ inside) more))
+  where
+    part : SpanPart
+    part = part_of open_span
+
+    inside : List SpanPart
+    inside = part_uses (flat trees)
+
+    before : List SpanPart
+    before = part_uses (drop 1 (written top outer))
+
+    more_tokens : List TokenTree
+    more_tokens = open_header kind open_span ∷ flat trees
+
+    below : part_uses (drop 1 (written top outer ++ more_tokens)) ≡ before ++ part ∷ part ∷ inside
+    below = ap (λ l. part_uses (drop 1 (l ++ more_tokens))) (first_written top outer) ∙ uses_joined token_parts (drop 1 (written top outer)) more_tokens
 
 -- The symbols of the tokens after a point go.
 pub cut_symbols : (top : Delimiter) (stack : Stack) (k : Standing) (p : Point) → IsNoted top (written top stack) (places stack) k p

@@ -1,5 +1,5 @@
 -- The counts of what is held, after trees are appended.
-use Rattle.std.proofs.Common.{◌≡◌, ℕ, ◌+◌, ◌*◌, ◌<◌, ◌≤◌, ◌^◌, Bool, true, false, cond, List, ◌++◌, length, take, drop, Option, Result, Ok, Err, OnOk, OnErr, bytes_eq, ap, ap₂, sym, ◌∙◌, subst, arith}
+use Rattle.std.proofs.Common.{◌≡◌, ℕ, ◌+◌, ◌*◌, ◌<◌, ◌≤◌, ◌^◌, Bool, true, false, cond, List, ◌++◌, length, take, drop, Option, bytes_eq, ap, ap₂, sym, ◌∙◌, subst, arith}
 use Rattle.std.proofs.Math.Seq.{drop-append-add}
 use Rattle.tt_base.specs.declared.span.SpanPart.{SpanPart}
 use Rattle.tt_base.specs.declared.token_tree.TokenTree.{TokenTree}
@@ -50,12 +50,3 @@ new_tokens old all more n grown count = ap₂ drop here grown ∙ drop-append-ad
 pub stay_or_go : (stay : Bool) (old all now more : List TokenTree) (n : ℕ) → all ≡ old ++ more → n ≡ length old → now ≡ cond stay all (take n all) → now ≡ cond stay (old ++ more) old
 stay_or_go true old all now more n grown count is = is ∙ grown
 stay_or_go false old all now more n grown count is = cut_back old all now more n grown count is
-
--- Three facts of a success, and of an error.
-pub three_ok : {R E : Type 0} (A B C : Type 0) (result : Result R E) → OnOk result A → OnOk result B → OnOk result C → OnOk result (A × B × C)
-three_ok A B C (Ok v) a b c = (a, b, c)
-three_ok A B C (Err e) a b c = a
-
-pub three_err : {R E : Type 0} (A B C : Type 0) (result : Result R E) → OnErr result A → OnErr result B → OnErr result C → OnErr result (A × B × C)
-three_err A B C (Ok v) a b c = a
-three_err A B C (Err e) a b c = (a, b, c)

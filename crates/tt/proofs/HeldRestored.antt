@@ -9,13 +9,13 @@ use Rattle.tt_base.specs.Building.{Stack, lowest, above, tokens_held, noted, bac
 use Rattle.tt_base.specs.Forest.{flat}
 use Rattle.tt_base.specs.Span.{part_of}
 use Rattle.tt_tables.specs.Counts.{number_in, CountsUses, CountsMore}
-use Rattle.tt_tables.specs.TableOrder.{uses_of}
+use Rattle.tt_tables.specs.TableOrder.{different, uses_of}
 use Rattle.tt_tables.specs.Uses.{same_part, part_uses, symbol_uses}
 use Rattle.tt_counts.proofs.UseCounts.{uses-append, uses-cons, uses-one, uses-le, counts_cut}
 use Rattle.tt.specs.declared.builder.standing.Standing.{Standing}
 use Rattle.tt.specs.BuilderFields.{written, places, kept_under, IsNoted, IsStateOf}
 use Rattle.tt.specs.HeldUses.{first_part, held_parts, held_symbols}
-use Rattle.tt.proofs.HeldCuts.{open_parts, opened_parts, take_drop, used_once, cut_parts, cut_symbols}
+use Rattle.tt.proofs.HeldCuts.{open_parts, opened_parts, below_parts, below_symbols, below_different, take_drop, used_once, cut_parts, cut_symbols}
 use Rattle.tt.proofs.Restoring.{found_point, places_below}
 use Rattle.tt.proofs.Growing.{all_weaker}
 use Rattle.tt.proofs.HeldUses.{parts_room}
@@ -65,6 +65,30 @@ module _ (opening : ℕ → SpanPart) (headers : List ℕ) (i e : ℕ) (within :
         within,
       )
 
+  -- One less.
+  pub one_less_opened : (old now next : List (SpanPart × ℕ)) → CountsMore same_part (map opening (take i headers)) now old → CountsMore same_part (opening (get_or headers i e) ∷ []) next now
+      → CountsMore same_part (map opening (take (i + 1) headers)) next old
+  one_less_opened old now next gone fewer a =
+      omega (arith, gone a, fewer a, ap (λ l. uses_of same_part l a) front, uses-append same_part (map opening (take i headers)) (opening (get_or headers i e) ∷ []) a)
+
+  -- The next still has uses.
+  pub opened_still : (old now : List (SpanPart × ℕ)) → ((a : SpanPart) → uses_of same_part (map opening headers) a ≤ number_in same_part old a)
+      → CountsMore same_part (map opening (take i headers)) now old → 0 < number_in same_part now (opening (get_or headers i e))
+  opened_still old now some gone =
+      let a = opening (get_or headers i e) in
+      let all : map opening headers ≡ map opening (take (i + 1) headers) ++ map opening (drop (i + 1) headers) =
+      ap (map opening) (take_drop (i + 1) headers) ∙ map-append opening (take (i + 1) headers) (drop (i + 1) headers) in
+      omega (
+        arith,
+        some a,
+        gone a,
+        ap (λ l. uses_of same_part l a) all,
+        uses-append same_part (map opening (take (i + 1) headers)) (map opening (drop (i + 1) headers)) a,
+        ap (λ l. uses_of same_part l a) front,
+        uses-append same_part (map opening (take i headers)) (a ∷ []) a,
+        used_once same_part part_eq.lawful.laws a,
+      )
+
 -- An open part is a held part.
 open_held : (stack : Stack) (a : SpanPart) → uses_of same_part (open_parts stack) a ≤ uses_of same_part (held_parts stack) a
 open_held (lowest trees) a = omega (arith, none)
@@ -103,20 +127,66 @@ module _ (tokens : List TokenTree) (headers : List ℕ) (mark : Option ℕ) (poi
       (all_weaker (λ place. place ≤ tokens_held s.stack) (λ place. place < length tokens) (places s.stack)
       (λ place below. omega (arith, below, ap length is.list, length-written s.top s.stack)) (places_below s.stack)))
 
+  -- The parts at the places of the open headers are those of the open subtrees.
+  opened : (d : TokenTree) → map (λ place. first_part (get_or tokens place d)) headers ≡ open_parts s.stack
+  opened d =
+      ap (map (λ place. first_part (get_or tokens place d))) is.open_places
+      ∙ ap (λ l. map (λ place. first_part (get_or l place d)) (places s.stack)) (is.list ∙ sym (append-nil (written s.top s.stack)))
+      ∙ opened_parts s.top s.stack [] d
+
+  -- The tokens below the top have the parts held, and those of the open headers once more.
+  pub all_parts : (d : TokenTree) (a : SpanPart)
+      → uses_of same_part (part_uses (drop 1 tokens)) a ≡ uses_of same_part (held_parts s.stack) a + uses_of same_part (map (λ place. first_part (get_or tokens place d)) headers) a
+  all_parts d a =
+      ap (λ l. uses_of same_part (part_uses (drop 1 l)) a) is.list ∙ below_parts s.top s.stack a ∙ ap (λ l. uses_of same_part (held_parts s.stack) a + uses_of same_part l a) (sym (opened d))
+
+  -- They have the symbols held.
+  pub all_symbols : symbol_uses (drop 1 tokens) ≡ held_symbols s.stack
+  all_symbols = ap (λ l. symbol_uses (drop 1 l)) is.list ∙ below_symbols s.top s.stack
+
+  -- They have the different parts.
+  pub all_different : different same_part (part_uses (drop 1 tokens)) ≡ different same_part (held_parts s.stack)
+  all_different =
+      ap (λ l. different same_part (part_uses (drop 1 l))) is.list
+      ∙ ap (different same_part) (sym (append-nil (part_uses (drop 1 (written s.top s.stack)))))
+      ∙ below_different s.top s.stack []
+      ∙ ap (different same_part) (append-nil (held_parts s.stack))
+
+  -- There are not too many open headers.
+  pub few_headers : length headers ≤ 4294967296
+  few_headers = omega (arith, ap length is.open_places, few_places s.stack, is.few, ap length is.list, length-written s.top s.stack)
+
+  -- Where all tokens below the top are counted, the open parts have uses.
+  pub all_open_there : (d : TokenTree) (old counted : List (SpanPart × ℕ)) → CountsMore same_part (part_uses (drop 1 tokens)) old counted → (a : SpanPart)
+      → uses_of same_part (map (λ place. first_part (get_or tokens place d)) headers) a ≤ number_in same_part counted a
+  all_open_there d old counted more a = omega (arith, more a, all_parts d a)
+
+  -- Where these are taken away again, the parts held are counted.
+  pub all_held_parts : (d : TokenTree) (counted now : List (SpanPart × ℕ)) → CountsMore same_part (part_uses (drop 1 tokens)) [] counted
+      → CountsMore same_part (map (λ place. first_part (get_or tokens place d)) headers) now counted → CountsUses same_part (held_parts s.stack) now
+  all_held_parts d counted now more gone a = omega (arith, more a, gone a, all_parts d a, none)
+    where
+      none : number_in same_part [] a ≡ 0
+      none = refl
+
+  -- And the symbols held.
+  pub all_held_symbols : (now : List (List ℕ × ℕ)) → CountsMore bytes_eq (symbol_uses (drop 1 tokens)) [] now → CountsUses bytes_eq (held_symbols s.stack) now
+  all_held_symbols now more a = omega (arith, more a, ap (λ l. uses_of bytes_eq l a) all_symbols, none)
+    where
+      none : number_in bytes_eq [] a ≡ 0
+      none = refl
+
   -- The open parts of the later headers have uses.
   pub later_there : (n : ℕ) (d : TokenTree) (old : List (SpanPart × ℕ)) → CountsUses same_part (held_parts s.stack) old
       → (a : SpanPart) → uses_of same_part (map (λ place. first_part (get_or tokens place d)) (drop n headers)) a ≤ number_in same_part old a
   later_there n d old right a =
       let opening : ℕ → SpanPart = λ place. first_part (get_or tokens place d) in
-      let list : tokens ≡ written s.top s.stack ++ [] = is.list ∙ sym (append-nil (written s.top s.stack)) in
-      let all : map opening headers ≡ open_parts s.stack =
-      ap (map opening) is.open_places ∙ ap (λ l. map (λ place. first_part (get_or l place d)) (places s.stack)) list ∙ opened_parts s.top s.stack [] d in
       let parts : map opening headers ≡ map opening (take n headers) ++ map opening (drop n headers) = ap (map opening) (take_drop n headers) ∙ map-append opening (take n headers) (drop n headers) in
       omega (
         arith,
         right a,
         open_held s.stack a,
-        ap (λ l. uses_of same_part l a) all,
+        ap (λ l. uses_of same_part l a) (opened d),
         ap (λ l. uses_of same_part l a) parts,
         uses-append same_part (map opening (take n headers)) (map opening (drop n headers)) a,
       )

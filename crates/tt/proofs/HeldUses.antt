@@ -1,5 +1,5 @@
 -- How the uses in what a builder holds change.
-use Rattle.std.proofs.Common.{◌≡◌, ℕ, ◌+◌, ◌*◌, ◌<◌, ◌≤◌, ◌^◌, List, [], ◌∷◌, ◌++◌, length, bytes_eq, refl, ap, sym, ◌∙◌, subst, arith, append_assoc, append-nil, length-append}
+use Rattle.std.proofs.Common.{◌≡◌, ℕ, ◌+◌, ◌*◌, ◌≤◌, List, [], ◌∷◌, ◌++◌, length, bytes_eq, refl, ap, sym, ◌∙◌, subst, arith, append_assoc, append-nil, length-append}
 use Rattle.std.specs.List.{flat_map}
 use Rattle.tt_base.specs.declared.leaf.Leaf.{Leaf}
 use Rattle.tt_base.specs.declared.leaf.Leaf.TheVariants as leaf_of
@@ -93,21 +93,6 @@ pub closed_symbols : (stack : Stack) (close_span : Span) → IsAbove stack → h
 closed_symbols (lowest trees) close_span is = absurd is
 closed_symbols (above outer kind open_span trees) close_span is =
     held_symbols-append outer (node (delimiter kind open_span close_span) trees end) ∙ ap (λ l. held_symbols outer ++ symbol_uses l) (append-nil (flat trees))
-
--- There is room for one more use of any value, where no number has changed.
-pub part_fits : (stack : Stack) (old now : List (SpanPart × ℕ)) → CountsUses same_part (held_parts stack) old → CountsMore same_part [] old now → tokens_held stack ≤ 4294967295
-    → (x : SpanPart) → number_in same_part now x + 1 < 2 ^ 64
-part_fits stack old now right stay few x = omega (arith, parts_room stack old x right few, stay x, none)
-  where
-    none : uses_of same_part [] x ≡ 0
-    none = refl
-
-pub symbol_fits : (stack : Stack) (old now : List (List ℕ × ℕ)) → CountsUses bytes_eq (held_symbols stack) old → CountsMore bytes_eq [] old now → tokens_held stack ≤ 4294967295
-    → (x : List ℕ) → number_in bytes_eq now x + 1 < 2 ^ 64
-symbol_fits stack old now right stay few x = omega (arith, symbols_room stack old x right few, stay x, none)
-  where
-    none : uses_of bytes_eq [] x ≡ 0
-    none = refl
 
 -- A leaf more.
 pub pushed_parts : (stack : Stack) (it : Leaf) (old now : List (SpanPart × ℕ)) → CountsUses same_part (held_parts stack) old

@@ -1,6 +1,8 @@
 pub mod Alone
 pub mod Building
 pub mod Closing
+pub mod Counted
+pub mod FewUses
 pub mod Filters
 pub mod Finding
 pub mod Growing

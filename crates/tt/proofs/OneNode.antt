@@ -68,8 +68,3 @@ module _ (tokens : List TokenTree) (header : Subtree) (opening closing : SpanPar
         pub closing_fits : (more : List (SpanPart × ℕ)) → CountsMore same_part (opening ∷ []) least more → (x : SpanPart) → number_in same_part more x + 1 < 2 ^ 64
         closing_fits more added x =
             omega (arith, right x, taken x, taken_too x, added x, uses-le same_part (part_uses tokens) x, uses-le same_part (opening ∷ []) x, few_parts tokens, few)
-
-      -- With both again, all are counted.
-      pub all_counted : (more all : List (SpanPart × ℕ)) → CountsMore same_part (opening ∷ []) least more → CountsMore same_part (closing ∷ []) more all
-          → CountsUses same_part (part_uses tokens) all
-      all_counted more all added added_too x = omega (arith, right x, taken x, taken_too x, added x, added_too x)

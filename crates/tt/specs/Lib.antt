@@ -45,4 +45,5 @@ pub mod OneState
 pub mod Points
 pub mod Rewrites
 pub mod Types
+pub mod UseCounts
 pub mod Work

@@ -1,5 +1,6 @@
 //! Building a token tree by opening and closing subtrees.
 ghost use Rattle.std.specs.Prelude.{◌≡◌, ◌⊎◌, ◌^◌, ◌-◌, ◌+◌, ◌<◌, List, length, suc, IfOk, IfErr, OnOk, OnErr, MatchBool, Some, is_some, bytes_eq};
+ghost use Rattle.std.proofs.Props.{props};
 ghost use Rattle.std.specs.Iterator.{Drains, IsFinite, YieldsThen};
 ghost use Rattle.tt_base.specs.Building.{empty_builder, opened, pushed, extended, alone, closed, removed, open_kinds, point_taken, noted, restored, built, built_skipping, tokens_held, most_held, HasRoom, IsOpen, IsGrowthFault};
 ghost use Rattle.tt_base.specs.Forest.{size};
@@ -7,20 +8,22 @@ ghost use Rattle.tt_base.specs.Siblings.{leaves as leaf_trees};
 ghost use Rattle.tt_base.specs.Span.{part_of};
 ghost use Rattle.tt_base.specs.declared.fault.TtFault.TheVariants.{Memory, TooManyTokens, PointsSpent};
 ghost use Rattle.tt_base.specs.declared.leaf.Leaf.{Leaf};
-ghost use Rattle.tt_tables.specs.Counts.{CountsUses};
 ghost use Rattle.tt_tables.specs.TableOrder.{uses_of};
 ghost use Rattle.tt_tables.specs.Uses.{same_part};
 ghost use Rattle.tt_view.specs.Stored.{IsWithinLimits};
 ghost use Rattle.tt_view.specs.TreeFault.{IsTreeFault};
 ghost use Rattle.tt_view.specs.Views.{trees_of};
 ghost use Rattle.tt.specs.HeldUses.{held_parts, held_symbols, distinct_parts, distinct_symbols};
+ghost use Rattle.tt.specs.UseCounts.{AreOf};
 
 mod expected;
+mod few_uses;
 mod held;
 mod leaves;
 mod standing;
 mod token_uses;
 mod tokens;
+mod use_counts;
 
 pub use expected::ExpectedDelimiters;
 use held::Held;
@@ -28,18 +31,16 @@ pub use standing::SubtreeBuilderRestorePoint;
 use std::alloc::Global;
 use std::marker::Model;
 use tt_base::{Delimiter, DelimiterKind, Leaf, Refused, Span, SpanPart, Symbol, TtFault};
-use tt_counts::Counts;
 use tt_view::{TokenTreesView, TopSubtree};
+use use_counts::{UseCounts, copy_of, count_part, part_place};
 
 /// Builds a token tree by opening and closing subtrees. A contract sees the levels, the mark and the points that stand.
 #[derive(Drop, Debug)]
 pub struct TopSubtreeBuilder {
     held: Held,
-    // how often parts and symbols are used in what is held
-    parts: Counts<SpanPart>,
-    symbols: Counts<Symbol>,
-    ghost part_counts: { CountsUses same_part (held_parts held.stack) parts.numbers.entries },
-    ghost symbol_counts: { CountsUses bytes_eq (held_symbols held.stack) symbols.numbers.entries },
+    // how often parts and symbols are used in what is held; counted from the first call on that may hold many tokens
+    counts: Option<UseCounts>,
+    ghost right: { AreOf held.stack counts } by { Prim.hlevel props },
 }
 
 impl Model for TopSubtreeBuilder {
@@ -53,10 +54,9 @@ impl Model for TopSubtreeBuilder {
     ghost view = { λ builder. builder.held };
 }
 
-// For so many different parts and symbols room is made at first.
-const FEW_PARTS: usize = 4;
-
-const FEW_SYMBOLS: usize = 56;
+// Up to so many tokens, the top among them, nothing is counted: looking at all of them tells how often a value is used. Most
+// trees of macros have no more.
+const UNCOUNTED_TOKENS: usize = 256;
 
 impl TopSubtreeBuilder {
     ghost use Rattle.tt.specs.Points.{number_of, kinds_left};
@@ -68,9 +68,23 @@ impl TopSubtreeBuilder {
     {
         Ok(TopSubtreeBuilder {
             held: Held::new(alloc, top)?,
-            parts: Counts::with_capacity(alloc, FEW_PARTS)?,
-            symbols: Counts::with_capacity(alloc, FEW_SYMBOLS)?,
+            counts: None,
         })
+    }
+
+    // Counts what is held, where that and so many tokens more would be many, and it is not counted yet.
+    #[inline(always)]
+    fn count_if_many(&mut self, more: usize) -> Result<(), TtFault>
+        ensures stays { self.new ≡ self.old }
+        ensures err { IfErr result (λ fault. fault ≡ Memory) }
+    {
+        if self.counts.is_some() {
+            return Ok(());
+        }
+        if self.held.len().saturating_add(more) > UNCOUNTED_TOKENS {
+            self.counts = Some(self.held.count()?);
+        }
+        Ok(())
     }
 
     /// Opens a subtree, and clears the mark.
@@ -80,10 +94,10 @@ impl TopSubtreeBuilder {
         ensures err { OnErr result (self.new ≡ self.old) }
         ensures fault { IfErr result (IsGrowthFault 1 self.old) }
     {
-        let part = SpanPart::from_span(&open_span);
-        let index = self.parts.index_near(&part)?;
+        self.count_if_many(1)?;
+        let place = part_place(&mut self.counts, &open_span)?;
         self.held.open(kind, open_span)?;
-        self.parts.add_at(index);
+        count_part(&mut self.counts, place);
         Ok(())
     }
 
@@ -95,7 +109,10 @@ impl TopSubtreeBuilder {
         ensures leaf { IfErr result (λ refused. refused.value ≡ leaf) }
         ensures fault { IfErr result (λ refused. IsGrowthFault 1 self.old refused.fault) }
     {
-        self.held.push(&mut self.parts, &mut self.symbols, leaf)
+        if let Err(fault) = self.count_if_many(1) {
+            return Err(Refused { fault, value: leaf });
+        }
+        self.held.push(&mut self.counts, leaf)
     }
 
     /// Closes the innermost open subtree, and marks it. The points that were taken while it was open go.
@@ -106,10 +123,9 @@ impl TopSubtreeBuilder {
         ensures err { OnErr result (self.new ≡ self.old) }
         ensures fault { IfErr result (λ fault. fault ≡ Memory) }
     {
-        let part = SpanPart::from_span(&close_span);
-        let index = self.parts.index_near(&part)?;
+        let place = part_place(&mut self.counts, &close_span)?;
         self.held.close(close_span)?;
-        self.parts.add_at(index);
+        count_part(&mut self.counts, place);
         Ok(())
     }
 
@@ -122,7 +138,9 @@ impl TopSubtreeBuilder {
         ensures err { OnErr result (self.new ≡ self.old) }
         ensures fault { IfErr result (λ fault. (fault ≡ Memory) ⊎ ((fault ≡ TooManyTokens) × ((given : List Leaf) × (next : Leaf) × (rest : I) × YieldsThen I.next_gives leaves given (Some next) rest × (most_held < tokens_held self.old.stack + suc (length given))))) }
     {
-        self.held.extend(&mut self.parts, &mut self.symbols, leaves)
+        // How many will come is not known.
+        self.count_if_many(UNCOUNTED_TOKENS + 1)?;
+        self.held.extend(&mut self.counts, leaves)
     }
 
     /// Appends trees; the mark stays.
@@ -132,8 +150,8 @@ impl TopSubtreeBuilder {
         ensures err { OnErr result (self.new ≡ self.old) }
         ensures fault { IfErr result (IsGrowthFault (size (trees_of trees.entry)) self.old) }
     {
-        self.held
-            .extend_with_tt(&mut self.parts, &mut self.symbols, trees)
+        self.count_if_many(trees.len())?;
+        self.held.extend_with_tt(&mut self.counts, trees)
     }
 
     /// Appends trees, of which the last token becomes alone if it is a punct; the mark stays.
@@ -143,16 +161,16 @@ impl TopSubtreeBuilder {
         ensures err { OnErr result (self.new ≡ self.old) }
         ensures fault { IfErr result (IsGrowthFault (size (trees_of trees.entry)) self.old) }
     {
-        self.held
-            .extend_with_tt_alone(&mut self.parts, &mut self.symbols, trees)
+        self.count_if_many(trees.len())?;
+        self.held.extend_with_tt_alone(&mut self.counts, trees)
     }
 
     /// If the marked subtree is invisible, its header goes and its children take its place; the mark goes in any case.
     pub fn remove_last_subtree_if_invisible(&mut self)
         ensures { self.new ≡ removed self.old }
     {
-        self.held
-            .remove_last_subtree_if_invisible(&mut self.parts, &mut self.symbols);
+        self.held.uncount_marked(&mut self.counts);
+        self.held.remove_last_subtree_if_invisible();
     }
 
     /// Takes a restore point, and clears the mark. It stands until a subtree that is open now is closed, or a standing
@@ -179,10 +197,8 @@ impl TopSubtreeBuilder {
         ensures answer { result ≡ is_some (noted (number_of point) self.old.points) }
         ensures state { self.new ≡ restored (number_of point) self.old }
     {
-        let stands = self.held.restore(&mut self.parts, &mut self.symbols, point);
-        self.parts.drop_last_unused();
-        self.symbols.drop_last_unused();
-        stands
+        self.held.uncount_later(&mut self.counts, point);
+        self.held.restore(point)
     }
 
     /// The kinds of the open subtrees, innermost first, without the top.
@@ -207,19 +223,11 @@ impl TopSubtreeBuilder {
         ensures fault { IfErr result (λ refused. IsTreeFault (built self) refused.fault) }
         ensures value { IfErr result (λ refused. refused.value ≡ self) }
     {
-        let TopSubtreeBuilder {
-            mut held,
-            parts,
-            symbols,
-        } = self;
-        match held.build(&parts, &symbols) {
+        let TopSubtreeBuilder { mut held, counts } = self;
+        match held.build(&counts) {
             Ok(tree) => Ok(tree),
             Err(fault) => {
-                let value = TopSubtreeBuilder {
-                    held,
-                    parts,
-                    symbols,
-                };
+                let value = TopSubtreeBuilder { held, counts };
                 Err(Refused { fault, value })
             }
         }
@@ -236,17 +244,12 @@ impl TopSubtreeBuilder {
     {
         let TopSubtreeBuilder {
             mut held,
-            mut parts,
-            symbols,
+            mut counts,
         } = self;
-        match held.build_skip_top_subtree(&mut parts, &symbols) {
+        match held.build_skip_top_subtree(&mut counts) {
             Ok(tree) => Ok(tree),
             Err(fault) => {
-                let value = TopSubtreeBuilder {
-                    held,
-                    parts,
-                    symbols,
-                };
+                let value = TopSubtreeBuilder { held, counts };
                 Err(Refused { fault, value })
             }
         }
@@ -258,27 +261,29 @@ impl TopSubtreeBuilder {
         ensures err { IfErr result (λ fault. fault ≡ Memory) }
     {
         let held = self.held.clone()?;
-        let parts = self.parts.clone()?;
-        let symbols = self.symbols.clone()?;
-        Ok(TopSubtreeBuilder {
-            held,
-            parts,
-            symbols,
-        })
+        let counts = copy_of(&self.counts)?;
+        Ok(TopSubtreeBuilder { held, counts })
     }
 
     /// How often a span's part is used in the tokens held. The top and the close of an open subtree are not counted.
     pub fn span_part_uses(&self, span: &Span) -> usize
         ensures { result ≡ uses_of same_part (held_parts self.now.stack) (part_of span.now) }
     {
-        self.parts.uses(&SpanPart::from_span(span))
+        let part = SpanPart::from_span(span);
+        match &self.counts {
+            None => self.held.part_uses(&part),
+            Some(counts) => counts.parts.uses(&part),
+        }
     }
 
     /// How often a symbol is used in the tokens held.
     pub fn symbol_uses(&self, symbol: &Symbol) -> usize
         ensures { result ≡ uses_of bytes_eq (held_symbols self.now.stack) symbol.now }
     {
-        self.symbols.uses(symbol)
+        match &self.counts {
+            None => self.held.symbol_uses(symbol),
+            Some(counts) => counts.symbols.uses(symbol),
+        }
     }
 
     /// How many different span parts and how many different symbols are used in the tokens held.
@@ -286,6 +291,9 @@ impl TopSubtreeBuilder {
         ensures parts { result.0 ≡ distinct_parts self.now.stack }
         ensures symbols { result.1 ≡ distinct_symbols self.now.stack }
     {
-        (self.parts.used(), self.symbols.used())
+        match &self.counts {
+            None => self.held.distinct_counts(),
+            Some(counts) => (counts.parts.used(), counts.symbols.used()),
+        }
     }
 }

@@ -1,7 +1,6 @@
 pub mod Copies
 pub mod Counting
 pub mod Decoded
-pub mod Different
 pub mod Joined
 pub mod Kept
 pub mod MostBytes

@@ -15,7 +15,7 @@ use Rattle.tt_tables.specs.Uses.{same_part, token_parts, token_symbols}
 use Rattle.tt_pack.specs.declared.uses.TokenUses.{TokenUses}
 use Rattle.tt_pack.specs.Counted.{note_value}
 use Rattle.tt_pack.specs.TablesOf.{StandsAt, AreUses}
-use Rattle.tt_pack.proofs.Different.{different-snoc}
+use Rattle.tt_tables.proofs.Different.{different-snoc}
 use Rattle.tt_pack.proofs.Kept.{uses_map}
 use Rattle.tt_pack.proofs.Paired.{paired-snoc, paired_map}
 use Rattle.tt_pack.proofs.RowOrder.{slice_get-front}

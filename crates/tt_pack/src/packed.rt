@@ -203,9 +203,9 @@ impl Packed {
         ensures ok { IfOk result (λ copy. copy ≡ self.now) }
         ensures err { IfErr result (λ fault. fault ≡ Memory) }
     {
-        let mut bytes = Vec::new(alloc);
+        let mut bytes = Vec::with_capacity(alloc, self.bytes.len())?;
         bytes.extend_from_slice(self.bytes.as_slice())?;
-        let mut parts = Vec::new(alloc);
+        let mut parts = Vec::with_capacity(alloc, self.parts.len())?;
         parts.extend_from_slice(self.parts.as_slice())?;
         let symbols = self.symbols.clone()?;
         Ok(Packed {

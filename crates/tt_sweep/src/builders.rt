@@ -61,8 +61,8 @@ const NEW_ID: u32 = 20;
 // The idents in the innermost one, and the id of each.
 const IDENTS: [(&str, u32); 2] = [("a", 1), ("b", 2)];
 
-// How many puncts follow them. With these the builder has 32 tokens, for which it makes room at first.
-const PUNCTS: usize = 24;
+// How many puncts follow them. With these the builder has 256 tokens, which fill its room, and are not counted yet.
+const PUNCTS: usize = 248;
 
 // Names that it does not have.
 const NEW_NAMES: [&str; 10] = ["k", "l", "m", "n", "o", "p", "q", "r", "s", "t"];
@@ -71,7 +71,7 @@ const NEW_NAMES: [&str; 10] = ["k", "l", "m", "n", "o", "p", "q", "r", "s", "t"]
 const TAKEN: u64 = 5;
 
 // A builder of braces over an empty invisible subtree and four open brackets, and in the innermost two idents and the puncts. Of
-// its five restore points the second does not stand. So it has 32 tokens, four open subtrees and four points, and no room for
+// its five restore points the second does not stand. So it has 256 tokens, four open subtrees and four points, and no room for
 // one more of any.
 fn builder(alloc: Global) -> Result<TopSubtreeBuilder, TtFault> {
     let mut builder = TopSubtreeBuilder::new(alloc, braces())?;
@@ -87,10 +87,11 @@ fn builder(alloc: Global) -> Result<TopSubtreeBuilder, TtFault> {
     Ok(builder)
 }
 
-// That builder; to be closed, it has leaves of five more span parts, so that it uses nine, and no room for one more.
+// That builder; to be closed or cloned, it has leaves of five more span parts, so that uses are counted: nine parts, and no
+// room for one more.
 fn builder_for(alloc: Global, growth: Growth) -> Result<TopSubtreeBuilder, TtFault> {
     let mut builder = builder(alloc)?;
-    if growth == Growth::Close {
+    if growth == Growth::Close || growth == Growth::Clone {
         for leaf in of_new_parts() {
             builder.push(leaf)?;
         }
@@ -175,7 +176,8 @@ fn with_close(
 fn held(alloc: Global, growth: Growth) -> Result<TopSubtree, TtFault> {
     match growth {
         Growth::New => flat_tree(alloc, &[]),
-        Growth::Clone | Growth::Point => with(alloc, None, &[]),
+        Growth::Clone => with(alloc, None, &of_new_parts()),
+        Growth::Point => with(alloc, None, &[]),
         Growth::Open => {
             let parentheses = delimiter(DelimiterKind::Parenthesis, 0, 0);
             with(alloc, Some(header(parentheses, 0)), &[])

@@ -4,14 +4,15 @@ use crate::tokens::{delimiter, plus, span};
 use std::alloc::Global;
 use tt::{DelimiterKind, SubtreeBuilderRestorePoint, Symbol, TopSubtreeBuilder, TtFault};
 
-/// A builder of an invisible top, with a point, a closed invisible subtree over a plus, and an open brace.
+/// A builder of an invisible top, with a point, a closed invisible subtree over a plus, and an open brace. It counts uses, as
+/// it does once leaves come from an iterator.
 pub fn builder(alloc: Global) -> Result<TopSubtreeBuilder, TtFault> {
     let top = delimiter(DelimiterKind::Invisible, 0, 0);
     let mut builder = TopSubtreeBuilder::new(alloc, top)?;
     builder.restore_point()?;
     builder.open(DelimiterKind::Brace, span(0))?;
     builder.open(DelimiterKind::Invisible, span(0))?;
-    builder.push(plus(0))?;
+    builder.extend([plus(0)].into_iter())?;
     close(&mut builder)?;
     Ok(builder)
 }

@@ -2,6 +2,7 @@ pub mod Ahead
 mod AstIdRows
 pub mod Cheapest
 mod CostRows
+pub mod Different
 pub mod Finding
 pub mod Found
 pub mod HeaderFirst

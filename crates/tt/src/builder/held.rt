@@ -1,37 +1,32 @@
 //! What a builder holds.
-ghost use Rattle.std.specs.Prelude.{◌≡◌, ◌⊎◌, ◌^◌, ◌-◌, ◌+◌, ◌<◌, ◌≤◌, List, length, suc, IfOk, IfErr, OnOk, OnErr, IsOk, MatchBool, Some, is_some, bytes_eq};
+ghost use Rattle.std.specs.Prelude.{◌≡◌, ◌⊎◌, ◌^◌, ◌-◌, ◌+◌, ◌<◌, ◌≤◌, List, length, suc, IfOk, IfErr, OnOk, OnErr, IsOk, MatchBool, Some, is_some};
 ghost use Rattle.std.specs.Iterator.{Drains, IsFinite, YieldsThen};
-ghost use Rattle.tt_base.specs.Building.{append, empty_builder, opened, pushed, extended, alone, closed, removed, open_kinds, point_taken, noted, restored, tokens_held, most_held, HasRoom, IsOpen, IsGrowthFault};
+ghost use Rattle.tt_base.specs.Building.{empty_builder, opened, pushed, extended, alone, closed, removed, open_kinds, point_taken, noted, restored, tokens_held, most_held, HasRoom, IsOpen, IsGrowthFault};
 ghost use Rattle.tt_base.specs.Forest.{size};
 ghost use Rattle.tt_base.specs.Siblings.{leaves as leaf_trees};
 ghost use Rattle.tt_base.specs.declared.fault.TtFault.TheVariants.{Memory, TooManyTokens, PointsSpent};
 ghost use Rattle.tt_base.specs.declared.leaf.Leaf.{Leaf};
-ghost use Rattle.tt_tables.specs.Counts.{CountsUses};
-ghost use Rattle.tt_tables.specs.Uses.{same_part};
 ghost use Rattle.tt_view.specs.Views.{trees_of};
 ghost use Rattle.tt.specs.BuilderFields.{HasState};
-ghost use Rattle.tt.specs.HeldUses.{held_parts, held_symbols};
 ghost use Rattle.tt.specs.OneState.{HasState-prop};
+ghost use Rattle.tt.specs.UseCounts.{AreOf};
 
+mod counting;
 mod packing;
 
 use crate::builder::expected::ExpectedDelimiters;
-use crate::builder::leaves::add_leaf;
 use crate::builder::standing::{
     Standing, SubtreeBuilderRestorePoint, drop_deeper, drop_later, find,
-};
-use crate::builder::token_uses::{
-    add_new, add_trees_alone_counted, add_trees_counted, take_later, take_token,
 };
 use crate::builder::tokens::{
     add_leaves, close_header, copy_of, is_invisible, make_room, take_out,
 };
+use crate::builder::use_counts::{
+    UseCounts, add_trees_alone_counted, add_trees_counted, count_leaf, count_new,
+};
 use std::alloc::Global;
 use std::marker::Model;
-use tt_base::{
-    Delimiter, DelimiterKind, Leaf, Refused, Span, SpanPart, Subtree, Symbol, TokenTree, TtFault,
-};
-use tt_counts::Counts;
+use tt_base::{Delimiter, DelimiterKind, Leaf, Refused, Span, Subtree, TokenTree, TtFault};
 use tt_view::TokenTreesView;
 
 // For how many tokens room is made at first, the top among them.
@@ -116,16 +111,12 @@ impl Held {
     /// Appends a leaf; the mark stays.
     pub(crate) fn push(
         &mut self,
-        parts: &mut Counts<SpanPart>,
-        symbols: &mut Counts<Symbol>,
+        counts: &mut Option<UseCounts>,
         leaf: Leaf,
     ) -> Result<(), Refused<Leaf>>
-        requires parts { CountsUses same_part (held_parts self.old.stack) parts.old.numbers.entries }
-        requires symbols { CountsUses bytes_eq (held_symbols self.old.stack) symbols.old.numbers.entries }
-        ensures parts_ok { OnOk result (CountsUses same_part (held_parts (pushed leaf self.old).stack) parts.new.numbers.entries) }
-        ensures symbols_ok { OnOk result (CountsUses bytes_eq (held_symbols (pushed leaf self.old).stack) symbols.new.numbers.entries) }
-        ensures parts_err { OnErr result (CountsUses same_part (held_parts self.old.stack) parts.new.numbers.entries) }
-        ensures symbols_err { OnErr result (CountsUses bytes_eq (held_symbols self.old.stack) symbols.new.numbers.entries) }
+        requires counts { AreOf self.old.stack counts.old }
+        ensures counts { OnOk result (AreOf (pushed leaf self.old).stack counts.new) }
+        ensures counts_err { OnErr result (AreOf self.old.stack counts.new) }
         ensures ok { OnOk result (self.new ≡ pushed leaf self.old) }
         ensures room { OnOk result (HasRoom 1 self.old) }
         ensures err { OnErr result (self.new ≡ self.old) }
@@ -144,7 +135,7 @@ impl Held {
                 value: leaf,
             });
         }
-        if !add_leaf(parts, symbols, &leaf) {
+        if !count_leaf(counts, &leaf) {
             return Err(Refused {
                 fault: TtFault::Memory,
                 value: leaf,
@@ -175,24 +166,21 @@ impl Held {
     /// that it gave are dropped.
     pub(crate) fn extend<I: Iterator<Item = Leaf> + Drop>(
         &mut self,
-        parts: &mut Counts<SpanPart>,
-        symbols: &mut Counts<Symbol>,
+        counts: &mut Option<UseCounts>,
         leaves: I,
     ) -> Result<(), TtFault>
         requires can { I.can_next leaves }
         requires ends { IsFinite (I.remaining leaves) }
-        requires parts { CountsUses same_part (held_parts self.old.stack) parts.old.numbers.entries }
-        requires symbols { CountsUses bytes_eq (held_symbols self.old.stack) symbols.old.numbers.entries }
-        ensures ok { OnOk result ((given : List Leaf) × Drains I.next_gives leaves given × HasRoom (length given) self.old × (self.new ≡ extended (leaf_trees given) self.old) × CountsUses same_part (held_parts (append (leaf_trees given) self.old.stack)) parts.new.numbers.entries × CountsUses bytes_eq (held_symbols (append (leaf_trees given) self.old.stack)) symbols.new.numbers.entries) }
-        ensures parts { OnErr result (CountsUses same_part (held_parts self.old.stack) parts.new.numbers.entries) }
-        ensures symbols { OnErr result (CountsUses bytes_eq (held_symbols self.old.stack) symbols.new.numbers.entries) }
+        requires counts { AreOf self.old.stack counts.old }
+        ensures counts_err { OnErr result (AreOf self.old.stack counts.new) }
+        ensures ok { OnOk result ((given : List Leaf) × Drains I.next_gives leaves given × HasRoom (length given) self.old × (self.new ≡ extended (leaf_trees given) self.old) × AreOf (extended (leaf_trees given) self.old).stack counts.new) }
         ensures err { OnErr result (self.new ≡ self.old) }
         ensures fault { IfErr result (λ fault. (fault ≡ Memory) ⊎ ((fault ≡ TooManyTokens) × ((given : List Leaf) × (next : Leaf) × (rest : I) × YieldsThen I.next_gives leaves given (Some next) rest × (most_held < tokens_held self.old.stack + suc (length given))))) }
     {
         let len = self.tokens.len();
         match add_leaves(&mut self.tokens, leaves) {
             Ok(()) => {
-                if !add_new(&mut self.tokens, len, parts, symbols) {
+                if !count_new(&mut self.tokens, len, counts) {
                     return Err(TtFault::Memory);
                 }
                 Ok(())
@@ -207,16 +195,12 @@ impl Held {
     /// Appends trees; the mark stays.
     pub(crate) fn extend_with_tt(
         &mut self,
-        parts: &mut Counts<SpanPart>,
-        symbols: &mut Counts<Symbol>,
+        counts: &mut Option<UseCounts>,
         trees: TokenTreesView<'_>,
     ) -> Result<(), TtFault>
-        requires parts { CountsUses same_part (held_parts self.old.stack) parts.old.numbers.entries }
-        requires symbols { CountsUses bytes_eq (held_symbols self.old.stack) symbols.old.numbers.entries }
-        ensures parts_ok { OnOk result (CountsUses same_part (held_parts (append (trees_of trees.entry) self.old.stack)) parts.new.numbers.entries) }
-        ensures symbols_ok { OnOk result (CountsUses bytes_eq (held_symbols (append (trees_of trees.entry) self.old.stack)) symbols.new.numbers.entries) }
-        ensures parts_err { OnErr result (CountsUses same_part (held_parts self.old.stack) parts.new.numbers.entries) }
-        ensures symbols_err { OnErr result (CountsUses bytes_eq (held_symbols self.old.stack) symbols.new.numbers.entries) }
+        requires counts { AreOf self.old.stack counts.old }
+        ensures counts { OnOk result (AreOf (extended (trees_of trees.entry) self.old).stack counts.new) }
+        ensures counts_err { OnErr result (AreOf self.old.stack counts.new) }
         ensures ok { OnOk result (self.new ≡ extended (trees_of trees.entry) self.old) }
         ensures room { OnOk result (HasRoom (size (trees_of trees.entry)) self.old) }
         ensures err { OnErr result (self.new ≡ self.old) }
@@ -226,7 +210,7 @@ impl Held {
         if trees.len() > room {
             return Err(TtFault::TooManyTokens);
         }
-        if !add_trees_counted(&mut self.tokens, parts, symbols, trees) {
+        if !add_trees_counted(&mut self.tokens, counts, trees) {
             return Err(TtFault::Memory);
         }
         Ok(())
@@ -235,16 +219,12 @@ impl Held {
     /// Appends trees, of which the last token becomes alone if it is a punct; the mark stays.
     pub(crate) fn extend_with_tt_alone(
         &mut self,
-        parts: &mut Counts<SpanPart>,
-        symbols: &mut Counts<Symbol>,
+        counts: &mut Option<UseCounts>,
         trees: TokenTreesView<'_>,
     ) -> Result<(), TtFault>
-        requires parts { CountsUses same_part (held_parts self.old.stack) parts.old.numbers.entries }
-        requires symbols { CountsUses bytes_eq (held_symbols self.old.stack) symbols.old.numbers.entries }
-        ensures parts_ok { OnOk result (CountsUses same_part (held_parts (append (alone (trees_of trees.entry)) self.old.stack)) parts.new.numbers.entries) }
-        ensures symbols_ok { OnOk result (CountsUses bytes_eq (held_symbols (append (alone (trees_of trees.entry)) self.old.stack)) symbols.new.numbers.entries) }
-        ensures parts_err { OnErr result (CountsUses same_part (held_parts self.old.stack) parts.new.numbers.entries) }
-        ensures symbols_err { OnErr result (CountsUses bytes_eq (held_symbols self.old.stack) symbols.new.numbers.entries) }
+        requires counts { AreOf self.old.stack counts.old }
+        ensures counts { OnOk result (AreOf (extended (alone (trees_of trees.entry)) self.old).stack counts.new) }
+        ensures counts_err { OnErr result (AreOf self.old.stack counts.new) }
         ensures ok { OnOk result (self.new ≡ extended (alone (trees_of trees.entry)) self.old) }
         ensures room { OnOk result (HasRoom (size (trees_of trees.entry)) self.old) }
         ensures err { OnErr result (self.new ≡ self.old) }
@@ -254,30 +234,21 @@ impl Held {
         if trees.len() > room {
             return Err(TtFault::TooManyTokens);
         }
-        if !add_trees_alone_counted(&mut self.tokens, parts, symbols, trees) {
+        if !add_trees_alone_counted(&mut self.tokens, counts, trees) {
             return Err(TtFault::Memory);
         }
         Ok(())
     }
 
     /// If the marked subtree is invisible, its header goes and its children take its place; the mark goes in any case.
-    pub(crate) fn remove_last_subtree_if_invisible(
-        &mut self,
-        parts: &mut Counts<SpanPart>,
-        symbols: &mut Counts<Symbol>,
-    )
-        requires parts { CountsUses same_part (held_parts self.old.stack) parts.old.numbers.entries }
-        requires symbols { CountsUses bytes_eq (held_symbols self.old.stack) symbols.old.numbers.entries }
-        ensures state { self.new ≡ removed self.old }
-        ensures parts { CountsUses same_part (held_parts (removed self.old).stack) parts.new.numbers.entries }
-        ensures symbols { CountsUses bytes_eq (held_symbols (removed self.old).stack) symbols.new.numbers.entries }
+    pub(crate) fn remove_last_subtree_if_invisible(&mut self)
+        ensures { self.new ≡ removed self.old }
     {
         let Some(place) = self.mark else {
             return;
         };
         self.mark = None;
         if is_invisible(&self.tokens[place]) {
-            take_token(parts, symbols, &self.tokens[place]);
             take_out(&mut self.tokens, place);
         }
     }
@@ -308,6 +279,14 @@ impl Held {
         Ok(SubtreeBuilderRestorePoint::from_number(number))
     }
 
+    /// How many tokens are held, the top among them.
+    #[inline(always)]
+    pub(crate) fn len(&self) -> usize
+        ensures { result ≡ suc (tokens_held self.now.stack) }
+    {
+        self.tokens.len()
+    }
+
     /// How many restore points were ever taken, which is the number of the next one.
     pub(crate) fn points_taken(&self) -> u64
         ensures { result ≡ self.now.taken }
@@ -316,30 +295,13 @@ impl Held {
     }
 
     /// Goes back to what was held when the point was taken, and clears the mark, if the point stands; answers whether it does.
-    pub(crate) fn restore(
-        &mut self,
-        parts: &mut Counts<SpanPart>,
-        symbols: &mut Counts<Symbol>,
-        point: SubtreeBuilderRestorePoint,
-    ) -> bool
-        requires parts { CountsUses same_part (held_parts self.old.stack) parts.old.numbers.entries }
-        requires symbols { CountsUses bytes_eq (held_symbols self.old.stack) symbols.old.numbers.entries }
+    pub(crate) fn restore(&mut self, point: SubtreeBuilderRestorePoint) -> bool
         ensures answer { result ≡ is_some (noted (number_of point) self.old.points) }
         ensures state { self.new ≡ restored (number_of point) self.old }
-        ensures parts { CountsUses same_part (held_parts (restored (number_of point) self.old).stack) parts.new.numbers.entries }
-        ensures symbols { CountsUses bytes_eq (held_symbols (restored (number_of point) self.old).stack) symbols.new.numbers.entries }
     {
         let Some(kept) = find(&self.points, point.number()) else {
             return false;
         };
-        take_later(
-            parts,
-            symbols,
-            &self.tokens,
-            kept.tokens,
-            &self.headers,
-            kept.depth,
-        );
         self.tokens.truncate(kept.tokens);
         self.headers.truncate(kept.depth);
         drop_later(&mut self.points, kept.tokens);

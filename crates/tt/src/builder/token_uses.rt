@@ -4,18 +4,13 @@ ghost use Rattle.std.specs.List.{AllByRecursion};
 ghost use Rattle.tt_base.specs.declared.span.SpanPart.{SpanPart};
 ghost use Rattle.tt_tables.specs.Counts.{number_in, CountsMore};
 ghost use Rattle.tt_tables.specs.TableOrder.{uses_of};
-ghost use Rattle.tt_base.specs.Building.{alone};
-ghost use Rattle.tt_base.specs.Forest.{flat, size};
-ghost use Rattle.tt_view.specs.Views.{trees_of};
 ghost use Rattle.tt.specs.HeldUses.{first_part};
 ghost use Rattle.tt_base.specs.declared.token_tree.TokenTree.{TokenTree};
 ghost use Rattle.tt_tables.specs.Uses.{same_part, token_parts, token_symbols, leaf_symbols, part_uses, symbol_uses};
 
 use crate::builder::leaves::add_leaf;
-use crate::builder::tokens::{add_trees, add_trees_alone};
 use tt_base::{Leaf, SpanPart, Symbol, TokenTree};
 use tt_counts::Counts;
-use tt_view::TokenTreesView;
 
 // One use more of what a token uses, if there is memory for the entries.
 fn add_token(parts: &mut Counts<SpanPart>, symbols: &mut Counts<Symbol>, token: &TokenTree) -> bool
@@ -88,8 +83,12 @@ fn take_all(parts: &mut Counts<SpanPart>, symbols: &mut Counts<Symbol>, tokens: 
     }
 }
 
-// One use more of all that the tokens use, if there is memory for the entries.
-fn add_all(parts: &mut Counts<SpanPart>, symbols: &mut Counts<Symbol>, tokens: &[TokenTree]) -> bool
+/// One use more of all that the tokens use, if there is memory for the entries.
+pub(crate) fn add_all(
+    parts: &mut Counts<SpanPart>,
+    symbols: &mut Counts<Symbol>,
+    tokens: &[TokenTree],
+) -> bool
     requires parts { (x : SpanPart) → number_in same_part parts.old.numbers.entries x + 2 * length tokens.now < 2 ^ 64 }
     requires symbols { (x : List ℕ) → number_in bytes_eq symbols.old.numbers.entries x + length tokens.now < 2 ^ 64 }
     ensures parts { CountsMore same_part (if result then part_uses tokens.now else []) parts.old.numbers.entries parts.new.numbers.entries }
@@ -102,27 +101,6 @@ fn add_all(parts: &mut Counts<SpanPart>, symbols: &mut Counts<Symbol>, tokens: &
         }
     }
     true
-}
-
-/// One use more of all that the tokens from a length on use. Where memory is wanting for the entries, these tokens go.
-pub(crate) fn add_new(
-    tokens: &mut Vec<TokenTree>,
-    len: usize,
-    parts: &mut Counts<SpanPart>,
-    symbols: &mut Counts<Symbol>,
-) -> bool
-    requires within { len ≤ length tokens.old.items }
-    requires parts { (x : SpanPart) → number_in same_part parts.old.numbers.entries x + 2 * length tokens.old.items < 2 ^ 64 }
-    requires symbols { (x : List ℕ) → number_in bytes_eq symbols.old.numbers.entries x + length tokens.old.items < 2 ^ 64 }
-    ensures tokens { tokens.new.items ≡ (if result then tokens.old.items else take len tokens.old.items) }
-    ensures parts { CountsMore same_part (if result then part_uses (drop len tokens.old.items) else []) parts.old.numbers.entries parts.new.numbers.entries }
-    ensures symbols { CountsMore bytes_eq (if result then symbol_uses (drop len tokens.old.items) else []) symbols.old.numbers.entries symbols.new.numbers.entries }
-{
-    if add_all(parts, symbols, &tokens[len..]) {
-        return true;
-    }
-    tokens.truncate(len);
-    false
 }
 
 // One use more of the part with which each token at these places begins, which has some.
@@ -138,44 +116,16 @@ fn add_first_parts(parts: &mut Counts<SpanPart>, tokens: &[TokenTree], places: &
     }
 }
 
-/// Appends the tokens of whole trees and counts what they use, if there is memory for both.
-pub(crate) fn add_trees_counted(
-    tokens: &mut Vec<TokenTree>,
-    parts: &mut Counts<SpanPart>,
-    symbols: &mut Counts<Symbol>,
-    trees: TokenTreesView<'_>,
-) -> bool
-    requires parts { (x : SpanPart) → number_in same_part parts.old.numbers.entries x + 2 * (length tokens.old.items + size (trees_of trees)) < 2 ^ 64 }
-    requires symbols { (x : List ℕ) → number_in bytes_eq symbols.old.numbers.entries x + (length tokens.old.items + size (trees_of trees)) < 2 ^ 64 }
-    ensures tokens { tokens.new.items ≡ (if result then tokens.old.items ++ flat (trees_of trees.entry) else tokens.old.items) }
-    ensures parts { CountsMore same_part (if result then part_uses (flat (trees_of trees.entry)) else []) parts.old.numbers.entries parts.new.numbers.entries }
-    ensures symbols { CountsMore bytes_eq (if result then symbol_uses (flat (trees_of trees.entry)) else []) symbols.old.numbers.entries symbols.new.numbers.entries }
+/// One use less of the part with which each token at these places begins.
+pub(crate) fn take_first_parts(parts: &mut Counts<SpanPart>, tokens: &[TokenTree], places: &[usize])
+    requires within { AllByRecursion (λ place. place < length tokens.now) places.now }
+    requires some { (d : TokenTree) (x : SpanPart) → uses_of same_part (map (λ place. first_part (get_or tokens.now place d)) places.now) x ≤ number_in same_part parts.old.numbers.entries x }
+    ensures { (d : TokenTree) → CountsMore same_part (map (λ place. first_part (get_or tokens.now place d)) places.now) parts.new.numbers.entries parts.old.numbers.entries }
 {
-    let len = tokens.len();
-    if !add_trees(tokens, trees) {
-        return false;
+    for place in places {
+        let opening = tokens[*place].first_span();
+        parts.take(&SpanPart::from_span(&opening));
     }
-    add_new(tokens, len, parts, symbols)
-}
-
-/// The same, and the last of them becomes alone if it is a punct.
-pub(crate) fn add_trees_alone_counted(
-    tokens: &mut Vec<TokenTree>,
-    parts: &mut Counts<SpanPart>,
-    symbols: &mut Counts<Symbol>,
-    trees: TokenTreesView<'_>,
-) -> bool
-    requires parts { (x : SpanPart) → number_in same_part parts.old.numbers.entries x + 2 * (length tokens.old.items + size (trees_of trees)) < 2 ^ 64 }
-    requires symbols { (x : List ℕ) → number_in bytes_eq symbols.old.numbers.entries x + (length tokens.old.items + size (trees_of trees)) < 2 ^ 64 }
-    ensures tokens { tokens.new.items ≡ (if result then tokens.old.items ++ flat (alone (trees_of trees.entry)) else tokens.old.items) }
-    ensures parts { CountsMore same_part (if result then part_uses (flat (alone (trees_of trees.entry))) else []) parts.old.numbers.entries parts.new.numbers.entries }
-    ensures symbols { CountsMore bytes_eq (if result then symbol_uses (flat (alone (trees_of trees.entry))) else []) symbols.old.numbers.entries symbols.new.numbers.entries }
-{
-    let len = tokens.len();
-    if !add_trees_alone(tokens, trees) {
-        return false;
-    }
-    add_new(tokens, len, parts, symbols)
 }
 
 /// Takes away what the tokens from a length on use, but of each header at the places from a depth on, which is open and has

@@ -1,25 +1,19 @@
 //! What a builder does to its list of tokens.
-ghost use Rattle.std.specs.Prelude.{◌≡◌, ◌<◌, ◌≤◌, ◌+◌, ◌-◌, ◌++◌, ◌⊎◌, IfErr, IfOk, IsTrue, OnErr, OnOk, List, Some, true, bytes_eq, drop, get_or, if◌then◌else◌, length, map, set, vec_len};
+ghost use Rattle.std.specs.Prelude.{◌≡◌, ◌<◌, ◌≤◌, ◌+◌, ◌-◌, ◌++◌, ◌⊎◌, IfErr, IfOk, IsTrue, OnErr, OnOk, List, Some, drop, get_or, if◌then◌else◌, length, map, set, vec_len};
 ghost use Rattle.std.specs.Iterator.{Drains, IsFinite, YieldsThen};
 ghost use Rattle.std.specs.List.{remove};
 ghost use Rattle.std.specs.Vec.{vec_capacity};
 ghost use Rattle.tt_base.specs.Building.{alone};
-ghost use Rattle.tt_base.specs.Forest.{flat, flat_root};
+ghost use Rattle.tt_base.specs.Forest.{flat};
 ghost use Rattle.tt_base.specs.declared.fault.TtFault.TheVariants.{Memory, TooManyTokens};
 ghost use Rattle.tt_base.specs.declared.leaf.Leaf.{Leaf};
 ghost use Rattle.tt_base.specs.declared.token_tree.TokenTree.TheVariants as token;
-ghost use Rattle.tt_tables.specs.Counts.{CountsUses};
-ghost use Rattle.tt_tables.specs.Uses.{same_part, part_uses, symbol_uses};
-ghost use Rattle.tt_view.specs.PackFault.{IsPackFault};
-ghost use Rattle.tt_view.specs.Stored.{IsWithinLimits};
 ghost use Rattle.tt_view.specs.Views.{trees_of};
-ghost use Rattle.tt.specs.BuilderFields.{closed_token, counted, counted_token, invisible_token, kind_of, kind_at, token_alone, is_one_node};
+ghost use Rattle.tt.specs.BuilderFields.{closed_token, invisible_token, kind_of, kind_at, token_alone, is_one_node};
 
-use indexmap::IndexMap;
 use std::alloc::Global;
-use tt_base::{DelimiterKind, Leaf, Spacing, Span, SpanPart, Symbol, TokenTree, TtFault};
-use tt_counts::Counts;
-use tt_view::{TokenTreesView, TopSubtree};
+use tt_base::{DelimiterKind, Leaf, Spacing, Span, TokenTree, TtFault};
+use tt_view::TokenTreesView;
 
 /// Takes out the token at a place.
 pub(crate) fn take_out(tokens: &mut Vec<TokenTree>, place: usize)
@@ -60,6 +54,17 @@ pub(crate) fn kind_at(tokens: &[TokenTree], place: usize) -> DelimiterKind
     }
 }
 
+/// The tokens below the first header.
+#[inline(always)]
+pub(crate) fn below_top(tokens: &[TokenTree]) -> &[TokenTree]
+    ensures { result.now ≡ drop 1 tokens.now }
+{
+    match tokens.split_first() {
+        Some((_, below)) => below,
+        None => &[],
+    }
+}
+
 /// Whether the tokens of whole trees are those of one node.
 pub(crate) fn is_one_node(tokens: &[TokenTree]) -> bool
     ensures { result ≡ is_one_node tokens.now }
@@ -68,70 +73,6 @@ pub(crate) fn is_one_node(tokens: &[TokenTree]) -> bool
         Some((TokenTree::Subtree(header), below)) => header.usize_len() == below.len(),
         _ => false,
     }
-}
-
-// Gives the first header a count.
-fn set_len(tokens: &mut Vec<TokenTree>, len: u32)
-    requires { 0 < length tokens.old.items }
-    ensures { (d : TokenTree) → tokens.new.items ≡ set tokens.old.items 0 (counted_token len (get_or tokens.old.items 0 d)) }
-{
-    if let TokenTree::Subtree(header) = &mut tokens[0] {
-        header.len = len;
-    }
-}
-
-/// The tree of the first header and of all tokens behind it, of which the numbers of uses are known. That header has no
-/// count but while the tree is packed.
-pub(crate) fn pack_list(
-    alloc: Global,
-    tokens: &mut Vec<TokenTree>,
-    parts: &IndexMap<SpanPart, usize>,
-    symbols: &IndexMap<Symbol, usize>,
-) -> Result<TopSubtree, TtFault>
-    requires parts { CountsUses same_part (part_uses (drop 1 tokens.old.items)) parts.now.entries }
-    requires symbols { CountsUses bytes_eq (symbol_uses (drop 1 tokens.old.items)) symbols.now.entries }
-    requires some { 0 < length tokens.old.items }
-    requires few { length tokens.old.items ≤ 4294967296 }
-    ensures list { tokens.new.items ≡ counted 0 tokens.old.items }
-    ensures ok { IfOk result (λ tree. counted (length tokens.old.items - 1) tokens.old.items ≡ flat_root tree) }
-    ensures limits { IfOk result (λ tree. IsWithinLimits tree) }
-    ensures err { IfErr result (IsPackFault (counted (length tokens.old.items - 1) tokens.old.items)) }
-{
-    let len = (tokens.len() - 1) as u32;
-    set_len(tokens, len);
-    let packed = TopSubtree::from_tokens_counted(alloc, tokens.as_slice(), parts, symbols);
-    set_len(tokens, 0);
-    packed
-}
-
-/// The tree of tokens that are one node. The counts have the two uses of its header too; these are taken away while the
-/// tree is packed.
-pub(crate) fn pack_one_node(
-    alloc: Global,
-    tokens: &[TokenTree],
-    parts: &mut Counts<SpanPart>,
-    symbols: &Counts<Symbol>,
-) -> Result<TopSubtree, TtFault>
-    requires one { is_one_node tokens.now ≡ true }
-    requires few { length tokens.now ≤ 4294967296 }
-    requires parts { CountsUses same_part (part_uses tokens.now) parts.old.numbers.entries }
-    requires symbols { CountsUses bytes_eq (symbol_uses tokens.now) symbols.now.numbers.entries }
-    ensures parts { CountsUses same_part (part_uses tokens.now) parts.new.numbers.entries }
-    ensures ok { IfOk result (λ tree. tokens.now ≡ flat_root tree) }
-    ensures limits { IfOk result (λ tree. IsWithinLimits tree) }
-    ensures err { IfErr result (IsPackFault tokens.now) }
-{
-    let Some(TokenTree::Subtree(header)) = tokens.first() else {
-        return Err(TtFault::NotOneSubtree);
-    };
-    let opening = parts.index_of_used(&SpanPart::from_span(&header.delimiter.open_span));
-    let closing = parts.index_of_used(&SpanPart::from_span(&header.delimiter.close));
-    parts.take_at(opening);
-    parts.take_at(closing);
-    let packed = TopSubtree::from_tokens_counted(alloc, tokens, &parts.numbers, &symbols.numbers);
-    parts.add_at(opening);
-    parts.add_at(closing);
-    packed
 }
 
 /// Gives the header at a place its close span, and the count of all tokens behind it.

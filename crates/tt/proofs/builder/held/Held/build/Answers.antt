@@ -1,11 +1,11 @@
-use Rattle.std.proofs.Common.{bytes_eq, refl, rules, ap, sym, subst, ◌∙◌}
-use Rattle.tt_tables.specs.Counts.{CountsUses}
-use Rattle.tt_tables.specs.Uses.{same_part, part_uses, symbol_uses}
+use Rattle.std.proofs.Common.{refl, rules, ap, sym, ◌∙◌}
+use Rattle.tt_tables.specs.Uses.{part_uses, symbol_uses}
 use Rattle.tt_base.specs.Building.{built}
 use Rattle.tt_base.specs.Unflat.{flat_root-injective}
 use Rattle.tt_view.proofs.TreeFaults.{tree_fault}
 use Rattle.tt.specs.OneState.{state_is, seen}
 use Rattle.tt.proofs.Building.{some_token, not_counted, few_below, built_list, held_list}
+use Rattle.tt.proofs.Counted.{counts_of}
 use Rattle.tt.proofs.HeldCuts.{lowest_parts, lowest_symbols, if_ok, if_err}
 use Rattle.tt.proofs.Growing.{same_state}
 use Rattle.tt.proofs.builder.held.Held.build.Goals as goal
@@ -39,14 +39,11 @@ returns-clause-stays c =
     let next = same_state _ _ _ _ _ _ _ _ is list refl in
     search (rules, state_is, next)
 
-pub pack_list-requires-clause-parts : goal.pack_list-requires-clause-parts
-pack_list-requires-clause-parts c =
+pub pack_list-requires-clause-counts : goal.pack_list-requires-clause-counts
+pack_list-requires-clause-counts c =
     let is = seen _ _ _ _ _ c.self.inside.state _ c.self.view_is in
-    let below = lowest_parts c.args.self.now.stack c.requires.none ∙ ap part_uses (sym (held_list _ _ _ _ _ _ is c.requires.none)) in
-    subst (λ uses. CountsUses same_part uses c.args.parts.now.numbers.entries) below c.requires.parts
-
-pub pack_list-requires-clause-symbols : goal.pack_list-requires-clause-symbols
-pack_list-requires-clause-symbols c =
-    let is = seen _ _ _ _ _ c.self.inside.state _ c.self.view_is in
-    let below = lowest_symbols c.args.self.now.stack c.requires.none ∙ ap symbol_uses (sym (held_list _ _ _ _ _ _ is c.requires.none)) in
-    subst (λ uses. CountsUses bytes_eq uses c.args.symbols.now.numbers.entries) below c.requires.symbols
+    let held = held_list _ _ _ _ _ _ is c.requires.none in
+    counts_of _ _ _ _ c.args.counts.now
+    (lowest_parts c.args.self.now.stack c.requires.none ∙ ap part_uses (sym held))
+    (lowest_symbols c.args.self.now.stack c.requires.none ∙ ap symbol_uses (sym held))
+    c.requires.counts

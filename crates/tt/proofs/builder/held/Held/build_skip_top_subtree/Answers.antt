@@ -1,14 +1,14 @@
-use Rattle.std.proofs.Common.{◌≡◌, ◌≤◌, bytes_eq, length, arith, ap, sym, subst, ◌∙◌, length-drop}
+use Rattle.std.proofs.Common.{◌≡◌, ◌≤◌, length, arith, ap, sym, subst, ◌∙◌, length-drop}
 use Rattle.tt_base.specs.Building.{bottom, built, built_skipping, root_or}
 use Rattle.tt_base.specs.Forest.{size}
 use Rattle.tt_base.specs.Unflat.{flat_root-injective}
-use Rattle.tt_tables.specs.Counts.{CountsUses}
-use Rattle.tt_tables.specs.Uses.{same_part, part_uses, symbol_uses}
+use Rattle.tt_tables.specs.Uses.{part_uses, symbol_uses}
 use Rattle.tt_view.specs.TreeFault.{IsTreeFault}
 use Rattle.tt_view.proofs.TreeFaults.{tree_fault}
 use Rattle.tt.specs.BuilderFields.{is_one_node}
 use Rattle.tt.specs.OneState.{seen}
 use Rattle.tt.proofs.Building.{few_below, held_list, all_but_first, no_node, one_node}
+use Rattle.tt.proofs.Counted.{counts_of}
 use Rattle.tt.proofs.HeldCuts.{lowest_parts, lowest_symbols, if_ok, if_err}
 use Rattle.tt.proofs.builder.held.Held.build_skip_top_subtree.Goals as goal
 
@@ -38,24 +38,6 @@ pack_one_node-requires-clause-few c =
     let is = seen _ _ _ _ _ c.self.inside.state _ c.self.view_is in
     omega (arith, ap length (all_but_first _ _ c.deref-2.ensures.value), length-drop 1 c.self.inside.tokens.items, is.few)
 
-pub pack_one_node-requires-clause-parts : goal.pack_one_node-requires-clause-parts
-pack_one_node-requires-clause-parts c =
-    let is = seen _ _ _ _ _ c.self.inside.state _ c.self.view_is in
-    let held = all_but_first _ _ c.deref-2.ensures.value ∙ held_list _ _ _ _ _ _ is c.requires.none in
-    subst (λ uses. CountsUses same_part uses c.args.parts.now.numbers.entries) (lowest_parts c.args.self.now.stack c.requires.none ∙ ap part_uses (sym held)) c.requires.parts
-
-pub pack_one_node-requires-clause-symbols : goal.pack_one_node-requires-clause-symbols
-pack_one_node-requires-clause-symbols c =
-    let is = seen _ _ _ _ _ c.self.inside.state _ c.self.view_is in
-    let held = all_but_first _ _ c.deref-2.ensures.value ∙ held_list _ _ _ _ _ _ is c.requires.none in
-    subst (λ uses. CountsUses bytes_eq uses c.args.symbols.now.numbers.entries) (lowest_symbols c.args.self.now.stack c.requires.none ∙ ap symbol_uses (sym held)) c.requires.symbols
-
-pub returns-clause-parts : goal.returns-clause-parts
-returns-clause-parts c =
-    let is = seen _ _ _ _ _ c.self.inside.state _ c.self.view_is in
-    let held = all_but_first _ _ c.deref-2.ensures.value ∙ held_list _ _ _ _ _ _ is c.requires.none in
-    subst (λ uses. CountsUses same_part uses c.pack_one_node.new.parts.numbers.entries) (ap part_uses held ∙ sym (lowest_parts c.args.self.now.stack c.requires.none)) c.pack_one_node.ensures.parts
-
 pub returns-clause-ok : goal.returns-clause-ok
 returns-clause-ok c =
     let is = seen _ _ _ _ _ c.self.inside.state _ c.self.view_is in
@@ -74,3 +56,21 @@ returns-clause-fault c =
     let list = all_but_first _ _ c.deref-2.ensures.value ∙ all ∙ one.list in
     let few : size one.root.children ≤ 4294967295 = omega (arith, one.smaller, few_below _ _ _ _ _ _ is c.requires.none) in
     if_err c.pack_one_node.result (λ fault told. subst (λ root. IsTreeFault root fault) (sym (ap (root_or (built c.args.self.now)) one.one)) (tree_fault one.root _ list few fault told)) c.pack_one_node.ensures.err
+
+pub pack_one_node-requires-clause-counts : goal.pack_one_node-requires-clause-counts
+pack_one_node-requires-clause-counts c =
+    let is = seen _ _ _ _ _ c.self.inside.state _ c.self.view_is in
+    let held = all_but_first _ _ c.deref-2.ensures.value ∙ held_list _ _ _ _ _ _ is c.requires.none in
+    counts_of _ _ _ _ c.args.counts.now
+    (lowest_parts c.args.self.now.stack c.requires.none ∙ ap part_uses (sym held))
+    (lowest_symbols c.args.self.now.stack c.requires.none ∙ ap symbol_uses (sym held))
+    c.requires.counts
+
+pub returns-clause-counts : goal.returns-clause-counts
+returns-clause-counts c =
+    let is = seen _ _ _ _ _ c.self.inside.state _ c.self.view_is in
+    let held = all_but_first _ _ c.deref-2.ensures.value ∙ held_list _ _ _ _ _ _ is c.requires.none in
+    counts_of _ _ _ _ c.pack_one_node.new.counts
+    (ap part_uses held ∙ sym (lowest_parts c.args.self.now.stack c.requires.none))
+    (ap symbol_uses held ∙ sym (lowest_symbols c.args.self.now.stack c.requires.none))
+    c.pack_one_node.ensures.counts

@@ -1,13 +1,11 @@
-use Rattle.std.proofs.Common.{◌≡◌, ◌≤◌, ◌<◌, ◌+◌, inr, cond, length, bytes_eq, refl, arith, rules, ap}
+use Rattle.std.proofs.Common.{◌≡◌, ◌≤◌, ◌<◌, ◌+◌, inr, cond, length, refl, arith, rules, ap}
 use Rattle.tt_base.specs.Building.{extended, tokens_held}
 use Rattle.tt_base.specs.Forest.{flat, size}
 use Rattle.tt_base.specs.Unflat.{length-flat}
 use Rattle.tt_view.specs.Views.{trees_of}
-use Rattle.tt.specs.HeldUses.{held_parts, held_symbols}
 use Rattle.tt.specs.OneState.{state_is, seen, length-written}
-use Rattle.tt.proofs.HeldGrown.{more_parts_fit, more_symbols_fit, grown_parts, grown_symbols}
-use Rattle.tt_counts.proofs.UseCounts.{counts_same}
-use Rattle.tt_tables.specs.Uses.{same_part}
+use Rattle.tt.specs.HeldUses.{held_parts, held_symbols}
+use Rattle.tt.proofs.Counted.{counts_fit, counts_stay, counts_grown}
 use Rattle.tt.proofs.Growing.{maybe_extended, room}
 use Rattle.tt.proofs.builder.held.Held.extend_with_tt.Goals as goal
 
@@ -66,32 +64,18 @@ returns-clause-room c =
     let sized : c.len-2.result ≡ size (trees_of c.args.trees) = search rules in
     room _ _ _ _ _ _ (size (trees_of c.args.trees)) is (omega (arith, counted, sized, is.few, c.if-len-room.false, c.saturating_sub-room.ensures))
 
-pub add_trees_counted-requires-clause-parts : goal.add_trees_counted-requires-clause-parts
-add_trees_counted-requires-clause-parts c =
+pub add_trees_counted-requires : goal.add_trees_counted-requires
+add_trees_counted-requires c =
     let is = seen _ _ _ _ _ c.self.inside.state _ c.self.view_is in
     let counted : c.len.result ≡ length c.self.inside.tokens.items = search rules in
     let sized : c.len-2.result ≡ size (trees_of c.args.trees) = search rules in
-    more_parts_fit _ _ _ _ _ _ (size (trees_of c.args.trees)) _ is c.requires.parts (omega (arith, counted, sized, is.few, c.if-len-room.false, c.saturating_sub-room.ensures))
+    counts_fit _ _ _ _ _ _ (size (trees_of c.args.trees)) c.args.counts.now is c.requires.counts (omega (arith, counted, sized, is.few, c.if-len-room.false, c.saturating_sub-room.ensures))
 
-pub add_trees_counted-requires-clause-symbols : goal.add_trees_counted-requires-clause-symbols
-add_trees_counted-requires-clause-symbols c =
-    let is = seen _ _ _ _ _ c.self.inside.state _ c.self.view_is in
-    let counted : c.len.result ≡ length c.self.inside.tokens.items = search rules in
-    let sized : c.len-2.result ≡ size (trees_of c.args.trees) = search rules in
-    more_symbols_fit _ _ _ _ _ _ (size (trees_of c.args.trees)) _ is c.requires.symbols (omega (arith, counted, sized, is.few, c.if-len-room.false, c.saturating_sub-room.ensures))
+pub returns-then-not-add_trees_counted-clause-counts_err : goal.returns-then-not-add_trees_counted-clause-counts_err
+returns-then-not-add_trees_counted-clause-counts_err c =
+    let stack = c.args.self.now.stack in
+    counts_stay (held_parts stack) (held_symbols stack) c.args.counts.now c.add_trees_counted.new.counts c.requires.counts (rw c.if-not-add_trees_counted.true at c.add_trees_counted.ensures.counts)
 
-pub returns-then-not-add_trees_counted-clause-parts_err : goal.returns-then-not-add_trees_counted-clause-parts_err
-returns-then-not-add_trees_counted-clause-parts_err c =
-    counts_same same_part (held_parts c.args.self.now.stack) c.args.parts.now.numbers.entries c.add_trees_counted.new.parts.numbers.entries c.requires.parts (rw c.if-not-add_trees_counted.true at c.add_trees_counted.ensures.parts)
-
-pub returns-clause-parts_ok : goal.returns-clause-parts_ok
-returns-clause-parts_ok c =
-    grown_parts c.args.self.now.stack (trees_of c.args.trees) _ _ c.requires.parts (rw c.if-not-add_trees_counted.false at c.add_trees_counted.ensures.parts)
-
-pub returns-then-not-add_trees_counted-clause-symbols_err : goal.returns-then-not-add_trees_counted-clause-symbols_err
-returns-then-not-add_trees_counted-clause-symbols_err c =
-    counts_same bytes_eq (held_symbols c.args.self.now.stack) c.args.symbols.now.numbers.entries c.add_trees_counted.new.symbols.numbers.entries c.requires.symbols (rw c.if-not-add_trees_counted.true at c.add_trees_counted.ensures.symbols)
-
-pub returns-clause-symbols_ok : goal.returns-clause-symbols_ok
-returns-clause-symbols_ok c =
-    grown_symbols c.args.self.now.stack (trees_of c.args.trees) _ _ c.requires.symbols (rw c.if-not-add_trees_counted.false at c.add_trees_counted.ensures.symbols)
+pub returns-clause-counts : goal.returns-clause-counts
+returns-clause-counts c =
+    counts_grown c.args.self.now.stack (trees_of c.args.trees) c.args.counts.now c.add_trees_counted.new.counts c.requires.counts (rw c.if-not-add_trees_counted.false at c.add_trees_counted.ensures.counts)

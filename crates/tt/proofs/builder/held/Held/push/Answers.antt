@@ -2,8 +2,8 @@ use Rattle.std.proofs.Common.{◌≡◌, ◌++◌, ◌≤◌, inr, length, refl,
 use Rattle.tt_base.specs.Forest.{flat, leaf, end}
 use Rattle.tt_base.specs.Building.{pushed}
 use Rattle.tt.specs.OneState.{state_is, seen}
-use Rattle.tt.proofs.HeldGrown.{more_parts_fit, more_symbols_fit}
-use Rattle.tt.proofs.HeldUses.{pushed_parts, pushed_symbols}
+use Rattle.tt.specs.HeldUses.{held_parts, held_symbols}
+use Rattle.tt.proofs.Counted.{counts_stay, counts_pushed, one_fits}
 use Rattle.tt.proofs.Growing.{same_state, extended_state, full, room}
 use Rattle.tt.proofs.builder.held.Held.push.Goals as goal
 
@@ -18,13 +18,13 @@ invariant_of-self-inside c =
     let is = seen _ _ _ _ _ c.self.inside.state _ c.self.view_is in
     ((c.args.self.now, same_state _ _ _ _ _ _ _ _ is (search rules) refl), tt)
 
-pub invariant_of-self-inside-then-not-add_leaf : goal.invariant_of-self-inside-then-not-add_leaf
-invariant_of-self-inside-then-not-add_leaf c =
+pub invariant_of-self-inside-then-not-count_leaf : goal.invariant_of-self-inside-then-not-count_leaf
+invariant_of-self-inside-then-not-count_leaf c =
     let is = seen _ _ _ _ _ c.self.inside.state _ c.self.view_is in
     ((c.args.self.now, same_state _ _ _ _ _ _ _ _ is (search rules) refl), tt)
 
-pub returns-then-not-add_leaf-clause-err : goal.returns-then-not-add_leaf-clause-err
-returns-then-not-add_leaf-clause-err c =
+pub returns-then-not-count_leaf-clause-err : goal.returns-then-not-count_leaf-clause-err
+returns-then-not-count_leaf-clause-err c =
     let is = seen _ _ _ _ _ c.self.inside.state _ c.self.view_is in
     let list : c.reserve.new.self.items ≡ c.self.inside.tokens.items = search rules in
     let next = same_state _ _ _ _ _ _ _ _ is list refl in
@@ -62,22 +62,17 @@ returns-clause-room c =
     let counted : vec_len c.self.inside.tokens ≡ length c.self.inside.tokens.items = search rules in
     room _ _ _ _ _ _ 1 is (omega (arith, counted, c.if-len.false, c.len.ensures))
 
-pub add_leaf-requires-clause-parts : goal.add_leaf-requires-clause-parts
-add_leaf-requires-clause-parts c = λ x.
+pub count_leaf-requires : goal.count_leaf-requires
+count_leaf-requires c =
     let is = seen _ _ _ _ _ c.self.inside.state _ c.self.view_is in
     let counted : vec_len c.self.inside.tokens ≡ length c.self.inside.tokens.items = search rules in
-    omega (arith, more_parts_fit _ _ _ _ _ _ 1 _ is c.requires.parts (omega (arith, counted, c.if-len.false, c.len.ensures)) x)
+    one_fits c.args.self.now.stack c.args.counts.now c.requires.counts (omega (arith, room _ _ _ _ _ _ 1 is (omega (arith, counted, c.if-len.false, c.len.ensures))))
 
-pub add_leaf-requires-clause-symbols : goal.add_leaf-requires-clause-symbols
-add_leaf-requires-clause-symbols c = λ x.
-    let is = seen _ _ _ _ _ c.self.inside.state _ c.self.view_is in
-    let counted : vec_len c.self.inside.tokens ≡ length c.self.inside.tokens.items = search rules in
-    omega (arith, more_symbols_fit _ _ _ _ _ _ 1 _ is c.requires.symbols (omega (arith, counted, c.if-len.false, c.len.ensures)) x)
+pub returns-then-not-count_leaf-clause-counts_err : goal.returns-then-not-count_leaf-clause-counts_err
+returns-then-not-count_leaf-clause-counts_err c =
+    let stack = c.args.self.now.stack in
+    counts_stay (held_parts stack) (held_symbols stack) c.args.counts.now c.count_leaf.new.counts c.requires.counts (rw c.if-not-count_leaf.true at c.count_leaf.ensures)
 
-pub returns-clause-parts_ok : goal.returns-clause-parts_ok
-returns-clause-parts_ok c =
-    pushed_parts c.args.self.now.stack c.args.leaf _ _ c.requires.parts (rw c.if-not-add_leaf.false at c.add_leaf.ensures.parts)
-
-pub returns-clause-symbols_ok : goal.returns-clause-symbols_ok
-returns-clause-symbols_ok c =
-    pushed_symbols c.args.self.now.stack c.args.leaf _ _ c.requires.symbols (rw c.if-not-add_leaf.false at c.add_leaf.ensures.symbols)
+pub returns-clause-counts : goal.returns-clause-counts
+returns-clause-counts c =
+    counts_pushed c.args.self.now.stack c.args.leaf c.args.counts.now c.count_leaf.new.counts c.requires.counts (rw c.if-not-count_leaf.false at c.count_leaf.ensures)
