@@ -15,6 +15,9 @@ DEBUG_DEPTH = 1_000
 LEAVES = 100
 REPLACEMENT = 1_000
 SLOTS = 16
+# A builder of more tokens counts uses as it goes.
+UNCOUNTED = 256
+COUNTED_STEPS = 900
 LONG_TEXT = 70_000
 # A span of zeros.
 ZERO = "0:0@0..0#0"
@@ -179,10 +182,103 @@ def all_slots(program):
     wants("puncts that became alone", sum(line.startswith("punct alone") for line in puncts), SLOTS)
 
 
+class Held:
+    """What a builder holds, as a plain list: how often parts and symbols are used in it is counted anew each time."""
+
+    def __init__(self):
+        # A leaf is its part and its symbol; a header its open part, its close part or None, and whether it is invisible.
+        self.tokens, self.open, self.points, self.mark, self.taken = [], [], {}, None, 0
+
+    def push(self, part, symbol):
+        """A leaf."""
+        self.tokens.append((part, symbol))
+
+    def open_subtree(self, part, is_invisible):
+        """A header, whose close is not known."""
+        self.open.append(len(self.tokens))
+        self.tokens.append([part, None, is_invisible])
+        self.mark = None
+
+    def close(self, part):
+        """The innermost one gets its close."""
+        self.mark = self.open.pop()
+        self.tokens[self.mark][1] = part
+        self.points = {number: kept for number, kept in self.points.items() if kept[1] <= len(self.open)}
+
+    def unwrap(self):
+        """The marked header goes, if it is invisible."""
+        if self.mark is not None and self.tokens[self.mark][2]:
+            del self.tokens[self.mark]
+        self.mark = None
+
+    def point(self):
+        """A restore point."""
+        self.points[self.taken] = (len(self.tokens), len(self.open))
+        self.taken += 1
+        self.mark = None
+
+    def restore(self, number):
+        """Back to a point; answers whether it stands."""
+        if number not in self.points:
+            return "no"
+        held, depth = self.points[number]
+        del self.tokens[held:], self.open[depth:]
+        self.points = {other: kept for other, kept in self.points.items() if kept[0] <= held}
+        self.mark = None
+        return "yes"
+
+    def counts(self):
+        """The numbers of different parts and symbols."""
+        parts, symbols = set(), set()
+        for token in self.tokens:
+            if isinstance(token, tuple):
+                parts.add(token[0])
+                symbols.add(token[1])
+            else:
+                parts.update(part for part in token[:2] if part is not None)
+        return f"counts {len(parts)} {len(symbols)}"
+
+
+def counts_of_many(program):
+    """The counts of a builder that grows past the tokens up to which it counts nothing, goes back, and grows again."""
+    held, commands, expected = Held(), [f"new brace {ZERO} {ZERO}"], ["ok"]
+    for step in range(1, COUNTED_STEPS):
+        part, symbol = step * 7 % 31, step * 11 % 53
+        span = f"{part}:{step % 2}@{step}..{step + 1}#0"
+        part = (part, step % 2)
+        if step % 19 == 0:
+            commands.append(f"open {('invisible', 'paren')[step % 2]} {span}")
+            held.open_subtree(part, step % 2 == 0)
+        elif step % 19 == 9 and held.open:
+            commands.append(f"close {span}")
+            held.close(part)
+        elif step % 37 == 11:
+            commands.append("unwrap")
+            held.unwrap()
+        elif step % 41 == 3:
+            commands.append("point")
+            expected.append(f"point {held.taken}")
+            held.point()
+        elif step % 101 == 77:
+            number = max(held.taken - step % 3 - 1, 0)
+            commands.append(f"restore {number}")
+            expected.append(held.restore(number))
+        else:
+            commands.append(f"push ident plain {span} s{symbol}")
+            held.push(part, f"s{symbol}")
+        if len(expected) < len(commands):
+            expected.append("ok")
+        commands.append("counts")
+        expected.append(held.counts())
+    wants("answers", answers_of(program, commands), expected)
+    if len(held.tokens) < UNCOUNTED:
+        raise Wrong(f"{len(held.tokens)} tokens are too few for this run")
+
+
 def main():
     """Makes the runs one after the other."""
     failed = False
-    for run in (long_list, deep_nest, deepest_nest, debug_of_a_nest, replaced_leaves, long_line, all_slots):
+    for run in (long_list, deep_nest, deepest_nest, debug_of_a_nest, replaced_leaves, long_line, all_slots, counts_of_many):
         try:
             run(sys.argv[1])
             print(f"ok {run.__name__}")

@@ -72,17 +72,24 @@ impl TopSubtreeBuilder {
         })
     }
 
+    // Counts what is held. A call of its own: what it needs is much, and seldom needed.
+    #[inline(never)]
+    fn count(&mut self) -> Result<(), TtFault>
+        ensures stays { self.new ≡ self.old }
+        ensures err { IfErr result (λ fault. fault ≡ Memory) }
+    {
+        self.counts = Some(self.held.count()?);
+        Ok(())
+    }
+
     // Counts what is held, where that and so many tokens more would be many, and it is not counted yet.
     #[inline(always)]
     fn count_if_many(&mut self, more: usize) -> Result<(), TtFault>
         ensures stays { self.new ≡ self.old }
         ensures err { IfErr result (λ fault. fault ≡ Memory) }
     {
-        if self.counts.is_some() {
-            return Ok(());
-        }
-        if self.held.len().saturating_add(more) > UNCOUNTED_TOKENS {
-            self.counts = Some(self.held.count()?);
+        if self.counts.is_none() && self.held.len().saturating_add(more) > UNCOUNTED_TOKENS {
+            return self.count();
         }
         Ok(())
     }
@@ -265,7 +272,8 @@ impl TopSubtreeBuilder {
         Ok(TopSubtreeBuilder { held, counts })
     }
 
-    /// How often a span's part is used in the tokens held. The top and the close of an open subtree are not counted.
+    /// How often a span's part is used in the tokens held. The top and the close of an open subtree are not counted. As long
+    /// as there are few tokens all of them are looked at, and later none is; so it is with the two calls below.
     pub fn span_part_uses(&self, span: &Span) -> usize
         ensures { result ≡ uses_of same_part (held_parts self.now.stack) (part_of span.now) }
     {
