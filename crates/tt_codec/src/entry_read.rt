@@ -1,5 +1,5 @@
 //! Which leaf or header some bytes begin with (docs/FORMATS.md, "Bytes of a leaf" and "Bytes of a header").
-ghost use Rattle.std.specs.Prelude.{◌≡◌, Some, None};
+ghost use Rattle.std.specs.Prelude.{◌≡◌, Some, None, IsTrue, false};
 ghost use Rattle.tt_codec.specs.Entry.{as_entry, plain_entry_at, entry_behind_span, entry_at, EntriesAgain};
 ghost use Rattle.tt_codec.specs.Leaf.{long_literal_at, other_punct_at, plain_at, marked_at};
 ghost use Rattle.tt_codec.specs.Read.{Read, IsRead, IsMade};
@@ -136,6 +136,23 @@ fn visit_behind<'a, V: Visitor<'a>>(visitor: &mut V, span: Spanned, from: &'a [u
         return;
     }
     visit_marked(visitor, span, from);
+}
+
+/// Visits the token that the bytes begin with, if it is an ident or an ASCII punct, and tells whether they begin with the
+/// span of one. Most tokens are these, and they take little code, so it suits a caller that has no call for each token.
+#[inline(always)]
+#[tactic(auto, unfolding(crate::specs::Entry::entry_at))]
+pub fn visit_marked_token<'a, V: Visitor<'a>>(visitor: &mut V, from: &'a [u8]) -> bool
+    ensures visits { IsTrue result → IsMade V.makes visitor.old (entry_at from.now) visitor.new }
+    ensures unchanged { result ≡ false → visitor.new ≡ visitor.old }
+{
+    if let Some((span, rest)) = Spanned::read(from) {
+        if span.extra != PLAIN {
+            visit_marked(visitor, span, rest);
+            return true;
+        }
+    }
+    false
 }
 
 /// Visits the token that the bytes begin with, if they begin with one.

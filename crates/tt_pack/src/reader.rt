@@ -100,6 +100,7 @@ impl<'a> Reader<'a> {
     }
 
     /// The next token, or `None` at the end of the bytes. Behind a header come the tokens that it holds.
+    #[inline(always)]
     pub fn advance(&mut self) -> Option<TokenTree>
         ensures token { result ≡ first_token (ahead_of self.old) }
         ensures end { (result ≡ None) ↔ (length (bytes_of self.old) ≤ offset_of self.old) }
@@ -107,7 +108,7 @@ impl<'a> Reader<'a> {
     {
         let tree = self.tree?;
         let mut tokens = TokenReader::new(tree);
-        tokens.decode(self.offset);
+        tokens.decode_here(self.offset);
         if tokens.token.is_some() {
             self.offset = tree.bytes().len() - tokens.left;
             self.steps = self.steps.saturating_add(1);

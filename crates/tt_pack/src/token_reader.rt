@@ -3,7 +3,7 @@ ghost use Rattle.std.specs.Prelude.{◌≤◌, length};
 
 use crate::packed::Packed;
 use tt_base::TokenTree;
-use tt_codec::{HeaderEntry, LeafEntry, Visitor, visit_token};
+use tt_codec::{HeaderEntry, LeafEntry, Visitor, visit_marked_token, visit_token};
 
 /// Makes a token of its numbers as soon as they are read, by the tables of a tree.
 #[derive(Drop)]
@@ -72,8 +72,8 @@ impl<'a> TokenReader<'a> {
         }
     }
 
-    /// Decodes the token at the offset, if one lies ahead of it. Inlined, the token would be put together in pieces and
-    /// copied, so this is one call for each token.
+    /// Decodes the token at the offset, if one lies ahead of it, by one call. It is written where the caller's reader
+    /// lies, in pieces, and copied from there by wider loads, which have to wait until the pieces are stored.
     #[inline(never)]
     pub(crate) fn decode(&mut self, offset: usize)
         requires inside { offset ≤ length (bytes_for self.old.tree.now) }
@@ -82,5 +82,26 @@ impl<'a> TokenReader<'a> {
     {
         let bytes = self.tree.bytes();
         visit_token(self, &bytes[offset..]);
+    }
+
+    /// The same, with idents and ASCII puncts decoded in the place of the call, so that they go from registers to where the
+    /// caller wants them. Any other token is decoded apart: a reader that is lent to a call has to lie in memory.
+    #[inline(always)]
+    pub(crate) fn decode_here(&mut self, offset: usize)
+        requires inside { offset ≤ length (bytes_for self.old.tree.now) }
+        requires new { self.old.token ≡ None }
+        ensures { DecodesAt self.old offset self.new }
+    {
+        let bytes = self.tree.bytes();
+        if visit_marked_token(self, &bytes[offset..]) {
+            return;
+        }
+        let mut apart = TokenReader::new(self.tree);
+        apart.decode(offset);
+        self.left = apart.left;
+        self.child_bytes = apart.child_bytes;
+        if let Some(token) = apart.token {
+            self.keep(token);
+        }
     }
 }

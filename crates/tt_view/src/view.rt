@@ -201,7 +201,9 @@ impl<'a> TokenTreesView<'a> {
         }
     }
 
-    // Takes the first token. What follows it is left, and the trees that it holds come first.
+    // Takes the first token. What follows it is left, and the trees that it holds come first. A `?` in place of the `else`
+    // would have the token copied once more.
+    #[inline(always)]
     pub(crate) fn next_token(&mut self) -> Option<TokenTree>
         ensures token { result ≡ first_token (trees_of self.old) }
         ensures rest { trees_of self.new ≡ after_token (trees_of self.old) }
@@ -209,7 +211,9 @@ impl<'a> TokenTreesView<'a> {
         if self.len == 0 {
             return None;
         }
-        let token = self.reader.advance()?;
+        let Some(token) = self.reader.advance() else {
+            return None;
+        };
         self.len -= 1;
         Some(token)
     }

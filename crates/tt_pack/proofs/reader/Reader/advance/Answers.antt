@@ -24,21 +24,21 @@ pub returns-then-is_some-clause-moved : goal.returns-then-is_some-clause-moved
 returns-then-is_some-clause-moved c =
     let self = c.args.self.now in
     let tree : self.tree ≡ Some c.in_ok-tree.tree = search rules in
-    let some : c.decode.new.self.token ≡ None → ⊥ = λ none. search (rules, none) in
-    let found = decoded_ahead self _ c.new-tokens.result c.decode.new.self tree c.new-tokens.ensures.tree c.decode.ensures in
+    let some : c.decode_here.new.self.token ≡ None → ⊥ = λ none. search (rules, none) in
+    let found = decoded_ahead self _ c.new-tokens.result c.decode_here.new.self tree c.new-tokens.ensures.tree c.decode_here.ensures in
     let first = (some_is_first self _ _ _ found some).2 in
     let all : c.bytes.result.now ≡ bytes_of self = c.bytes.ensures.value ∙ sym (ap bytes_in tree) in
     let counted = one_step (steps_of self) (ahead_of self) _ first.token in
     steps_to _ _ _ (omega (arith, first.passed, ap length all))
-    (subst (λ most. IsAhead (tables_of self) (bytes_of self) (most - c.decode.new.self.left) (after_token (ahead_of self))) (sym (ap length all)) first.inside)
+    (subst (λ most. IsAhead (tables_of self) (bytes_of self) (most - c.decode_here.new.self.left) (after_token (ahead_of self))) (sym (ap length all)) first.inside)
     (refl, refl) (c.saturating_add-self.ensures ∙ sym counted)
 
 pub returns-else-is_some-clause-end : goal.returns-else-is_some-clause-end
 returns-else-is_some-clause-end c =
     let self = c.args.self.now in
     let tree : self.tree ≡ Some c.in_ok-tree.tree = search rules in
-    let none : c.decode.new.self.token ≡ None = search rules in
-    let found = decoded_ahead self _ c.new-tokens.result c.decode.new.self tree c.new-tokens.ensures.tree c.decode.ensures in
+    let none : c.decode_here.new.self.token ≡ None = search rules in
+    let found = decoded_ahead self _ c.new-tokens.result c.decode_here.new.self tree c.new-tokens.ensures.tree c.decode_here.ensures in
     let past = ends _ _ _ _ self.ahead.1 in
     (λ _. past.0 (ap first_token (none_is_ahead self _ _ _ found none)), λ _. none)
 
@@ -46,7 +46,7 @@ pub returns-else-is_some-clause-moved : goal.returns-else-is_some-clause-moved
 returns-else-is_some-clause-moved c =
     let self = c.args.self.now in
     let tree : self.tree ≡ Some c.in_ok-tree.tree = search rules in
-    let none : c.decode.new.self.token ≡ None = search rules in
-    let found = decoded_ahead self _ c.new-tokens.result c.decode.new.self tree c.new-tokens.ensures.tree c.decode.ensures in
+    let none : c.decode_here.new.self.token ≡ None = search rules in
+    let found = decoded_ahead self _ c.new-tokens.result c.decode_here.new.self tree c.new-tokens.ensures.tree c.decode_here.ensures in
     let nothing = none_is_ahead self _ _ _ found none in
     stays self (after_token (ahead_of self)) nothing (ap after_token nothing)
