@@ -4,6 +4,8 @@
 #[cfg(test)]
 mod headers;
 #[cfg(test)]
+mod holds;
+#[cfg(test)]
 mod leaves;
 #[cfg(test)]
 mod symbols;
