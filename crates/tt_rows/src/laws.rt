@@ -1,43 +1,54 @@
 //! The bytes of references and of spans at the limits of their forms.
+use crate::holds::holds;
 use std::alloc::Global;
 use std::test::Fail;
+use tt_base::TtFault;
 use tt_pack::laws;
 
-// The bytes of a reference, where its numbers can be written.
-fn reference(alloc: Global, index: u32, tag: u32) -> Result<Vec<u8>, Fail> {
+// Whether a reference has these bytes, and its numbers can be written.
+fn is_reference(alloc: Global, index: u32, tag: u32, bytes: &[u8]) -> Result<bool, TtFault> {
     if index >= 536870912 || tag >= 2 {
-        return Err(Fail::new("no such reference"));
+        return Ok(false);
     }
-    Ok(laws::symbol_bytes(alloc, index, tag)?)
+    Ok(laws::symbol_bytes(alloc, index, tag)?.as_slice() == bytes)
 }
 
-// The bytes of a span of that part, start and length, with no extra bits, where its numbers can be written.
-fn span(alloc: Global, numbers: (u32, u32, u32)) -> Result<Vec<u8>, Fail> {
-    let (part, start, length) = numbers;
-    if part >= 268435456 || length > u32::MAX - start {
-        return Err(Fail::new("no such span"));
+// The number of a reference, its tag, and its bytes.
+const REFERENCES: [(u32, u32, &[u8]); 9] = [
+    (0, 0, b"\x00"),
+    (63, 0, b"\xfc"),
+    (63, 1, b"\xfd"),
+    (64, 0, b"\x02\x02"),
+    (64, 1, b"\x03\x02"),
+    (8191, 0, b"\xfe\xfe"),
+    (8192, 0, b"\x02\x01\x01\x00"),
+    (536870911, 0, b"\xfe\xff\xff\xff"),
+    (536870911, 1, b"\xff\xff\xff\xff"),
+];
+
+// Whether each of them has its bytes.
+fn are_references(alloc: Global) -> Result<bool, TtFault> {
+    for (index, tag, bytes) in &REFERENCES {
+        if !is_reference(alloc, *index, *tag, bytes)? {
+            return Ok(false);
+        }
     }
-    Ok(laws::span_bytes(alloc, part, start, length, 0, false)?)
+    Ok(true)
 }
 
 #[test]
 fn references(rt: HostRuntime) -> Result<(), Fail> {
-    let cases: [(u32, u32, &[u8]); 9] = [
-        (0, 0, b"\x00"),
-        (63, 0, b"\xfc"),
-        (63, 1, b"\xfd"),
-        (64, 0, b"\x02\x02"),
-        (64, 1, b"\x03\x02"),
-        (8191, 0, b"\xfe\xfe"),
-        (8192, 0, b"\x02\x01\x01\x00"),
-        (536870911, 0, b"\xfe\xff\xff\xff"),
-        (536870911, 1, b"\xff\xff\xff\xff"),
-    ];
-    for (index, tag, bytes) in cases {
-        let found = reference(rt.alloc(), index, tag)?;
-        assert_eq!(rt; found.as_slice(), bytes, "{index} {tag}");
+    holds(are_references(rt.alloc()))
+}
+
+// Whether a span of that part, start and length has these bytes, with no extra bits, and its numbers can be written.
+fn is_span(alloc: Global, numbers: (u32, u32, u32), bytes: &[u8]) -> Result<bool, TtFault> {
+    let (part, start, length) = numbers;
+    if part >= 268435456 || length > u32::MAX - start {
+        return Ok(false);
     }
-    Ok(())
+    let found = laws::span_bytes(alloc, part, start, length, 0, false)?;
+    Ok(found.as_slice() == bytes)
 }
 
 // The part, the start and the length of a span, and its bytes.
@@ -85,14 +96,28 @@ const SPANS: [((u32, u32, u32), &[u8]); 17] = [
     ),
 ];
 
+// Whether each of them has its bytes.
+fn are_spans(alloc: Global) -> Result<bool, TtFault> {
+    for (numbers, bytes) in &SPANS {
+        if !is_span(alloc, *numbers, bytes)? {
+            return Ok(false);
+        }
+    }
+    Ok(true)
+}
+
 #[test]
 fn spans(rt: HostRuntime) -> Result<(), Fail> {
-    for (numbers, bytes) in SPANS {
-        let found = span(rt.alloc(), numbers)?;
-        assert_eq!(rt; found.as_slice(), bytes, "{numbers:?}");
-    }
-    let bytes: &[u8] = b"\x03\x40\x00\x00\x01\x00\x00\x00\x00\x00\x00\x00";
-    let found = laws::span_bytes(rt.alloc(), 0, 0, 0, 3, true)?;
-    assert_eq!(rt; found.as_slice(), bytes);
-    Ok(())
+    holds(are_spans(rt.alloc()))
+}
+
+// Whether an empty span has these bytes in the longest form, with both extra bits.
+fn is_longest(alloc: Global, bytes: &[u8]) -> Result<bool, TtFault> {
+    Ok(laws::span_bytes(alloc, 0, 0, 0, 3, true)?.as_slice() == bytes)
+}
+
+#[test]
+fn the_longest_form(rt: HostRuntime) -> Result<(), Fail> {
+    let bytes = b"\x03\x40\x00\x00\x01\x00\x00\x00\x00\x00\x00\x00";
+    holds(is_longest(rt.alloc(), bytes))
 }

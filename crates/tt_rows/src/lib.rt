@@ -2,7 +2,7 @@
 #![tactic(auto)]
 
 #[cfg(test)]
-mod headers;
+mod holds;
 #[cfg(test)]
 mod laws;
 #[cfg(test)]

@@ -1,15 +1,17 @@
 //! Reading what is stored, token by token, and what a header holds in one step.
 ghost use Rattle.std.specs.Prelude.{◌≤◌, ◌<◌, ◌-◌};
 
-use crate::lists::{braces, gives, header, ident, is_at_end, is_read, pack, punct, stored};
+use crate::holds::holds;
+use crate::lists::{
+    brace, braces, gives, header, ident, is_at, is_at_end, is_read, pack, punct, stored,
+};
 use std::alloc::Global;
-use std::process::Abort;
 use std::test::Fail;
-use tt_base::{DelimiterKind, TokenTree};
+use tt_base::{DelimiterKind, Spacing, TokenTree, TtFault};
 use tt_pack::{Packed, Reader};
 
 // A header at an index of a list. It holds so many of the tokens behind it.
-fn parentheses(index: u32, len: u32) -> Result<TokenTree, Fail>
+fn parentheses(index: u32, len: u32) -> TokenTree
     requires index { index < 100000 }
     requires len { len < 100000 }
 {
@@ -25,7 +27,7 @@ fn parentheses(index: u32, len: u32) -> Result<TokenTree, Fail>
 }
 
 // A leaf at an index of a list.
-fn leaf(alloc: Global, index: u32) -> Result<TokenTree, Fail>
+fn leaf(alloc: Global, index: u32) -> Result<TokenTree, TtFault>
     requires { index < 100000 }
 {
     let start = index * 2;
@@ -34,113 +36,109 @@ fn leaf(alloc: Global, index: u32) -> Result<TokenTree, Fail>
         0 => ident(alloc, "a", spot),
         1 => ident(alloc, "b", spot),
         2 => ident(alloc, "r#type", spot),
-        3 | 4 => punct('+', spot),
-        _ => punct('→', spot),
+        3 | 4 => Ok(punct('+', Spacing::Alone, spot)),
+        _ => Ok(punct('→', Spacing::Alone, spot)),
     }
 }
 
-// Of five tokens in a row the first holds all that follow it, the second one leaf, and the others are leaves.
-fn nested(alloc: Global, count: u32) -> Result<Vec<TokenTree>, Fail>
+// A token at an index of a list of so many. Of five in a row the first holds all that follow it, the second one leaf, and the
+// others are leaves.
+fn token(alloc: Global, index: u32, count: u32) -> Result<TokenTree, TtFault>
+    requires index { index < count }
+    requires count { count ≤ 100000 }
+{
+    match index % 5 {
+        0 => Ok(parentheses(index, count - 1 - index)),
+        1 => Ok(parentheses(index, 1)),
+        _ => leaf(alloc, index),
+    }
+}
+
+// A list of so many of them.
+fn nested(alloc: Global, count: u32) -> Result<Vec<TokenTree>, TtFault>
     requires { count ≤ 100000 }
 {
     let mut tokens = Vec::new(alloc);
     for index in 0..count {
-        let token = match index % 5 {
-            0 => parentheses(index, count - 1 - index)?,
-            1 => parentheses(index, 1)?,
-            _ => leaf(alloc, index)?,
-        };
-        tokens.push(token)?;
+        tokens.push(token(alloc, index, count)?)?;
     }
     Ok(tokens)
 }
 
-// The reader gives that token, and is at that offset after so many steps.
-fn goes_on(
-    rt: &impl Abort,
-    reader: &mut Reader<'_>,
-    token: &TokenTree,
-    place: (usize, u64),
-) -> Result<(), Fail> {
-    gives(rt, reader, token)?;
-    is_at(rt, reader, place);
-    Ok(())
-}
-
-// The reader is at that offset after so many steps.
-fn is_at(rt: &impl Abort, reader: &Reader<'_>, place: (usize, u64)) {
-    let (offset, steps) = place;
-    assert_eq!(rt; reader.place(), offset);
-    assert_eq!(rt; reader.steps(), steps);
-}
-
-// The tokens of the braces are read one after another.
-fn goes_through(rt: &impl Abort, tree: &Packed, tokens: &[TokenTree]) -> Result<(), Fail> {
-    let mut reader = Reader::start(tree);
-    is_at(rt, &reader, (0, 0));
-    let places: [(usize, u64); 3] = [(33, 1), (38, 2), (43, 3)];
-    for (token, place) in tokens.iter().zip(places.iter()) {
-        goes_on(rt, &mut reader, token, *place)?;
-    }
-    is_at_end(rt, &mut reader, 43, 3);
-    Ok(())
-}
-
-#[test]
-fn one_token_after_another(rt: HostRuntime) -> Result<(), Fail> {
-    let alloc = rt.alloc();
-    let tokens = braces(alloc)?;
-    let tree = stored(alloc, tokens.as_slice())?;
-    goes_through(&rt, &tree, tokens.as_slice())
-}
-
-// The reader passes that token and all that it holds. The answer reads what it holds.
-fn skips_to<'a>(
-    rt: &impl Abort,
-    reader: &mut Reader<'a>,
-    token: &TokenTree,
-) -> Result<Reader<'a>, Fail> {
-    let (found, below) = reader.advance_skip().ok_or("no token")?;
-    assert!(rt; found == *token);
-    Ok(below)
-}
-
-// The reader passes the braces in one step, and so comes to the end. The answer reads what they hold.
-fn passes<'a>(rt: &impl Abort, reader: &mut Reader<'a>) -> Result<Reader<'a>, Fail> {
-    let brace = header(DelimiterKind::Brace, (0, 0, 1), (0, 5, 6), 2)?;
-    let below = skips_to(rt, reader, &brace)?;
-    is_at(rt, reader, (43, 1));
-    Ok(below)
-}
-
-// The reader stays at the end.
-fn stays(rt: &impl Abort, reader: &mut Reader<'_>) {
-    assert!(rt; reader.advance_skip().is_none());
-    is_at_end(rt, reader, 43, 1);
-}
-
-// The reader of what the braces hold gives the ident first.
-fn goes_below(rt: &impl Abort, alloc: Global, below: &mut Reader<'_>) -> Result<(), Fail> {
-    is_at(rt, below, (33, 1));
-    let name = ident(alloc, "a", (0, 2, 3))?;
-    goes_on(rt, below, &name, (38, 2))
-}
-
-#[test]
-fn all_that_a_header_holds(rt: HostRuntime) -> Result<(), Fail> {
-    let alloc = rt.alloc();
-    let tree = pack(alloc, braces(alloc)?)?;
-    let mut reader = Reader::start(&tree);
-    let mut below = passes(&rt, &mut reader)?;
-    stays(&rt, &mut reader);
-    goes_below(&rt, alloc, &mut below)
+// Whether the tree that is stored for a list has its tokens, one step each.
+fn is_stored(alloc: Global, tokens: &[TokenTree]) -> Result<bool, TtFault> {
+    Ok(is_read(&stored(alloc, tokens)?, tokens))
 }
 
 #[test]
 fn a_long_list(rt: HostRuntime) -> Result<(), Fail> {
-    let alloc = rt.alloc();
-    let tokens = nested(alloc, 100000)?;
-    let tree = stored(alloc, tokens.as_slice())?;
-    assert_eq!(rt; tree.len(), 100000);
-    is_read(&rt, &tree, tokens.as_slice())
+    let tokens = nested(rt.alloc(), 100000)?;
+    holds(is_stored(rt.alloc(), tokens.as_slice()))
+}
+
+// Whether the reader gives the tokens of the braces one after another.
+fn goes_through(reader: &mut Reader<'_>, tokens: &[TokenTree]) -> bool {
+    let [header, name, semicolon] = tokens else {
+        return false;
+    };
+    gives(reader, header)
+        && is_at(reader, 33, 1)
+        && gives(reader, name)
+        && is_at(reader, 38, 2)
+        && gives(reader, semicolon)
+        && is_at_end(reader, 43, 3)
+}
+
+// Whether a reader starts in front of the braces, and goes through them.
+fn is_read_in_turn(alloc: Global, tokens: &[TokenTree]) -> Result<bool, TtFault> {
+    let tree = stored(alloc, tokens)?;
+    let mut reader = Reader::start(&tree);
+    Ok(is_at(&reader, 0, 0) && goes_through(&mut reader, tokens))
+}
+
+#[test]
+fn one_token_after_another(rt: HostRuntime) -> Result<(), Fail> {
+    let tokens = braces(rt.alloc())?;
+    holds(is_read_in_turn(rt.alloc(), tokens.as_slice()))
+}
+
+// Whether the token is the header of the braces.
+fn is_brace(token: TokenTree) -> bool {
+    token == brace()
+}
+
+// The reader of what the braces hold, which a reader in front of them passes in one step.
+fn below<'a>(reader: &mut Reader<'a>) -> Option<Reader<'a>> {
+    let (found, below) = reader.advance_skip()?;
+    if is_brace(found) { Some(below) } else { None }
+}
+
+// Whether the reader is at the end behind one step, and stays there.
+fn stays(reader: &mut Reader<'_>) -> bool {
+    is_at(reader, 43, 1) && reader.advance_skip().is_none() && is_at_end(reader, 43, 1)
+}
+
+// Whether the reader of what the braces hold gives that ident first.
+fn goes_below(below: &mut Reader<'_>, name: &TokenTree) -> bool {
+    is_at(below, 33, 1) && gives(below, name) && is_at(below, 38, 2)
+}
+
+// Whether the braces are passed in one step, and what they hold is read behind it.
+fn is_passed(tree: &Packed, name: &TokenTree) -> bool {
+    let mut reader = Reader::start(tree);
+    match below(&mut reader) {
+        Some(mut below) => stays(&mut reader) && goes_below(&mut below, name),
+        None => false,
+    }
+}
+
+// Whether the braces over the ident are.
+fn are_passed(alloc: Global, name: &TokenTree) -> Result<bool, TtFault> {
+    Ok(is_passed(&pack(alloc, braces(alloc)?)?, name))
+}
+
+#[test]
+fn all_that_a_header_holds(rt: HostRuntime) -> Result<(), Fail> {
+    let name = ident(rt.alloc(), "a", (0, 2, 3))?;
+    holds(are_passed(rt.alloc(), &name))
 }

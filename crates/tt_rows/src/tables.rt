@@ -1,11 +1,9 @@
 //! The tables that the rows of tokens are written under.
 
 use std::alloc::Global;
-use std::process::Abort;
-use std::test::Fail;
 use tt_base::{
     ErasedFileAstId, FileId, Span, SpanAnchor, SpanPart, Symbol, SyntaxContext, TextRange,
-    TextSize, TokenTree,
+    TextSize, TokenTree, TtFault,
 };
 use tt_pack::laws;
 
@@ -30,47 +28,50 @@ fn part(number: u32) -> SpanPart {
     }
 }
 
-/// The span there, or `None` where it would end before it starts.
-pub(crate) fn span(spot: Spot) -> Option<Span> {
+/// The span there. It is empty where it would end before it starts.
+pub(crate) fn span(spot: Spot) -> Span {
     let (number, start, end) = spot;
     let start = TextSize::new(start);
-    let length = TextSize::new(end).checked_sub(start)?;
-    let range = TextRange::at(start, length)?;
-    Some(part(number).recombine(range))
+    let end = TextSize::new(end.max(spot.1));
+    part(number).recombine(TextRange::new(start, end))
 }
 
 impl Tables {
     /// So many different parts, each at its number, and these symbols.
-    pub(crate) fn new(alloc: Global, part_count: u32, texts: &[&str]) -> Result<Tables, Fail> {
+    pub(crate) fn new(alloc: Global, part_count: u32, texts: &[&str]) -> Result<Tables, TtFault> {
         let mut parts = Vec::new(alloc);
         for number in 0..part_count {
             parts.push(part(number))?;
         }
-        let mut symbols = Vec::new(alloc);
-        for text in texts {
-            symbols.push(Symbol::new(alloc, text)?)?;
-        }
+        let symbols = symbols_of(alloc, texts)?;
         Ok(Tables { parts, symbols })
     }
 
-    /// The token has these bytes. What it holds takes `child_bytes` bytes.
+    /// Whether the token has these bytes. What it holds takes `child_bytes` bytes.
     pub(crate) fn give(
         &self,
-        rt: &impl Abort,
         alloc: Global,
         token: &TokenTree,
         child_bytes: u32,
         bytes: &[u8],
-    ) -> Result<(), Fail> {
-        let found = laws::token_bytes(alloc, token, &self.parts, &self.symbols, child_bytes)?;
-        let found = found.ok_or("the tables do not know the token")?;
-        assert_eq!(rt; found.as_slice(), bytes);
-        Ok(())
+    ) -> Result<bool, TtFault> {
+        match laws::token_bytes(alloc, token, &self.parts, &self.symbols, child_bytes)? {
+            Some(found) => Ok(found.as_slice() == bytes),
+            None => Ok(false),
+        }
     }
 
     /// Whether they have what the token uses.
-    pub(crate) fn know(&self, alloc: Global, token: &TokenTree) -> Result<bool, Fail> {
-        let found = laws::token_bytes(alloc, token, &self.parts, &self.symbols, 0)?;
-        Ok(found.is_some())
+    pub(crate) fn know(&self, alloc: Global, token: &TokenTree) -> Result<bool, TtFault> {
+        Ok(laws::token_bytes(alloc, token, &self.parts, &self.symbols, 0)?.is_some())
     }
+}
+
+// The symbols of these texts.
+fn symbols_of(alloc: Global, texts: &[&str]) -> Result<Vec<Symbol>, TtFault> {
+    let mut symbols = Vec::new(alloc);
+    for text in texts {
+        symbols.push(Symbol::new(alloc, text)?)?;
+    }
+    Ok(symbols)
 }

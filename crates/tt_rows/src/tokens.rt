@@ -1,41 +1,113 @@
-//! The bytes of a leaf under given tables.
-use crate::tables::{Tables, span};
-use std::alloc::Global;
-use std::process::Abort;
+//! The bytes of tokens under given tables.
+use crate::holds::holds;
+use crate::lists::{header, ident, punct};
+use crate::tables::{Spot, Tables, span};
+use std::alloc::{AllocError, Global};
 use std::test::Fail;
-use tt_base::{Ident, Leaf, LitKind, Literal, Punct, Spacing, TokenTree, TtFault};
+use tt_base::{DelimiterKind, Leaf, LitKind, Literal, Spacing, TokenTree, TtFault};
 
-// A punct of one of the parts.
-fn punct(char: char, spacing: Spacing, part: u32) -> Result<TokenTree, Fail> {
-    let span = span((part, 0, 1)).ok_or("no span")?;
-    Ok(Leaf::from(Punct {
-        char,
-        spacing,
-        span,
-    })
-    .into())
+// A span of one character.
+const SHORT: Spot = (0, 0, 1);
+
+// What kind a header is of, where it opens and closes, how many tokens it holds, in how many bytes, and its own bytes.
+type Header<'a> = (DelimiterKind, Spot, Spot, (u32, u32), &'a [u8]);
+
+const HEADERS: [Header<'_>; 4] = [
+    (
+        DelimiterKind::Parenthesis,
+        (0, 10, 11),
+        (1, 20, 21),
+        (0, 0),
+        b"\x40\x00\x05\x00\x22\x0a\x00\x00\x00",
+    ),
+    (
+        DelimiterKind::Parenthesis,
+        SHORT,
+        (127, 1, 2),
+        (0, 0),
+        b"\x40\x00\x00\x00\xe2\x01\x00\x0f\x00",
+    ),
+    (
+        DelimiterKind::Parenthesis,
+        SHORT,
+        (128, 1, 2),
+        (0, 0),
+        b"\x40\x00\x00\x00\x05\x40\xc0\x00\x00\x10\x00\x00\x00\x00\x00\x00\x00\x00\x00\x00\x00",
+    ),
+    (
+        DelimiterKind::Brace,
+        (0, 5, 9),
+        (0, 5, 9),
+        (1, 5),
+        b"\x00\x81\x02\x00\x09\x01\x05",
+    ),
+];
+
+// Whether the header has its bytes under these tables.
+fn is_header(alloc: Global, tables: &Tables, row: &Header<'_>) -> Result<bool, TtFault> {
+    let (kind, opening, closing, (len, child_bytes), bytes) = row;
+    let token = header(*kind, *opening, *closing, *len);
+    tables.give(alloc, &token, *child_bytes, bytes)
 }
 
-// An ident that is written so.
-fn ident(alloc: Global, text: &str, end: u32) -> Result<TokenTree, Fail> {
-    let span = span((0, 0, end)).ok_or("no span")?;
-    Ok(Leaf::from(Ident::new(alloc, text, span)?).into())
+// Whether all of them have.
+fn are_headers(alloc: Global, tables: &Tables) -> Result<bool, TtFault> {
+    for row in &HEADERS {
+        if !is_header(alloc, tables, row)? {
+            return Ok(false);
+        }
+    }
+    Ok(true)
 }
 
-// A literal of that text and suffix.
-fn literal(
+#[test]
+fn headers(rt: HostRuntime) -> Result<(), Fail> {
+    let tables = Tables::new(rt.alloc(), 129, &[])?;
+    holds(are_headers(rt.alloc(), &tables))
+}
+
+// Whether the token has these bytes where the tables have one part and that symbol.
+fn is_written(
     alloc: Global,
-    text: &str,
-    kind: LitKind,
-    suffix: &str,
-    end: u32,
-) -> Result<TokenTree, Fail> {
-    let span = span((0, 0, end)).ok_or("no span")?;
-    Ok(Leaf::from(Literal::new(alloc, text, span, kind, suffix)?).into())
+    token: &TokenTree,
+    symbol: &str,
+    bytes: &[u8],
+) -> Result<bool, TtFault> {
+    Tables::new(alloc, 1, &[symbol])?.give(alloc, token, 0, bytes)
 }
 
-// A text of so many letters.
-fn letters(alloc: Global, count: usize) -> Result<String, Fail> {
+// Whether a punct has its bytes.
+fn is_punct(alloc: Global) -> Result<bool, TtFault> {
+    let bytes = b"\x40\x00\x00\x00\x0e\x92\x21\x00\x00";
+    is_written(alloc, &punct('→', Spacing::Joint, SHORT), "", bytes)
+}
+
+// Whether a raw ident has.
+fn is_raw_ident(alloc: Global) -> Result<bool, TtFault> {
+    let bytes = b"\x82\x01\x00\x00\x01";
+    is_written(alloc, &ident(alloc, "r#type", (0, 0, 6))?, "type", bytes)
+}
+
+#[test]
+fn puncts_and_idents(rt: HostRuntime) -> Result<(), Fail> {
+    holds(is_punct(rt.alloc()))?;
+    holds(is_raw_ident(rt.alloc()))
+}
+
+// The number 1 with that suffix, up to that offset.
+fn number(alloc: Global, suffix: &str, end: u32) -> Result<TokenTree, TtFault> {
+    let literal = Literal::new(alloc, "1", span((0, 0, end)), LitKind::Integer, suffix)?;
+    Ok(Leaf::from(literal).into())
+}
+
+// Whether it has these bytes.
+fn is_number(alloc: Global, suffix: &str, end: u32, bytes: &[u8]) -> Result<bool, TtFault> {
+    let whole = format!(in alloc; "1{suffix}")?;
+    is_written(alloc, &number(alloc, suffix, end)?, whole.as_str(), bytes)
+}
+
+// A suffix of so many letters.
+fn letters(alloc: Global, count: u32) -> Result<String, AllocError> {
     let mut text = String::new(alloc);
     for _ in 0..count {
         text.push('u')?;
@@ -43,133 +115,72 @@ fn letters(alloc: Global, count: usize) -> Result<String, Fail> {
     Ok(text)
 }
 
-// A punct has these bytes where the tables have one part.
-fn is_punct(
-    rt: &impl Abort,
-    alloc: Global,
-    char: char,
-    spacing: Spacing,
-    bytes: &[u8],
-) -> Result<(), Fail> {
-    let tables = Tables::new(alloc, 1, &[])?;
-    let token = punct(char, spacing, 0)?;
-    tables.give(rt, alloc, &token, 0, bytes)
-}
-
-#[test]
-fn puncts(rt: HostRuntime) -> Result<(), Fail> {
-    let cases: [(char, Spacing, &[u8]); 3] = [
-        (';', Spacing::Alone, b"\x41\x00\x00\x00\x76"),
-        ('+', Spacing::JointHidden, b"\x43\x00\x00\x00\x56"),
-        ('→', Spacing::Joint, b"\x40\x00\x00\x00\x0e\x92\x21\x00\x00"),
-    ];
-    for (char, spacing, bytes) in cases {
-        is_punct(&rt, rt.alloc(), char, spacing, bytes)?;
-    }
-    Ok(())
-}
-
-#[test]
-fn a_raw_ident(rt: HostRuntime) -> Result<(), Fail> {
-    let alloc = rt.alloc();
-    let tables = Tables::new(alloc, 1, &["type"])?;
-    let token = ident(alloc, "r#type", 6)?;
-    tables.give(&rt, alloc, &token, 0, b"\x82\x01\x00\x00\x01")
-}
-
-// A literal of that text, kind and suffix, up to that offset, has these bytes where its text is the only symbol.
-fn is_written(
-    rt: &impl Abort,
-    alloc: Global,
-    row: (&str, LitKind, &str, u32),
-    bytes: &[u8],
-) -> Result<(), Fail> {
-    let (text, kind, suffix, end) = row;
-    let token = literal(alloc, text, kind, suffix, end)?;
-    let whole = format!(in alloc; "{text}{suffix}")?;
-    let tables = Tables::new(alloc, 1, &[whole.as_str()])?;
-    tables.give(rt, alloc, &token, 0, bytes)
-}
-
-#[test]
-fn literals(rt: HostRuntime) -> Result<(), Fail> {
-    let alloc = rt.alloc();
-    let cases: [(&str, LitKind, &str, u32, &[u8]); 4] = [
-        ("1", LitKind::Integer, "u8", 3, b"\xc0\x00\x00\x00\x2c\x00"),
-        (
-            "1",
-            LitKind::Integer,
-            "u23456789abcdef",
-            16,
-            b"\x00\x04\x00\x00\xfc\x00",
-        ),
-        (
-            "1",
-            LitKind::Integer,
-            "u123456789abcdef",
-            17,
-            b"\x40\x04\x00\x00\x17\x10\x00",
-        ),
-        (
-            "a",
-            LitKind::StrRaw(2),
-            "",
-            8,
-            b"\x00\x02\x00\x00\x2f\x02\x00\x00",
-        ),
-    ];
-    for (text, kind, suffix, end, bytes) in cases {
-        is_written(&rt, alloc, (text, kind, suffix, end), bytes)?;
-    }
-    Ok(())
-}
-
-// A literal with that suffix is refused.
-fn is_too_long(rt: &impl Abort, alloc: Global, suffix: &str) -> Result<(), Fail> {
-    let span = span((0, 0, 257)).ok_or("no span")?;
-    let fault = Literal::new(alloc, "1", span, LitKind::Integer, suffix).err();
-    assert!(rt; fault == Some(TtFault::SuffixTooLong));
-    Ok(())
-}
-
-#[test]
-fn long_suffixes(rt: HostRuntime) -> Result<(), Fail> {
-    let alloc = rt.alloc();
+// Whether the number with the longest suffix has its bytes.
+fn is_longest(alloc: Global) -> Result<bool, TtFault> {
     let suffix = letters(alloc, 255)?;
-    let row = ("1", LitKind::Integer, suffix.as_str(), 256);
     let bytes = b"\x00\x40\x00\x00\x00\x10\x00\x00\x17\xff\x00";
-    is_written(&rt, alloc, row, bytes)
+    is_number(alloc, suffix.as_str(), 256, bytes)
 }
 
 #[test]
-fn longer_suffixes(rt: HostRuntime) -> Result<(), Fail> {
-    let suffix = letters(rt.alloc(), 256)?;
-    is_too_long(&rt, rt.alloc(), suffix.as_str())
+fn numbers(rt: HostRuntime) -> Result<(), Fail> {
+    holds(is_number(rt.alloc(), "u8", 3, b"\xc0\x00\x00\x00\x2c\x00"))?;
+    holds(is_longest(rt.alloc()))
 }
 
-// Whether tables of one part and one symbol have what the token uses.
-fn is_known(rt: &impl Abort, alloc: Global, token: &TokenTree, known: bool) -> Result<(), Fail> {
-    let tables = Tables::new(alloc, 1, &["type"])?;
-    assert_eq!(rt; tables.know(alloc, token)?, known);
-    Ok(())
+// In which parts parentheses open and close, and whether two parts have these.
+const PARTS: [(u32, u32, bool); 4] = [(0, 0, true), (1, 1, true), (0, 2, false), (2, 0, false)];
+
+// Whether two parts have those of parentheses.
+fn know(alloc: Global, tables: &Tables, opening: u32, closing: u32) -> Result<bool, TtFault> {
+    let (opening, closing) = ((opening, 0, 1), (closing, 1, 2));
+    tables.know(alloc, &header(DelimiterKind::Bracket, opening, closing, 0))
+}
+
+// Whether they do exactly where they have both.
+fn know_parts(alloc: Global, tables: &Tables) -> Result<bool, TtFault> {
+    for (opening, closing, known) in &PARTS {
+        if know(alloc, tables, *opening, *closing)? != *known {
+            return Ok(false);
+        }
+    }
+    Ok(true)
 }
 
 #[test]
 fn parts_that_are_lacking(rt: HostRuntime) -> Result<(), Fail> {
-    for (part, known) in [(0, true), (1, false)] {
-        let token = punct(';', Spacing::Alone, part)?;
-        is_known(&rt, rt.alloc(), &token, known)?;
-    }
-    Ok(())
+    let tables = Tables::new(rt.alloc(), 2, &[])?;
+    holds(know_parts(rt.alloc(), &tables))
+}
+
+// Whether tables know the part of a punct.
+fn know_punct(alloc: Global, tables: &Tables, part: u32) -> Result<bool, TtFault> {
+    tables.know(alloc, &punct(';', Spacing::Alone, (part, 0, 1)))
+}
+
+// Whether they know an ident of that text.
+fn know_ident(alloc: Global, tables: &Tables, text: &str) -> Result<bool, TtFault> {
+    tables.know(alloc, &ident(alloc, text, SHORT)?)
+}
+
+// Whether they know the symbol of a number.
+fn know_number(alloc: Global, tables: &Tables) -> Result<bool, TtFault> {
+    tables.know(alloc, &number(alloc, "u8", 3)?)
+}
+
+// Whether they know one part and the symbol `type`, and no other part, no text that begins so, and no number.
+fn know_one_of_each(alloc: Global, tables: &Tables) -> Result<bool, TtFault> {
+    Ok(
+        know_punct(alloc, tables, 0)?
+            && !know_punct(alloc, tables, 1)?
+            && know_ident(alloc, tables, "type")?
+            && !know_ident(alloc, tables, "typed")?
+            && !know_number(alloc, tables)?,
+    )
 }
 
 #[test]
-fn symbols_that_are_lacking(rt: HostRuntime) -> Result<(), Fail> {
-    let alloc = rt.alloc();
-    for (text, end, known) in [("type", 4, true), ("typed", 5, false)] {
-        let token = ident(alloc, text, end)?;
-        is_known(&rt, alloc, &token, known)?;
-    }
-    let number = literal(alloc, "1", LitKind::Integer, "u8", 3)?;
-    is_known(&rt, alloc, &number, false)
+fn leaves_that_are_lacking(rt: HostRuntime) -> Result<(), Fail> {
+    let tables = Tables::new(rt.alloc(), 1, &["type"])?;
+    holds(know_one_of_each(rt.alloc(), &tables))
 }
