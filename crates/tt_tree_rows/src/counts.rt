@@ -1,10 +1,28 @@
 //! How often values are used in what a builder holds.
-use crate::builder::{invisible, push, push_ident};
-use crate::tokens::span_with;
+use crate::tokens::{holds, ident_leaf, span, span_with};
 use std::alloc::Global;
-use std::process::Abort;
 use std::test::Fail;
-use tt::{DelimiterKind, Leaf, Punct, Spacing, Symbol, TopSubtreeBuilder};
+use tt::{Delimiter, DelimiterKind, Leaf, Punct, Spacing, Symbol, TopSubtreeBuilder, TtFault};
+
+// A builder of an invisible top.
+fn invisible(alloc: Global) -> Result<TopSubtreeBuilder, TtFault> {
+    TopSubtreeBuilder::new(alloc, Delimiter::invisible_spanned(span(0)))
+}
+
+// Pushes the leaf.
+fn push(builder: &mut TopSubtreeBuilder, leaf: Leaf) -> Result<(), TtFault> {
+    Ok(builder.push(leaf)?)
+}
+
+// Pushes an ident at that offset.
+fn push_ident(
+    alloc: Global,
+    builder: &mut TopSubtreeBuilder,
+    text: &str,
+    start: u32,
+) -> Result<(), TtFault> {
+    push(builder, ident_leaf(alloc, text, start)?)
+}
 
 // The id of the part that is counted.
 const COUNTED: u32 = 7;
@@ -18,66 +36,77 @@ fn comma() -> Leaf {
     })
 }
 
-// The part is used so often.
-fn is_used(rt: &impl Abort, builder: &TopSubtreeBuilder, uses: usize) {
-    assert_eq!(rt; builder.span_part_uses(&span_with(COUNTED)), uses);
+// How often the part is used.
+fn uses(builder: &TopSubtreeBuilder) -> usize {
+    builder.span_part_uses(&span_with(COUNTED))
 }
 
-// A subtree that opens with the part is opened and left again by a point, behind so many leaves of the part.
-fn is_counted_back(
-    rt: &impl Abort,
-    builder: &mut TopSubtreeBuilder,
-    uses: usize,
-) -> Result<(), Fail> {
-    is_used(rt, builder, uses);
+// How often the part is used before a subtree opens with it, then, and behind a restore that leaves the subtree.
+fn uses_in_turn(builder: &mut TopSubtreeBuilder) -> Result<[usize; 3], TtFault> {
+    let before = uses(builder);
     let point = builder.restore_point()?;
     builder.open(DelimiterKind::Parenthesis, span_with(COUNTED))?;
-    is_used(rt, builder, uses.saturating_add(1));
-    assert!(rt; builder.restore(point));
-    is_used(rt, builder, uses);
-    Ok(())
+    let opened = uses(builder);
+    builder.restore(point);
+    Ok([before, opened, uses(builder)])
+}
+
+// Whether they are counted so behind no comma, one and two.
+fn are_counted_back(builder: &mut TopSubtreeBuilder) -> Result<bool, TtFault> {
+    for uses in &[[0, 1, 0], [1, 2, 1], [2, 3, 2]] {
+        if uses_in_turn(builder)? != *uses {
+            return Ok(false);
+        }
+        push(builder, comma())?;
+    }
+    Ok(true)
 }
 
 #[test]
 fn uses_behind_a_restore(rt: HostRuntime) -> Result<(), Fail> {
     let mut builder = invisible(rt.alloc())?;
-    for uses in 0..3usize {
-        is_counted_back(&rt, &mut builder, uses)?;
-        push(&mut builder, comma())?;
-    }
-    Ok(())
+    holds(are_counted_back(&mut builder))
 }
 
-// The ident `b` is used so often, and the builder uses so many names.
-fn has_names(rt: &impl Abort, builder: &TopSubtreeBuilder, b: &Symbol, expected: (usize, usize)) {
+// How often the ident is used, and how many names the builder uses.
+fn names(builder: &TopSubtreeBuilder, ident: &Symbol) -> (usize, usize) {
     let (_parts, names) = builder.distinct_counts();
-    assert!(rt; (builder.symbol_uses(b), names) == expected);
+    (builder.symbol_uses(ident), names)
 }
 
-// The builder holds an `a`, and each of the two counts by itself what it gets behind that.
-fn count_apart(
-    rt: &impl Abort,
+// A `b` goes to the copy of a builder that holds an `a`, and then a `c` and two `b` to the builder.
+fn push_apart(
     alloc: Global,
     builder: &mut TopSubtreeBuilder,
     copy: &mut TopSubtreeBuilder,
-) -> Result<(), Fail> {
-    let b = Symbol::new(alloc, "b")?;
+) -> Result<(), TtFault> {
     push_ident(alloc, copy, "b", 1)?;
-    has_names(rt, builder, &b, (0, 1));
-    has_names(rt, copy, &b, (1, 2));
     push_ident(alloc, builder, "c", 1)?;
     push_ident(alloc, builder, "b", 2)?;
-    push_ident(alloc, builder, "b", 3)?;
-    has_names(rt, builder, &b, (2, 3));
-    has_names(rt, copy, &b, (1, 2));
-    Ok(())
+    push_ident(alloc, builder, "b", 3)
+}
+
+// Whether each of the two counts by itself what it gets behind the `a`.
+fn count_apart(
+    alloc: Global,
+    builder: &mut TopSubtreeBuilder,
+    copy: &mut TopSubtreeBuilder,
+) -> Result<bool, TtFault> {
+    let b = Symbol::new(alloc, "b")?;
+    let are_alike = names(builder, &b) == (0, 1) && names(copy, &b) == (0, 1);
+    push_apart(alloc, builder, copy)?;
+    Ok(are_alike && names(builder, &b) == (2, 3) && names(copy, &b) == (1, 2))
+}
+
+// Whether a builder and its copy do.
+fn has_a_copy(alloc: Global, builder: &mut TopSubtreeBuilder) -> Result<bool, TtFault> {
+    push_ident(alloc, builder, "a", 0)?;
+    let mut copy = builder.clone()?;
+    count_apart(alloc, builder, &mut copy)
 }
 
 #[test]
 fn a_copy_counts_by_itself(rt: HostRuntime) -> Result<(), Fail> {
-    let alloc = rt.alloc();
-    let mut builder = invisible(alloc)?;
-    push_ident(alloc, &mut builder, "a", 0)?;
-    let mut copy = builder.clone()?;
-    count_apart(&rt, alloc, &mut builder, &mut copy)
+    let mut builder = invisible(rt.alloc())?;
+    holds(has_a_copy(rt.alloc(), &mut builder))
 }

@@ -2,8 +2,6 @@
 #![tactic(auto)]
 
 #[cfg(test)]
-mod builder;
-#[cfg(test)]
 mod counts;
 #[cfg(test)]
 mod cursor;
@@ -11,8 +9,6 @@ mod cursor;
 mod edits;
 #[cfg(test)]
 mod elements;
-#[cfg(test)]
-mod ids;
 #[cfg(test)]
 mod texts;
 #[cfg(test)]

@@ -1,11 +1,19 @@
-//! Tokens to make trees of.
+//! Tokens to make trees of, and how a test passes.
 use std::alloc::Global;
-use std::process::Abort;
 use std::test::Fail;
 use tt::{
     Delimiter, DelimiterKind, ErasedFileAstId, Ident, Leaf, Punct, Spacing, Span, SpanPart,
     Subtree, TextRange, TextSize, TokenTree, TopSubtree, TtFault,
 };
+
+/// A test passes where what it asks is so.
+pub(crate) fn holds(is_so: Result<bool, TtFault>) -> Result<(), Fail> {
+    match is_so {
+        Ok(true) => Ok(()),
+        Ok(false) => Err(Fail::new("it is not so")),
+        Err(fault) => Err(fault.into()),
+    }
+}
 
 /// The empty span at that offset.
 pub(crate) fn span(start: u32) -> Span {
@@ -20,28 +28,24 @@ pub(crate) fn span_with(id: u32) -> Span {
     span
 }
 
-/// A punct at offset 0, as a leaf.
-pub(crate) fn punct_leaf(char: char, spacing: Spacing) -> Leaf {
+/// A punct at offset 0.
+pub(crate) fn punct(char: char, spacing: Spacing) -> TokenTree {
     let span = span(0);
     Leaf::from(Punct {
         char,
         spacing,
         span,
     })
-}
-
-/// A punct at offset 0.
-pub(crate) fn punct(char: char, spacing: Spacing) -> TokenTree {
-    punct_leaf(char, spacing).into()
+    .into()
 }
 
 /// An ident at that offset, as a leaf.
-pub(crate) fn ident_leaf(alloc: Global, text: &str, start: u32) -> Result<Leaf, Fail> {
+pub(crate) fn ident_leaf(alloc: Global, text: &str, start: u32) -> Result<Leaf, TtFault> {
     Ok(Leaf::from(Ident::new(alloc, text, span(start))?))
 }
 
 /// An ident at that offset.
-pub(crate) fn ident(alloc: Global, text: &str, start: u32) -> Result<TokenTree, Fail> {
+pub(crate) fn ident(alloc: Global, text: &str, start: u32) -> Result<TokenTree, TtFault> {
     Ok(ident_leaf(alloc, text, start)?.into())
 }
 
@@ -51,18 +55,6 @@ pub(crate) fn is_ident(leaf: &Leaf, text: &str, start: u32) -> bool {
         Leaf::Ident(ident) => ident.sym.as_str() == text && ident.span == span(start),
         _ => false,
     }
-}
-
-/// These idents, each at its offset, go to the list.
-pub(crate) fn push_idents(
-    alloc: Global,
-    tokens: &mut Vec<TokenTree>,
-    rows: &[(&str, u32)],
-) -> Result<(), Fail> {
-    for (text, start) in rows {
-        tokens.push(ident(alloc, text, *start)?)?;
-    }
-    Ok(())
 }
 
 /// The header of a subtree of that kind, which opens and closes at those offsets and holds so many tokens.
@@ -86,24 +78,9 @@ pub(crate) fn tree_of(alloc: Global, tokens: Vec<TokenTree>) -> Result<TopSubtre
 }
 
 /// The tree of these tokens under an invisible delimiter.
-pub(crate) fn under(alloc: Global, below: &[TokenTree]) -> Result<TopSubtree, Fail> {
-    let delimiter = Delimiter::invisible_spanned(span(0));
-    let len = u32::try_from(below.len())?;
-    let mut tokens = vec![in alloc; TokenTree::from(Subtree { delimiter, len })]?;
-    for token in below {
-        tokens.push(token.clone()?)?;
-    }
-    Ok(tree_of(alloc, tokens)?)
-}
-
-/// The tree is that of these tokens under an invisible delimiter.
-pub(crate) fn is_under(
-    rt: &impl Abort,
-    alloc: Global,
-    tree: &TopSubtree,
-    below: &[TokenTree],
-) -> Result<(), Fail> {
-    let expected = under(alloc, below)?;
-    assert!(rt; *tree == expected);
-    Ok(())
+pub(crate) fn under(alloc: Global, below: &[TokenTree]) -> Result<TopSubtree, TtFault> {
+    let len = u32::try_from(below.len()).unwrap_or(u32::MAX);
+    let mut tokens = vec![in alloc; header(DelimiterKind::Invisible, 0, 0, len)]?;
+    tokens.append(&mut Vec::from_clones(alloc, below)?)?;
+    tree_of(alloc, tokens)
 }
