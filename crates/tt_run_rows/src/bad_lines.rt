@@ -1,11 +1,17 @@
 //! Lines that are no command.
+use crate::holds::holds;
+use std::alloc::Global;
 use std::test::Fail;
+use tt_base::TtFault;
 use tt_language::Command;
 
-// Lines that are no command, each for one rule of `docs/LANGUAGE.md`: a text for each topic, a line feed between rows.
-const BAD_LINES: [&[u8]; 11] = [
+// Lines that are no command, each for one rule of `docs/LANGUAGE.md`: a text for each topic with the number of
+// its lines, a line feed between them.
+const BAD_LINES: [(u32, &[u8]); 11] = [
     // No command.
-    b"\n\
+    (
+        13,
+        b"\n\
       \x20\n\
       item\n\
       item \n\
@@ -18,8 +24,11 @@ const BAD_LINES: [&[u8]; 11] = [
       clears\n\
       pretty 16\n\
       \x20list 0",
+    ),
     // Trees that are changed.
-    b"kind 0\n\
+    (
+        33,
+        b"kind 0\n\
       kind 16 paren\n\
       kind 0 round\n\
       kind 0 Opaque\n\
@@ -52,8 +61,11 @@ const BAD_LINES: [&[u8]; 11] = [
       expand 0 1 2 16\n\
       expand 0 1 2 3 \n\
       expand 0 1 2 3 4",
+    ),
     // Slots.
-    b"list \n\
+    (
+        30,
+        b"list \n\
       list 16\n\
       list 00\n\
       list 07\n\
@@ -83,8 +95,11 @@ const BAD_LINES: [&[u8]; 11] = [
       split 0 \n\
       split 0 ;;\n\
       split 16 ;",
+    ),
     // Commands of the builder.
-    b"new paren 0:0@0..0#0\n\
+    (
+        22,
+        b"new paren 0:0@0..0#0\n\
       new round 0:0@0..0#0 0:0@0..0#0\n\
       new paren 0:0@0..0#0 0:0@0..0#0 0\n\
       open paren\n\
@@ -106,8 +121,11 @@ const BAD_LINES: [&[u8]; 11] = [
       expected 0\n\
       build 16\n\
       skip 0 1",
+    ),
     // Spans.
-    b"item ident plain 0:0@1..0#0 a\n\
+    (
+        11,
+        b"item ident plain 0:0@1..0#0 a\n\
       item ident plain 00:0@0..1#0 a\n\
       item ident plain 0:01@0..1#0 a\n\
       item ident plain 0:0@+0..1#0 a\n\
@@ -118,23 +136,35 @@ const BAD_LINES: [&[u8]; 11] = [
       item ident plain 0:0@0..1 a\n\
       item ident plain 0:0@0..1# a\n\
       item ident plain 0@0..1#0 a",
+    ),
     // Heads.
-    b"item sub round 0:0@0..1#0 0:0@3..4#0 2\n\
+    (
+        6,
+        b"item sub round 0:0@0..1#0 0:0@3..4#0 2\n\
       item sub Paren 0:0@0..1#0 0:0@3..4#0 2\n\
       item sub paren 0:0@0..1#0 0:0@3..4#0\n\
       item sub paren 0:0@0..1#0 0:0@3..4#0 4294967296\n\
       item sub paren 0:0@0..1#0 0:0@3..4#0 2 \n\
       item sub paren 0:0@0..1#0  0:0@3..4#0 2",
+    ),
     // Puncts.
-    b"item punct alone 0:0@0..1#0\n\
+    (
+        4,
+        b"item punct alone 0:0@0..1#0\n\
       item punct alone 0:0@0..1#0 \n\
       item punct alone 0:0@0..1#0 ;;\n\
       item punct single 0:0@0..1#0 ;",
+    ),
     // Idents.
-    b"item ident plain 0:0@0..1#0\n\
+    (
+        2,
+        b"item ident plain 0:0@0..1#0\n\
       item ident r# 0:0@0..1#0 a",
+    ),
     // Literals.
-    b"item lit int 0 0:0@0..1#0\n\
+    (
+        9,
+        b"item lit int 0 0:0@0..1#0\n\
       item lit int 1 0:0@0..1#0 \xc3\xa9\n\
       item lit int 3 0:0@0..1#0 \xc3\xa9\n\
       item lit int 256 0:0@0..1#0 \xc3\xa9\n\
@@ -143,47 +173,77 @@ const BAD_LINES: [&[u8]; 11] = [
       item lit rstr: 0 0:0@0..1#0 a\n\
       item lit rbstr:256 0 0:0@0..1#0 a\n\
       item lit str:1 0 0:0@0..1#0 a",
+    ),
     // One space parts words, and nothing else does.
-    b"show\t0\n\
+    (
+        6,
+        b"show\t0\n\
       show 0\r\n\
       show  0\n\
       show \n\
       item punct alone 0:0@0..1#0 ;\r\n\
       item ident Raw 0:0@0..1#0 a",
+    ),
     // UTF-8.
-    b"\xff\n\
+    (
+        5,
+        b"\xff\n\
       show \xff\n\
       item ident plain 0:0@0..1#0 \xff\n\
       item punct alone 0:0@0..1#0 \xff\n\
       item lit str 0 0:0@0..1#0 a\xc3",
+    ),
 ];
 
-const ROWS: u32 = 141;
+// How many of the lines of a text are no command, up to the first that is one.
+fn no_commands(alloc: Global, text: &[u8]) -> Result<u32, TtFault> {
+    let mut found = 0u32;
+    for line in text.split(|byte| *byte == b'\n') {
+        if Command::parse(alloc, line)?.is_some() {
+            return Ok(found);
+        }
+        found = found.saturating_add(1);
+    }
+    Ok(found)
+}
+
+// The index of the first text of which not all lines are no command.
+fn first_wrong(alloc: Global) -> Result<usize, TtFault> {
+    let mut index = 0usize;
+    for (rows, text) in &BAD_LINES {
+        if no_commands(alloc, text)? != *rows {
+            return Ok(index);
+        }
+        index = index.saturating_add(1);
+    }
+    Ok(index)
+}
 
 #[test]
 fn stand_for_nothing(rt: HostRuntime) -> Result<(), Fail> {
-    let mut rows = 0_u32;
-    for text in BAD_LINES {
-        for bad in text.split(|byte| *byte == b'\n') {
-            assert_eq!(rt; Command::parse(rt.alloc(), bad)?, None, "{bad:?}");
-            rows = rows.saturating_add(1);
-        }
-    }
-    assert_eq!(rt; rows, ROWS);
+    assert_eq!(rt; first_wrong(rt.alloc())?, BAD_LINES.len());
     Ok(())
 }
 
 // A line feed ends a line, in a text too.
+const OF_TWO_LINES: [&[u8]; 4] = [
+    b"item ident plain 0:0@0..1#0 a\nb",
+    b"item punct alone 0:0@0..1#0 \n",
+    b"show 0\n",
+    b"\nshow 0",
+];
+
+// Whether none of them is a command.
+fn are_no_commands(alloc: Global) -> Result<bool, TtFault> {
+    for text in &OF_TWO_LINES {
+        if Command::parse(alloc, text)?.is_some() {
+            return Ok(false);
+        }
+    }
+    Ok(true)
+}
+
 #[test]
 fn a_line_feed_is_in_no_command(rt: HostRuntime) -> Result<(), Fail> {
-    let texts: [&[u8]; 4] = [
-        b"item ident plain 0:0@0..1#0 a\nb",
-        b"item punct alone 0:0@0..1#0 \n",
-        b"show 0\n",
-        b"\nshow 0",
-    ];
-    for text in texts {
-        assert_eq!(rt; Command::parse(rt.alloc(), text)?, None, "{text:?}");
-    }
-    Ok(())
+    holds(are_no_commands(rt.alloc()))
 }

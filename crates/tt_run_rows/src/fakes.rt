@@ -2,33 +2,24 @@
 use std::alloc::Global;
 use std::io::{Error, ErrorKind, Read, Result, Write};
 
+/// At which read, from 1 on, a `FakeReader` fails, and how. At 0 it does not.
+pub type ReadFailure = (u64, ErrorKind);
+
 /// A reader that gives one byte a read, and fails at one of its reads.
 #[derive(Drop)]
 pub struct FakeReader<'a> {
     rest: &'a [u8],
     reads: u64,
-    fails_at: Option<u64>,
-    kind: ErrorKind,
+    failure: ReadFailure,
 }
 
 impl<'a> FakeReader<'a> {
-    /// A reader that does not fail.
-    pub fn new(text: &'a [u8]) -> FakeReader<'a> {
+    /// A reader of that text that fails so.
+    pub fn new(text: &'a [u8], failure: ReadFailure) -> FakeReader<'a> {
         FakeReader {
             rest: text,
             reads: 0,
-            fails_at: None,
-            kind: ErrorKind::Other,
-        }
-    }
-
-    /// A reader whose read of this number, from 1 on, gives an error.
-    pub fn failing(text: &'a [u8], at: u64, kind: ErrorKind) -> FakeReader<'a> {
-        FakeReader {
-            rest: text,
-            reads: 0,
-            fails_at: Some(at),
-            kind,
+            failure,
         }
     }
 }
@@ -36,8 +27,9 @@ impl<'a> FakeReader<'a> {
 impl Read for FakeReader<'_> {
     fn read(&mut self, buf: &mut [u8]) -> Result<usize> {
         self.reads = self.reads.saturating_add(1);
-        if self.fails_at == Some(self.reads) {
-            return Err(Error::new(self.kind, "a fake failure"));
+        let (at, kind) = self.failure;
+        if at == self.reads {
+            return Err(Error::new(kind, "a fake failure"));
         }
         if let Some((first, rest)) = self.rest.split_first() {
             if let Some(place) = buf.first_mut() {
@@ -51,7 +43,7 @@ impl Read for FakeReader<'_> {
 }
 
 /// At which call, from 1 on, a `FakeWriter` fails, and how.
-#[derive(Clone, Copy, Debug, PartialEq, Eq)]
+#[derive(Clone, Copy, PartialEq, Eq)]
 pub enum WriteFailure {
     Never,
     Error(u64),

@@ -1,341 +1,237 @@
 //! Lines, each with the command that it stands for.
 use std::alloc::Global;
-use std::process::Abort;
 use std::test::Fail;
-use tt_base::{
-    Delimiter, DelimiterKind, ErasedFileAstId, FileId, Ident, IdentIsRaw, Leaf, LitKind, Literal,
-    Punct, Spacing, Span, SpanAnchor, Subtree, Symbol, SyntaxContext, TextRange, TextSize,
-    TokenTree,
-};
-use tt_language::{Action, Command, Many, Slot, View};
+use tt_base::TtFault;
+use tt_language::Command;
 
-// The line stands for that command. It alone reads and compares: each such comparison is dear to prove.
-fn stands_for(rt: &impl Abort, alloc: Global, line: &str, command: Command) -> Result<(), Fail> {
-    let found = Command::parse(alloc, line.as_bytes())?;
-    assert_eq!(rt; found, Some(command), "{line}");
-    Ok(())
-}
+// Lines, and the Debug text of the command of each. All its fields are in that.
+const LINES: [(&[u8], &[u8]); 70] = [
+    // Slots, and what takes no more than a slot, a number or a character.
+    (b"clear", b"Clear"),
+    (b"list 0", b"List(Slot { number: 0 })"),
+    (b"list 15", b"List(Slot { number: 15 })"),
+    (b"append 0", b"Append(Slot { number: 0 })"),
+    (b"alone 15", b"Alone(Slot { number: 15 })"),
+    (b"unwrap", b"Unwrap"),
+    (b"point", b"Point"),
+    (b"restore 0", b"Restore(0)"),
+    (
+        b"restore 18446744073709551615",
+        b"Restore(18446744073709551615)",
+    ),
+    (b"expected", b"Expected"),
+    (b"counts", b"Counts"),
+    (b"build 0", b"Build(Slot { number: 0 })"),
+    (b"skip 15", b"Skip(Slot { number: 15 })"),
+    (
+        b"copy 0 15",
+        b"Copy(Slot { number: 0 }, Slot { number: 15 })",
+    ),
+    (b"show 15", b"View(Show, Slot { number: 15 })"),
+    (b"pretty 0", b"View(Pretty, Slot { number: 0 })"),
+    (b"debug 15", b"View(Debug, Slot { number: 15 })"),
+    (b"flat 15", b"View(Flat, Slot { number: 15 })"),
+    (b"siblings 0", b"View(Siblings, Slot { number: 0 })"),
+    (b"walk 15", b"View(Walk, Slot { number: 15 })"),
+    (b"glue 0", b"View(Glue, Slot { number: 0 })"),
+    (b"bytes 0", b"View(Bytes, Slot { number: 0 })"),
+    (b"parts 0", b"View(Parts, Slot { number: 0 })"),
+    (b"symbols 0", b"View(Symbols, Slot { number: 0 })"),
+    (b"split 0 ;", b"Split(Slot { number: 0 }, ';')"),
+    (b"split 15  ", b"Split(Slot { number: 15 }, ' ')"),
+    (
+        b"split 15 \xe2\x86\x92",
+        b"Split(Slot { number: 15 }, '\xe2\x86\x92')",
+    ),
+    (
+        b"expand 15 0 15 0",
+        b"Expand(Slot { number: 15 }, Slot { number: 0 }, Slot { number: 15 }, Slot { number: 0 })",
+    ),
+    (
+        b"equal 0 15",
+        b"Equal(Slot { number: 0 }, Slot { number: 15 })",
+    ),
+    (
+        b"equal 15 0",
+        b"Equal(Slot { number: 15 }, Slot { number: 0 })",
+    ),
+    // The builder.
+    (
+        b"new brace 1:2@3..3#4 4294967295:4294967295@4294967295..4294967295#4294967295",
+        b"New(Delimiter { open_span: 1:2@3..3#4, close: 4294967295:4294967295@4294967295..4294967295#4294967295, kind: Brace })",
+    ),
+    (b"open bracket 1:2@3..3#4", b"Open(Bracket, 1:2@3..3#4)"),
+    (
+        b"push punct joint 1:2@3..3#4 ,",
+        b"Push(Punct(Punct { char: ',', spacing: Joint, span: 1:2@3..3#4 }))",
+    ),
+    (b"close 1:2@3..3#4", b"Close(1:2@3..3#4)"),
+    // Trees that are changed.
+    (b"kind 15 bracket", b"Kind(Slot { number: 15 }, Bracket)"),
+    (
+        b"kind 15 opaque",
+        b"Kind(Slot { number: 15 }, InvisibleOpaque)",
+    ),
+    (
+        b"spans 0 1:2@3..3#4 4294967295:4294967295@4294967295..4294967295#4294967295",
+        b"Spans(Slot { number: 0 }, 1:2@3..3#4, 4294967295:4294967295@4294967295..4294967295#4294967295)",
+    ),
+    (
+        b"set 0 4294967295 punct joint 1:2@3..3#4 ,",
+        b"Set(Slot { number: 0 }, 4294967295, Punct(Punct { char: ',', spacing: Joint, span: 1:2@3..3#4 }))",
+    ),
+    (b"ids 15", b"Ids(Slot { number: 15 }, [])"),
+    (b"ids 15 5", b"Ids(Slot { number: 15 }, [5])"),
+    (
+        b"ids 15 4294967295 0 7",
+        b"Ids(Slot { number: 15 }, [4294967295, 0, 7])",
+    ),
+    (
+        b"rewrite 0 keep put:15 remove put:0",
+        b"Rewrite(Slot { number: 0 }, [Keep, Put(Slot { number: 15 }), Remove, Put(Slot { number: 0 })])",
+    ),
+    (b"rewrite 15", b"Rewrite(Slot { number: 15 }, [])"),
+    // Headers.
+    (
+        b"item sub paren 1:2@3..3#4 1:2@3..3#4 0",
+        b"Item(Subtree(Subtree { delimiter: Delimiter { open_span: 1:2@3..3#4, close: 1:2@3..3#4, kind: Parenthesis }, len: 0 }))",
+    ),
+    (
+        b"item sub brace 1:2@3..3#4 1:2@3..3#4 10",
+        b"Item(Subtree(Subtree { delimiter: Delimiter { open_span: 1:2@3..3#4, close: 1:2@3..3#4, kind: Brace }, len: 10 }))",
+    ),
+    (
+        b"item sub bracket 1:2@3..3#4 1:2@3..3#4 1",
+        b"Item(Subtree(Subtree { delimiter: Delimiter { open_span: 1:2@3..3#4, close: 1:2@3..3#4, kind: Bracket }, len: 1 }))",
+    ),
+    (
+        b"item sub invisible 1:2@3..3#4 1:2@3..3#4 1",
+        b"Item(Subtree(Subtree { delimiter: Delimiter { open_span: 1:2@3..3#4, close: 1:2@3..3#4, kind: Invisible }, len: 1 }))",
+    ),
+    (
+        b"item sub opaque 1:2@3..3#4 1:2@3..3#4 1",
+        b"Item(Subtree(Subtree { delimiter: Delimiter { open_span: 1:2@3..3#4, close: 1:2@3..3#4, kind: InvisibleOpaque }, len: 1 }))",
+    ),
+    (
+        b"item sub paren 1:2@3..3#4 4294967295:4294967295@4294967295..4294967295#4294967295 4294967295",
+        b"Item(Subtree(Subtree { delimiter: Delimiter { open_span: 1:2@3..3#4, close: 4294967295:4294967295@4294967295..4294967295#4294967295, kind: Parenthesis }, len: 4294967295 }))",
+    ),
+    // Puncts.
+    (
+        b"item punct alone 1:2@3..3#4 ;",
+        b"Item(Leaf(Punct(Punct { char: ';', spacing: Alone, span: 1:2@3..3#4 })))",
+    ),
+    (
+        b"item punct joint 1:2@3..3#4  ",
+        b"Item(Leaf(Punct(Punct { char: ' ', spacing: Joint, span: 1:2@3..3#4 })))",
+    ),
+    (
+        b"item punct hidden 1:2@3..3#4 \xe2\x86\x92",
+        b"Item(Leaf(Punct(Punct { char: '\xe2\x86\x92', spacing: JointHidden, span: 1:2@3..3#4 })))",
+    ),
+    (
+        b"item punct alone 1:2@3..3#4 \r",
+        b"Item(Leaf(Punct(Punct { char: '\\r', spacing: Alone, span: 1:2@3..3#4 })))",
+    ),
+    // Idents.
+    (
+        b"item ident plain 1:2@3..3#4 a",
+        b"Item(Leaf(Ident(Ident { sym: \"a\", span: 1:2@3..3#4, is_raw: No })))",
+    ),
+    (
+        b"item ident raw 1:2@3..3#4 type",
+        b"Item(Leaf(Ident(Ident { sym: \"type\", span: 1:2@3..3#4, is_raw: Yes })))",
+    ),
+    (
+        b"item ident plain 1:2@3..3#4 r#a",
+        b"Item(Leaf(Ident(Ident { sym: \"r#a\", span: 1:2@3..3#4, is_raw: No })))",
+    ),
+    (
+        b"item ident plain 1:2@3..3#4 ",
+        b"Item(Leaf(Ident(Ident { sym: \"\", span: 1:2@3..3#4, is_raw: No })))",
+    ),
+    (
+        b"item ident plain 1:2@3..3#4  a b ",
+        b"Item(Leaf(Ident(Ident { sym: \" a b \", span: 1:2@3..3#4, is_raw: No })))",
+    ),
+    (
+        b"item ident plain 1:2@3..3#4 a\r",
+        b"Item(Leaf(Ident(Ident { sym: \"a\\r\", span: 1:2@3..3#4, is_raw: No })))",
+    ),
+    // Literals.
+    (
+        b"item lit byte 0 1:2@3..3#4 x",
+        b"Item(Leaf(Literal(Literal { symbol: \"x\", span: 1:2@3..3#4, kind: Byte, suffix_len: 0 })))",
+    ),
+    (
+        b"item lit char 0 1:2@3..3#4 \xe2\x86\x92",
+        b"Item(Leaf(Literal(Literal { symbol: \"\xe2\x86\x92\", span: 1:2@3..3#4, kind: Char, suffix_len: 0 })))",
+    ),
+    (
+        b"item lit int 3 1:2@3..3#4 12u32",
+        b"Item(Leaf(Literal(Literal { symbol: \"12u32\", span: 1:2@3..3#4, kind: Integer, suffix_len: 3 })))",
+    ),
+    (
+        b"item lit float 0 1:2@3..3#4 1.5",
+        b"Item(Leaf(Literal(Literal { symbol: \"1.5\", span: 1:2@3..3#4, kind: Float, suffix_len: 0 })))",
+    ),
+    (
+        b"item lit str 0 1:2@3..3#4 ",
+        b"Item(Leaf(Literal(Literal { symbol: \"\", span: 1:2@3..3#4, kind: Str, suffix_len: 0 })))",
+    ),
+    (
+        b"item lit bstr 0 1:2@3..3#4 a",
+        b"Item(Leaf(Literal(Literal { symbol: \"a\", span: 1:2@3..3#4, kind: ByteStr, suffix_len: 0 })))",
+    ),
+    (
+        b"item lit cstr 1 1:2@3..3#4 a",
+        b"Item(Leaf(Literal(Literal { symbol: \"a\", span: 1:2@3..3#4, kind: CStr, suffix_len: 1 })))",
+    ),
+    (
+        b"item lit err 2 1:2@3..3#4 \xc3\xa9",
+        b"Item(Leaf(Literal(Literal { symbol: \"\xc3\xa9\", span: 1:2@3..3#4, kind: Err(()), suffix_len: 2 })))",
+    ),
+    (
+        b"item lit rstr:255 0 1:2@3..3#4 a b",
+        b"Item(Leaf(Literal(Literal { symbol: \"a b\", span: 1:2@3..3#4, kind: StrRaw(255), suffix_len: 0 })))",
+    ),
+    (
+        b"item lit rbstr:0 0 1:2@3..3#4 a",
+        b"Item(Leaf(Literal(Literal { symbol: \"a\", span: 1:2@3..3#4, kind: ByteStrRaw(0), suffix_len: 0 })))",
+    ),
+    (
+        b"item lit rcstr:17 0 1:2@3..3#4 a",
+        b"Item(Leaf(Literal(Literal { symbol: \"a\", span: 1:2@3..3#4, kind: CStrRaw(17), suffix_len: 0 })))",
+    ),
+];
 
-// 1:2@3..3#4
-fn small_span() -> Span {
-    Span {
-        range: TextRange::empty(TextSize::new(3)),
-        anchor: SpanAnchor {
-            file_id: FileId(1),
-            ast_id: ErasedFileAstId(2),
-        },
-        ctx: SyntaxContext(4),
+// The Debug text of what the line stands for.
+fn told(alloc: Global, line: &[u8]) -> Result<String, TtFault> {
+    match Command::parse(alloc, line)? {
+        Some(command) => Ok(format!(in alloc; "{command:?}")?),
+        None => Ok(String::new(alloc)),
     }
 }
 
-// The span of the largest numbers.
-fn large_span() -> Span {
-    Span {
-        range: TextRange::empty(TextSize::new(u32::MAX)),
-        anchor: SpanAnchor {
-            file_id: FileId(u32::MAX),
-            ast_id: ErasedFileAstId(u32::MAX),
-        },
-        ctx: SyntaxContext(u32::MAX),
+// Whether that is this text.
+fn stands_for(alloc: Global, line: &[u8], command: &[u8]) -> Result<bool, TtFault> {
+    Ok(told(alloc, line)?.as_bytes() == command)
+}
+
+// The index of the first line that stands for another command, or for none.
+fn first_wrong(alloc: Global) -> Result<usize, TtFault> {
+    let mut index = 0usize;
+    for (line, command) in &LINES {
+        if !stands_for(alloc, line, command)? {
+            return Ok(index);
+        }
+        index = index.saturating_add(1);
     }
+    Ok(index)
 }
 
 #[test]
-fn stand_for_commands_of_slots(rt: HostRuntime) -> Result<(), Fail> {
-    let zero = Slot::new(0).ok_or("0")?;
-    let last = Slot::new(15).ok_or("15")?;
-    let rows = [
-        ("clear", Command::Clear),
-        ("list 0", Command::List(zero)),
-        ("list 15", Command::List(last)),
-        ("append 0", Command::Append(zero)),
-        ("alone 15", Command::Alone(last)),
-        ("unwrap", Command::Unwrap),
-        ("point", Command::Point),
-        ("restore 0", Command::Restore(0)),
-        ("restore 18446744073709551615", Command::Restore(u64::MAX)),
-        ("expected", Command::Expected),
-        ("counts", Command::Counts),
-        ("build 0", Command::Build(zero)),
-        ("skip 15", Command::Skip(last)),
-        ("copy 0 15", Command::Copy(zero, last)),
-        ("show 15", Command::View(View::Show, last)),
-        ("pretty 0", Command::View(View::Pretty, zero)),
-        ("debug 15", Command::View(View::Debug, last)),
-        ("flat 15", Command::View(View::Flat, last)),
-        ("siblings 0", Command::View(View::Siblings, zero)),
-        ("walk 15", Command::View(View::Walk, last)),
-        ("glue 0", Command::View(View::Glue, zero)),
-        ("bytes 0", Command::View(View::Bytes, zero)),
-        ("parts 0", Command::View(View::Parts, zero)),
-        ("symbols 0", Command::View(View::Symbols, zero)),
-        ("split 0 ;", Command::Split(zero, ';')),
-        ("split 15  ", Command::Split(last, ' ')),
-        ("split 15 \u{2192}", Command::Split(last, '\u{2192}')),
-        ("expand 15 0 15 0", Command::Expand(last, zero, last, zero)),
-        ("equal 0 15", Command::Equal(zero, last)),
-        ("equal 15 0", Command::Equal(last, zero)),
-    ];
-    for (line, command) in rows {
-        stands_for(&rt, rt.alloc(), line, command)?;
-    }
-    Ok(())
-}
-
-#[test]
-fn stand_for_commands_of_the_builder(rt: HostRuntime) -> Result<(), Fail> {
-    let delimiter = Delimiter {
-        open_span: small_span(),
-        close: large_span(),
-        kind: DelimiterKind::Brace,
-    };
-    let comma = Punct {
-        char: ',',
-        spacing: Spacing::Joint,
-        span: small_span(),
-    };
-    let rows = [
-        (
-            "new brace 1:2@3..3#4 4294967295:4294967295@4294967295..4294967295#4294967295",
-            Command::New(delimiter),
-        ),
-        (
-            "open bracket 1:2@3..3#4",
-            Command::Open(DelimiterKind::Bracket, small_span()),
-        ),
-        (
-            "push punct joint 1:2@3..3#4 ,",
-            Command::Push(Leaf::Punct(comma)),
-        ),
-        ("close 1:2@3..3#4", Command::Close(small_span())),
-    ];
-    for (line, command) in rows {
-        stands_for(&rt, rt.alloc(), line, command)?;
-    }
-    Ok(())
-}
-
-// Values that end a line.
-fn many<T: Copy>(alloc: Global, values: &[T]) -> Result<Many<T>, Fail> {
-    Ok(Many::new(Vec::from_slice(alloc, values)?))
-}
-
-// Their Debug text is that of a list.
-#[test]
-fn many_are_told_as_a_list(rt: HostRuntime) -> Result<(), Fail> {
-    let rows: [(&[u32], &str); 3] = [
-        (&[], "[]"),
-        (&[5], "[5]"),
-        (&[u32::MAX, 0, 7], "[4294967295, 0, 7]"),
-    ];
-    for (values, text) in rows {
-        let told = format!(in rt.alloc(); "{:?}", many(rt.alloc(), values)?)?;
-        assert_eq!(rt; told.as_str(), text);
-    }
-    Ok(())
-}
-
-#[test]
-fn stand_for_commands_that_change_trees(rt: HostRuntime) -> Result<(), Fail> {
-    let alloc = rt.alloc();
-    let zero = Slot::new(0).ok_or("0")?;
-    let last = Slot::new(15).ok_or("15")?;
-    let kind = Command::Kind(last, DelimiterKind::Bracket);
-    stands_for(&rt, alloc, "kind 15 bracket", kind)?;
-    let kind = Command::Kind(last, DelimiterKind::InvisibleOpaque);
-    stands_for(&rt, alloc, "kind 15 opaque", kind)?;
-    let spans = Command::Spans(zero, small_span(), large_span());
-    let line = "spans 0 1:2@3..3#4 4294967295:4294967295@4294967295..4294967295#4294967295";
-    stands_for(&rt, alloc, line, spans)?;
-    let comma = Punct {
-        char: ',',
-        spacing: Spacing::Joint,
-        span: small_span(),
-    };
-    let set = Command::Set(zero, u32::MAX, Leaf::Punct(comma));
-    let line = "set 0 4294967295 punct joint 1:2@3..3#4 ,";
-    stands_for(&rt, alloc, line, set)?;
-    let rows: [(&str, &[u32]); 2] = [
-        ("ids 15", &[]),
-        ("ids 15 4294967295 0 7", &[u32::MAX, 0, 7]),
-    ];
-    for (line, ids) in rows {
-        stands_for(&rt, alloc, line, Command::Ids(last, many(alloc, ids)?))?;
-    }
-    let actions = [
-        Action::Keep,
-        Action::Put(last),
-        Action::Remove,
-        Action::Put(zero),
-    ];
-    let rewrite = Command::Rewrite(zero, many(alloc, &actions)?);
-    stands_for(&rt, alloc, "rewrite 0 keep put:15 remove put:0", rewrite)?;
-    let rewrite = Command::Rewrite(last, many(alloc, &[])?);
-    stands_for(&rt, alloc, "rewrite 15", rewrite)
-}
-
-// A header with the largest numbers.
-const LARGEST_HEAD: &str =
-    "item sub paren 1:2@3..3#4 4294967295:4294967295@4294967295..4294967295#4294967295 4294967295";
-
-fn head(kind: DelimiterKind, close: Span, len: u32) -> Command {
-    let delimiter = Delimiter {
-        open_span: small_span(),
-        close,
-        kind,
-    };
-    Command::Item(TokenTree::Subtree(Subtree { delimiter, len }))
-}
-
-#[test]
-fn stand_for_heads(rt: HostRuntime) -> Result<(), Fail> {
-    let rows = [
-        (
-            "item sub paren 1:2@3..3#4 1:2@3..3#4 0",
-            DelimiterKind::Parenthesis,
-            0,
-        ),
-        (
-            "item sub brace 1:2@3..3#4 1:2@3..3#4 10",
-            DelimiterKind::Brace,
-            10,
-        ),
-        (
-            "item sub bracket 1:2@3..3#4 1:2@3..3#4 1",
-            DelimiterKind::Bracket,
-            1,
-        ),
-        (
-            "item sub invisible 1:2@3..3#4 1:2@3..3#4 1",
-            DelimiterKind::Invisible,
-            1,
-        ),
-        (
-            "item sub opaque 1:2@3..3#4 1:2@3..3#4 1",
-            DelimiterKind::InvisibleOpaque,
-            1,
-        ),
-    ];
-    for (line, kind, len) in rows {
-        stands_for(&rt, rt.alloc(), line, head(kind, small_span(), len))?;
-    }
-    let largest = head(DelimiterKind::Parenthesis, large_span(), u32::MAX);
-    stands_for(&rt, rt.alloc(), LARGEST_HEAD, largest)
-}
-
-#[test]
-fn stand_for_puncts(rt: HostRuntime) -> Result<(), Fail> {
-    let rows = [
-        ("item punct alone 1:2@3..3#4 ;", Spacing::Alone, ';'),
-        ("item punct joint 1:2@3..3#4  ", Spacing::Joint, ' '),
-        (
-            "item punct hidden 1:2@3..3#4 \u{2192}",
-            Spacing::JointHidden,
-            '\u{2192}',
-        ),
-        ("item punct alone 1:2@3..3#4 \r", Spacing::Alone, '\r'),
-    ];
-    for (line, spacing, char) in rows {
-        let punct = Punct {
-            char,
-            spacing,
-            span: small_span(),
-        };
-        let item = Command::Item(TokenTree::Leaf(Leaf::Punct(punct)));
-        stands_for(&rt, rt.alloc(), line, item)?;
-    }
-    Ok(())
-}
-
-#[test]
-fn stand_for_idents(rt: HostRuntime) -> Result<(), Fail> {
-    let rows = [
-        ("item ident plain 1:2@3..3#4 a", IdentIsRaw::No, "a"),
-        ("item ident raw 1:2@3..3#4 type", IdentIsRaw::Yes, "type"),
-        ("item ident plain 1:2@3..3#4 r#a", IdentIsRaw::No, "r#a"),
-        ("item ident plain 1:2@3..3#4 ", IdentIsRaw::No, ""),
-        ("item ident plain 1:2@3..3#4  a b ", IdentIsRaw::No, " a b "),
-        ("item ident plain 1:2@3..3#4 a\r", IdentIsRaw::No, "a\r"),
-    ];
-    for (line, is_raw, name) in rows {
-        let ident = Ident {
-            sym: Symbol::new(rt.alloc(), name)?,
-            span: small_span(),
-            is_raw,
-        };
-        let item = Command::Item(TokenTree::Leaf(Leaf::Ident(ident)));
-        stands_for(&rt, rt.alloc(), line, item)?;
-    }
-    Ok(())
-}
-
-// A literal of that text, kind and suffix length.
-fn literal(alloc: Global, text: &str, kind: LitKind, suffix_len: u8) -> Result<Command, Fail> {
-    let symbol = Symbol::new(alloc, text)?;
-    let literal = Literal::from_parts(symbol, small_span(), kind, suffix_len);
-    let literal = literal.ok_or("no literal")?;
-    Ok(Command::Item(TokenTree::Leaf(Leaf::Literal(literal))))
-}
-
-#[test]
-fn stand_for_literals(rt: HostRuntime) -> Result<(), Fail> {
-    let rows = [
-        ("item lit byte 0 1:2@3..3#4 x", "x", LitKind::Byte, 0),
-        (
-            "item lit char 0 1:2@3..3#4 \u{2192}",
-            "\u{2192}",
-            LitKind::Char,
-            0,
-        ),
-        (
-            "item lit int 3 1:2@3..3#4 12u32",
-            "12u32",
-            LitKind::Integer,
-            3,
-        ),
-        ("item lit float 0 1:2@3..3#4 1.5", "1.5", LitKind::Float, 0),
-        ("item lit str 0 1:2@3..3#4 ", "", LitKind::Str, 0),
-        ("item lit bstr 0 1:2@3..3#4 a", "a", LitKind::ByteStr, 0),
-        ("item lit cstr 1 1:2@3..3#4 a", "a", LitKind::CStr, 1),
-        (
-            "item lit err 2 1:2@3..3#4 \u{e9}",
-            "\u{e9}",
-            LitKind::Err(()),
-            2,
-        ),
-    ];
-    for (line, text, kind, suffix_len) in rows {
-        let literal = literal(rt.alloc(), text, kind, suffix_len)?;
-        stands_for(&rt, rt.alloc(), line, literal)?;
-    }
-    Ok(())
-}
-
-#[test]
-fn stand_for_raw_literals(rt: HostRuntime) -> Result<(), Fail> {
-    let rows = [
-        (
-            "item lit rstr:255 0 1:2@3..3#4 a b",
-            "a b",
-            LitKind::StrRaw(255),
-            0,
-        ),
-        (
-            "item lit rbstr:0 0 1:2@3..3#4 a",
-            "a",
-            LitKind::ByteStrRaw(0),
-            0,
-        ),
-        (
-            "item lit rcstr:17 0 1:2@3..3#4 a",
-            "a",
-            LitKind::CStrRaw(17),
-            0,
-        ),
-    ];
-    for (line, text, kind, suffix_len) in rows {
-        let literal = literal(rt.alloc(), text, kind, suffix_len)?;
-        stands_for(&rt, rt.alloc(), line, literal)?;
-    }
+fn stand_for_commands(rt: HostRuntime) -> Result<(), Fail> {
+    assert_eq!(rt; first_wrong(rt.alloc())?, LINES.len());
     Ok(())
 }

@@ -8,6 +8,6 @@ mod fakes;
 #[cfg(test)]
 mod good_lines;
 #[cfg(test)]
-mod runs;
+mod holds;
 #[cfg(test)]
-mod texts;
+mod runs;
