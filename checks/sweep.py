@@ -11,31 +11,38 @@ import subprocess
 import sys
 import tempfile
 
-# The calls that take memory.
-TAKE_MEMORY = (
-    # of tokens
-    "Symbol::new Ident::new Literal::new Literal::new_no_suffix token_to_literal",
-    # of lists
-    "is_one_subtree Levels::take",
-    # of what is stored
-    "symbol_bytes span_bytes token_bytes pack pack_counted of_list of_list_counted Packed::clone",
-    # of trees
-    "empty invisible_from_leaves from_token_trees from_serialized from_tokens from_tokens_counted from_subtree",
-    "TopSubtree::clone",
-    "set_token change_every_ast_id change_every_ast_id_joined transform_tt display_text pretty debug_text",
+# The calls that take memory, by groups.
+TAKE_MEMORY = {
+    "made": (
+        # of tokens
+        "Symbol::new Ident::new Literal::new Literal::new_no_suffix token_to_literal",
+        # of what is stored
+        "symbol_bytes span_bytes token_bytes Packed::clone",
+        # of trees
+        "empty invisible_from_leaves from_token_trees from_subtree TopSubtree::clone display_text pretty debug_text",
+    ),
+    "lists": ("is_one_subtree pack of_list from_serialized from_tokens",),
+    "counted": ("pack_counted of_list_counted from_tokens_counted",),
+    "levels": ("take",),
+    "edits": ("set_token change_every_ast_id change_every_ast_id_joined transform_tt",),
     # of a cursor
-    "bump bump_or_end",
+    "walks": ("bump bump_or_end",),
     # of a builder
-    "TopSubtreeBuilder::new open push close extend extend_by_names extend_with_tt extend_with_tt_alone restore_point",
-    "build build_skip_top_subtree TopSubtreeBuilder::clone",
+    "builders": (
+        "TopSubtreeBuilder::new open push close extend extend_by_names extend_with_tt extend_with_tt_alone restore_point",
+        "TopSubtreeBuilder::clone",
+    ),
+    "builds": ("build build_skip_top_subtree",),
     # of a macro
-    "Rule::new expand",
-)
+    "rules": ("Rule::new expand",),
+}
 
-# Those that take none, by groups.
-TAKE_NONE = (
-    "ranges tokens literals numbers stored setters trees texts views siblings expectations cursors builders",
-)
+# Those that take none, some at a time.
+TAKE_NONE = {
+    "quiet": (
+        "ranges tokens literals numbers stored setters trees texts views siblings expectations cursors builders",
+    ),
+}
 
 # What is written before the call ends.
 BEGUN = "prepared\nanswered\n"
@@ -63,7 +70,8 @@ class Sweep:
         if os.path.exists(self.refused):
             os.remove(self.refused)
         given = {"LD_PRELOAD": self.library, "REFUSE": which, "REFUSE_BETWEEN": "1", "REFUSED": self.refused}
-        done = subprocess.run([self.program, call], env=given, capture_output=True, text=True, timeout=60, check=False)
+        asked = [self.program, *call.split()]
+        done = subprocess.run(asked, env=given, capture_output=True, text=True, timeout=60, check=False)
         if done.returncode != 0:
             raise Wrong(f"request {which} refused: status {done.returncode}, {done.stdout + done.stderr!r}")
         return done.stdout, os.path.getsize(self.refused) if os.path.exists(self.refused) else 0
@@ -94,14 +102,15 @@ class Sweep:
 
 # Calls that are wrong: whether each request is refused or all are, and what has to be said of it.
 FLAWS = (
-    ("forgets_to_undo", "refuse_each", "what was left behind a refusal"),
-    ("always_refused", "refuse_each", "refused again"),
-    ("another_fault", "refuse_each", "another fault than Memory"),
-    ("hides_refusal", "refuse_each", "request 1 refused"),
-    ("changes_nothing", "refuse_each", "what was changed"),
-    ("never_asks", "refuse_each", "it was never refused"),
-    ("hides_refusal", "refuse_all", "requests"),
-    ("no such call", "refuse_all", "status 1"),
+    ("faulty forgets_to_undo", "refuse_each", "what was left behind a refusal"),
+    ("faulty always_refused", "refuse_each", "refused again"),
+    ("faulty another_fault", "refuse_each", "another fault than Memory"),
+    ("faulty hides_refusal", "refuse_each", "request 1 refused"),
+    ("faulty changes_nothing", "refuse_each", "what was changed"),
+    ("faulty never_asks", "refuse_each", "it was never refused"),
+    ("faulty hides_refusal", "refuse_all", "requests"),
+    ("made no_such_call", "refuse_all", "what was given"),
+    ("no_such_group", "refuse_all", "status 1"),
 )
 
 
@@ -119,6 +128,11 @@ def is_noticed(sweep, call, how, wanted):
     return False
 
 
+def calls(groups):
+    """What the program is given for each call of the groups: the group and the name."""
+    return [f"{group} {name}" for group, lines in groups.items() for name in " ".join(lines).split()]
+
+
 def judged(judge, call):
     """Whether the call did what it should, which is printed."""
     try:
@@ -134,12 +148,12 @@ def main():
     program, library = sys.argv[1:]
     with tempfile.TemporaryDirectory() as room:
         sweep = Sweep(program, library, os.path.join(room, "refused"))
-        fine = [judged(sweep.refuse_each, call) for call in " ".join(TAKE_MEMORY).split()]
-        fine += [judged(sweep.refuse_all, call) for call in " ".join(TAKE_NONE).split()]
+        fine = [judged(sweep.refuse_each, call) for call in calls(TAKE_MEMORY)]
+        fine += [judged(sweep.refuse_all, call) for call in calls(TAKE_NONE)]
         fine += [is_noticed(sweep, *flaw) for flaw in FLAWS]
         # a program that dies at once
         dead = Sweep(shutil.which("false"), library, sweep.refused)
-        fine += [is_noticed(dead, "pack", how, "status 1") for how in ("refuse_each", "refuse_all")]
+        fine += [is_noticed(dead, "lists pack", how, "status 1") for how in ("refuse_each", "refuse_all")]
     sys.exit(not all(fine))
 
 

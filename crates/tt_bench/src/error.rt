@@ -5,7 +5,7 @@ use tt::TtFault;
 use tt_mbe::RuleFault;
 
 /// Why nothing was timed.
-#[derive(Debug, Drop, Error)]
+#[derive(Debug, Clone, Copy, Error)]
 pub enum BenchError {
     /// The arguments ask for nothing that there is.
     #[error("usage: tt_bench MODE ROUNDS [apart] < ITEMS\n\

@@ -1,8 +1,9 @@
 //! A rule of ten variables, and an input for it.
+use crate::building::built;
 use crate::error::BenchError;
 use std::alloc::Global;
 use tt::{Delimiter, Ident, Leaf, Punct, Spacing, Span, TopSubtree, TopSubtreeBuilder, TtFault};
-use tt_mbe::Rule;
+use tt_mbe::{Rule, RuleFault};
 
 // The names of the rule's variables.
 const NAMES: [&str; 10] = ["a", "b", "c", "d", "e", "f", "g", "h", "i", "j"];
@@ -19,26 +20,25 @@ pub struct Expansion {
 
 impl Expansion {
     /// The rules and the inputs of the trees.
-    pub fn all(alloc: Global, trees: &[TopSubtree]) -> Result<Vec<Expansion>, BenchError> {
+    pub fn all(alloc: Global, trees: &[TopSubtree]) -> Result<Vec<Expansion>, TtFault> {
         let mut all = Vec::new(alloc);
         for tree in trees {
-            all.push(Expansion::new(alloc, tree)?)
-                .map_err(TtFault::from)?;
+            all.push(Expansion::new(alloc, tree)?)?;
         }
         Ok(all)
     }
 
     // The rule and the input of one tree.
-    fn new(alloc: Global, tree: &TopSubtree) -> Result<Expansion, BenchError> {
+    fn new(alloc: Global, tree: &TopSubtree) -> Result<Expansion, TtFault> {
         Ok(Expansion {
-            pattern: pattern(alloc, tree)?,
-            template: template(alloc)?,
-            input: input(alloc, tree)?,
+            pattern: made(alloc, Part::Pattern, tree)?,
+            template: made(alloc, Part::Template, tree)?,
+            input: made(alloc, Part::Input, tree)?,
         })
     }
 
     // The rule, and its input.
-    fn instance(&self, alloc: Global) -> Result<Instance<'_>, BenchError> {
+    fn instance(&self, alloc: Global) -> Result<Instance<'_>, RuleFault> {
         Ok(Instance {
             rule: Rule::new(alloc, self.pattern.view(), self.template.view())?,
             input: &self.input,
@@ -55,13 +55,10 @@ pub struct Instance<'a> {
 
 impl<'a> Instance<'a> {
     /// The rules, each with its input. A rule has a fault where its tree holds a `$`.
-    pub fn all(
-        alloc: Global,
-        expansions: &'a [Expansion],
-    ) -> Result<Vec<Instance<'a>>, BenchError> {
+    pub fn all(alloc: Global, expansions: &'a [Expansion]) -> Result<Vec<Instance<'a>>, RuleFault> {
         let mut all = Vec::new(alloc);
         for expansion in expansions {
-            all.push(expansion.instance(alloc)?).map_err(TtFault::from)?;
+            all.push(expansion.instance(alloc)?)?;
         }
         Ok(all)
     }
@@ -79,9 +76,32 @@ fn span() -> Span {
     Punct::default().span
 }
 
-// A builder under an invisible delimiter.
-fn builder(alloc: Global) -> Result<TopSubtreeBuilder, TtFault> {
-    TopSubtreeBuilder::new(alloc, Delimiter::invisible_spanned(span()))
+// One of the trees of a rule and an input.
+#[derive(Clone, Copy)]
+enum Part {
+    Pattern,
+    Template,
+    Input,
+}
+
+// That tree under an invisible delimiter, made of the tree.
+fn made(alloc: Global, part: Part, tree: &TopSubtree) -> Result<TopSubtree, TtFault> {
+    let mut builder = TopSubtreeBuilder::new(alloc, Delimiter::invisible_spanned(span()))?;
+    fill(alloc, &mut builder, part, tree)?;
+    built(builder)
+}
+
+fn fill(
+    alloc: Global,
+    builder: &mut TopSubtreeBuilder,
+    part: Part,
+    tree: &TopSubtree,
+) -> Result<(), TtFault> {
+    match part {
+        Part::Pattern => push_pattern(alloc, builder, tree),
+        Part::Template => push_template(alloc, builder),
+        Part::Input => push_input(builder, tree),
+    }
 }
 
 fn push_punct(builder: &mut TopSubtreeBuilder, char: char) -> Result<(), TtFault> {
@@ -103,39 +123,38 @@ fn push_use(alloc: Global, builder: &mut TopSubtreeBuilder, name: &str) -> Resul
     push_ident(alloc, builder, name)
 }
 
-// The tree of what the builder holds. No subtree is open in it.
-fn built(builder: TopSubtreeBuilder) -> Result<TopSubtree, BenchError> {
-    if builder.is_open() {
-        return Err(BenchError::Fault(TtFault::NotOneSubtree));
+fn push_pattern(
+    alloc: Global,
+    builder: &mut TopSubtreeBuilder,
+    tree: &TopSubtree,
+) -> Result<(), TtFault> {
+    for name in NAMES.iter() {
+        push_variable(alloc, builder, name)?;
     }
-    Ok(builder.build().map_err(TtFault::from)?)
+    builder.extend_with_tt(tree.token_trees())
 }
 
-fn pattern(alloc: Global, tree: &TopSubtree) -> Result<TopSubtree, BenchError> {
-    let mut builder = builder(alloc)?;
-    for name in NAMES {
-        push_use(alloc, &mut builder, name)?;
-        push_punct(&mut builder, ':')?;
-        push_ident(alloc, &mut builder, "tt")?;
-    }
-    builder.extend_with_tt(tree.token_trees())?;
-    built(builder)
+fn push_variable(
+    alloc: Global,
+    builder: &mut TopSubtreeBuilder,
+    name: &str,
+) -> Result<(), TtFault> {
+    push_use(alloc, builder, name)?;
+    push_punct(builder, ':')?;
+    push_ident(alloc, builder, "tt")
 }
 
-fn template(alloc: Global) -> Result<TopSubtree, BenchError> {
-    let mut builder = builder(alloc)?;
-    for name in NAMES {
-        push_use(alloc, &mut builder, name)?;
-        push_use(alloc, &mut builder, name)?;
+fn push_template(alloc: Global, builder: &mut TopSubtreeBuilder) -> Result<(), TtFault> {
+    for name in NAMES.iter() {
+        push_use(alloc, builder, name)?;
+        push_use(alloc, builder, name)?;
     }
-    built(builder)
+    Ok(())
 }
 
-fn input(alloc: Global, tree: &TopSubtree) -> Result<TopSubtree, BenchError> {
-    let mut builder = builder(alloc)?;
-    for _name in NAMES {
+fn push_input(builder: &mut TopSubtreeBuilder, tree: &TopSubtree) -> Result<(), TtFault> {
+    for _ in 0..NAMES.len() {
         builder.extend_with_tt(tree.as_token_trees())?;
     }
-    builder.extend_with_tt(tree.token_trees())?;
-    built(builder)
+    builder.extend_with_tt(tree.token_trees())
 }

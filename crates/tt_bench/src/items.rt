@@ -5,7 +5,7 @@ use crate::lists::Lists;
 use memchr::memchr;
 use std::alloc::Global;
 use std::str::FromStr;
-use tt::TokenTree;
+use tt::{TokenTree, TtFault};
 use tt_language::Command;
 
 /// Whether tokens of one text share the block of memory that holds it.
@@ -39,16 +39,29 @@ pub fn items(alloc: Global, text: &[u8], texts: Texts) -> Result<Vec<Vec<TokenTr
         }
         let (line, behind) = cut_line(rest);
         rest = behind;
-        let Some(Command::Item(token)) = Command::parse(alloc, line)? else {
+        if !add_item(alloc, line, texts, &mut interner, &mut lists)? {
             return Err(BenchError::BadLine(number));
-        };
-        let token = match texts {
-            Texts::Shared => interner.token(token)?,
-            Texts::Apart => token,
-        };
-        lists.push(alloc, token)?;
+        }
     }
     Ok(lists.into_vec())
+}
+
+// Adds the token of an `item` line. Whether it is one.
+fn add_item(
+    alloc: Global,
+    line: &[u8],
+    texts: Texts,
+    interner: &mut Interner,
+    lists: &mut Lists,
+) -> Result<bool, TtFault> {
+    let Some(Command::Item(token)) = Command::parse(alloc, line)? else {
+        return Ok(false);
+    };
+    match texts {
+        Texts::Shared => lists.push(alloc, interner.token(token)?)?,
+        Texts::Apart => lists.push(alloc, token)?,
+    }
+    Ok(true)
 }
 
 // The first line, without its line feed, and what comes behind it.

@@ -27,10 +27,10 @@ impl Lists {
             self.lists.push(Vec::new(alloc))?;
         }
         self.left = self.left.saturating_sub(1);
-        if let Some(list) = self.lists.last_mut() {
-            list.push(token)?;
+        match self.lists.last_mut() {
+            Some(list) => Ok(list.push(token)?),
+            None => Err(TtFault::NotOneSubtree),
         }
-        Ok(())
     }
 
     /// The lists so far. Of the last one tokens may be missing.

@@ -1,20 +1,22 @@
 //! One measurement, from a job to its line of numbers.
-use crate::building;
+use crate::building::{self, Call};
 use crate::error::BenchError;
 use crate::expansion::{Expansion, Instance};
 use crate::items::items;
 use crate::job::Job;
-use crate::mode::Mode;
+use crate::mode::{Mode, Reading};
 use crate::stopwatch::Stopwatch;
 use crate::texts::Text;
-use crate::turns::Turns;
-use crate::twins::{Twins, copies, packed};
+use crate::turns::{LapSum, Turns};
+use crate::twins::{Pair, Twins, copies, packed};
 use crate::walk::Walk;
 use std::alloc::Global;
 use std::fmt;
 use std::hash::{DefaultHasher, FoldHasher, Hash, Hasher};
 use std::time::{CpuClock, Duration};
-use tt::{ErasedFileAstId, TokenTree, TopSubtree, TransformTtAction, TtFault, transform_tt};
+use tt::{
+    Delimiter, ErasedFileAstId, TokenTree, TopSubtree, TransformTtAction, TtFault, transform_tt,
+};
 
 /// What was measured. Its text is one line: nanoseconds, sum, bytes, parts, symbols.
 #[derive(Clone, Copy)]
@@ -56,6 +58,13 @@ impl Measured {
         }
     }
 
+    // Adds what is stored for the trees.
+    fn add_all(&mut self, trees: &[TopSubtree]) {
+        for tree in trees {
+            self.add(tree);
+        }
+    }
+
     // Adds what is stored for a tree.
     fn add(&mut self, tree: &TopSubtree) {
         self.bytes = self.bytes.saturating_add(tree.packed_bytes().len());
@@ -70,14 +79,12 @@ pub fn measure<R: CpuClock + AllocGlobal>(
     job: Job,
     lines: &[u8],
 ) -> Result<Measured, BenchError> {
-    let lists = items(rt.alloc(), lines, job.texts)?;
+    let mut lists = items(rt.alloc(), lines, job.texts)?;
     let twins = Twins::new(rt.alloc(), &lists, lines, job.texts)?;
     let mut watch = Stopwatch::new(rt);
-    let sum = measure_rounds(&mut watch, rt.alloc(), job, lists, &twins)?;
-    let mut measured = Measured::new(watch.total(), sum);
-    for tree in twins.trees() {
-        measured.add(tree);
-    }
+    let sum = measure_rounds(&mut watch, rt.alloc(), job, &mut lists, &twins)?;
+    let mut measured = Measured::new(watch.total()?, sum);
+    measured.add_all(twins.trees());
     Ok(measured)
 }
 
@@ -86,22 +93,47 @@ fn measure_rounds<R: CpuClock>(
     watch: &mut Stopwatch<R>,
     alloc: Global,
     job: Job,
-    lists: Vec<Vec<TokenTree>>,
+    lists: &mut [Vec<TokenTree>],
     twins: &Twins,
 ) -> Result<u64, BenchError> {
+    let rounds = job.rounds;
     match job.mode {
-        Mode::Pack => pack(watch, alloc, lists, job.rounds),
-        Mode::Build => build(watch, alloc, &lists, job.rounds),
-        Mode::Rewrite => rewrite(watch, alloc, twins, job.rounds),
-        Mode::Ids => ids(watch, alloc, twins, job.rounds),
-        Mode::Expand => expand(watch, alloc, twins, job.rounds),
-        Mode::Walk(way) => walk(watch, alloc, twins, way, job.rounds),
-        Mode::Print(text) => print(watch, alloc, twins, text, job.rounds),
-        Mode::Equal => equal(watch, alloc, twins, job.rounds),
-        Mode::Fold => hash(watch, alloc, twins, FoldHasher::default(), job.rounds),
-        Mode::Sip => hash(watch, alloc, twins, DefaultHasher::default(), job.rounds),
-        Mode::Clone => clone(watch, alloc, twins, job.rounds),
-        Mode::Drop => let_go(watch, alloc, twins, job.rounds),
+        Mode::Pack => Ok(pack(watch, alloc, Turns::new(lists), rounds)?),
+        Mode::Build => Ok(build(watch, alloc, lists, rounds)?),
+        Mode::Rewrite => Ok(rewrite(watch, alloc, twins, rounds)?),
+        Mode::Ids => Ok(ids(watch, alloc, twins, rounds)?),
+        Mode::Expand => expand(watch, alloc, twins, rounds),
+        Mode::Read(reading) => {
+            let mut pairs = twins.pairs(alloc)?;
+            read(
+                watch,
+                alloc,
+                reading,
+                &mut Turns::new(&mut pairs),
+                twins.lap(),
+                rounds,
+            )
+        }
+    }
+}
+
+// Reads the trees, and what else leaves them as they are.
+fn read<R: CpuClock>(
+    watch: &mut Stopwatch<R>,
+    alloc: Global,
+    reading: Reading,
+    turns: &mut Turns<'_, Pair<'_>>,
+    mut lap: LapSum,
+    rounds: u32,
+) -> Result<u64, BenchError> {
+    match reading {
+        Reading::Walk(way) => walk(watch, alloc, turns, &mut lap, way, rounds),
+        Reading::Print(text) => Ok(print(watch, alloc, turns, &mut lap, text, rounds)?),
+        Reading::Equal => Ok(equal(watch, turns, rounds)?),
+        Reading::Fold => Ok(hash(watch, turns, &mut FoldHasher::default(), rounds)?),
+        Reading::Sip => Ok(hash(watch, turns, &mut DefaultHasher::default(), rounds)?),
+        Reading::Clone => Ok(clone(watch, alloc, turns, rounds)?),
+        Reading::Drop => Ok(let_go(watch, alloc, turns, rounds)?),
     }
 }
 
@@ -109,73 +141,102 @@ fn measure_rounds<R: CpuClock>(
 fn pack<R: CpuClock>(
     watch: &mut Stopwatch<R>,
     alloc: Global,
-    lists: Vec<Vec<TokenTree>>,
+    mut turns: Turns<'_, Vec<TokenTree>>,
     rounds: u32,
-) -> Result<u64, BenchError> {
-    let mut turns = Turns::new(lists);
+) -> Result<u64, TtFault> {
     for _ in 0..rounds {
-        let copy = turns.next()?.to_vec(alloc).map_err(TtFault::from)?;
-        watch.start()?;
+        let copy = turns.next()?.to_vec(alloc)?;
+        watch.start();
         let tree = packed(alloc, copy)?;
-        watch.stop()?;
+        watch.stop();
         drop(tree);
     }
     Ok(0)
 }
 
-// Each round makes the calls of a list, of which a copy is made before the watch starts.
+// Makes the calls of all lists.
 fn build<R: CpuClock>(
     watch: &mut Stopwatch<R>,
     alloc: Global,
     lists: &[Vec<TokenTree>],
     rounds: u32,
-) -> Result<u64, BenchError> {
-    let mut turns = Turns::new(building::all_calls(alloc, lists)?);
+) -> Result<u64, TtFault> {
+    let mut all = building::all_calls(alloc, lists)?;
+    build_each(watch, alloc, Turns::new(&mut all), rounds)
+}
+
+// Each round makes the calls of a list, of which a copy is made before the watch starts.
+fn build_each<R: CpuClock>(
+    watch: &mut Stopwatch<R>,
+    alloc: Global,
+    mut turns: Turns<'_, (Delimiter, Vec<Call>)>,
+    rounds: u32,
+) -> Result<u64, TtFault> {
     for _ in 0..rounds {
         let (top, calls) = turns.next()?;
-        let copy = calls.to_vec(alloc).map_err(TtFault::from)?;
-        watch.start()?;
+        let copy = calls.to_vec(alloc)?;
+        watch.start();
         let tree = building::build(alloc, *top, copy)?;
-        watch.stop()?;
+        watch.stop();
         drop(tree);
     }
     Ok(0)
 }
 
-// Each round rewrites the same copy of a tree, and keeps all that it holds.
+// Rewrites copies of the trees.
 fn rewrite<R: CpuClock>(
     watch: &mut Stopwatch<R>,
     alloc: Global,
     twins: &Twins,
     rounds: u32,
-) -> Result<u64, BenchError> {
-    let mut turns = Turns::new(copies(alloc, twins.trees())?);
-    watch.start()?;
+) -> Result<u64, TtFault> {
+    let mut trees = copies(alloc, twins.trees())?;
+    rewrite_each(watch, alloc, Turns::new(&mut trees), rounds)
+}
+
+// Each round rewrites the same copy of a tree, and keeps all that it holds.
+fn rewrite_each<R: CpuClock>(
+    watch: &mut Stopwatch<R>,
+    alloc: Global,
+    mut turns: Turns<'_, TopSubtree>,
+    rounds: u32,
+) -> Result<u64, TtFault> {
+    watch.start();
     for _ in 0..rounds {
         transform_tt(alloc, turns.next()?, |_| TransformTtAction::Keep)?;
     }
-    watch.stop()?;
+    watch.stop();
     Ok(0)
 }
 
-// Each round gives all spans of the same copy of a tree another id, and different ids stay different.
+// Changes the ids of copies of the trees.
 fn ids<R: CpuClock>(
     watch: &mut Stopwatch<R>,
     alloc: Global,
     twins: &Twins,
     rounds: u32,
-) -> Result<u64, BenchError> {
-    let mut turns = Turns::new(copies(alloc, twins.trees())?);
-    watch.start()?;
+) -> Result<u64, TtFault> {
+    let mut trees = copies(alloc, twins.trees())?;
+    change_each(watch, alloc, Turns::new(&mut trees), rounds)
+}
+
+// Each round gives all spans of the same copy of a tree another id, and different ids stay different.
+fn change_each<R: CpuClock>(
+    watch: &mut Stopwatch<R>,
+    alloc: Global,
+    mut turns: Turns<'_, TopSubtree>,
+    rounds: u32,
+) -> Result<u64, TtFault> {
+    watch.start();
     for _ in 0..rounds {
         let tree = turns.next()?;
         tree.change_every_ast_id(alloc, |id| ErasedFileAstId(id.0.wrapping_add(1)))?;
     }
-    watch.stop()?;
+    watch.stop();
     Ok(0)
 }
 
-// Each round expands the input of a tree by the tree's rule. A tree that comes of it is let go after the watch stopped.
+// Expands by a rule of each tree.
 fn expand<R: CpuClock>(
     watch: &mut Stopwatch<R>,
     alloc: Global,
@@ -183,13 +244,29 @@ fn expand<R: CpuClock>(
     rounds: u32,
 ) -> Result<u64, BenchError> {
     let expansions = Expansion::all(alloc, twins.trees())?;
-    let mut turns = Turns::new(Instance::all(alloc, &expansions)?);
-    let mut lap = twins.lap();
+    let mut instances = Instance::all(alloc, &expansions)?;
+    expand_each(
+        watch,
+        alloc,
+        &mut Turns::new(&mut instances),
+        twins.lap(),
+        rounds,
+    )
+}
+
+// Each round expands the input of a tree by the tree's rule. A tree that comes of it is let go after the watch stopped.
+fn expand_each<R: CpuClock>(
+    watch: &mut Stopwatch<R>,
+    alloc: Global,
+    turns: &mut Turns<'_, Instance<'_>>,
+    mut lap: LapSum,
+    rounds: u32,
+) -> Result<u64, BenchError> {
     for _ in 0..rounds {
         let instance = turns.next()?;
-        watch.start()?;
+        watch.start();
         let tree = instance.expand(alloc)?;
-        watch.stop()?;
+        watch.stop();
         lap.add(tree.as_token_trees().len() as u64);
     }
     Ok(lap.sum())
@@ -198,17 +275,16 @@ fn expand<R: CpuClock>(
 fn walk<R: CpuClock>(
     watch: &mut Stopwatch<R>,
     alloc: Global,
-    twins: &Twins,
+    turns: &mut Turns<'_, Pair<'_>>,
+    lap: &mut LapSum,
     way: Walk,
     rounds: u32,
 ) -> Result<u64, BenchError> {
-    let mut turns = twins.in_turn(alloc)?;
-    let mut lap = twins.lap();
-    watch.start()?;
+    watch.start();
     for _ in 0..rounds {
         lap.add(way.sum(alloc, turns.next()?.tree)?);
     }
-    watch.stop()?;
+    watch.stop();
     Ok(lap.sum())
 }
 
@@ -216,54 +292,49 @@ fn walk<R: CpuClock>(
 fn print<R: CpuClock>(
     watch: &mut Stopwatch<R>,
     alloc: Global,
-    twins: &Twins,
+    turns: &mut Turns<'_, Pair<'_>>,
+    lap: &mut LapSum,
     text: Text,
     rounds: u32,
-) -> Result<u64, BenchError> {
-    let mut turns = twins.in_turn(alloc)?;
-    let mut lap = twins.lap();
-    watch.start()?;
+) -> Result<u64, TtFault> {
+    watch.start();
     for _ in 0..rounds {
         lap.add(text.len(alloc, turns.next()?.tree)?);
     }
-    watch.stop()?;
+    watch.stop();
     Ok(lap.sum())
 }
 
 // Counts the rounds that find a tree equal to its twin.
 fn equal<R: CpuClock>(
     watch: &mut Stopwatch<R>,
-    alloc: Global,
-    twins: &Twins,
+    turns: &mut Turns<'_, Pair<'_>>,
     rounds: u32,
-) -> Result<u64, BenchError> {
-    let mut turns = twins.in_turn(alloc)?;
+) -> Result<u64, TtFault> {
     let mut count = 0u64;
-    watch.start()?;
+    watch.start();
     for _ in 0..rounds {
         let pair = turns.next()?;
         if pair.tree == pair.twin {
             count = count.wrapping_add(1);
         }
     }
-    watch.stop()?;
+    watch.stop();
     Ok(count)
 }
 
 // One hasher takes the trees of all rounds.
-fn hash<R: CpuClock, H: Hasher + Drop>(
+fn hash<R: CpuClock, H: Hasher>(
     watch: &mut Stopwatch<R>,
-    alloc: Global,
-    twins: &Twins,
-    mut hasher: H,
+    turns: &mut Turns<'_, Pair<'_>>,
+    hasher: &mut H,
     rounds: u32,
-) -> Result<u64, BenchError> {
-    let mut turns = twins.in_turn(alloc)?;
-    watch.start()?;
+) -> Result<u64, TtFault> {
+    watch.start();
     for _ in 0..rounds {
-        turns.next()?.tree.hash(&mut hasher);
+        turns.next()?.tree.hash(hasher);
     }
-    watch.stop()?;
+    watch.stop();
     Ok(hasher.finish())
 }
 
@@ -271,15 +342,14 @@ fn hash<R: CpuClock, H: Hasher + Drop>(
 fn clone<R: CpuClock>(
     watch: &mut Stopwatch<R>,
     alloc: Global,
-    twins: &Twins,
+    turns: &mut Turns<'_, Pair<'_>>,
     rounds: u32,
-) -> Result<u64, BenchError> {
-    let mut turns = twins.in_turn(alloc)?;
+) -> Result<u64, TtFault> {
     for _ in 0..rounds {
         let tree = turns.next()?.tree;
-        watch.start()?;
+        watch.start();
         let copy = tree.clone(alloc)?;
-        watch.stop()?;
+        watch.stop();
         drop(copy);
     }
     Ok(0)
@@ -289,15 +359,14 @@ fn clone<R: CpuClock>(
 fn let_go<R: CpuClock>(
     watch: &mut Stopwatch<R>,
     alloc: Global,
-    twins: &Twins,
+    turns: &mut Turns<'_, Pair<'_>>,
     rounds: u32,
-) -> Result<u64, BenchError> {
-    let mut turns = twins.in_turn(alloc)?;
+) -> Result<u64, TtFault> {
     for _ in 0..rounds {
         let copy = turns.next()?.tree.clone(alloc)?;
-        watch.start()?;
+        watch.start();
         drop(copy);
-        watch.stop()?;
+        watch.stop();
     }
     Ok(0)
 }

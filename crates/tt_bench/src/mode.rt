@@ -17,6 +17,13 @@ pub enum Mode {
     Ids,
     /// Expanding a rule of ten variables.
     Expand,
+    /// Something that leaves a tree as it is.
+    Read(Reading),
+}
+
+/// What leaves a tree as it is.
+#[derive(Clone, Copy)]
+pub enum Reading {
     /// Reading a tree.
     Walk(Walk),
     /// Printing a tree.
@@ -43,21 +50,31 @@ impl FromStr for Mode {
             "rewrite" => Ok(Mode::Rewrite),
             "ids" => Ok(Mode::Ids),
             "expand" => Ok(Mode::Expand),
-            "flat" => Ok(Mode::Walk(Walk::Flat)),
-            "flat_whole" => Ok(Mode::Walk(Walk::FlatWhole)),
-            "skip" => Ok(Mode::Walk(Walk::Skip)),
-            "siblings" => Ok(Mode::Walk(Walk::Siblings)),
-            "siblings_whole" => Ok(Mode::Walk(Walk::SiblingsWhole)),
-            "walk" => Ok(Mode::Walk(Walk::Cursor)),
-            "show" => Ok(Mode::Print(Text::Show)),
-            "display" => Ok(Mode::Print(Text::Display)),
-            "pretty" => Ok(Mode::Print(Text::Pretty)),
-            "debug" => Ok(Mode::Print(Text::Debug)),
-            "equal" => Ok(Mode::Equal),
-            "fold" => Ok(Mode::Fold),
-            "sip" => Ok(Mode::Sip),
-            "clone" => Ok(Mode::Clone),
-            "drop" => Ok(Mode::Drop),
+            _ => Ok(Mode::Read(name.parse()?)),
+        }
+    }
+}
+
+impl FromStr for Reading {
+    type Err = BenchError;
+
+    fn from_str(name: &str) -> Result<Reading, BenchError> {
+        match name {
+            "flat" => Ok(Reading::Walk(Walk::Flat)),
+            "flat_whole" => Ok(Reading::Walk(Walk::FlatWhole)),
+            "skip" => Ok(Reading::Walk(Walk::Skip)),
+            "siblings" => Ok(Reading::Walk(Walk::Siblings)),
+            "siblings_whole" => Ok(Reading::Walk(Walk::SiblingsWhole)),
+            "walk" => Ok(Reading::Walk(Walk::Cursor)),
+            "show" => Ok(Reading::Print(Text::Show)),
+            "display" => Ok(Reading::Print(Text::Display)),
+            "pretty" => Ok(Reading::Print(Text::Pretty)),
+            "debug" => Ok(Reading::Print(Text::Debug)),
+            "equal" => Ok(Reading::Equal),
+            "fold" => Ok(Reading::Fold),
+            "sip" => Ok(Reading::Sip),
+            "clone" => Ok(Reading::Clone),
+            "drop" => Ok(Reading::Drop),
             _ => Err(BenchError::Usage),
         }
     }

@@ -9,6 +9,8 @@ pub struct Stopwatch<'a, R> {
     clock: &'a R,
     begun: Duration,
     total: Duration,
+    // why the clock was not read, where it failed
+    failed: Option<io::Error>,
 }
 
 impl<'a, R: CpuClock> Stopwatch<'a, R> {
@@ -18,24 +20,37 @@ impl<'a, R: CpuClock> Stopwatch<'a, R> {
             clock,
             begun: Duration::ZERO,
             total: Duration::ZERO,
+            failed: None,
         }
     }
 
-    /// Measures from now on. Fails where the clock does.
-    pub fn start(&mut self) -> io::Result<()> {
-        self.begun = self.clock.thread_cpu_time()?;
-        Ok(())
+    // What the clock shows.
+    fn now(&mut self) -> Duration {
+        match self.clock.thread_cpu_time() {
+            Ok(time) => time,
+            Err(error) => {
+                self.failed = Some(error);
+                Duration::ZERO
+            }
+        }
     }
 
-    /// Adds the time since the start. Fails where the clock does.
-    pub fn stop(&mut self) -> io::Result<()> {
-        let now = self.clock.thread_cpu_time()?;
+    /// Measures from now on.
+    pub fn start(&mut self) {
+        self.begun = self.now();
+    }
+
+    /// Adds the time since the start.
+    pub fn stop(&mut self) {
+        let now = self.now();
         self.total = self.total.saturating_add(now.saturating_sub(self.begun));
-        Ok(())
     }
 
-    /// All time so far.
-    pub fn total(&self) -> Duration {
-        self.total
+    /// All time so far. Fails where the clock has failed.
+    pub fn total(&self) -> io::Result<Duration> {
+        match self.failed {
+            Some(error) => Err(error),
+            None => Ok(self.total),
+        }
     }
 }

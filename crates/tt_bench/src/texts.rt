@@ -1,5 +1,4 @@
 //! Ways to print a tree.
-use crate::error::BenchError;
 use std::alloc::Global;
 use tt::{TopSubtree, TtFault, debug_text, display_text, pretty};
 
@@ -18,7 +17,7 @@ pub enum Text {
 
 impl Text {
     /// The length of the text, which is let go.
-    pub fn len(self, alloc: Global, tree: &TopSubtree) -> Result<u64, BenchError> {
+    pub fn len(self, alloc: Global, tree: &TopSubtree) -> Result<u64, TtFault> {
         let text = match self {
             Text::Show => display_text(alloc, tree.as_token_trees())?,
             Text::Display => format!(in alloc; "{tree}").map_err(|_error| TtFault::Memory)?,

@@ -1,23 +1,22 @@
 //! Whose turn it is.
-use crate::error::BenchError;
 use tt::TtFault;
 
 /// Values that are used in turn, the first again after the last.
 #[derive(Drop)]
-pub struct Turns<T> {
-    values: Vec<T>,
+pub struct Turns<'a, T> {
+    values: &'a mut [T],
     // of the value whose turn it is
     place: usize,
 }
 
-impl<T> Turns<T> {
+impl<'a, T> Turns<'a, T> {
     /// The first value begins.
-    pub fn new(values: Vec<T>) -> Turns<T> {
+    pub fn new(values: &'a mut [T]) -> Turns<'a, T> {
         Turns { values, place: 0 }
     }
 
     /// The value whose turn it is. `NotOneSubtree` where there is none at all.
-    pub fn next(&mut self) -> Result<&mut T, BenchError> {
+    pub fn next(&mut self) -> Result<&mut T, TtFault> {
         let place = self.place;
         let behind = place.saturating_add(1);
         self.place = if behind < self.values.len() {
@@ -27,7 +26,7 @@ impl<T> Turns<T> {
         };
         match self.values.get_mut(place) {
             Some(value) => Ok(value),
-            None => Err(BenchError::Fault(TtFault::NotOneSubtree)),
+            None => Err(TtFault::NotOneSubtree),
         }
     }
 }

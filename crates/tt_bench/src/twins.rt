@@ -1,7 +1,7 @@
 //! Trees, and trees that equal them.
 use crate::error::BenchError;
 use crate::items::{Texts, items};
-use crate::turns::{LapSum, Turns};
+use crate::turns::LapSum;
 use std::alloc::Global;
 use tt::{TokenTree, TopSubtree, TtFault};
 
@@ -33,11 +33,10 @@ impl Twins {
             return Err(BenchError::Fault(TtFault::NotOneSubtree));
         }
         let first = packed_all(alloc, lists)?;
-        let second = match texts {
-            Texts::Shared => copies(alloc, &first)?,
-            Texts::Apart => packed_all(alloc, &items(alloc, lines, texts)?)?,
-        };
-        Ok(Twins { first, second })
+        match second(alloc, &first, lines, texts) {
+            Ok(second) => Ok(Twins { first, second }),
+            Err(error) => Err(error),
+        }
     }
 
     /// One tree of each list.
@@ -51,11 +50,24 @@ impl Twins {
     }
 
     /// The first tree of each list with its twin, and then the second with its.
-    pub fn in_turn(&self, alloc: Global) -> Result<Turns<Pair<'_>>, BenchError> {
+    pub fn pairs(&self, alloc: Global) -> Result<Vec<Pair<'_>>, TtFault> {
         let mut pairs = Vec::new(alloc);
         push_pairs(&mut pairs, &self.first, &self.second)?;
         push_pairs(&mut pairs, &self.second, &self.first)?;
-        Ok(Turns::new(pairs))
+        Ok(pairs)
+    }
+}
+
+// The twins of the trees.
+fn second(
+    alloc: Global,
+    first: &[TopSubtree],
+    lines: &[u8],
+    texts: Texts,
+) -> Result<Vec<TopSubtree>, BenchError> {
+    match texts {
+        Texts::Shared => Ok(copies(alloc, first)?),
+        Texts::Apart => Ok(packed_all(alloc, &items(alloc, lines, texts)?)?),
     }
 }
 
@@ -81,19 +93,18 @@ pub fn copies(alloc: Global, trees: &[TopSubtree]) -> Result<Vec<TopSubtree>, Tt
 }
 
 // The trees of the lists, or why one is refused.
-fn packed_all(alloc: Global, lists: &[Vec<TokenTree>]) -> Result<Vec<TopSubtree>, BenchError> {
+fn packed_all(alloc: Global, lists: &[Vec<TokenTree>]) -> Result<Vec<TopSubtree>, TtFault> {
     let mut trees = Vec::new(alloc);
     for list in lists {
-        let copy = list.to_vec(alloc).map_err(TtFault::from)?;
-        trees.push(packed(alloc, copy)?).map_err(TtFault::from)?;
+        trees.push(packed(alloc, list.to_vec(alloc)?)?)?;
     }
     Ok(trees)
 }
 
 /// The tree of a list, or why the list is refused.
-pub fn packed(alloc: Global, list: Vec<TokenTree>) -> Result<TopSubtree, BenchError> {
+pub fn packed(alloc: Global, list: Vec<TokenTree>) -> Result<TopSubtree, TtFault> {
     match TopSubtree::from_serialized(alloc, list) {
         Ok(tree) => Ok(tree),
-        Err(refused) => Err(BenchError::Fault(refused.fault)),
+        Err(refused) => Err(refused.fault),
     }
 }

@@ -1,52 +1,56 @@
 //! Calls of a builder, and those that make one.
-use crate::alike::{are_alike, close, close_at, closed};
-use crate::call::{Call, Outcome, ends as call_ends};
-use crate::error::SweepError;
+use crate::alike::{MARK, are_alike, close_at, closed};
+use crate::call::{Call, judge};
 use crate::tokens::{
-    braces, delimiter, flat_tree, header, ident, plus, punct, push_all, span, ten, tree_of,
+    braces, delimiter, flat_tree, handed_back, header, ident, invisible, plus, punct, push_all,
+    span, ten, tree_of,
 };
 use std::alloc::Global;
-use tt::{
-    Delimiter, DelimiterKind, Leaf, Spacing, TokenTree, TopSubtree, TopSubtreeBuilder, TtFault,
-};
+use tt::{DelimiterKind, Leaf, Spacing, TokenTree, TopSubtree, TopSubtreeBuilder, TtFault};
 
-/// A call of a builder, or one that makes one.
-#[derive(Clone, Copy, PartialEq)]
-pub enum Growth {
-    New,
-    Clone,
-    Open,
-    Push,
-    Close,
-    Extend,
-    ExtendByNames,
-    Trees,
-    TreesAlone,
-    Point,
+/// How that call of the group ended.
+pub fn judged<R: Print>(rt: &R, alloc: Global, call: &str) -> Result<&'static str, TtFault> {
+    let trees = flat_tree(alloc, &ten())?;
+    let after = after(alloc, call)?;
+    let mut names = names_twice(alloc)?;
+    judged_of(rt, alloc, call, &after, &trees, &mut names)
 }
 
-/// The call of that name.
-pub fn named(name: &str) -> Option<Growth> {
-    let growth = match name {
-        "TopSubtreeBuilder::new" => Growth::New,
-        "TopSubtreeBuilder::clone" => Growth::Clone,
-        "open" => Growth::Open,
-        "push" => Growth::Push,
-        "close" => Growth::Close,
-        "extend" => Growth::Extend,
-        "extend_by_names" => Growth::ExtendByNames,
-        "extend_with_tt" => Growth::Trees,
-        "extend_with_tt_alone" => Growth::TreesAlone,
-        "restore_point" => Growth::Point,
-        _ => return None,
+// The same, given the tree that is built behind the call, and what is appended. Each builder has a function of its own, since
+// it takes many steps to let one go.
+fn judged_of<R: Print>(
+    rt: &R,
+    alloc: Global,
+    call: &str,
+    after: &TopSubtree,
+    trees: &TopSubtree,
+    names: &mut Vec<Vec<Leaf>>,
+) -> Result<&'static str, TtFault> {
+    let before = builder(alloc, call)?;
+    judged_beside(rt, alloc, call, after, trees, names, &before)
+}
+
+// The same, given a builder like the one that is changed.
+fn judged_beside<R: Print>(
+    rt: &R,
+    alloc: Global,
+    call: &str,
+    after: &TopSubtree,
+    trees: &TopSubtree,
+    names: &mut Vec<Vec<Leaf>>,
+    before: &TopSubtreeBuilder,
+) -> Result<&'static str, TtFault> {
+    let mut builder = builder(alloc, call)?;
+    let mut call = Growing {
+        call,
+        alloc,
+        builder: &mut builder,
+        before,
+        after,
+        trees,
+        names,
     };
-    Some(growth)
-}
-
-/// How the call ends.
-pub fn ends<R: Print>(rt: &R, alloc: Global, growth: Growth) -> Result<Outcome, SweepError> {
-    let mut call = Growing::new(alloc, growth)?;
-    call_ends(rt, &mut call)
+    Ok(judge(rt, &mut call))
 }
 
 // How many brackets are open in the builder, one in another.
@@ -72,35 +76,37 @@ const TAKEN: u64 = 5;
 
 // A builder of braces over an empty invisible subtree and four open brackets, and in the innermost two idents and the puncts. Of
 // its five restore points the second does not stand. So it has 256 tokens, four open subtrees and four points, and no room for
-// one more of any.
-fn builder(alloc: Global) -> Result<TopSubtreeBuilder, TtFault> {
+// one more of any. To be closed or cloned, it has leaves of five more span parts, so that uses are counted: nine parts, and no
+// room for one more.
+fn builder(alloc: Global, call: &str) -> Result<TopSubtreeBuilder, TtFault> {
     let mut builder = TopSubtreeBuilder::new(alloc, braces())?;
+    fill(alloc, call, &mut builder)?;
+    Ok(builder)
+}
+
+fn fill(alloc: Global, call: &str, builder: &mut TopSubtreeBuilder) -> Result<(), TtFault> {
     builder.restore_point()?;
     builder.open(DelimiterKind::Invisible, span(0))?;
     builder.restore_point()?;
-    close(&mut builder)?;
-    open_brackets(&mut builder)?;
-    push_leaves(alloc, &mut builder)?;
-    builder.restore_point()?;
-    builder.restore_point()?;
-    builder.restore_point()?;
-    Ok(builder)
-}
-
-// That builder; to be closed or cloned, it has leaves of five more span parts, so that uses are counted: nine parts, and no
-// room for one more.
-fn builder_for(alloc: Global, growth: Growth) -> Result<TopSubtreeBuilder, TtFault> {
-    let mut builder = builder(alloc)?;
-    if growth == Growth::Close || growth == Growth::Clone {
-        for leaf in of_new_parts() {
-            builder.push(leaf)?;
-        }
+    close_at(builder, span(0))?;
+    open_brackets(builder)?;
+    push_leaves(builder, first_leaves(alloc)?)?;
+    take_points(builder)?;
+    match call {
+        "close" | "TopSubtreeBuilder::clone" => push_leaves(builder, of_new_parts(alloc)?),
+        _ => Ok(()),
     }
-    Ok(builder)
 }
 
-fn of_new_parts() -> [Leaf; 5] {
-    [plus(11), plus(12), plus(13), plus(14), plus(15)]
+fn take_points(builder: &mut TopSubtreeBuilder) -> Result<(), TtFault> {
+    builder.restore_point()?;
+    builder.restore_point()?;
+    builder.restore_point()?;
+    Ok(())
+}
+
+fn of_new_parts(alloc: Global) -> Result<Vec<Leaf>, TtFault> {
+    Ok(vec![in alloc; plus(11), plus(12), plus(13), plus(14), plus(15)]?)
 }
 
 fn open_brackets(builder: &mut TopSubtreeBuilder) -> Result<(), TtFault> {
@@ -110,8 +116,8 @@ fn open_brackets(builder: &mut TopSubtreeBuilder) -> Result<(), TtFault> {
     Ok(())
 }
 
-fn push_leaves(alloc: Global, builder: &mut TopSubtreeBuilder) -> Result<(), TtFault> {
-    for leaf in first_leaves(alloc)? {
+fn push_leaves(builder: &mut TopSubtreeBuilder, leaves: Vec<Leaf>) -> Result<(), TtFault> {
+    for leaf in leaves {
         builder.push(leaf)?;
     }
     Ok(())
@@ -120,8 +126,8 @@ fn push_leaves(alloc: Global, builder: &mut TopSubtreeBuilder) -> Result<(), TtF
 // The idents and the puncts.
 fn first_leaves(alloc: Global) -> Result<Vec<Leaf>, TtFault> {
     let mut leaves = Vec::new(alloc);
-    for (name, id) in IDENTS {
-        leaves.push(ident(alloc, name, id)?)?;
+    for (name, id) in IDENTS.iter() {
+        leaves.push(ident(alloc, name, *id)?)?;
     }
     add_puncts(&mut leaves)?;
     Ok(leaves)
@@ -134,66 +140,74 @@ fn add_puncts(leaves: &mut Vec<Leaf>) -> Result<(), TtFault> {
     Ok(())
 }
 
-// The idents and the puncts, that token and these leaves: what the innermost bracket holds.
-fn inside(
-    alloc: Global,
-    more: Option<TokenTree>,
-    leaves: &[Leaf],
-) -> Result<Vec<TokenTree>, TtFault> {
-    let mut below = Vec::new(alloc);
-    push_all(&mut below, &first_leaves(alloc)?)?;
-    below.extend(more.into_iter())?;
+// The same as tokens.
+fn first_tokens(alloc: Global) -> Result<Vec<TokenTree>, TtFault> {
+    let mut tokens = Vec::new(alloc);
+    push_all(&mut tokens, &first_leaves(alloc)?)?;
+    Ok(tokens)
+}
+
+// The tree of what that builder makes when its innermost bracket gets these leaves too, and what is open is closed by the mark.
+fn with(alloc: Global, leaves: &[Leaf]) -> Result<TopSubtree, TtFault> {
+    let mut below = first_tokens(alloc)?;
     push_all(&mut below, leaves)?;
-    Ok(below)
+    over(alloc, below, MARK)
 }
 
-// The tree of what that builder makes when its innermost bracket gets that token and these leaves too.
-fn with(alloc: Global, more: Option<TokenTree>, leaves: &[Leaf]) -> Result<TopSubtree, TtFault> {
-    with_close(alloc, more, leaves, 0)
+// The same, where the innermost bracket gets leaves of new parts, and is closed by a span of that id.
+fn with_new_parts(alloc: Global, innermost: u32) -> Result<TopSubtree, TtFault> {
+    let mut below = first_tokens(alloc)?;
+    push_all(&mut below, &of_new_parts(alloc)?)?;
+    over(alloc, below, innermost)
 }
 
-// The same, where the innermost bracket is closed by a span of that id.
-fn with_close(
-    alloc: Global,
-    more: Option<TokenTree>,
-    leaves: &[Leaf],
-    innermost: u32,
-) -> Result<TopSubtree, TtFault> {
-    let below = inside(alloc, more, leaves)?;
+// The same, where it gets parentheses over nothing, which are open.
+fn with_parentheses(alloc: Global) -> Result<TopSubtree, TtFault> {
+    let mut below = first_tokens(alloc)?;
+    below.push(header(delimiter(DelimiterKind::Parenthesis, 0, MARK), 0))?;
+    over(alloc, below, MARK)
+}
+
+// The tree of that builder over what its innermost bracket holds, which is closed by a span of that id.
+fn over(alloc: Global, below: Vec<TokenTree>, innermost: u32) -> Result<TopSubtree, TtFault> {
     let len = u32::try_from(below.len()).unwrap_or(0);
     let mut list = vec![in alloc; header(braces(), len.saturating_add(OPEN + 1))]?;
-    list.push(header(delimiter(DelimiterKind::Invisible, 0, 0), 0))?;
-    for deeper in (0..OPEN).rev() {
-        let close = if deeper == 0 { innermost } else { 0 };
-        let brackets = delimiter(DelimiterKind::Bracket, OPEN_ID, close);
-        list.push(header(brackets, len.saturating_add(deeper)))?;
-    }
+    list.push(header(invisible(), 0))?;
+    push_brackets(&mut list, len, innermost)?;
     list.extend(below.into_iter())?;
     tree_of(alloc, list)
 }
 
-// The tree of what a builder makes behind the call.
-fn held(alloc: Global, growth: Growth) -> Result<TopSubtree, TtFault> {
-    match growth {
-        Growth::New => flat_tree(alloc, &[]),
-        Growth::Clone => with(alloc, None, &of_new_parts()),
-        Growth::Point => with(alloc, None, &[]),
-        Growth::Open => {
-            let parentheses = delimiter(DelimiterKind::Parenthesis, 0, 0);
-            with(alloc, Some(header(parentheses, 0)), &[])
-        }
-        Growth::Push => with(alloc, None, &[plus(1)]),
-        Growth::Close => with_close(alloc, None, &of_new_parts(), NEW_ID),
-        Growth::Extend | Growth::Trees => with(alloc, None, &ten()),
-        Growth::ExtendByNames => with(alloc, None, &new_names(alloc)?),
-        Growth::TreesAlone => with(alloc, None, &ten_of_which_the_last_is_alone()),
+// The headers of the brackets over so many tokens.
+fn push_brackets(list: &mut Vec<TokenTree>, len: u32, innermost: u32) -> Result<(), TtFault> {
+    for deeper in (0..OPEN).rev() {
+        let close = if deeper == 0 { innermost } else { MARK };
+        let brackets = delimiter(DelimiterKind::Bracket, OPEN_ID, close);
+        list.push(header(brackets, len.saturating_add(deeper)))?;
+    }
+    Ok(())
+}
+
+// The tree of what the builder makes behind the call.
+fn after(alloc: Global, call: &str) -> Result<TopSubtree, TtFault> {
+    match call {
+        "TopSubtreeBuilder::new" => flat_tree(alloc, &[]),
+        "TopSubtreeBuilder::clone" => with_new_parts(alloc, MARK),
+        "restore_point" => with(alloc, &[]),
+        "open" => with_parentheses(alloc),
+        "push" => with(alloc, &[plus(1)]),
+        "close" => with_new_parts(alloc, NEW_ID),
+        "extend" | "extend_with_tt" => with(alloc, &ten()),
+        "extend_by_names" => with(alloc, &new_names(alloc)?),
+        "extend_with_tt_alone" => with(alloc, &ten_of_which_the_last_is_alone()),
+        _ => Err(TtFault::NoSuchPlace),
     }
 }
 
 // Ten idents of one span part, which the builder uses, and of names that it does not use.
 fn new_names(alloc: Global) -> Result<Vec<Leaf>, TtFault> {
     let mut leaves = Vec::new(alloc);
-    for name in NEW_NAMES {
+    for name in NEW_NAMES.iter() {
         leaves.push(ident(alloc, name, 1)?)?;
     }
     Ok(leaves)
@@ -212,173 +226,97 @@ fn ten_of_which_the_last_is_alone() -> [Leaf; 10] {
     leaves
 }
 
-// A builder, and what it is before the call.
+// A call of a builder, of which there is a copy, the tree that it makes behind it, and what is appended: trees, or new names,
+// which are there twice, since a call that is refused has taken them.
 #[derive(Drop)]
-struct Twins {
-    builder: TopSubtreeBuilder,
-    before: TopSubtreeBuilder,
-}
-
-impl Twins {
-    fn new(alloc: Global, growth: Growth) -> Result<Twins, TtFault> {
-        Ok(Twins {
-            builder: builder_for(alloc, growth)?,
-            before: builder_for(alloc, growth)?,
-        })
-    }
-}
-
-// What is appended: trees, or new names, which are there twice, since a call that is refused has taken them.
-#[derive(Drop)]
-struct Given {
-    trees: TopSubtree,
-    names: Vec<Vec<Leaf>>,
-}
-
-impl Given {
-    fn new(alloc: Global) -> Result<Given, TtFault> {
-        Ok(Given {
-            trees: flat_tree(alloc, &ten())?,
-            names: names_twice(alloc)?,
-        })
-    }
-}
-
-// A call of a builder, the tree that it makes behind it, and what is appended.
-#[derive(Drop)]
-struct Growing {
-    growth: Growth,
+struct Growing<'a> {
+    call: &'a str,
     alloc: Global,
-    twins: Twins,
-    after: TopSubtree,
-    given: Given,
+    builder: &'a mut TopSubtreeBuilder,
+    before: &'a TopSubtreeBuilder,
+    after: &'a TopSubtree,
+    trees: &'a TopSubtree,
+    names: &'a mut Vec<Vec<Leaf>>,
 }
 
-impl Growing {
-    // The builders come last: until then no way out lets them go.
-    fn new(alloc: Global, growth: Growth) -> Result<Growing, TtFault> {
-        Ok(Growing {
-            growth,
-            alloc,
-            after: held(alloc, growth)?,
-            given: Given::new(alloc)?,
-            twins: Twins::new(alloc, growth)?,
-        })
-    }
-}
-
-impl Call for Growing {
+impl Call for Growing<'_> {
     fn make(&mut self) -> Result<bool, TtFault> {
-        let builder = &mut self.twins.builder;
-        let trees = self.given.trees.token_trees();
-        match self.growth {
-            Growth::New => *builder = TopSubtreeBuilder::new(self.alloc, invisible())?,
-            Growth::Clone => *builder = builder.clone()?,
-            Growth::Open => builder.open(DelimiterKind::Parenthesis, span(0))?,
-            Growth::Push => return push(builder),
-            Growth::Close => close_at(builder, span(NEW_ID))?,
-            Growth::Extend => builder.extend(ten().into_iter())?,
-            Growth::ExtendByNames => return extend_by_names(builder, self.given.names.pop()),
-            Growth::Trees => builder.extend_with_tt(trees)?,
-            Growth::TreesAlone => builder.extend_with_tt_alone(trees)?,
-            Growth::Point => return point(builder),
+        let trees = self.trees.token_trees();
+        match self.call {
+            "TopSubtreeBuilder::new" => self.renew(),
+            "TopSubtreeBuilder::clone" => self.copy(),
+            "open" => done(self.builder.open(DelimiterKind::Parenthesis, span(0))),
+            "push" => self.push(),
+            "close" => done(close_at(self.builder, span(NEW_ID))),
+            "extend" => done(self.builder.extend(ten().into_iter())),
+            "extend_by_names" => self.extend_by_names(),
+            "extend_with_tt" => done(self.builder.extend_with_tt(trees)),
+            "extend_with_tt_alone" => done(self.builder.extend_with_tt_alone(trees)),
+            "restore_point" => self.point(),
+            _ => Ok(false),
         }
-        Ok(true)
     }
 
     fn is_as_before(&self) -> Result<bool, TtFault> {
-        are_alike(&self.twins.builder, &self.twins.before)
+        are_alike(self.builder, self.before)
     }
 
     fn is_as_after(&self) -> Result<bool, TtFault> {
-        let kinds = self.growth.open_kinds();
-        let points = self.growth.points();
-        Ok(
-            has_open(&self.twins.builder, kinds)
-                && self.twins.builder.points_taken() == points
-                && closed(&self.twins.builder)? == self.after,
-        )
+        Ok(self.builder.points_taken() == points(self.call) && closed(self.builder)? == *self.after)
     }
 }
 
-// The kinds that are open, innermost first, and those behind `close` and `open`.
-const OPEN_KINDS: [DelimiterKind; 4] = [
-    DelimiterKind::Bracket,
-    DelimiterKind::Bracket,
-    DelimiterKind::Bracket,
-    DelimiterKind::Bracket,
-];
-
-const CLOSED_KINDS: [DelimiterKind; 3] = [
-    DelimiterKind::Bracket,
-    DelimiterKind::Bracket,
-    DelimiterKind::Bracket,
-];
-
-const OPENED_KINDS: [DelimiterKind; 5] = [
-    DelimiterKind::Parenthesis,
-    DelimiterKind::Bracket,
-    DelimiterKind::Bracket,
-    DelimiterKind::Bracket,
-    DelimiterKind::Bracket,
-];
-
-impl Growth {
-    // The kinds that are open behind the call, innermost first.
-    fn open_kinds(self) -> &'static [DelimiterKind] {
-        match self {
-            Growth::New => &[],
-            Growth::Open => &OPENED_KINDS,
-            Growth::Close => &CLOSED_KINDS,
-            _ => &OPEN_KINDS,
-        }
-    }
-
-    // How many points were taken behind the call.
-    fn points(self) -> u64 {
-        match self {
-            Growth::New => 0,
-            Growth::Point => TAKEN + 1,
-            _ => TAKEN,
-        }
-    }
+// Puts a builder where another is.
+fn put(place: &mut TopSubtreeBuilder, builder: TopSubtreeBuilder) {
+    *place = builder;
 }
 
-fn invisible() -> Delimiter {
-    delimiter(DelimiterKind::Invisible, 0, 0)
-}
-
-fn push(builder: &mut TopSubtreeBuilder) -> Result<bool, TtFault> {
-    match builder.push(plus(1)) {
-        Ok(()) => Ok(true),
-        Err(refused) if refused.value == plus(1) => Err(refused.fault),
-        Err(_) => Ok(false),
-    }
-}
-
-fn extend_by_names(
-    builder: &mut TopSubtreeBuilder,
-    names: Option<Vec<Leaf>>,
-) -> Result<bool, TtFault> {
-    let Some(names) = names else {
-        return Ok(false);
-    };
-    builder.extend(names.into_iter())?;
+// That a call did what it can.
+fn done(answer: Result<(), TtFault>) -> Result<bool, TtFault> {
+    answer?;
     Ok(true)
 }
 
-fn point(builder: &mut TopSubtreeBuilder) -> Result<bool, TtFault> {
-    Ok(builder.restore_point()?.number() == TAKEN)
+// How many points were taken behind the call.
+fn points(call: &str) -> u64 {
+    match call {
+        "TopSubtreeBuilder::new" => 0,
+        "restore_point" => TAKEN + 1,
+        _ => TAKEN,
+    }
 }
 
-// Whether these kinds are open, innermost first.
-fn has_open(builder: &TopSubtreeBuilder, kinds: &[DelimiterKind]) -> bool {
-    let mut rest = kinds;
-    for kind in builder.expected_delimiters() {
-        match rest.split_first() {
-            Some((first, others)) if *first == kind => rest = others,
-            _ => return false,
+impl Growing<'_> {
+    fn renew(&mut self) -> Result<bool, TtFault> {
+        put(
+            self.builder,
+            TopSubtreeBuilder::new(self.alloc, invisible())?,
+        );
+        Ok(true)
+    }
+
+    fn copy(&mut self) -> Result<bool, TtFault> {
+        let copy = self.builder.clone()?;
+        put(self.builder, copy);
+        Ok(true)
+    }
+
+    fn push(&mut self) -> Result<bool, TtFault> {
+        match self.builder.push(plus(1)) {
+            Ok(()) => Ok(true),
+            Err(refused) => handed_back(refused, &plus(1)),
         }
     }
-    rest.is_empty()
+
+    fn extend_by_names(&mut self) -> Result<bool, TtFault> {
+        let Some(names) = self.names.pop() else {
+            return Ok(false);
+        };
+        self.builder.extend(names.into_iter())?;
+        Ok(true)
+    }
+
+    fn point(&mut self) -> Result<bool, TtFault> {
+        Ok(self.builder.restore_point()?.number() == TAKEN)
+    }
 }

@@ -1,6 +1,4 @@
-//! Calls that are made where memory may be refused, and how they end.
-use crate::error::SweepError;
-use std::fmt;
+//! Calls that are made where memory may be refused, and what is said of them.
 use tt::TtFault;
 
 /// A call, with what it is given.
@@ -15,57 +13,58 @@ pub trait Call {
     fn is_as_after(&self) -> Result<bool, TtFault>;
 }
 
-/// How a call ended.
-#[derive(Clone, Copy)]
-pub enum Outcome {
-    /// It did what it has to.
-    Done,
-    /// It was refused and left all as it was, and did what it has to when it was made again.
-    DoneAgain,
-    /// It did not.
-    Wrong(&'static str),
-}
+// What is said of a call that did what it has to.
+const DONE: &str = "done";
 
-impl fmt::Display for Outcome {
-    fn fmt<W: fmt::Write>(&self, f: &mut fmt::Formatter<W>) -> fmt::Result {
-        match self {
-            Outcome::Done => f.write_str("done"),
-            Outcome::DoneAgain => f.write_str("refused, and done again"),
-            Outcome::Wrong(what) => write!(f, "WRONG: {what}"),
-        }
+// The same, where it was refused, left all as it was, and was made again.
+const DONE_AGAIN: &str = "refused, and done again";
+
+/// Makes the call between two lines that are printed, and once more behind them if it was refused. What is said of it: it
+/// did what it has to, or is `WRONG`.
+pub fn judge<R: Print, C: Call>(rt: &R, call: &mut C) -> &'static str {
+    if !say(rt, "prepared") {
+        return "WRONG: not printed";
     }
-}
-
-/// Makes the call between two lines that are printed, and once more behind them if it was refused.
-pub fn ends<R: Print, C: Call>(rt: &R, call: &mut C) -> Result<Outcome, SweepError> {
-    println!(rt; "prepared")?;
     let answer = call.make();
-    println!(rt; "answered")?;
+    if !say(rt, "answered") {
+        return "WRONG: not printed";
+    }
     match answer {
-        Ok(right) => Ok(done(call, right, Outcome::Done)?),
-        Err(TtFault::Memory) => Ok(made_again(call)?),
-        Err(_) => Ok(Outcome::Wrong("another fault than Memory")),
+        Ok(right) => done(call, right, DONE),
+        Err(TtFault::Memory) => made_again(call),
+        Err(_) => "WRONG: another fault than Memory",
     }
 }
 
-// That outcome, if all is as it has to be.
-fn done<C: Call>(call: &C, right: bool, outcome: Outcome) -> Result<Outcome, TtFault> {
+/// Prints a line. Whether that succeeds.
+pub fn say<R: Print>(rt: &R, line: &str) -> bool {
+    match println!(rt; "{line}") {
+        Ok(()) => true,
+        Err(_) => false,
+    }
+}
+
+// That the call is done, if all is as it has to be.
+fn done<C: Call>(call: &C, right: bool, said: &'static str) -> &'static str {
     if !right {
-        return Ok(Outcome::Wrong("what was given or handed back"));
+        return "WRONG: what was given or handed back";
     }
-    if !call.is_as_after()? {
-        return Ok(Outcome::Wrong("what was changed"));
+    match call.is_as_after() {
+        Ok(true) => said,
+        Ok(false) => "WRONG: what was changed",
+        Err(_) => "WRONG: not compared",
     }
-    Ok(outcome)
 }
 
 // The call was refused.
-fn made_again<C: Call>(call: &mut C) -> Result<Outcome, TtFault> {
-    if !call.is_as_before()? {
-        return Ok(Outcome::Wrong("what was left behind a refusal"));
+fn made_again<C: Call>(call: &mut C) -> &'static str {
+    match call.is_as_before() {
+        Ok(true) => {}
+        Ok(false) => return "WRONG: what was left behind a refusal",
+        Err(_) => return "WRONG: not compared",
     }
     match call.make() {
-        Ok(right) => done(call, right, Outcome::DoneAgain),
-        Err(_) => Ok(Outcome::Wrong("refused again")),
+        Ok(right) => done(call, right, DONE_AGAIN),
+        Err(_) => "WRONG: refused again",
     }
 }

@@ -4,42 +4,25 @@ ghost use Rattle.tt_base.specs.declared.span.SpanPart.{SpanPart};
 ghost use Rattle.tt_tables.specs.Counts.{number_in, CountsMore, CountsUses};
 ghost use Rattle.tt_tables.specs.Uses.{same_part, leaf_symbols, token_parts, token_symbols, part_uses, symbol_uses};
 
-use crate::call::{Call, Outcome, ends as call_ends};
-use crate::error::SweepError;
+use crate::call::{Call, judge};
 use crate::lists::{is_of, is_stored};
-use crate::tokens::{long_list, plus};
+use crate::tokens::plus_list;
 use std::alloc::{AllocError, Global};
-use tt::{Leaf, SpanPart, Symbol, TokenTree, TopSubtree, TtFault};
+use tt::{Leaf, Refused, SpanPart, Symbol, TokenTree, TopSubtree, TtFault};
 use tt_counts::Counts;
 use tt_pack::Packed;
 
-/// A call that is told how often each value is used.
-#[derive(Clone, Copy)]
-pub enum Told {
-    Pack,
-    OfList,
-    FromTokens,
-}
-
-/// The call of that name.
-pub fn named(name: &str) -> Option<Told> {
-    match name {
-        "pack_counted" => Some(Told::Pack),
-        "of_list_counted" => Some(Told::OfList),
-        "from_tokens_counted" => Some(Told::FromTokens),
-        _ => None,
-    }
-}
-
-/// How the call ends.
-pub fn ends<R: Print>(rt: &R, alloc: Global, told: Told) -> Result<Outcome, SweepError> {
+/// How that call of the group ended.
+pub fn judged<R: Print>(rt: &R, alloc: Global, call: &str) -> Result<&'static str, TtFault> {
+    let copy = plus_list(alloc)?;
+    let mut counted = Some(Counted::new(alloc, plus_list(alloc)?)?);
     let mut call = OfCounted {
-        told,
+        call,
         alloc,
-        counted: Some(Counted::new(alloc, long_list(alloc, 1, &[plus(0)])?)?),
-        copy: long_list(alloc, 1, &[plus(0)])?,
+        counted: &mut counted,
+        copy: &copy,
     };
-    call_ends(rt, &mut call)
+    Ok(judge(rt, &mut call))
 }
 
 // A list, and how often each part and each symbol is used below its first token.
@@ -71,6 +54,42 @@ impl Counted {
             parts,
             symbols,
         })
+    }
+}
+
+impl Counted {
+    // The list packed, or handed back with its counts.
+    fn packed(self, alloc: Global) -> Result<Packed, Refused<Counted>> {
+        let Counted {
+            list,
+            parts,
+            symbols,
+        } = self;
+        match Packed::pack_counted(alloc, list, &parts.numbers, &symbols.numbers) {
+            Ok(packed) => Ok(packed),
+            Err(refused) => Err(Refused {
+                fault: refused.fault,
+                value: Counted {
+                    list: refused.value,
+                    parts,
+                    symbols,
+                },
+            }),
+        }
+    }
+
+    // Whether what is packed of the list is that list.
+    fn is_stored(&self, alloc: Global, copy: &[TokenTree]) -> Result<bool, TtFault> {
+        let (parts, symbols) = (&self.parts.numbers, &self.symbols.numbers);
+        let packed = Packed::of_list_counted(alloc, &self.list, parts, symbols)?;
+        Ok(is_stored(&packed, copy))
+    }
+
+    // Whether the tree of the list has that list.
+    fn is_tree(&self, alloc: Global, copy: &[TokenTree]) -> Result<bool, TtFault> {
+        let (parts, symbols) = (&self.parts.numbers, &self.symbols.numbers);
+        let tree = TopSubtree::from_tokens_counted(alloc, &self.list, parts, symbols)?;
+        Ok(is_of(&tree, copy))
     }
 }
 
@@ -134,76 +153,69 @@ fn add_all(
 
 // A call that is told how often each value is used, the list that it takes or is lent, and a copy of that.
 #[derive(Drop)]
-struct OfCounted {
-    told: Told,
+struct OfCounted<'a> {
+    call: &'a str,
     alloc: Global,
-    counted: Option<Counted>,
-    copy: Vec<TokenTree>,
+    counted: &'a mut Option<Counted>,
+    copy: &'a [TokenTree],
 }
 
-impl Call for OfCounted {
+impl Call for OfCounted<'_> {
     fn make(&mut self) -> Result<bool, TtFault> {
-        match self.told {
-            Told::Pack => self.pack(),
-            Told::OfList => self.of_list(),
-            Told::FromTokens => self.from_tokens(),
+        match self.call {
+            "pack_counted" => self.pack(),
+            "of_list_counted" => self.of_list(),
+            "from_tokens_counted" => self.from_tokens(),
+            _ => Ok(false),
         }
     }
 
     fn is_as_before(&self) -> Result<bool, TtFault> {
-        match &self.counted {
-            Some(counted) => Ok(counted.list.as_slice() == self.copy.as_slice()),
+        match &*self.counted {
+            Some(counted) => Ok(counted.list.as_slice() == self.copy),
             None => Ok(false),
         }
     }
 
     // `pack_counted` takes the list, and the others are lent it.
     fn is_as_after(&self) -> Result<bool, TtFault> {
-        match self.told {
-            Told::Pack => Ok(self.counted.is_none()),
-            Told::OfList | Told::FromTokens => self.is_as_before(),
+        match self.call {
+            "pack_counted" => Ok(self.counted.is_none()),
+            _ => self.is_as_before(),
         }
     }
 }
 
-impl OfCounted {
+// Puts a list where it was taken.
+fn put_back(place: &mut Option<Counted>, counted: Counted) {
+    *place = Some(counted);
+}
+
+impl OfCounted<'_> {
     fn pack(&mut self) -> Result<bool, TtFault> {
         let Some(counted) = self.counted.take() else {
             return Ok(false);
         };
-        let Counted {
-            list,
-            parts,
-            symbols,
-        } = counted;
-        match Packed::pack_counted(self.alloc, list, &parts.numbers, &symbols.numbers) {
-            Ok(packed) => Ok(is_stored(&packed, &self.copy)),
+        match counted.packed(self.alloc) {
+            Ok(packed) => Ok(is_stored(&packed, self.copy)),
             Err(refused) => {
-                self.counted = Some(Counted {
-                    list: refused.value,
-                    parts,
-                    symbols,
-                });
+                put_back(self.counted, refused.value);
                 Err(refused.fault)
             }
         }
     }
 
-    fn of_list(&mut self) -> Result<bool, TtFault> {
-        let Some(counted) = &self.counted else {
-            return Ok(false);
-        };
-        let (parts, symbols) = (&counted.parts.numbers, &counted.symbols.numbers);
-        let packed = Packed::of_list_counted(self.alloc, &counted.list, parts, symbols)?;
-        Ok(is_stored(&packed, &self.copy))
+    fn of_list(&self) -> Result<bool, TtFault> {
+        match &*self.counted {
+            Some(counted) => counted.is_stored(self.alloc, self.copy),
+            None => Ok(false),
+        }
     }
 
-    fn from_tokens(&mut self) -> Result<bool, TtFault> {
-        let Some(counted) = &self.counted else {
-            return Ok(false);
-        };
-        let (parts, symbols) = (&counted.parts.numbers, &counted.symbols.numbers);
-        let tree = TopSubtree::from_tokens_counted(self.alloc, &counted.list, parts, symbols)?;
-        Ok(is_of(&tree, &self.copy))
+    fn from_tokens(&self) -> Result<bool, TtFault> {
+        match &*self.counted {
+            Some(counted) => counted.is_tree(self.alloc, self.copy),
+            None => Ok(false),
+        }
     }
 }

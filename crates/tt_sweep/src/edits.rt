@@ -1,44 +1,42 @@
 //! Calls that change a tree.
-use crate::call::{Call, Outcome, ends as call_ends};
-use crate::error::SweepError;
-use crate::tokens::{delimiter, flat_tree, header, long_list, long_tree, plus, punct, tree_of};
+use crate::call::{Call, judge};
+use crate::lists::is_that;
+use crate::tokens::{
+    delimiter, flat_tree, handed_back, header, long_list, long_tree, plus, plus_list, punct,
+    tree_of,
+};
 use std::alloc::Global;
 use tt::{
     DelimiterKind, ErasedFileAstId, Leaf, Spacing, TokenTree, TopSubtree, TransformTtAction,
     TtFault, transform_tt,
 };
 
-/// A call that changes a tree.
-#[derive(Clone, Copy)]
-pub enum Edit {
-    SetToken,
-    ChangeIds,
-    JoinIds,
-    Transform,
+/// How that call of the group ended.
+pub fn judged<R: Print>(rt: &R, alloc: Global, call: &str) -> Result<&'static str, TtFault> {
+    let put = flat_tree(alloc, &minuses())?;
+    let before = long_tree(alloc)?;
+    judged_of(rt, alloc, call, &before, &put)
 }
 
-/// The call of that name.
-pub fn named(name: &str) -> Option<Edit> {
-    match name {
-        "set_token" => Some(Edit::SetToken),
-        "change_every_ast_id" => Some(Edit::ChangeIds),
-        "change_every_ast_id_joined" => Some(Edit::JoinIds),
-        "transform_tt" => Some(Edit::Transform),
-        _ => None,
-    }
-}
-
-/// How the call ends.
-pub fn ends<R: Print>(rt: &R, alloc: Global, edit: Edit) -> Result<Outcome, SweepError> {
+// The same, given the tree before the call, and the trees that it puts.
+fn judged_of<R: Print>(
+    rt: &R,
+    alloc: Global,
+    call: &str,
+    before: &TopSubtree,
+    put: &TopSubtree,
+) -> Result<&'static str, TtFault> {
+    let after = tree_of(alloc, edited(alloc, call)?)?;
+    let mut tree = long_tree(alloc)?;
     let mut call = Editing {
-        edit,
+        call,
         alloc,
-        tree: long_tree(alloc)?,
-        before: long_tree(alloc)?,
-        after: edited(alloc, edit)?,
-        put: flat_tree(alloc, &minuses())?,
+        tree: &mut tree,
+        before,
+        after: &after,
+        put,
     };
-    call_ends(rt, &mut call)
+    Ok(judge(rt, &mut call))
 }
 
 // By how much each id is changed.
@@ -61,76 +59,88 @@ fn minuses() -> [Leaf; 2] {
     [minus(), minus()]
 }
 
-// The tree that the call makes.
-fn edited(alloc: Global, edit: Edit) -> Result<TopSubtree, TtFault> {
-    match edit {
-        Edit::SetToken => {
-            let mut list = long_list(alloc, 1, &[plus(0)])?;
-            let _plus = list.pop();
-            list.push(minus().into())?;
-            tree_of(alloc, list)
-        }
-        Edit::ChangeIds => tree_of(alloc, long_list(alloc, 1 + SHIFT, &[plus(0)])?),
-        Edit::JoinIds => {
-            let mut list = long_list(alloc, 1 + SHIFT, &[plus(0)])?;
-            if let Some(first) = list.get_mut(FIRST) {
-                *first = header(delimiter(DelimiterKind::Bracket, JOINED, JOINED), 2);
-            }
-            tree_of(alloc, list)
-        }
-        Edit::Transform => tree_of(alloc, long_list(alloc, 1, &minuses())?),
+// The list of the tree that the call makes.
+fn edited(alloc: Global, call: &str) -> Result<Vec<TokenTree>, TtFault> {
+    match call {
+        "set_token" => minus_last(plus_list(alloc)?),
+        "change_every_ast_id" => shifted(alloc),
+        "change_every_ast_id_joined" => Ok(joined(shifted(alloc)?)),
+        "transform_tt" => long_list(alloc, 1, &minuses()),
+        _ => Err(TtFault::NoSuchPlace),
     }
+}
+
+// A list with a minus for its last token.
+fn minus_last(list: Vec<TokenTree>) -> Result<Vec<TokenTree>, TtFault> {
+    let mut list = list;
+    let _plus = list.pop();
+    list.push(minus().into())?;
+    Ok(list)
+}
+
+// The long list with other ids.
+fn shifted(alloc: Global) -> Result<Vec<TokenTree>, TtFault> {
+    long_list(alloc, 1 + SHIFT, &[plus(0)])
+}
+
+// A list whose first bracket has one id.
+fn joined(list: Vec<TokenTree>) -> Vec<TokenTree> {
+    let mut list = list;
+    if let Some(first) = list.get_mut(FIRST) {
+        *first = header(delimiter(DelimiterKind::Bracket, JOINED, JOINED), 2);
+    }
+    list
 }
 
 // A call that changes a tree, the tree before and after it, and the trees that it puts.
 #[derive(Drop)]
-struct Editing {
-    edit: Edit,
+struct Editing<'a> {
+    call: &'a str,
     alloc: Global,
-    tree: TopSubtree,
-    before: TopSubtree,
-    after: TopSubtree,
-    put: TopSubtree,
+    tree: &'a mut TopSubtree,
+    before: &'a TopSubtree,
+    after: &'a TopSubtree,
+    put: &'a TopSubtree,
 }
 
-impl Call for Editing {
+impl Call for Editing<'_> {
     fn make(&mut self) -> Result<bool, TtFault> {
-        match self.edit {
-            Edit::SetToken => self.set_token(),
-            Edit::ChangeIds | Edit::JoinIds => self.change_ids(),
-            Edit::Transform => self.transform(),
+        match self.call {
+            "set_token" => self.set_token(),
+            "change_every_ast_id" => self.change_ids(false),
+            "change_every_ast_id_joined" => self.change_ids(true),
+            "transform_tt" => self.transform(),
+            _ => Ok(false),
         }
     }
 
     fn is_as_before(&self) -> Result<bool, TtFault> {
-        Ok(self.tree == self.before)
+        Ok(*self.tree == *self.before)
     }
 
     fn is_as_after(&self) -> Result<bool, TtFault> {
-        Ok(self.tree == self.after)
+        Ok(*self.tree == *self.after)
     }
 }
 
-impl Editing {
+impl Editing<'_> {
     fn set_token(&mut self) -> Result<bool, TtFault> {
         match self.tree.set_token(self.alloc, LAST, minus()) {
             Ok(()) => Ok(true),
-            Err(refused) if refused.value == minus() => Err(refused.fault),
-            Err(_) => Ok(false),
+            Err(refused) => handed_back(refused, &minus()),
         }
     }
 
     // The ids that are asked for are a front of those of the table, and all of them where the call succeeds.
-    fn change_ids(&mut self) -> Result<bool, TtFault> {
+    fn change_ids(&mut self, joins: bool) -> Result<bool, TtFault> {
         let mut rest = self.before.span_part_table();
         let mut in_order = true;
-        let edit = self.edit;
         let changed = self.tree.change_every_ast_id(self.alloc, |id| {
             match rest.split_first() {
                 Some((part, others)) if part.anchor.ast_id == id => rest = others,
                 _ => in_order = false,
             }
-            new_id(edit, id)
+            new_id(joins, id)
         });
         asked(changed, in_order, rest.is_empty())
     }
@@ -140,8 +150,8 @@ impl Editing {
         let mut rest = self.before.as_token_trees().iter_flat_tokens();
         let mut in_order = true;
         let put = self.put.token_trees();
-        let changed = transform_tt(self.alloc, &mut self.tree, |token| {
-            if rest.next().as_ref() != Some(token) {
+        let changed = transform_tt(self.alloc, self.tree, |token| {
+            if !is_that(rest.next(), token) {
                 in_order = false;
             }
             match token {
@@ -154,10 +164,10 @@ impl Editing {
 }
 
 // The id that stands for an id. Those of the top and of the pluses stay.
-fn new_id(edit: Edit, id: ErasedFileAstId) -> ErasedFileAstId {
-    match (edit, id.0) {
+fn new_id(joins: bool, id: ErasedFileAstId) -> ErasedFileAstId {
+    match (joins, id.0) {
         (_, 0) => id,
-        (Edit::JoinIds, 1) => ErasedFileAstId(JOINED),
+        (true, 1) => ErasedFileAstId(JOINED),
         (_, number) => ErasedFileAstId(number.saturating_add(SHIFT)),
     }
 }

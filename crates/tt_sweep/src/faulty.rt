@@ -1,88 +1,43 @@
 //! Calls that are wrong, each in one way, so that it is seen that they are judged to be.
-use crate::call::{Call, Outcome, ends as call_ends};
-use crate::error::SweepError;
-use crate::tokens::{long_list, plus, span};
+use crate::call::{Call, judge};
+use crate::tokens::{plus_list, span};
 use std::alloc::Global;
 use tt::{DelimSpan, TokenTree, TopSubtree, TtFault};
 
-/// What is wrong with a call.
-#[derive(Clone, Copy)]
-pub enum Flaw {
-    /// It changes its list before it asks for memory, and leaves it so where that is refused.
-    ForgetsToUndo,
-    /// It asks for memory, and is refused whatever the answer.
-    AlwaysRefused,
-    /// A refused request is another fault.
-    AnotherFault,
-    /// It answers that all is well where a request was refused.
-    HidesRefusal,
-    /// It does not change its list, as it should.
-    ChangesNothing,
-    /// It asks for no memory.
-    NeverAsks,
-}
-
-/// The flaw of that name.
-pub fn named(name: &str) -> Option<Flaw> {
-    match name {
-        "forgets_to_undo" => Some(Flaw::ForgetsToUndo),
-        "always_refused" => Some(Flaw::AlwaysRefused),
-        "another_fault" => Some(Flaw::AnotherFault),
-        "hides_refusal" => Some(Flaw::HidesRefusal),
-        "changes_nothing" => Some(Flaw::ChangesNothing),
-        "never_asks" => Some(Flaw::NeverAsks),
-        _ => None,
-    }
-}
-
-/// How the call ends.
-pub fn ends<R: Print>(rt: &R, alloc: Global, flaw: Flaw) -> Result<Outcome, SweepError> {
-    let list = long_list(alloc, 1, &[plus(0)])?;
+/// How that call of the group ended.
+pub fn judged<R: Print>(rt: &R, alloc: Global, call: &str) -> Result<&'static str, TtFault> {
+    let mut list = plus_list(alloc)?;
+    let len = list.len();
     let mut call = Faulty {
-        flaw,
+        call,
         alloc,
-        len: list.len(),
-        list,
+        list: &mut list,
+        len,
     };
-    call_ends(rt, &mut call)
+    Ok(judge(rt, &mut call))
 }
 
-// A call that is to take the last token off a list, with the flaw that it has, and how long the list was.
+// A call that is to ask for memory and then take the last token off a list, and how long the list was. Its name is the flaw
+// that it has.
 #[derive(Drop)]
-struct Faulty {
-    flaw: Flaw,
+struct Faulty<'a> {
+    call: &'a str,
     alloc: Global,
-    list: Vec<TokenTree>,
+    list: &'a mut Vec<TokenTree>,
     len: usize,
 }
 
-impl Call for Faulty {
+impl Call for Faulty<'_> {
     fn make(&mut self) -> Result<bool, TtFault> {
-        match self.flaw {
-            Flaw::ForgetsToUndo => {
-                self.list.pop();
-                ask(self.alloc)?;
-            }
-            Flaw::AlwaysRefused => {
-                ask(self.alloc)?;
-                return Err(TtFault::Memory);
-            }
-            Flaw::AnotherFault => {
-                if ask(self.alloc).is_err() {
-                    return Err(TtFault::TooManyBytes);
-                }
-                self.list.pop();
-            }
-            Flaw::HidesRefusal => {
-                let _ = ask(self.alloc);
-                self.list.pop();
-            }
-            Flaw::ChangesNothing => ask(self.alloc)?,
-            Flaw::NeverAsks => {
-                self.list.pop();
-            }
+        match self.call {
+            "forgets_to_undo" => self.forgets_to_undo(),
+            "always_refused" => always_refused(self.alloc),
+            "another_fault" => self.another_fault(),
+            "hides_refusal" => Ok(self.hides_refusal()),
+            "changes_nothing" => changes_nothing(self.alloc),
+            "never_asks" => Ok(self.never_asks()),
+            _ => Ok(false),
         }
-        Ok(true)
     }
 
     fn is_as_before(&self) -> Result<bool, TtFault> {
@@ -92,6 +47,46 @@ impl Call for Faulty {
     fn is_as_after(&self) -> Result<bool, TtFault> {
         Ok(self.list.len() < self.len)
     }
+}
+
+impl Faulty<'_> {
+    // It changes its list before it asks for memory, and leaves it so where that is refused.
+    fn forgets_to_undo(&mut self) -> Result<bool, TtFault> {
+        self.list.pop();
+        changes_nothing(self.alloc)
+    }
+
+    // A refused request is another fault.
+    fn another_fault(&mut self) -> Result<bool, TtFault> {
+        if ask(self.alloc).is_err() {
+            return Err(TtFault::TooManyBytes);
+        }
+        Ok(self.never_asks())
+    }
+
+    // It answers that all is well where a request was refused.
+    fn hides_refusal(&mut self) -> bool {
+        let _ = ask(self.alloc);
+        self.never_asks()
+    }
+
+    // It asks for no memory.
+    fn never_asks(&mut self) -> bool {
+        self.list.pop();
+        true
+    }
+}
+
+// It asks for memory, and is refused whatever the answer.
+fn always_refused(alloc: Global) -> Result<bool, TtFault> {
+    ask(alloc)?;
+    Err(TtFault::Memory)
+}
+
+// It does not change its list, as it should.
+fn changes_nothing(alloc: Global) -> Result<bool, TtFault> {
+    ask(alloc)?;
+    Ok(true)
 }
 
 // Asks for memory.

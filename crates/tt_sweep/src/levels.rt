@@ -1,26 +1,26 @@
 //! The levels of a list, which take it token by token.
-use crate::call::{Call, Outcome, ends as call_ends};
-use crate::error::SweepError;
-use crate::tokens::{long_list, plus};
+use crate::call::{Call, judge};
+use crate::tokens::plus_list;
 use std::alloc::Global;
 use tt::{Levels, TokenTree, TtFault};
 
-/// How the taking of a whole list ends.
-pub fn ends<R: Print>(rt: &R, alloc: Global) -> Result<Outcome, SweepError> {
-    let list = long_list(alloc, 1, &[plus(0)])?;
+/// How the taking of a whole list ended.
+pub fn judged<R: Print>(rt: &R, alloc: Global) -> Result<&'static str, TtFault> {
+    let list = plus_list(alloc)?;
+    let mut levels = Levels::new(alloc, list.len());
     let mut call = Taking {
         list: &list,
-        levels: Levels::new(alloc, list.len()),
+        levels: &mut levels,
         taken: 0,
     };
-    call_ends(rt, &mut call)
+    Ok(judge(rt, &mut call))
 }
 
 // A list, its levels, and how many of its tokens they have taken.
 #[derive(Drop)]
 struct Taking<'a> {
     list: &'a [TokenTree],
-    levels: Levels,
+    levels: &'a mut Levels,
     taken: usize,
 }
 

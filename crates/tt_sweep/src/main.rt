@@ -1,4 +1,4 @@
-//! Makes one call of the library, and says how it ended: `tt_sweep CALL`.
+//! Makes one call of the library, and says how it ended: `tt_sweep GROUP CALL`.
 //!
 //! Three lines are printed: `prepared`, and then the call is made; `answered`, and then its answer is looked at; and how
 //! it ended. The requests for memory between the first two lines are those of the call. Where one of them is refused,
@@ -11,7 +11,6 @@ mod builds;
 mod call;
 mod counted;
 mod edits;
-mod error;
 mod faulty;
 mod levels;
 mod lists;
@@ -26,66 +25,54 @@ mod rules;
 mod tokens;
 mod walks;
 
-use crate::call::Outcome;
-use crate::error::SweepError;
+use crate::call::say;
 use std::env;
 use std::process::ExitCode;
 use std::rt::Env;
+use tt::TtFault;
 
 fn main(rt: HostRuntime) -> ExitCode {
-    match run(&rt) {
-        Ok(()) => ExitCode::SUCCESS,
-        Err(error) => {
-            let _ = eprintln!(rt; "tt_sweep: {error}");
-            ExitCode::FAILURE
-        }
+    if run(&rt) {
+        return ExitCode::SUCCESS;
     }
+    let _ = eprintln!(rt;
+        "tt_sweep: usage: tt_sweep GROUP CALL, with memory for what the call is given"
+    );
+    ExitCode::FAILURE
 }
 
-// Makes the call that the argument names.
-fn run<R: Env + Print + AllocGlobal>(rt: &R) -> Result<(), SweepError> {
-    let mut args = env::args(rt)?;
+// Makes the call that the arguments name, and prints how it ended. Whether there was one to make.
+fn run<R: Env + Print + AllocGlobal>(rt: &R) -> bool {
+    let Ok(mut args) = env::args(rt) else {
+        return false;
+    };
     let _program = args.next();
-    let name = args.next().ok_or(SweepError::NoCall)?;
-    let outcome = named(rt, name.as_str())?;
-    println!(rt; "{outcome}")?;
-    Ok(())
+    let (Some(group), Some(call)) = (args.next(), args.next()) else {
+        return false;
+    };
+    match judged(rt, group.as_str(), call.as_str()) {
+        Ok(said) => say(rt, said),
+        Err(_) => false,
+    }
 }
 
-// How the call of that name ended.
-fn named<R: Print + AllocGlobal>(rt: &R, name: &str) -> Result<Outcome, SweepError> {
-    if let Some(call) = made::named(name) {
-        return made::ends(rt, rt.alloc(), call);
+// How the call of that group ended. `NoSuchPlace` where there is no such group.
+fn judged<R: Print + AllocGlobal>(
+    rt: &R,
+    group: &str,
+    call: &str,
+) -> Result<&'static str, TtFault> {
+    match group {
+        "lists" => lists::judged(rt, rt.alloc(), call),
+        "counted" => counted::judged(rt, rt.alloc(), call),
+        "edits" => edits::judged(rt, rt.alloc(), call),
+        "builders" => builders::judged(rt, rt.alloc(), call),
+        "builds" => builds::judged(rt, rt.alloc(), call),
+        "walks" => walks::judged(rt, rt.alloc(), call),
+        "rules" => rules::judged(rt, rt.alloc(), call),
+        "levels" => levels::judged(rt, rt.alloc()),
+        "made" | "quiet" => prepared::judged(rt, rt.alloc(), group, call),
+        "faulty" => faulty::judged(rt, rt.alloc(), call),
+        _ => Err(TtFault::NoSuchPlace),
     }
-    if let Some(call) = lists::named(name) {
-        return lists::ends(rt, rt.alloc(), call);
-    }
-    if let Some(call) = counted::named(name) {
-        return counted::ends(rt, rt.alloc(), call);
-    }
-    if let Some(call) = edits::named(name) {
-        return edits::ends(rt, rt.alloc(), call);
-    }
-    if let Some(call) = builders::named(name) {
-        return builders::ends(rt, rt.alloc(), call);
-    }
-    if let Some(call) = builds::named(name) {
-        return builds::ends(rt, rt.alloc(), call);
-    }
-    if let Some(call) = walks::named(name) {
-        return walks::ends(rt, rt.alloc(), call);
-    }
-    if let Some(ruling) = rules::named(name) {
-        return rules::ends(rt, rt.alloc(), ruling);
-    }
-    if name == "Levels::take" {
-        return levels::ends(rt, rt.alloc());
-    }
-    if let Some(group) = quiet::named(name) {
-        return quiet::ends(rt, rt.alloc(), group);
-    }
-    if let Some(flaw) = faulty::named(name) {
-        return faulty::ends(rt, rt.alloc(), flaw);
-    }
-    Err(SweepError::NoCall)
 }

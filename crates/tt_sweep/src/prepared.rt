@@ -1,81 +1,74 @@
 //! What the makers are given, and what they have to make.
 use crate::tokens::{
-    delimiter, flat_tree, header, ident, long_list, long_tree, plus, span, ten, tree_of,
+    delimiter, flat_tree, header, ident, long_tree, plus, plus_list, ten, tree_of,
 };
+use crate::{made, quiet};
 use std::alloc::Global;
-use tt::{DelimiterKind, Leaf, LitKind, Literal, TopSubtree, TtFault};
+use tt::{DelimiterKind, TopSubtree, TtFault};
 use tt_pack::Packed;
 
 /// What the makers are given, and what they have to make.
 #[derive(Drop)]
-pub struct Prepared {
+pub struct Prepared<'a> {
     pub alloc: Global,
-    pub long: Long,
-    pub short: Short,
-    pub leaves: Leaves,
-}
-
-/// Braces over eight brackets: a tree, a copy of it, and how it is stored.
-#[derive(Drop)]
-pub struct Long {
-    pub tree: TopSubtree,
-    pub copy: TopSubtree,
-    pub packed: Packed,
-}
-
-/// Trees of a few tokens.
-#[derive(Drop)]
-pub struct Short {
+    /// Braces over eight brackets.
+    pub tree: &'a TopSubtree,
+    /// A copy of that tree.
+    pub copy: &'a TopSubtree,
+    /// How it is stored.
+    pub packed: &'a Packed,
     /// An invisible top over nothing.
-    pub empty: TopSubtree,
+    pub empty: &'a TopSubtree,
     /// An invisible top over ten leaves.
-    pub ten: TopSubtree,
+    pub ten: &'a TopSubtree,
     /// Parentheses over an ident and a plus.
-    pub sum: TopSubtree,
+    pub sum: &'a TopSubtree,
 }
 
-/// Leaves that are in no tree.
-#[derive(Drop)]
-pub struct Leaves {
-    /// The ident `a`.
-    pub ident: Leaf,
-    /// The number `1u8`.
-    pub number: Literal,
-}
-
-impl Prepared {
-    /// Makes all of it.
-    pub fn new(alloc: Global) -> Result<Prepared, TtFault> {
-        let leaves = make_leaves(alloc)?;
-        let long = make_long(alloc)?;
-        let short = make_short(alloc)?;
-        Ok(Prepared {
-            alloc,
-            long,
-            short,
-            leaves,
-        })
-    }
-}
-
-fn make_long(alloc: Global) -> Result<Long, TtFault> {
+/// How that call of `made`, or else of `quiet`, ended.
+pub fn judged<R: Print>(
+    rt: &R,
+    alloc: Global,
+    group: &str,
+    call: &str,
+) -> Result<&'static str, TtFault> {
     let tree = long_tree(alloc)?;
     let copy = long_tree(alloc)?;
-    let packed = Packed::pack(alloc, long_list(alloc, 1, &[plus(0)])?)?;
-    Ok(Long { tree, copy, packed })
+    let packed = packed(alloc)?;
+    judged_of(rt, alloc, group, call, &tree, &copy, &packed)
 }
 
-fn make_short(alloc: Global) -> Result<Short, TtFault> {
+// The same, given the long tree, a copy of it, and how it is stored.
+fn judged_of<R: Print>(
+    rt: &R,
+    alloc: Global,
+    group: &str,
+    call: &str,
+    tree: &TopSubtree,
+    copy: &TopSubtree,
+    packed: &Packed,
+) -> Result<&'static str, TtFault> {
     let empty = flat_tree(alloc, &[])?;
     let ten = flat_tree(alloc, &ten())?;
     let sum = sum(alloc)?;
-    Ok(Short { empty, ten, sum })
+    let given = Prepared {
+        alloc,
+        tree,
+        copy,
+        packed,
+        empty: &empty,
+        ten: &ten,
+        sum: &sum,
+    };
+    match group {
+        "made" => Ok(made::judged(rt, &given, call)),
+        _ => quiet::judged(rt, &given, call),
+    }
 }
 
-fn make_leaves(alloc: Global) -> Result<Leaves, TtFault> {
-    let ident = ident(alloc, "a", 1)?;
-    let number = Literal::new(alloc, "1", span(1), LitKind::Integer, "u8")?;
-    Ok(Leaves { ident, number })
+/// What is stored of the long tree.
+pub fn packed(alloc: Global) -> Result<Packed, TtFault> {
+    Ok(Packed::pack(alloc, plus_list(alloc)?)?)
 }
 
 // Parentheses over an ident and a plus.

@@ -1,99 +1,98 @@
 //! Calls that take no memory, a group at a time: each is made with every request refused.
-use crate::call::{Call, Outcome, ends as call_ends};
-use crate::error::SweepError;
-use crate::prepared::Prepared;
-use crate::tokens::{long_list, plus};
+use crate::call::{Call, judge};
+use crate::prepared::{Prepared, packed};
+use crate::tokens::{ident, long_tree, span};
 use crate::{quiet_builders, quiet_stored, quiet_tokens, quiet_views};
-use std::alloc::Global;
-use tt::{TopSubtreeBuilder, TtFault};
+use tt::{Leaf, LitKind, Literal, TopSubtree, TopSubtreeBuilder, TtFault};
 use tt_pack::Packed;
 
-/// A group of calls that take no memory.
-#[derive(Clone, Copy)]
-pub enum Group {
-    Ranges,
-    Tokens,
-    Literals,
-    Numbers,
-    Stored,
-    Setters,
-    Trees,
-    Texts,
-    Views,
-    Siblings,
-    Expectations,
-    Cursors,
-    Builders,
-}
-
-/// The group of that name.
-pub fn named(name: &str) -> Option<Group> {
-    let group = match name {
-        "ranges" => Group::Ranges,
-        "tokens" => Group::Tokens,
-        "literals" => Group::Literals,
-        "numbers" => Group::Numbers,
-        "stored" => Group::Stored,
-        "setters" => Group::Setters,
-        "trees" => Group::Trees,
-        "texts" => Group::Texts,
-        "views" => Group::Views,
-        "siblings" => Group::Siblings,
-        "expectations" => Group::Expectations,
-        "cursors" => Group::Cursors,
-        "builders" => Group::Builders,
-        _ => return None,
+/// How that group of calls ended.
+pub fn judged<R: Print>(rt: &R, given: &Prepared<'_>, call: &str) -> Result<&'static str, TtFault> {
+    let ident = ident(given.alloc, "a", 1)?;
+    let number = Literal::new(given.alloc, "1", span(1), LitKind::Integer, "u8")?;
+    let leaves = Leaves {
+        ident: &ident,
+        number: &number,
     };
-    Some(group)
+    judged_of(rt, given, leaves, call)
 }
 
-/// How the calls of the group end.
-pub fn ends<R: Print>(rt: &R, alloc: Global, group: Group) -> Result<Outcome, SweepError> {
+// The same, given leaves that are in no tree. The long tree, and what is stored of it, are there once more, to be changed and to
+// be taken.
+fn judged_of<R: Print>(
+    rt: &R,
+    given: &Prepared<'_>,
+    leaves: Leaves<'_>,
+    call: &str,
+) -> Result<&'static str, TtFault> {
+    let mut tree = long_tree(given.alloc)?;
+    let mut stored = packed(given.alloc)?;
+    let mut spare = Some(packed(given.alloc)?);
+    judged_beside(rt, given, leaves, call, &mut tree, &mut stored, &mut spare)
+}
+
+// The same, given what may be changed.
+fn judged_beside<R: Print>(
+    rt: &R,
+    given: &Prepared<'_>,
+    leaves: Leaves<'_>,
+    call: &str,
+    tree: &mut TopSubtree,
+    packed: &mut Packed,
+    spare: &mut Option<Packed>,
+) -> Result<&'static str, TtFault> {
+    let mut builder = quiet_builders::builder(given.alloc)?;
     let mut call = Quiet {
-        group,
-        given: Prepared::new(alloc)?,
-        builder: quiet_builders::builder(alloc)?,
-        spare: Some(Packed::of_list(alloc, &long_list(alloc, 1, &[plus(0)])?)?),
+        call,
+        given,
+        leaves,
+        tree,
+        packed,
+        spare,
+        builder: &mut builder,
     };
-    call_ends(rt, &mut call)
+    Ok(judge(rt, &mut call))
 }
 
-// A group of calls, and what they are given. What is stored of the long tree is there once more, to be taken.
+// The ident `a` and the number `1u8`.
+#[derive(Clone, Copy)]
+struct Leaves<'a> {
+    ident: &'a Leaf,
+    number: &'a Literal,
+}
+
+// A group of calls, and what they are given.
 #[derive(Drop)]
-struct Quiet {
-    group: Group,
-    given: Prepared,
-    builder: TopSubtreeBuilder,
-    spare: Option<Packed>,
+struct Quiet<'a> {
+    call: &'a str,
+    given: &'a Prepared<'a>,
+    leaves: Leaves<'a>,
+    tree: &'a mut TopSubtree,
+    packed: &'a mut Packed,
+    spare: &'a mut Option<Packed>,
+    builder: &'a mut TopSubtreeBuilder,
 }
 
-impl Call for Quiet {
+impl Call for Quiet<'_> {
     fn make(&mut self) -> Result<bool, TtFault> {
-        let given = &self.given;
-        Ok(match self.group {
-            Group::Ranges => quiet_tokens::ranges() && quiet_tokens::spans(),
-            Group::Tokens => quiet_tokens::tokens(&given.leaves.ident),
-            Group::Literals => quiet_tokens::literals(&given.leaves.number, &given.leaves.ident),
-            Group::Numbers => quiet_stored::numbers(),
-            Group::Stored => quiet_stored::stored(&given.long.packed, &given.long.tree),
-            Group::Setters => quiet_stored::set(
-                &mut self.given.long.packed,
-                &mut self.given.long.tree,
-            ),
-            Group::Trees => {
-                quiet_views::trees(given)
-                    && quiet_stored::is_made(self.spare.take(), &given.long.tree)
-            }
-            Group::Texts => quiet_views::texts(given, &self.builder),
-            Group::Views => quiet_views::views(given),
-            Group::Siblings => quiet_views::siblings(given.short.sum.iter()),
-            Group::Expectations => quiet_views::expectations(given.short.sum.token_trees()),
-            Group::Cursors => quiet_views::cursors(given.alloc, given.short.sum.token_trees())?,
-            Group::Builders => {
-                quiet_builders::counts(&self.builder, given.leaves.number.symbol())
-                    && quiet_builders::go_back(&mut self.builder)
-            }
-        })
+        let given = self.given;
+        let sum = given.sum;
+        match self.call {
+            "ranges" => Ok(quiet_tokens::ranges() && quiet_tokens::spans()),
+            "tokens" => Ok(quiet_tokens::tokens(self.leaves.ident)),
+            "literals" => Ok(quiet_tokens::literals(self.leaves.number, self.leaves.ident)),
+            "numbers" => Ok(quiet_stored::numbers()),
+            "stored" => Ok(quiet_stored::stored(given.packed, given.tree)),
+            "setters" => Ok(quiet_stored::set(self.packed, self.tree)),
+            "trees" => Ok(self.trees()),
+            "texts" => Ok(quiet_views::texts(sum, self.builder)),
+            "views" => Ok(quiet_views::views(given)),
+            "siblings" => Ok(quiet_views::siblings(sum.iter())),
+            "expectations" => Ok(quiet_views::expectations(sum.token_trees())),
+            "cursors" => quiet_views::cursors(given.alloc, sum.token_trees()),
+            "builders" => Ok(self.builders()),
+            _ => Ok(false),
+        }
     }
 
     // None of these calls may be refused.
@@ -103,5 +102,17 @@ impl Call for Quiet {
 
     fn is_as_after(&self) -> Result<bool, TtFault> {
         Ok(true)
+    }
+}
+
+impl Quiet<'_> {
+    fn trees(&mut self) -> bool {
+        let given = self.given;
+        quiet_views::trees(given) && quiet_stored::is_made(self.spare.take(), given.tree)
+    }
+
+    fn builders(&mut self) -> bool {
+        quiet_builders::counts(self.builder, self.leaves.number.symbol())
+            && quiet_builders::go_back(self.builder)
     }
 }

@@ -1,20 +1,23 @@
 //! Calls of a builder that take no memory.
-use crate::alike::close;
-use crate::tokens::{delimiter, plus, span};
+use crate::alike::close_at;
+use crate::tokens::{invisible, plus, span};
 use std::alloc::Global;
 use tt::{DelimiterKind, SubtreeBuilderRestorePoint, Symbol, TopSubtreeBuilder, TtFault};
 
 /// A builder of an invisible top, with a point, a closed invisible subtree over a plus, and an open brace. It counts uses, as
 /// it does once leaves come from an iterator.
 pub fn builder(alloc: Global) -> Result<TopSubtreeBuilder, TtFault> {
-    let top = delimiter(DelimiterKind::Invisible, 0, 0);
-    let mut builder = TopSubtreeBuilder::new(alloc, top)?;
+    let mut builder = TopSubtreeBuilder::new(alloc, invisible())?;
+    fill(&mut builder)?;
+    Ok(builder)
+}
+
+fn fill(builder: &mut TopSubtreeBuilder) -> Result<(), TtFault> {
     builder.restore_point()?;
     builder.open(DelimiterKind::Brace, span(0))?;
     builder.open(DelimiterKind::Invisible, span(0))?;
     builder.extend([plus(0)].into_iter())?;
-    close(&mut builder)?;
-    Ok(builder)
+    close_at(builder, span(0))
 }
 
 /// Whether that builder uses one part four times, the close of its brace left out, and no symbol.
@@ -30,7 +33,7 @@ pub fn counts(builder: &TopSubtreeBuilder, symbol: &Symbol) -> bool {
 pub fn go_back(builder: &mut TopSubtreeBuilder) -> bool {
     builder.remove_last_subtree_if_invisible();
     let open = builder.expected_delimiters().next();
-    let is_closed = close(builder).is_ok() && !builder.is_open();
+    let is_closed = close_at(builder, span(0)).is_ok() && !builder.is_open();
     let point = SubtreeBuilderRestorePoint::from_number(0);
     open == Some(DelimiterKind::Brace)
         && is_closed

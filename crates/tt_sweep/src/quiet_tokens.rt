@@ -22,17 +22,28 @@ pub fn ranges() -> bool {
 
 /// Spans and delimiters.
 pub fn spans() -> bool {
-    let pair = DelimSpan::from_pair(span(1), span(2));
-    let delimiter = Delimiter::invisible_delim_spanned(pair);
-    let single = Delimiter::invisible_spanned(span(3)).delim_span();
-    let subtree = Subtree { delimiter, len: 7 };
     SpanPart::from_span(&span(1)).recombine(span(2).range) == span(1)
-        && delimiter.delim_span() == pair
-        && single == DelimSpan::from_single(span(3))
-        && subtree.usize_len() == 7
+        && is_pair(DelimSpan::from_pair(span(1), span(2)))
+        && is_single(Delimiter::invisible_spanned(span(3)))
+        && TtFault::Memory.number() == 1
+}
+
+// A pair whose first span has the id 1, and a subtree between the two.
+fn is_pair(pair: DelimSpan) -> bool {
+    let delimiter = Delimiter::invisible_delim_spanned(pair);
+    delimiter.delim_span() == pair && is_over_seven(Subtree { delimiter, len: 7 })
+}
+
+// A subtree of seven tokens, whose open span has the id 1.
+fn is_over_seven(subtree: Subtree) -> bool {
+    subtree.usize_len() == 7
         && subtree.count() == 7
         && TokenTree::from(subtree).first_span() == span(1)
-        && TtFault::Memory.number() == 1
+}
+
+// A delimiter whose spans both have the id 3.
+fn is_single(delimiter: Delimiter) -> bool {
+    delimiter.delim_span() == DelimSpan::from_single(span(3))
 }
 
 /// An ident `a`, as a leaf, and its copies.
@@ -44,23 +55,25 @@ pub fn tokens(leaf: &Leaf) -> bool {
         return false;
     };
     match token {
-        TokenTree::Leaf(Leaf::Ident(ident)) => is_named_a(ident),
+        TokenTree::Leaf(Leaf::Ident(ident)) => {
+            is_named_a(&ident) && *Leaf::from(ident).span() == span(1)
+        }
         _ => false,
     }
 }
 
-// An ident `a` with the id 1, and what is told of its text.
-fn is_named_a(ident: Ident) -> bool {
+// An ident `a`, and what is told of its text.
+fn is_named_a(ident: &Ident) -> bool {
     let Ok(symbol) = ident.sym.clone() else {
         return false;
     };
-    let raw = IdentIsRaw::split_from_symbol("r#a");
-    symbol == ident.sym
-        && raw == (IdentIsRaw::Yes, symbol.as_str())
-        && ident.is_raw.no()
-        && !ident.is_raw.yes()
+    symbol == ident.sym && is_split(symbol.as_str()) && ident.is_raw.no() && !ident.is_raw.yes()
+}
+
+// What stands in front of a raw ident of that text.
+fn is_split(text: &str) -> bool {
+    IdentIsRaw::split_from_symbol("r#a") == (IdentIsRaw::Yes, text)
         && IdentIsRaw::Yes.as_str() == "r#"
-        && *Leaf::from(ident).span() == span(1)
 }
 
 /// The number `1u8`, and another leaf.

@@ -5,14 +5,15 @@ use std::alloc::Global;
 use std::fmt;
 use std::fmt::Write;
 use tt::{
-    Leaf, Span, TokenTreesView, TopSubtreeBuilder, TransformTtAction, TtElement, TtFault, TtIter,
+    Leaf, Span, TokenTreesView, TopSubtree, TopSubtreeBuilder, TransformTtAction, TtElement,
+    TtFault, TtIter,
 };
 
 /// The views of a tree, and trees compared.
-pub fn trees(given: &Prepared) -> bool {
-    let tree = &given.long.tree;
-    *tree == given.long.copy
-        && *tree != given.short.sum
+pub fn trees(given: &Prepared<'_>) -> bool {
+    let tree = given.tree;
+    *tree == *given.copy
+        && *tree != *given.sum
         && tree.view().top_subtree() == tree.top_subtree()
         && tree.top_subtree().count() == tree.token_trees().len()
         && tree.view().token_trees().len() == tree.view().as_token_trees().len().saturating_sub(1)
@@ -20,14 +21,14 @@ pub fn trees(given: &Prepared) -> bool {
 }
 
 /// The views of parentheses over an ident with the id 1 and a plus with the id 2.
-pub fn views(given: &Prepared) -> bool {
-    let whole = given.short.sum.as_token_trees();
-    let below = given.short.sum.token_trees();
+pub fn views(given: &Prepared<'_>) -> bool {
+    let whole = given.sum.as_token_trees();
+    let below = given.sum.token_trees();
     TokenTreesView::empty().is_empty()
         && below.try_into_subtree().is_none()
         && whole.try_into_subtree().is_some()
         && whole.strip_invisible().len() == 3
-        && given.short.empty.view().strip_invisible().len() == 0
+        && given.empty.view().strip_invisible().len() == 0
         && below.first_span() == Some(span(1))
         && below.last_span() == Some(span(2))
         && below.iter_flat_tokens().last() == Some(plus(2).into())
@@ -60,9 +61,8 @@ impl fmt::Write for Counter {
 }
 
 /// Display and Debug, of trees and of what reads or builds them.
-pub fn texts(given: &Prepared, builder: &TopSubtreeBuilder) -> bool {
+pub fn texts(sum: &TopSubtree, builder: &TopSubtreeBuilder) -> bool {
     let mut counter = Counter(0);
-    let sum = &given.short.sum;
     let display = write!(counter, "{sum}{}", sum.token_trees());
     // (a +) and a +
     let is_shown = display.is_ok() && counter.0 == 8;

@@ -1,35 +1,38 @@
 //! Calls that make a rule of two trees, and use it on a third.
-use crate::call::{Call, Outcome, ends as call_ends};
-use crate::error::SweepError;
+use crate::call::{Call, judge};
 use crate::tokens::{flat_tree, ident, punct};
 use std::alloc::Global;
 use tt::{Leaf, Spacing, TopSubtree, TtFault};
 use tt_mbe::{Rule, RuleFault};
 
-/// A call that makes a rule, or uses one.
-#[derive(Clone, Copy)]
-pub enum Ruling {
-    New,
-    Expand,
+/// How that call of the group ended.
+pub fn judged<R: Print>(rt: &R, alloc: Global, call: &str) -> Result<&'static str, TtFault> {
+    let input = input(alloc)?;
+    let after = expanded(alloc)?;
+    judged_of(rt, alloc, call, &input, &after)
 }
 
-/// The call of that name.
-pub fn named(name: &str) -> Option<Ruling> {
-    match name {
-        "Rule::new" => Some(Ruling::New),
-        "expand" => Some(Ruling::Expand),
-        _ => None,
-    }
-}
-
-/// How the call ends.
-pub fn ends<R: Print>(rt: &R, alloc: Global, ruling: Ruling) -> Result<Outcome, SweepError> {
+// The same, given an input, and what comes of it.
+fn judged_of<R: Print>(
+    rt: &R,
+    alloc: Global,
+    call: &str,
+    input: &TopSubtree,
+    after: &TopSubtree,
+) -> Result<&'static str, TtFault> {
     let pattern = pattern(alloc)?;
     let template = template(alloc)?;
-    match ruling {
-        Ruling::New => makes(rt, alloc, &pattern, &template),
-        Ruling::Expand => expands(rt, alloc, &pattern, &template),
-    }
+    let rule = rule_of(alloc, &pattern, &template)?;
+    let mut call = Ruling {
+        call,
+        alloc,
+        pattern: &pattern,
+        template: &template,
+        rule: &rule,
+        input,
+        after,
+    };
+    Ok(judge(rt, &mut call))
 }
 
 // `$x:ident;`
@@ -63,40 +66,6 @@ fn sign(char: char) -> Leaf {
     punct(char, Spacing::Alone, 0)
 }
 
-// How making the rule ends.
-fn makes<R: Print>(
-    rt: &R,
-    alloc: Global,
-    pattern: &TopSubtree,
-    template: &TopSubtree,
-) -> Result<Outcome, SweepError> {
-    let mut call = Making {
-        alloc,
-        pattern,
-        template,
-    };
-    call_ends(rt, &mut call)
-}
-
-// How using the rule on the input ends.
-fn expands<R: Print>(
-    rt: &R,
-    alloc: Global,
-    pattern: &TopSubtree,
-    template: &TopSubtree,
-) -> Result<Outcome, SweepError> {
-    let input = input(alloc)?;
-    let after = expanded(alloc)?;
-    let rule = rule_of(alloc, pattern, template)?;
-    let mut call = Expanding {
-        alloc,
-        rule,
-        input: &input,
-        after: &after,
-    };
-    call_ends(rt, &mut call)
-}
-
 // The rule of both. The two have no fault, so there is a rule or no memory.
 fn rule_of<'a>(
     alloc: Global,
@@ -110,44 +79,24 @@ fn rule_of<'a>(
     }
 }
 
-// A rule that is to be made.
+// What a rule is made of, that rule, an input for it, and what comes of that.
 #[derive(Drop)]
-struct Making<'a> {
+struct Ruling<'a> {
+    call: &'a str,
     alloc: Global,
     pattern: &'a TopSubtree,
     template: &'a TopSubtree,
-}
-
-impl<'a> Call for Making<'a> {
-    fn make(&mut self) -> Result<bool, TtFault> {
-        rule_of(self.alloc, self.pattern, self.template)?;
-        Ok(true)
-    }
-
-    // It has only references.
-    fn is_as_before(&self) -> Result<bool, TtFault> {
-        Ok(true)
-    }
-
-    fn is_as_after(&self) -> Result<bool, TtFault> {
-        Ok(true)
-    }
-}
-
-// A rule that is to be used, its input, and what comes of that.
-#[derive(Drop)]
-struct Expanding<'a> {
-    alloc: Global,
-    rule: Rule<'a>,
+    rule: &'a Rule<'a>,
     input: &'a TopSubtree,
     after: &'a TopSubtree,
 }
 
-impl<'a> Call for Expanding<'a> {
+impl Call for Ruling<'_> {
     fn make(&mut self) -> Result<bool, TtFault> {
-        match self.rule.expand(self.alloc, self.input.token_trees())? {
-            Some(tree) => Ok(tree == *self.after),
-            None => Ok(false),
+        match self.call {
+            "Rule::new" => self.is_made(),
+            "expand" => self.expands(),
+            _ => Ok(false),
         }
     }
 
@@ -158,5 +107,19 @@ impl<'a> Call for Expanding<'a> {
 
     fn is_as_after(&self) -> Result<bool, TtFault> {
         Ok(true)
+    }
+}
+
+impl Ruling<'_> {
+    fn is_made(&self) -> Result<bool, TtFault> {
+        rule_of(self.alloc, self.pattern, self.template)?;
+        Ok(true)
+    }
+
+    fn expands(&self) -> Result<bool, TtFault> {
+        match self.rule.expand(self.alloc, self.input.token_trees())? {
+            Some(tree) => Ok(tree == *self.after),
+            None => Ok(false),
+        }
     }
 }

@@ -1,7 +1,7 @@
 //! Tokens, lists and trees that calls are given.
 use std::alloc::Global;
 use tt::{
-    Delimiter, DelimiterKind, ErasedFileAstId, Ident, Leaf, Punct, Spacing, Span, Subtree,
+    Delimiter, DelimiterKind, ErasedFileAstId, Ident, Leaf, Punct, Refused, Spacing, Span, Subtree,
     TokenTree, TopSubtree, TtFault,
 };
 
@@ -51,6 +51,11 @@ pub fn braces() -> Delimiter {
     delimiter(DelimiterKind::Brace, 0, 0)
 }
 
+/// The delimiter of an invisible top.
+pub fn invisible() -> Delimiter {
+    delimiter(DelimiterKind::Invisible, 0, 0)
+}
+
 /// Each of these has a bracket of its own in a long list, so that there are more span parts than the short form of a span
 /// can name.
 const NAMES: [&str; 8] = ["a", "b", "c", "d", "e", "f", "g", "h"];
@@ -68,14 +73,23 @@ pub fn long_list(alloc: Global, first: u32, ends: &[Leaf]) -> Result<Vec<TokenTr
     let all = below.saturating_add(1).saturating_mul(GROUPS);
     let mut list = vec![in alloc; header(braces(), all)]?;
     let mut id = first;
-    for name in NAMES {
-        let brackets = delimiter(DelimiterKind::Bracket, id, id.saturating_add(1));
-        list.push(header(brackets, below))?;
+    for name in NAMES.iter() {
+        list.push(header(brackets(id), below))?;
         list.push(ident(alloc, name, id.saturating_add(2))?.into())?;
         push_all(&mut list, ends)?;
         id = id.saturating_add(IDS);
     }
     Ok(list)
+}
+
+// The delimiter of the bracket whose first id is that one.
+fn brackets(id: u32) -> Delimiter {
+    delimiter(DelimiterKind::Bracket, id, id.saturating_add(1))
+}
+
+/// The long list whose brackets end in a plus.
+pub fn plus_list(alloc: Global) -> Result<Vec<TokenTree>, TtFault> {
+    long_list(alloc, 1, &[plus(0)])
 }
 
 /// Appends leaves to a list.
@@ -93,16 +107,23 @@ pub fn tree_of(alloc: Global, list: Vec<TokenTree>) -> Result<TopSubtree, TtFaul
 
 /// The tree of a long list whose brackets end in a plus.
 pub fn long_tree(alloc: Global) -> Result<TopSubtree, TtFault> {
-    tree_of(alloc, long_list(alloc, 1, &[plus(0)])?)
+    tree_of(alloc, plus_list(alloc)?)
 }
 
 /// The tree of an invisible top over leaves.
 pub fn flat_tree(alloc: Global, leaves: &[Leaf]) -> Result<TopSubtree, TtFault> {
     let len = u32::try_from(leaves.len()).unwrap_or(0);
-    let top = delimiter(DelimiterKind::Invisible, 0, 0);
-    let mut list = vec![in alloc; header(top, len)]?;
+    let mut list = vec![in alloc; header(invisible(), len)]?;
     push_all(&mut list, leaves)?;
     tree_of(alloc, list)
+}
+
+/// What a call made of a leaf that it handed back: its fault, if that is the leaf that it was given.
+pub fn handed_back(refused: Refused<Leaf>, given: &Leaf) -> Result<bool, TtFault> {
+    if refused.value == *given {
+        return Err(refused.fault);
+    }
+    Ok(false)
 }
 
 /// Ten leaves.

@@ -1,41 +1,34 @@
 //! Calls of a cursor that enter subtrees.
-use crate::call::{Call, Outcome, ends as call_ends};
-use crate::error::SweepError;
-use crate::tokens::{braces, header};
+use crate::call::{Call, judge};
+use crate::tokens::{braces, header, tree_of};
 use std::alloc::Global;
 use tt::buffer::Cursor;
-use tt::{TokenTree, TopSubtree, TtFault};
-
-/// A call that goes one place on.
-#[derive(Clone, Copy)]
-pub enum Step {
-    Bump,
-    BumpOrEnd,
-}
-
-/// The call of that name.
-pub fn named(name: &str) -> Option<Step> {
-    match name {
-        "bump" => Some(Step::Bump),
-        "bump_or_end" => Some(Step::BumpOrEnd),
-        _ => None,
-    }
-}
+use tt::{TokenTree, TtFault};
 
 // How deep the subtrees stand in one another.
 const DEPTH: u32 = 20;
 
-/// How the calls end that go into subtrees that stand in one another.
-pub fn ends<R: Print>(rt: &R, alloc: Global, step: Step) -> Result<Outcome, SweepError> {
+/// How that call of the group ended, made at each place on the way into subtrees that stand in one another.
+pub fn judged<R: Print>(rt: &R, alloc: Global, call: &str) -> Result<&'static str, TtFault> {
+    let both = match call {
+        "bump" => false,
+        "bump_or_end" => true,
+        _ => return Err(TtFault::NoSuchPlace),
+    };
     let list = nest(alloc)?;
-    let tree = TopSubtree::from_serialized(alloc, nest(alloc)?).map_err(TtFault::from)?;
+    let tree = tree_of(alloc, nest(alloc)?)?;
+    Ok(walked(rt, both, &list, tree.as_token_trees().cursor(alloc)))
+}
+
+// The same of a cursor in front of that list.
+fn walked<R: Print>(rt: &R, both: bool, list: &[TokenTree], cursor: Cursor<'_>) -> &'static str {
     let mut call = Walking {
-        step,
-        list: &list,
-        cursor: tree.as_token_trees().cursor(alloc),
+        both,
+        list,
+        cursor,
         passed: 0,
     };
-    call_ends(rt, &mut call)
+    judge(rt, &mut call)
 }
 
 // Braces in one another.
@@ -50,7 +43,8 @@ fn nest(alloc: Global) -> Result<Vec<TokenTree>, TtFault> {
 // A walk into all subtrees of a list, and how many it has entered.
 #[derive(Drop)]
 struct Walking<'a> {
-    step: Step,
+    // whether it leaves subtrees too, as `bump_or_end` does
+    both: bool,
     list: &'a [TokenTree],
     cursor: Cursor<'a>,
     passed: usize,
@@ -85,10 +79,12 @@ impl Walking<'_> {
 
     // Goes one place on.
     fn go_on(&mut self) -> Result<(), TtFault> {
-        match self.step {
-            Step::BumpOrEnd => self.cursor.bump_or_end(),
-            Step::Bump if self.cursor.token_tree().is_some() => self.cursor.bump(),
-            Step::Bump => Ok(()),
+        if self.both {
+            return self.cursor.bump_or_end();
         }
+        if self.cursor.token_tree().is_some() {
+            return self.cursor.bump();
+        }
+        Ok(())
     }
 }
