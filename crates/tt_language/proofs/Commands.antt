@@ -2,7 +2,7 @@
 use Rattle.std.proofs.Common.{◌≡◌, ◌<◌, ◌^◌, ℕ, List, ◌++◌, Option, Some, None, Result, Ok, Err, IfOk, IfSome, MatchOption, refl, sym, ap, subst, ◌∙◌, rules}
 use Rattle.std.specs.Prelude.{decimal, encode_utf8}
 use Rattle.std.specs.Char.{IsScalar}
-use Rattle.std.specs.Option.{option_map}
+use Rattle.std.specs.Option.{option_map, IsSomeAnd}
 use Rattle.tt_base.specs.declared.fault.TtFault.{TtFault}
 use Rattle.tt_base.specs.Fits.{LeafFits, SpanFits, TokenFits}
 use Rattle.tt_base.specs.Span.{span_text}
@@ -172,6 +172,13 @@ command_read v line word tail None found e t w unread is =
     unread made.value made.fits same)
 command_read v line word tail (Some a) found e t w (spelled, fits) is =
     rw is (e ∙ ap (λ x. x ++ tail) w ∙ ap (λ x. verb_word v ++ x) spelled ∙ sym (spells_right v a), fits_right v a fits)
+
+-- an option is mapped, where what the closure gives is what the function gives
+pub mapped : {A B : Type 0} (f : A → B) (o : Option A) (r : Option B) {P : A → B → Type 0} → MatchOption o (r ≡ None) (λ x. IsSomeAnd r (P x)) → ((x : A) (y : B) → P x y → y ≡ f x)
+    → r ≡ option_map f o
+mapped f None r is gives = is
+mapped f (Some x) (Some y) is gives = ap Some (gives x y is)
+mapped f (Some x) None is gives = elim is [ ]
 
 -- what a line reads as is what it stands for
 pub line_read : (line : List ℕ) (found : Result (Option Command) TtFault) → IsOneLine line → IfOk found (Reads spell CommandFits line)

@@ -1,10 +1,10 @@
 -- Steps of the machine that go by its builder, over plain values.
-use Rattle.std.proofs.Common.{◌≡◌, ℕ, List, Option, Some, None, Result, Ok, Err, MatchResult, OnOk, OnErr, IfErr, inl, inr, ap, sym, subst, ◌∙◌}
-use Rattle.std.specs.Prelude.{slice_set}
+use Rattle.std.proofs.Common.{◌≡◌, ℕ, List, Option, Some, None, Result, Ok, Err, MatchResult, OnOk, OnErr, IfErr, IfOk, inl, inr, ap, sym, subst, ◌∙◌}
 use Rattle.tt.specs.Building.{BuilderState, Stack, lowest, above, IsAbove, IsOpen, closed}
 use Rattle.tt.specs.Forest.{Root}
 use Rattle.tt.specs.Stored.{IsWithinLimits}
 use Rattle.tt.specs.TreeFault.{IsTreeFault}
+use Rattle.tt_base.specs.declared.fault.Refused.{Refused}
 use Rattle.tt_base.specs.declared.fault.TtFault.{TtFault}
 use Rattle.tt_base.specs.declared.fault.TtFault.TheVariants.{Memory}
 use Rattle.tt_base.specs.declared.span.Span.{Span}
@@ -12,7 +12,7 @@ use Rattle.tt_language.specs.declared.command.Command.TheVariants as command
 use Rattle.tt_run.specs.Answer.{ok_line, fault_line}
 use Rattle.tt_run.specs.Building.{OfBuilder, Builds, Closes, MakesRoot}
 use Rattle.tt_run.specs.Machine.{Step}
-use Rattle.tt_run.specs.State.{State, with_builder}
+use Rattle.tt_run.specs.State.{State, with_builder, with_tree}
 
 -- The builder stays.
 still_there : (old : State) (b : BuilderState) → old.builder ≡ Some b → with_builder old b ≡ old
@@ -32,25 +32,21 @@ tried f slot old new b answer there none made =
     by (lowest trees) none = made
     by (above outer kind open_span trees) none = absurd (none tt)
 
--- The tree is there, and the builder is gone. The fields that are seen inside stand for the old state.
-pub built_in : (f : BuilderState → Root) (slot place : ℕ) (inside old : State) (b : BuilderState) (tree : Root) (after : Option BuilderState) (answer : List ℕ)
-    → inside ≡ old → inside.builder ≡ Some b → (IsOpen b → ⊥) → tree ≡ f b → IsWithinLimits tree → place ≡ slot → after ≡ None → answer ≡ ok_line
-    → OfBuilder (λ builder. Builds (f builder) slot builder.stack old answer (record { slots = slice_set inside.slots place (Some tree); list = inside.list; builder = after }))
-    old old.builder answer (record { slots = slice_set inside.slots place (Some tree); list = inside.list; builder = after })
-built_in f slot place inside old b tree after answer seen there none is limits here gone told =
-    let new : State = record { slots = slice_set inside.slots place (Some tree); list = inside.list; builder = after } in
-    let made : MakesRoot (f b) slot inside answer new =
-    inl (subst IsWithinLimits is limits, told, λ i. record { slots = slice_set inside.slots (here i) (Some (is i)); list = inside.list; builder = gone i }) in
-    subst (λ s. OfBuilder (λ builder. Builds (f builder) slot builder.stack s answer new) s s.builder answer new) seen (tried f slot inside new b answer there none made)
-
--- The builder came back.
-pub refused_in : (f : BuilderState → Root) (slot : ℕ) (inside old : State) (b back : BuilderState) (fault : TtFault) (answer : List ℕ)
-    → inside ≡ old → inside.builder ≡ Some b → (IsOpen b → ⊥) → IsTreeFault (f b) fault → back ≡ b → answer ≡ fault_line fault
-    → OfBuilder (λ builder. Builds (f builder) slot builder.stack old answer (with_builder inside back)) old old.builder answer (with_builder inside back)
-refused_in f slot inside old b back fault answer seen there none why same told =
-    let new : State = with_builder inside back in
-    let made : MakesRoot (f b) slot inside answer new = inr (fault, why, told, ap (with_builder inside) same ∙ still_there inside b there) in
-    subst (λ s. OfBuilder (λ builder. Builds (f builder) slot builder.stack s answer new) s s.builder answer new) seen (tried f slot inside new b answer there none made)
+-- What a builder came to is kept, once it was taken. The fields that are seen inside stand for the old state.
+pub kept_in : (f : BuilderState → Root) (slot : ℕ) (inside old : State) (b : BuilderState) (made : Result Root (Refused BuilderState)) (answer : List ℕ) (new : State)
+    → inside ≡ old → inside.builder ≡ Some b → (IsOpen b → ⊥)
+    → IfOk made (λ tree. tree ≡ f b) → IfOk made IsWithinLimits → IfErr made (λ refused. IsTreeFault (f b) refused.fault) → IfErr made (λ refused. refused.value ≡ b)
+    → IfOk made (λ tree. (answer ≡ ok_line) × (new ≡ with_tree (record inside { builder = None }) slot tree))
+    → IfErr made (λ refused. (answer ≡ fault_line refused.fault) × (new ≡ with_builder inside refused.value))
+    → OfBuilder (λ builder. Builds (f builder) slot builder.stack old answer new) old old.builder answer new
+kept_in f slot inside old b made answer new seen there none is limits why same kept back =
+    subst (λ s. OfBuilder (λ builder. Builds (f builder) slot builder.stack s answer new) s s.builder answer new) seen (tried f slot inside new b answer there none (by made is limits why same kept back))
+  where
+    by : (made : Result Root (Refused BuilderState)) → IfOk made (λ tree. tree ≡ f b) → IfOk made IsWithinLimits → IfErr made (λ refused. IsTreeFault (f b) refused.fault)
+        → IfErr made (λ refused. refused.value ≡ b) → IfOk made (λ tree. (answer ≡ ok_line) × (new ≡ with_tree (record inside { builder = None }) slot tree))
+        → IfErr made (λ refused. (answer ≡ fault_line refused.fault) × (new ≡ with_builder inside refused.value)) → MakesRoot (f b) slot inside answer new
+    by (Ok tree) is limits why same kept back = inl (subst IsWithinLimits is limits, kept.0, kept.1 ∙ ap (λ root. record (with_tree inside slot root) { builder = None }) is)
+    by (Err refused) is limits why same kept back = inr (refused.fault, why, back.0, back.1 ∙ ap (with_builder inside) same ∙ still_there inside b there)
 
 -- An open subtree is closed, or memory for the count of its close part was refused.
 pub closed_in : {R : Type 0} (span : Span) (inside old : State) (b after : BuilderState) (done : Result R TtFault) (answer : List ℕ)

@@ -220,6 +220,28 @@ impl Session {
             }
         }
     }
+
+    // The same, but no answer is pending behind it, except after a failed write.
+    fn answer_and_write<R: Read, W: Write>(
+        &mut self,
+        reader: &mut Noted<R>,
+        writer: &mut Noted<W>,
+    ) -> Result<End, RunFault>
+        requires fresh { self.old ≡ fresh }
+        requires reader_sound { noted_failed reader.old ≡ false }
+        requires writer_sound { noted_failed writer.old ≡ false }
+        ensures tells { Tells result
+            (R.remaining (noted_inner reader.old)) (R.remaining (noted_inner reader.new))
+            (W.contents (noted_inner writer.old)) (W.contents (noted_inner writer.new)) }
+        ensures fails { Fails result (noted_failed reader.new) (noted_failed writer.new) }
+    {
+        let ended = self.answer_all(reader, writer);
+        if ended == Err(RunFault::Write) {
+            return ended;
+        }
+        self.write_out(writer)?;
+        ended
+    }
 }
 
 // The command that the line stands for, if there is one. Nothing but memory may be missing for that.
@@ -254,10 +276,5 @@ pub fn run<R: Read, W: Write>(
     ensures fails { Fails result (noted_failed reader.new) (noted_failed writer.new) }
 {
     let mut session = Session::new(alloc);
-    let ended = session.answer_all(reader, writer);
-    if ended == Err(RunFault::Write) {
-        return ended;
-    }
-    session.write_out(writer)?;
-    ended
+    session.answer_and_write(reader, writer)
 }

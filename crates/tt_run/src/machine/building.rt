@@ -1,12 +1,17 @@
 //! What the commands on the builder do.
-ghost use Rattle.std.specs.Prelude.{◌≡◌, IfOk, string_bytes};
+ghost use Rattle.std.specs.Prelude.{◌≡◌, IfErr, IfOk, string_bytes};
+ghost use Rattle.tt_run.specs.Answer.{fault_line, ok_line};
 ghost use Rattle.tt_run.specs.Building.{expected_text};
 ghost use Rattle.tt_run.specs.Machine.{Step};
+ghost use Rattle.tt_run.specs.State.{with_builder, with_tree};
 
 use super::Machine;
 use crate::answer::Answer;
 use std::alloc::{AllocError, Global};
-use tt::{Delimiter, DelimiterKind, Leaf, Span, SubtreeBuilderRestorePoint, TopSubtreeBuilder};
+use tt::{
+    Delimiter, DelimiterKind, Leaf, Refused, Span, SubtreeBuilderRestorePoint, TopSubtree,
+    TopSubtreeBuilder,
+};
 use tt_language::{Command, Slot, kind_name};
 
 // The kinds of the open subtrees, on one line.
@@ -58,16 +63,13 @@ impl Machine {
     pub(super) fn close(&mut self, span: Span) -> Answer
         ensures { Step self.old (Command.Close span) result self.new }
     {
-        let Some(mut builder) = self.builder.take() else {
+        let Some(builder) = &mut self.builder else {
             return Answer::no_builder();
         };
         if !builder.is_open() {
-            self.builder = Some(builder);
             return Answer::none_open();
         }
-        let done = builder.close(span);
-        self.builder = Some(builder);
-        Answer::ok_or_fault(done)
+        Answer::ok_or_fault(builder.close(span))
     }
 
     pub(super) fn append(&mut self, slot: Slot) -> Answer
@@ -148,6 +150,27 @@ impl Machine {
         Answer::counts(parts, symbols)
     }
 
+    // Keeps what a builder came to: the tree in the slot, or the builder that was refused.
+    fn keep_built(
+        &mut self,
+        slot: Slot,
+        built: Result<TopSubtree, Refused<TopSubtreeBuilder>>,
+    ) -> Answer
+        ensures tree { IfOk built (λ tree. (result ≡ ok_line) × (self.new ≡ with_tree self.old slot tree)) }
+        ensures builder { IfErr built (λ refused. (result ≡ fault_line refused.fault) × (self.new ≡ with_builder self.old refused.value)) }
+    {
+        match built {
+            Ok(tree) => {
+                self.put(slot, tree);
+                Answer::ok()
+            }
+            Err(refused) => {
+                self.builder = Some(refused.value);
+                Answer::fault(refused.fault)
+            }
+        }
+    }
+
     pub(super) fn build(&mut self, slot: Slot) -> Answer
         ensures { Step self.old (Command.Build slot) result self.new }
     {
@@ -158,16 +181,7 @@ impl Machine {
             self.builder = Some(builder);
             return Answer::still_open();
         }
-        match builder.build() {
-            Ok(tree) => {
-                self.slots[slot.index()] = Some(tree);
-                Answer::ok()
-            }
-            Err(refused) => {
-                self.builder = Some(refused.value);
-                Answer::fault(refused.fault)
-            }
-        }
+        self.keep_built(slot, builder.build())
     }
 
     pub(super) fn skip(&mut self, slot: Slot) -> Answer
@@ -180,15 +194,6 @@ impl Machine {
             self.builder = Some(builder);
             return Answer::still_open();
         }
-        match builder.build_skip_top_subtree() {
-            Ok(tree) => {
-                self.slots[slot.index()] = Some(tree);
-                Answer::ok()
-            }
-            Err(refused) => {
-                self.builder = Some(refused.value);
-                Answer::fault(refused.fault)
-            }
-        }
+        self.keep_built(slot, builder.build_skip_top_subtree())
     }
 }

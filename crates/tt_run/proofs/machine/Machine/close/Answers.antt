@@ -1,4 +1,4 @@
-use Rattle.std.proofs.Common.{◌≡◌, Some, false, rules}
+use Rattle.std.proofs.Common.{◌≡◌, Some, rules}
 use Rattle.tt.specs.Building.{IsOpen}
 use Rattle.tt_run.specs.State.{State}
 use Rattle.tt_run.proofs.BuilderSteps.{closed_in}
@@ -9,5 +9,5 @@ returns c =
     let inside : State = record { slots = c.self.inside.slots; list = c.self.inside.list.items; builder = c.self.inside.builder } in
     let there : c.self.inside.builder ≡ Some c.in-Some.builder = search rules in
     let is : IsOpen c.in-Some.builder = search rules in
-    closed_in c.args.span inside _ c.in-Some.builder c.close-done.new.self c.close-done.result _ c.self.view_is there is
-    c.close-done.ensures.ok c.close-done.ensures.err c.close-done.ensures.fault c.ok_or_fault.ensures
+    closed_in c.args.span inside _ c.in-Some.builder c.close.new.self c.close.result _ c.self.view_is there is c.close.ensures.ok c.close.ensures.err c.close.ensures.fault
+    c.ok_or_fault.ensures
