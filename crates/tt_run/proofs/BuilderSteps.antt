@@ -1,5 +1,5 @@
 -- Steps of the machine that go by its builder, over plain values.
-use Rattle.std.proofs.Common.{◌≡◌, ℕ, List, Option, Some, None, Result, Ok, Err, MatchResult, OnOk, OnErr, IfErr, IfOk, inl, inr, ap, sym, subst, ◌∙◌}
+use Rattle.std.proofs.Common.{◌≡◌, ℕ, List, Some, None, Result, Ok, Err, MatchResult, OnOk, OnErr, IfErr, IfOk, inl, inr, ap, sym, subst, ◌∙◌}
 use Rattle.tt.specs.Building.{BuilderState, Stack, lowest, above, IsAbove, IsOpen, closed}
 use Rattle.tt.specs.Forest.{Root}
 use Rattle.tt.specs.Stored.{IsWithinLimits}

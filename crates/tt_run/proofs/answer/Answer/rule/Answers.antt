@@ -1,4 +1,4 @@
-use Rattle.std.proofs.Common.{◌≡◌, lit<}
+use Rattle.std.proofs.Common.{lit<}
 use Rattle.std.proofs.lemmas.Fmt.{decimal_digit}
 use Rattle.tt_run.proofs.answer.Answer.rule.Goals as goal
 use Rattle.tt_run.proofs.answer.Answer.rule.Goals.{in-BadPattern, in-BadTemplate, in-DuplicateName, in-UnknownName, in-Memory}
