@@ -170,7 +170,7 @@ class Chance:
 
 
 class Script(Chance):
-    """Commands made by chance."""
+    """Commands made by chance. A method `add_VERB` adds one of that verb; a verb that has none has no values."""
 
     def __init__(self, seed):
         super().__init__(seed)
