@@ -3,7 +3,7 @@ import itertools
 import random
 
 from plain_machine import Header
-from plain_rules import FRAGMENTS, is_dollar, name_of, variable_at
+from plain_rules import FRAGMENTS, is_dollar, variable_at
 from plain_stored import DELIMITER_KINDS, SPACINGS
 from plain_trees import Ident, Literal, Punct, Span, Subtree, flat, size
 
