@@ -1,6 +1,6 @@
 -- How a token in numbers is written, and read.
 use Rattle.std.specs.Borrow.{Bor}
-use Rattle.std.specs.Prelude.{List, ℕ, ◌/◌, ◌%◌, ◌==◌, if◌then◌else◌, Option, Some, ◌≡◌, ◌++◌, IsSomeAnd}
+use Rattle.std.specs.Prelude.{List, ℕ, ◌/◌, ◌%◌, ◌==◌, if◌then◌else◌, Bool, false, not, Option, None, Some, ◌≡◌, ◌++◌, IsSomeAnd}
 use Rattle.tt_codec.specs.Header.{HeaderFits, header_bytes, format_1_at, format_2_at, format_3_at, format_4_at}
 use Rattle.tt_codec.specs.Leaf.{LeafEntryFits, leaf_bytes, most_leaf_bytes, plain_at, marked_at}
 use Rattle.tt_codec.specs.Read.{Read, ◌>>=◌, byte_at}
@@ -9,6 +9,7 @@ use Rattle.tt_codec.specs.declared.entry.Entry.TheVariants.{Leaf as of_leaf, Hea
 use Rattle.tt_codec.specs.declared.entry.Entry.{Entry}
 use Rattle.tt_codec.specs.declared.entry.LeafEntry.{LeafEntry}
 use Rattle.tt_codec.specs.declared.span.SpanNumbers.{SpanNumbers}
+use Rattle.tt_codec.specs.declared.span.Spanned.{Spanned}
 
 -- the bytes of a token below the top
 abbrev pub entry_bytes : Entry → List ℕ
@@ -45,6 +46,15 @@ abbrev pub entry_behind_span : (extra : ℕ) → SpanNumbers → List ℕ → Re
 entry_behind_span extra numbers bytes =
     if extra == 0 then (byte_at bytes >>= λ control. plain_entry_at control.0 numbers control.1)
     else as_entry (marked_at extra numbers bytes)
+
+-- whether a span that was read has extra bits, as those of idents and ASCII puncts have
+abbrev pub is_marked : Read Spanned → Bool
+is_marked None = false
+is_marked (Some span) = not (span.0.extra == 0)
+
+-- whether the bytes begin with the span of an ident or of an ASCII punct
+unfoldable pub is_marked_at : List ℕ → Bool
+is_marked_at bytes = is_marked (span_at bytes)
 
 -- a token
 unfoldable pub entry_at : List ℕ → Read Entry

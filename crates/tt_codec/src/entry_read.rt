@@ -1,6 +1,6 @@
 //! Which leaf or header some bytes begin with (docs/FORMATS.md, "Bytes of a leaf" and "Bytes of a header").
 ghost use Rattle.std.specs.Prelude.{◌≡◌, Some, None, IsTrue, false};
-ghost use Rattle.tt_codec.specs.Entry.{as_entry, plain_entry_at, entry_behind_span, entry_at, EntriesAgain};
+ghost use Rattle.tt_codec.specs.Entry.{as_entry, plain_entry_at, entry_behind_span, is_marked_at, entry_at, EntriesAgain};
 ghost use Rattle.tt_codec.specs.Leaf.{long_literal_at, other_punct_at, plain_at, marked_at};
 ghost use Rattle.tt_codec.specs.Read.{Read, IsRead, IsMade};
 ghost use Rattle.tt_codec.specs.declared.entry.Entry.{Entry as StoredEntry};
@@ -141,8 +141,9 @@ fn visit_behind<'a, V: Visitor<'a>>(visitor: &mut V, span: Spanned, from: &'a [u
 /// Visits the token that the bytes begin with, if it is an ident or an ASCII punct, and tells whether they begin with the
 /// span of one. Most tokens are these, and they take little code, so it suits a caller that has no call for each token.
 #[inline(always)]
-#[tactic(auto, unfolding(crate::specs::Entry::entry_at))]
+#[tactic(auto, unfolding(crate::specs::Entry::entry_at, crate::specs::Entry::is_marked_at))]
 pub fn visit_marked_token<'a, V: Visitor<'a>>(visitor: &mut V, from: &'a [u8]) -> bool
+    ensures marked { result ≡ is_marked_at from.now }
     ensures visits { IsTrue result → IsMade V.makes visitor.old (entry_at from.now) visitor.new }
     ensures unchanged { result ≡ false → visitor.new ≡ visitor.old }
 {
