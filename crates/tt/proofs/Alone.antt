@@ -1,12 +1,13 @@
 -- The last token of trees becomes alone.
-use Rattle.std.proofs.Common.{◌≡◌, ℕ, suc, ◌+◌, ◌<◌, List, [], ◌∷◌, ◌++◌, length, get_or, set, false, refl, ap, sym, ◌∙◌, arith, append-nil}
+use Rattle.std.proofs.Common.{◌≡◌, ℕ, suc, ◌+◌, ◌-◌, List, [], ◌∷◌, ◌++◌, Some, length, map, set, slice_get, false, refl, ap, ap₂, sym, ◌∙◌, arith, append-nil, length-append}
+use Rattle.std.proofs.lemmas.List.{length-map}
 use Rattle.tt_base.specs.declared.delimiter.Delimiter.{Delimiter}
 use Rattle.tt_base.specs.declared.token_tree.TokenTree.{TokenTree}
 use Rattle.tt_base.specs.declared.token_tree.TokenTree.TheVariants as token
 use Rattle.tt_base.specs.Building.{alone}
 use Rattle.tt_base.specs.Forest.{Forest, end, leaf, node, size, header, flat}
 use Rattle.tt_base.specs.Siblings.{is_end}
-use Rattle.tt.specs.BuilderFields.{token_alone}
+use Rattle.tt_interned.specs.Held.{HeldToken, whole, token_alone}
 
 -- the last token becomes alone
 last_alone : List TokenTree → List TokenTree
@@ -14,16 +15,34 @@ last_alone [] = []
 last_alone (t ∷ []) = token_alone t ∷ []
 last_alone (t ∷ u ∷ tokens) = t ∷ last_alone (u ∷ tokens)
 
--- It is the one at the last place.
-set_last : (t : TokenTree) (tokens : List TokenTree) (d : TokenTree) → set (t ∷ tokens) (length tokens) (token_alone (get_or (t ∷ tokens) (length tokens) d)) ≡ last_alone (t ∷ tokens)
-unfolding last_alone
-set_last t [] d = refl
-set_last t (u ∷ tokens) d = ap (λ l. t ∷ l) (set_last u tokens d)
+-- the token that is the last
+last_of : TokenTree → List TokenTree → TokenTree
+last_of t [] = t
+last_of t (u ∷ tokens) = last_of u tokens
 
-at_last : (all : List TokenTree) (last : ℕ) (d : TokenTree) → suc last ≡ length all → set all last (token_alone (get_or all last d)) ≡ last_alone all
-unfolding last_alone
-at_last [] last d n = absurd (omega (arith, n))
-at_last (t ∷ all) last d n = ap (λ i. set (t ∷ all) i (token_alone (get_or (t ∷ all) i d))) (omega (arith, n)) ∙ set_last t all d
+-- It stands at the last place.
+last_in : (t : TokenTree) (tokens : List TokenTree) → slice_get (map whole (t ∷ tokens)) (length tokens) ≡ Some (whole (last_of t tokens))
+unfolding last_of
+last_in t [] = refl
+last_in t (u ∷ tokens) = last_in u tokens
+
+-- With it alone, the tokens end alone.
+last_changed : (t : TokenTree) (tokens : List TokenTree) → set (map whole (t ∷ tokens)) (length tokens) (whole (token_alone (last_of t tokens))) ≡ map whole (last_alone (t ∷ tokens))
+unfolding last_of last_alone
+last_changed t [] = refl
+last_changed t (u ∷ tokens) = ap (λ l. whole t ∷ l) (last_changed u tokens)
+
+-- What stands at a place behind others.
+get_behind : (held more : List HeldToken) (i : ℕ) → slice_get (held ++ more) (length held + i) ≡ slice_get more i
+get_behind [] more i = ap (slice_get more) (omega arith)
+get_behind (h ∷ held) more i = ap (slice_get (h ∷ held ++ more)) (omega arith) ∙ get_behind held more i
+
+-- What is set there.
+set_behind : (held more : List HeldToken) (i : ℕ) (it : HeldToken) → set (held ++ more) (length held + i) it ≡ held ++ set more i it
+set_behind [] more i it = ap (λ n. set more n it) (omega arith)
+set_behind (h ∷ held) more i it =
+    let next : length (h ∷ held) + i ≡ suc (length held + i) = omega arith in
+    ap (λ n. set (h ∷ held ++ more) n it) next ∙ ap (λ l. h ∷ l) (set_behind held more i it)
 
 -- What stands before stays.
 last_behind : (before : List TokenTree) (t : TokenTree) (tokens : List TokenTree) → last_alone (before ++ t ∷ tokens) ≡ before ++ last_alone (t ∷ tokens)
@@ -67,19 +86,22 @@ flat-alone (node d children (node e inner rest)) =
     ap (λ l. header d (size children) ∷ (flat children ++ l)) (flat-alone (node e inner rest))
     ∙ sym (last_behind (header d (size children) ∷ flat children) (header e (size inner)) (flat inner ++ flat rest))
 
--- The last token of a list behind which trees were added.
-pub added_alone : (tokens all now : List TokenTree) (trees : Forest) (last : ℕ) (d : TokenTree) → is_end trees ≡ false → all ≡ tokens ++ flat trees
-    → suc last ≡ length all → now ≡ set all last (token_alone (get_or all last d)) → now ≡ tokens ++ flat (alone trees)
-unfolding last_alone
-added_alone tokens all now end last d some added count changed = absurd (cc some)
-added_alone tokens all now (leaf it rest) last d some added count changed =
-    changed ∙ at_last all last d count ∙ ap last_alone added ∙ last_behind tokens (token.Leaf it) (flat rest) ∙ ap (λ l. tokens ++ l) (sym (flat-alone (leaf it rest)))
-added_alone tokens all now (node e inner rest) last d some added count changed =
-    changed ∙ at_last all last d count ∙ ap last_alone added ∙ last_behind tokens (header e (size inner)) (flat inner ++ flat rest)
-    ∙ ap (λ l. tokens ++ l) (sym (flat-alone (node e inner rest)))
+-- What is held, when its last token becomes alone behind tokens that were added.
+list_alone : (held all now : List HeldToken) (t : TokenTree) (tokens : List TokenTree) → all ≡ held ++ map whole (t ∷ tokens)
+    → ((it : TokenTree) → slice_get all (length all - 1) ≡ Some (whole it) → now ≡ set all (length all - 1) (whole (token_alone it))) → now ≡ held ++ map whole (last_alone (t ∷ tokens))
+list_alone held all now t tokens added changed =
+    let last : length all - 1 ≡ length held + length tokens = omega (arith, ap length added, length-append held (map whole (t ∷ tokens)), length-map tokens whole) in
+    let it = last_of t tokens in
+    changed it (ap₂ slice_get added last ∙ get_behind held (map whole (t ∷ tokens)) (length tokens) ∙ last_in t tokens)
+    ∙ ap₂ (λ l i. set l i (whole (token_alone it))) added last
+    ∙ set_behind held (map whole (t ∷ tokens)) (length tokens) (whole (token_alone it))
+    ∙ ap (λ l. held ++ l) (last_changed t tokens)
 
--- Where trees are, there are tokens.
-pub some_tokens : (trees : Forest) → is_end trees ≡ false → 0 < size trees
-some_tokens end some = absurd (cc some)
-some_tokens (leaf it rest) some = omega arith
-some_tokens (node d children rest) some = omega arith
+-- So with trees.
+pub added_alone : (held all now : List HeldToken) (trees : Forest) → is_end trees ≡ false → all ≡ held ++ map whole (flat trees)
+    → ((it : TokenTree) → slice_get all (length all - 1) ≡ Some (whole it) → now ≡ set all (length all - 1) (whole (token_alone it))) → now ≡ held ++ map whole (flat (alone trees))
+added_alone held all now end some added changed = absurd (cc some)
+added_alone held all now (leaf it rest) some added changed =
+    list_alone held all now (token.Leaf it) (flat rest) added changed ∙ ap (λ l. held ++ map whole l) (sym (flat-alone (leaf it rest)))
+added_alone held all now (node e inner rest) some added changed =
+    list_alone held all now (header e (size inner)) (flat inner ++ flat rest) added changed ∙ ap (λ l. held ++ map whole l) (sym (flat-alone (node e inner rest)))

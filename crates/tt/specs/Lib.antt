@@ -40,10 +40,11 @@ pub use Rattle.tt_view.specs.SubtreeViews
 pub use Rattle.tt_view.specs.TreeFault
 pub use Rattle.tt_view.specs.Views
 pub mod BuilderFields
+pub mod HeldList
 pub mod HeldUses
+pub mod InternedKinds
 pub mod OneState
 pub mod Points
 pub mod Rewrites
 pub mod Types
-pub mod UseCounts
 pub mod Work

@@ -3,7 +3,7 @@ use Rattle.std.specs.Prelude.{ℕ, List}
 use Rattle.tt_base.specs.declared.delimiter.DelimiterKind.{DelimiterKind}
 use Rattle.tt.specs.declared.builder.expected.ExpectedDelimiters.{ExpectedDelimiters}
 use Rattle.tt.specs.declared.builder.standing.SubtreeBuilderRestorePoint.{SubtreeBuilderRestorePoint}
-use Rattle.tt.specs.BuilderFields.{kinds_at}
+use Rattle.tt.specs.InternedKinds.{named_kinds_at}
 
 -- the number of a point
 abbrev pub number_of : SubtreeBuilderRestorePoint → ℕ
@@ -11,4 +11,4 @@ number_of point = point.number
 
 -- the kinds that are still to come
 abbrev pub kinds_left : ExpectedDelimiters → List DelimiterKind
-kinds_left kinds = kinds_at kinds.tokens.now kinds.places.now
+kinds_left kinds = named_kinds_at kinds.tokens.now kinds.places.now

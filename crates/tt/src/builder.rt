@@ -1,6 +1,5 @@
 //! Building a token tree by opening and closing subtrees.
 ghost use Rattle.std.specs.Prelude.{◌≡◌, ◌⊎◌, ◌^◌, ◌-◌, ◌+◌, ◌<◌, List, length, suc, IfOk, IfErr, OnOk, OnErr, MatchBool, Some, is_some, bytes_eq};
-ghost use Rattle.std.proofs.Props.{props};
 ghost use Rattle.std.specs.Iterator.{Drains, IsFinite, YieldsThen};
 ghost use Rattle.tt_base.specs.Building.{empty_builder, opened, pushed, extended, alone, closed, removed, open_kinds, point_taken, noted, restored, built, built_skipping, tokens_held, most_held, HasRoom, IsOpen, IsGrowthFault};
 ghost use Rattle.tt_base.specs.Forest.{size};
@@ -13,34 +12,45 @@ ghost use Rattle.tt_tables.specs.Uses.{same_part};
 ghost use Rattle.tt_view.specs.Stored.{IsWithinLimits};
 ghost use Rattle.tt_view.specs.TreeFault.{IsTreeFault};
 ghost use Rattle.tt_view.specs.Views.{trees_of};
+ghost use Rattle.tt.specs.BuilderFields.{HasState};
+ghost use Rattle.tt.specs.HeldList.{all_tokens, AreOpenIn};
+ghost use Rattle.tt.specs.OneState.{HasState-prop};
 ghost use Rattle.tt.specs.HeldUses.{held_parts, held_symbols, distinct_parts, distinct_symbols};
-ghost use Rattle.tt.specs.UseCounts.{AreOf};
+ghost use Rattle.std.proofs.Props.{props};
 
 mod expected;
-mod few_uses;
-mod held;
-mod leaves;
 mod standing;
-mod token_uses;
 mod tokens;
-mod use_counts;
 
 pub use expected::ExpectedDelimiters;
-use held::Held;
 pub use standing::SubtreeBuilderRestorePoint;
+use standing::{Standing, drop_deeper, drop_later, find};
 use std::alloc::Global;
 use std::marker::Model;
+use tokens::{add_leaves, add_trees, add_trees_alone, is_invisible};
 use tt_base::{Delimiter, DelimiterKind, Leaf, Refused, Span, SpanPart, Symbol, TtFault};
+use tt_interned::InternedTokens;
 use tt_view::{TokenTreesView, TopSubtree};
-use use_counts::{UseCounts, copy_of, count_part, part_place};
+
+// For how many tokens room is made at first.
+const FEW_TOKENS: usize = 31;
 
 /// Builds a token tree by opening and closing subtrees. A contract sees the levels, the mark and the points that stand.
 #[derive(Drop, Debug)]
 pub struct TopSubtreeBuilder {
-    held: Held,
-    // how often parts and symbols are used in what is held; counted from the first call on that may hold many tokens
-    counts: Option<UseCounts>,
-    ghost right: { AreOf held.stack counts } by { Prim.hlevel props },
+    top: Delimiter,
+    // the tokens held, with how often parts and symbols are used in them
+    held: InternedTokens,
+    // where the headers of the open subtrees stand, outermost first, where the top counts as the first token
+    headers: Vec<usize>,
+    // where the header of the subtree closed last stands
+    mark: Option<usize>,
+    // oldest first
+    points: Vec<Standing>,
+    taken: u64,
+    alloc: Global,
+    ghost state: { HasState (all_tokens top held) headers.items mark points.items taken } by { HasState-prop (all_tokens top held) headers.items mark points.items taken },
+    ghost open_headers: { AreOpenIn held headers.items } by { Prim.hlevel props },
 }
 
 impl Model for TopSubtreeBuilder {
@@ -51,12 +61,8 @@ impl Model for TopSubtreeBuilder {
 
     ghost coded = { builder_code };
 
-    ghost view = { λ builder. builder.held };
+    ghost view = { λ builder. builder.state.0 };
 }
-
-// Up to so many tokens, the top among them, nothing is counted: looking at all of them tells how often a value is used. Most
-// trees of macros have no more.
-const UNCOUNTED_TOKENS: usize = 256;
 
 impl TopSubtreeBuilder {
     ghost use Rattle.tt.specs.Points.{number_of, kinds_left};
@@ -67,31 +73,14 @@ impl TopSubtreeBuilder {
         ensures err { IfErr result (λ fault. fault ≡ Memory) }
     {
         Ok(TopSubtreeBuilder {
-            held: Held::new(alloc, top)?,
-            counts: None,
+            top,
+            held: InternedTokens::with_capacity(alloc, FEW_TOKENS)?,
+            headers: Vec::new(alloc),
+            mark: None,
+            points: Vec::new(alloc),
+            taken: 0,
+            alloc,
         })
-    }
-
-    // Counts what is held. A call of its own: what it needs is much, and seldom needed.
-    #[inline(never)]
-    fn count(&mut self) -> Result<(), TtFault>
-        ensures stays { self.new ≡ self.old }
-        ensures err { IfErr result (λ fault. fault ≡ Memory) }
-    {
-        self.counts = Some(self.held.count()?);
-        Ok(())
-    }
-
-    // Counts what is held, where that and so many tokens more would be many, and it is not counted yet.
-    #[inline(always)]
-    fn count_if_many(&mut self, more: usize) -> Result<(), TtFault>
-        ensures stays { self.new ≡ self.old }
-        ensures err { IfErr result (λ fault. fault ≡ Memory) }
-    {
-        if self.counts.is_none() && self.held.len().saturating_add(more) > UNCOUNTED_TOKENS {
-            return self.count();
-        }
-        Ok(())
     }
 
     /// Opens a subtree, and clears the mark.
@@ -101,10 +90,18 @@ impl TopSubtreeBuilder {
         ensures err { OnErr result (self.new ≡ self.old) }
         ensures fault { IfErr result (IsGrowthFault 1 self.old) }
     {
-        self.count_if_many(1)?;
-        let place = part_place(&mut self.counts, &open_span)?;
-        self.held.open(kind, open_span)?;
-        count_part(&mut self.counts, place);
+        let place = self.held.len() + 1;
+        if place > u32::MAX as usize {
+            return Err(TtFault::TooManyTokens);
+        }
+        if self.headers.reserve(1).is_err() {
+            return Err(TtFault::Memory);
+        }
+        if self.held.push_open(kind, &open_span).is_err() {
+            return Err(TtFault::Memory);
+        }
+        self.headers.push_reserved(place);
+        self.mark = None;
         Ok(())
     }
 
@@ -116,10 +113,19 @@ impl TopSubtreeBuilder {
         ensures leaf { IfErr result (λ refused. refused.value ≡ leaf) }
         ensures fault { IfErr result (λ refused. IsGrowthFault 1 self.old refused.fault) }
     {
-        if let Err(fault) = self.count_if_many(1) {
-            return Err(Refused { fault, value: leaf });
+        if self.held.len() >= u32::MAX as usize {
+            return Err(Refused {
+                fault: TtFault::TooManyTokens,
+                value: leaf,
+            });
         }
-        self.held.push(&mut self.counts, leaf)
+        if self.held.push_leaf(&leaf).is_err() {
+            return Err(Refused {
+                fault: TtFault::Memory,
+                value: leaf,
+            });
+        }
+        Ok(())
     }
 
     /// Closes the innermost open subtree, and marks it. The points that were taken while it was open go.
@@ -130,9 +136,16 @@ impl TopSubtreeBuilder {
         ensures err { OnErr result (self.new ≡ self.old) }
         ensures fault { IfErr result (λ fault. fault ≡ Memory) }
     {
-        let place = part_place(&mut self.counts, &close_span)?;
-        self.held.close(close_span)?;
-        count_part(&mut self.counts, place);
+        let Some(place) = self.headers.pop() else {
+            return Ok(());
+        };
+        let len = (self.held.len() - place) as u32;
+        if self.held.close(place - 1, &close_span, len).is_err() {
+            self.headers.push_reserved(place);
+            return Err(TtFault::Memory);
+        }
+        drop_deeper(&mut self.points, self.headers.len());
+        self.mark = Some(place);
         Ok(())
     }
 
@@ -145,9 +158,14 @@ impl TopSubtreeBuilder {
         ensures err { OnErr result (self.new ≡ self.old) }
         ensures fault { IfErr result (λ fault. (fault ≡ Memory) ⊎ ((fault ≡ TooManyTokens) × ((given : List Leaf) × (next : Leaf) × (rest : I) × YieldsThen I.next_gives leaves given (Some next) rest × (most_held < tokens_held self.old.stack + suc (length given))))) }
     {
-        // How many will come is not known.
-        self.count_if_many(UNCOUNTED_TOKENS + 1)?;
-        self.held.extend(&mut self.counts, leaves)
+        let len = self.held.len();
+        match add_leaves(&mut self.held, leaves) {
+            Ok(()) => Ok(()),
+            Err(fault) => {
+                self.held.truncate(len);
+                Err(fault)
+            }
+        }
     }
 
     /// Appends trees; the mark stays.
@@ -157,8 +175,14 @@ impl TopSubtreeBuilder {
         ensures err { OnErr result (self.new ≡ self.old) }
         ensures fault { IfErr result (IsGrowthFault (size (trees_of trees.entry)) self.old) }
     {
-        self.count_if_many(trees.len())?;
-        self.held.extend_with_tt(&mut self.counts, trees)
+        let room = (u32::MAX as usize).saturating_sub(self.held.len());
+        if trees.len() > room {
+            return Err(TtFault::TooManyTokens);
+        }
+        if !add_trees(&mut self.held, trees) {
+            return Err(TtFault::Memory);
+        }
+        Ok(())
     }
 
     /// Appends trees, of which the last token becomes alone if it is a punct; the mark stays.
@@ -168,16 +192,27 @@ impl TopSubtreeBuilder {
         ensures err { OnErr result (self.new ≡ self.old) }
         ensures fault { IfErr result (IsGrowthFault (size (trees_of trees.entry)) self.old) }
     {
-        self.count_if_many(trees.len())?;
-        self.held.extend_with_tt_alone(&mut self.counts, trees)
+        let room = (u32::MAX as usize).saturating_sub(self.held.len());
+        if trees.len() > room {
+            return Err(TtFault::TooManyTokens);
+        }
+        if !add_trees_alone(&mut self.held, trees) {
+            return Err(TtFault::Memory);
+        }
+        Ok(())
     }
 
     /// If the marked subtree is invisible, its header goes and its children take its place; the mark goes in any case.
     pub fn remove_last_subtree_if_invisible(&mut self)
         ensures { self.new ≡ removed self.old }
     {
-        self.held.uncount_marked(&mut self.counts);
-        self.held.remove_last_subtree_if_invisible();
+        let Some(place) = self.mark else {
+            return;
+        };
+        self.mark = None;
+        if is_invisible(self.held.tokens()[place - 1]) {
+            self.held.remove_header(place - 1);
+        }
     }
 
     /// Takes a restore point, and clears the mark. It stands until a subtree that is open now is closed, or a standing
@@ -189,14 +224,28 @@ impl TopSubtreeBuilder {
         ensures err { OnErr result (self.new ≡ self.old) }
         ensures fault { IfErr result (λ fault. ((fault ≡ Memory) × (self.old.taken < 2 ^ 64 - 1)) ⊎ ((fault ≡ PointsSpent) × (self.old.taken ≡ 2 ^ 64 - 1))) }
     {
-        self.held.restore_point()
+        let number = self.taken;
+        if number == u64::MAX {
+            return Err(TtFault::PointsSpent);
+        }
+        if self.points.reserve(1).is_err() {
+            return Err(TtFault::Memory);
+        }
+        self.points.push_reserved(Standing {
+            number,
+            tokens: self.held.len() + 1,
+            depth: self.headers.len(),
+        });
+        self.taken = number + 1;
+        self.mark = None;
+        Ok(SubtreeBuilderRestorePoint::from_number(number))
     }
 
     /// How many restore points were ever taken, which is the number of the next one.
     pub fn points_taken(&self) -> u64
         ensures { result ≡ self.now.taken }
     {
-        self.held.points_taken()
+        self.taken
     }
 
     /// Goes back to what was held when the point was taken, and clears the mark, if the point stands; answers whether it does.
@@ -204,62 +253,31 @@ impl TopSubtreeBuilder {
         ensures answer { result ≡ is_some (noted (number_of point) self.old.points) }
         ensures state { self.new ≡ restored (number_of point) self.old }
     {
-        self.held.uncount_later(&mut self.counts, point);
-        self.held.restore(point)
+        let Some(kept) = find(&self.points, point.number()) else {
+            return false;
+        };
+        self.held.truncate(kept.tokens - 1);
+        self.headers.truncate(kept.depth);
+        drop_later(&mut self.points, kept.tokens);
+        self.mark = None;
+        true
     }
 
     /// The kinds of the open subtrees, innermost first, without the top.
     pub fn expected_delimiters(&self) -> ExpectedDelimiters<'_>
         ensures { kinds_left result ≡ open_kinds self.now.stack }
     {
-        self.held.expected_delimiters()
+        ExpectedDelimiters {
+            tokens: self.held.tokens(),
+            places: &self.headers,
+        }
     }
 
     /// Whether a subtree is open, the top left aside.
     pub fn is_open(&self) -> bool
         ensures { MatchBool result (IsOpen self.now) (IsOpen self.now → ⊥) }
     {
-        self.held.is_open()
-    }
-
-    /// The tree, where no subtree is open, of which `is_open` tells. A refusal hands the builder back.
-    pub fn build(self) -> Result<TopSubtree, Refused<TopSubtreeBuilder>>
-        requires { IsOpen self → ⊥ }
-        ensures ok { IfOk result (λ tree. tree ≡ built self) }
-        ensures limits { IfOk result (λ tree. IsWithinLimits tree) }
-        ensures fault { IfErr result (λ refused. IsTreeFault (built self) refused.fault) }
-        ensures value { IfErr result (λ refused. refused.value ≡ self) }
-    {
-        let TopSubtreeBuilder { mut held, counts } = self;
-        match held.build(&counts) {
-            Ok(tree) => Ok(tree),
-            Err(fault) => {
-                let value = TopSubtreeBuilder { held, counts };
-                Err(Refused { fault, value })
-            }
-        }
-    }
-
-    /// What it holds as a tree of its own, where that is exactly one subtree; else as `build`. No subtree is open, of which
-    /// `is_open` tells.
-    pub fn build_skip_top_subtree(self) -> Result<TopSubtree, Refused<TopSubtreeBuilder>>
-        requires { IsOpen self → ⊥ }
-        ensures ok { IfOk result (λ tree. tree ≡ built_skipping self) }
-        ensures limits { IfOk result (λ tree. IsWithinLimits tree) }
-        ensures fault { IfErr result (λ refused. IsTreeFault (built_skipping self) refused.fault) }
-        ensures value { IfErr result (λ refused. refused.value ≡ self) }
-    {
-        let TopSubtreeBuilder {
-            mut held,
-            mut counts,
-        } = self;
-        match held.build_skip_top_subtree(&mut counts) {
-            Ok(tree) => Ok(tree),
-            Err(fault) => {
-                let value = TopSubtreeBuilder { held, counts };
-                Err(Refused { fault, value })
-            }
-        }
+        !self.headers.is_empty()
     }
 
     /// A builder that holds the same, with the same points.
@@ -267,31 +285,34 @@ impl TopSubtreeBuilder {
         ensures ok { IfOk result (λ copy. copy ≡ self.now) }
         ensures err { IfErr result (λ fault. fault ≡ Memory) }
     {
-        let held = self.held.clone()?;
-        let counts = copy_of(&self.counts)?;
-        Ok(TopSubtreeBuilder { held, counts })
+        let held = self.held.clone(self.alloc)?;
+        let mut headers = Vec::new(self.alloc);
+        headers.extend_from_slice(&self.headers)?;
+        let mut points = Vec::new(self.alloc);
+        points.extend_from_slice(&self.points)?;
+        Ok(TopSubtreeBuilder {
+            top: self.top,
+            held,
+            headers,
+            mark: self.mark,
+            points,
+            taken: self.taken,
+            alloc: self.alloc,
+        })
     }
 
-    /// How often a span's part is used in the tokens held. The top and the close of an open subtree are not counted. As long
-    /// as there are few tokens all of them are looked at, and later none is; so it is with the two calls below.
+    /// How often a span's part is used in the tokens held. The top and the close of an open subtree are not counted.
     pub fn span_part_uses(&self, span: &Span) -> usize
         ensures { result ≡ uses_of same_part (held_parts self.now.stack) (part_of span.now) }
     {
-        let part = SpanPart::from_span(span);
-        match &self.counts {
-            None => self.held.part_uses(&part),
-            Some(counts) => counts.parts.uses(&part),
-        }
+        self.held.part_uses(&SpanPart::from_span(span))
     }
 
     /// How often a symbol is used in the tokens held.
     pub fn symbol_uses(&self, symbol: &Symbol) -> usize
         ensures { result ≡ uses_of bytes_eq (held_symbols self.now.stack) symbol.now }
     {
-        match &self.counts {
-            None => self.held.symbol_uses(symbol),
-            Some(counts) => counts.symbols.uses(symbol),
-        }
+        self.held.symbol_uses(symbol)
     }
 
     /// How many different span parts and how many different symbols are used in the tokens held.
@@ -299,9 +320,6 @@ impl TopSubtreeBuilder {
         ensures parts { result.0 ≡ distinct_parts self.now.stack }
         ensures symbols { result.1 ≡ distinct_symbols self.now.stack }
     {
-        match &self.counts {
-            None => self.held.distinct_counts(),
-            Some(counts) => (counts.parts.used(), counts.symbols.used()),
-        }
+        self.held.distinct_counts()
     }
 }

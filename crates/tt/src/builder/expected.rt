@@ -1,12 +1,13 @@
 //! The kinds of the subtrees that are open in a builder.
 use crate::builder::tokens::kind_at;
-use tt_base::{DelimiterKind, TokenTree};
+use tt_base::DelimiterKind;
+use tt_interned::InternedToken;
 
 /// The kinds of the subtrees that are open in a builder, innermost first.
 #[derive(Clone, Debug, Drop)]
 pub struct ExpectedDelimiters<'a> {
-    pub(crate) tokens: &'a [TokenTree],
-    // the places of the open headers among the tokens, outermost first
+    pub(crate) tokens: &'a [InternedToken],
+    // the places of the open headers, outermost first, where the top counts as the first token
     pub(crate) places: &'a [usize],
 }
 
@@ -23,6 +24,6 @@ impl<'a> Iterator for ExpectedDelimiters<'a> {
     fn next(&mut self) -> Option<DelimiterKind> {
         let (place, outer) = self.places.split_last()?;
         self.places = outer;
-        Some(kind_at(self.tokens, *place))
+        Some(kind_at(self.tokens, place.saturating_sub(1)))
     }
 }

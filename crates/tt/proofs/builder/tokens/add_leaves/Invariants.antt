@@ -1,11 +1,12 @@
 -- What was given was added.
 use Rattle.std.proofs.Common.{◌≡◌, ◌≤◌, ◌++◌, length, map}
 use Rattle.tt_base.specs.declared.token_tree.TokenTree.TheVariants as token
+use Rattle.tt_interned.specs.Held.{whole}
 use Rattle.tt.proofs.builder.tokens.add_leaves.Given as goal
 
 abbrev pub invariant-loop-leaf : goal.invariant-loop-leaf
 invariant-loop-leaf g l =
     (goal.iterator-loop-leaf g).can_next l.leaf-iterator
     × (goal.iterator-loop-leaf g).is_finite l.leaf-iterator
-    × (l.tokens.items ≡ l.fn.tokens.items ++ map token.Leaf l.yielded)
-    × (length l.tokens.items ≤ 4294967296)
+    × (l.held ≡ l.fn.held ++ map whole (map token.Leaf l.yielded))
+    × (length l.held ≤ 4294967295)

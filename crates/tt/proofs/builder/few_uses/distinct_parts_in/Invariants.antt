@@ -1,8 +1,0 @@
--- The different values in the tokens so far.
-use Rattle.std.proofs.Common.{◌≡◌, length, take}
-use Rattle.tt_tables.specs.TableOrder.{different}
-use Rattle.tt_tables.specs.Uses.{same_part, part_uses}
-use Rattle.tt.proofs.builder.few_uses.distinct_parts_in.Given as goal
-
-abbrev pub invariant-loop-place : goal.invariant-loop-place
-invariant-loop-place l = l.distinct ≡ length (different same_part (part_uses (take l.place l.tokens)))
