@@ -8,6 +8,7 @@ pub mod Moves
 pub mod Noting
 pub mod Paired
 pub mod PutIds
+pub mod Ranks
 pub mod RowOrder
 pub mod SameStored
 pub mod Sorted

@@ -3,6 +3,7 @@ pub mod Counted
 pub mod Few
 pub mod Known
 pub mod Packed
+pub mod Places
 pub mod ReaderOf
 pub mod Room
 pub mod Seen

@@ -3,6 +3,7 @@
 
 mod counts;
 mod few;
+mod first_uses;
 mod known;
 pub mod laws;
 mod pack;
