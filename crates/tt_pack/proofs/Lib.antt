@@ -1,12 +1,14 @@
 pub mod Copies
 pub mod Counting
 pub mod Decoded
+pub mod InternedFacts
 pub mod Joined
 pub mod Kept
 pub mod MostBytes
 pub mod Moves
 pub mod Noting
 pub mod Paired
+pub mod PlacesNamed
 pub mod PutIds
 pub mod Ranks
 pub mod RowOrder
@@ -15,5 +17,6 @@ pub mod Sorted
 pub mod Storing
 pub mod TableFacts
 pub mod Tally
+pub mod UsedParts
 pub mod UsesGrow
 pub mod Writing

@@ -1,6 +1,7 @@
 -- What the codec's contracts speak of.
 pub mod Counted
 pub mod Few
+pub mod InternedTables
 pub mod Known
 pub mod Packed
 pub mod Places

@@ -29,3 +29,7 @@ IsWithin parts it = AllByRecursion (λ place. place < parts) (token_places it)
 -- each place in the order has its rank noted
 abbrev pub AreRanked : (order ranks : List ℕ) → Type 0
 AreRanked order ranks = (rank place : ℕ) → slice_get order rank ≡ Some place → slice_get ranks place ≡ Some rank
+
+-- the value stands at the place
+abbrev pub IsAt : {X : Type 0} → List X → (place : ℕ) → X → Type 0
+IsAt values place x = slice_get values place ≡ Some x

@@ -4,6 +4,7 @@
 mod counts;
 mod few;
 mod first_uses;
+mod interned;
 mod known;
 pub mod laws;
 mod pack;
