@@ -11,6 +11,7 @@ pub mod Paired
 pub mod PlacesNamed
 pub mod PutIds
 pub mod Ranks
+pub mod Renumbered
 pub mod RowOrder
 pub mod SameStored
 pub mod Sorted
