@@ -1,5 +1,5 @@
 -- A token in numbers whose indices are put anew is the token that it means, in numbers under the new tables.
-use Rattle.std.proofs.Common.{◌≡◌, ℕ, zero, suc, Bool, true, false, cond, nat_lt, ◌+◌, ◌<◌, ◌≤◌, ◌^◌, List, [], ◌∷◌, map, drop, get_or, length, bytes_eq, slice_get, Some, refl, ap, ap₂, sym, subst, ◌∙◌, arith}
+use Rattle.std.proofs.Common.{◌≡◌, ℕ, zero, suc, Bool, true, false, cond, nat_lt, ◌+◌, ◌<◌, ◌≤◌, ◌^◌, List, [], ◌∷◌, map, drop, get_or, length, bytes_eq, slice_get, Some, refl, ap, sym, subst, ◌∙◌, arith}
 use Rattle.std.specs.List.{AllByRecursion}
 use Rattle.tt_base.specs.declared.leaf.Leaf.{Leaf}
 use Rattle.tt_base.specs.declared.leaf.Leaf.TheVariants as leaf
@@ -7,7 +7,6 @@ use Rattle.tt_base.specs.declared.span.Span.{Span}
 use Rattle.tt_base.specs.declared.span.SpanPart.{SpanPart}
 use Rattle.tt_base.specs.declared.token_tree.TokenTree.{TokenTree}
 use Rattle.tt_base.specs.declared.token_tree.TokenTree.TheVariants as token
-use Rattle.tt_base.specs.Fits.{TokenInRange}
 use Rattle.tt_base.specs.Forest.{IsWhole}
 use Rattle.tt_base.specs.Span.{part_of}
 use Rattle.tt_base.proofs.EndPieces.{header_within}
@@ -99,7 +98,7 @@ numbers_hold_at old tables tokens index (interned.Open kind opening) meant count
 numbers_hold_at old tables tokens index (interned.Header entry) (token.Leaf it) counts named within list read sums = absurd named
 numbers_hold_at old tables tokens index (interned.Header entry) (token.Subtree it) counts named within list read sums =
     subst (λ len. NumbersCanHold counts (interned.Header (record { opening = entry.opening; closing = entry.closing; kind = entry.kind; len = len; child_bytes = entry.child_bytes }))
-      × (numbers_hold counts (interned.Header (record { opening = entry.opening; closing = entry.closing; kind = entry.kind; len = len; child_bytes = entry.child_bytes })) ≡ first_child_bytes tables (drop index tokens)))
+    × (numbers_hold counts (interned.Header (record { opening = entry.opening; closing = entry.closing; kind = entry.kind; len = len; child_bytes = entry.child_bytes })) ≡ first_child_bytes tables (drop index tokens)))
     (sym named.0.len)
     (header_holds tables tokens index it counts (header_at tables tokens index (token.Subtree it) it counts within list read refl sums))
 
@@ -125,8 +124,7 @@ pub meant_at : (old new : Tables) (tokens : List InternedToken) (list : List Tok
     → AllByRecursion (Knows new) (drop index list) → IsWhole (drop index list) → (meant : TokenTree) × MeantAt old new list index (get_or tokens index d) meant
 meant_at old new tokens list index d named within known all_whole =
     let (meant, stands, read) = stands_there list index within in
-    let here : drop index list ≡ meant ∷ drop (index + 1) list = piece_at list index meant within read in
-    (
+    let here : drop index list ≡ meant ∷ drop (index + 1) list = piece_at list index meant within read in (
       meant,
       record {
         named = named_at old tokens list index d meant named stands;

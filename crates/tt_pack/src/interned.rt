@@ -75,8 +75,13 @@ impl InternedTables {
         let uses = FirstUses::of_tokens(alloc, below.tokens, below.parts.len(), used)?;
         let parts = values_at(alloc, below.parts, &uses.order)?;
         let part_uses = values_at(alloc, below.part_uses, &uses.order)?;
-        let (parts, symbols) =
-            tables_of(alloc, &parts, &part_uses, below.symbols, below.symbol_uses)?;
+        let (parts, symbols) = tables_of(
+            alloc,
+            &parts,
+            &part_uses,
+            below.symbols,
+            below.symbol_uses,
+        )?;
         Ok(InternedTables {
             part_indices: renumbered(uses.ranks, &parts.new_indices),
             parts: parts.values,

@@ -1,10 +1,10 @@
-use Rattle.std.proofs.Common.{◌≡◌, ◌<◌, ◌^◌, ◌++◌, ◌∷◌, [], length, true, Err, refl, sym, subst, ap, ap₂, ◌∙◌, arith, rules}
+use Rattle.std.proofs.Common.{◌≡◌, ◌<◌, ◌^◌, ◌++◌, ◌∷◌, [], length, Err, sym, subst, ap, ◌∙◌, arith, rules}
 use Rattle.std.specs.List.{AllByRecursion}
-use Rattle.tt_codec.specs.Header.{format_4, top_entry}
+use Rattle.tt_codec.specs.Header.{top_entry}
 use Rattle.tt_back_buf.specs.Bytes.{bytes_of}
 use Rattle.tt_base.specs.Span.{part_of}
 use Rattle.tt_interned.specs.ListOf.{list_of}
-use Rattle.tt_tables.specs.Tables.{Knows, part_table, tables_for}
+use Rattle.tt_tables.specs.Tables.{Knows, tables_for}
 use Rattle.tt_pack.specs.InternedTables.{tables_in}
 use Rattle.tt_pack.specs.Writing.{byte_count}
 use Rattle.tt_pack.specs.WriterOf.{HasWritten}

@@ -1,16 +1,13 @@
-use Rattle.std.proofs.Common.{◌≡◌, ◌++◌, ◌∷◌, [], drop, ◌+◌, ◌<◌, ◌≤◌, List, length, inl, inr, ap, sym, subst, ◌∙◌, refl, arith}
-use Rattle.tt_back_buf.specs.Bytes.{bytes_of}
+use Rattle.std.proofs.Common.{◌≡◌, ap, ◌∙◌, arith}
 use Rattle.tt_base.specs.declared.token_tree.TokenTree.{TokenTree}
-use Rattle.tt_base.specs.Forest.{IsWhole}
 use Rattle.tt_codec.specs.Entry.{most_entry_bytes}
 use Rattle.tt_tables.specs.Tables.{Tables}
 use Rattle.tt_pack.specs.Room.{most_token_bytes}
 use Rattle.tt_pack.specs.TablesOf.{tables_of, HasUses}
-use Rattle.tt_pack.specs.Writing.{byte_count, IsWritten}
 use Rattle.tt_pack.proofs.Joined.{on_ok, if_err}
 use Rattle.tt_pack.proofs.Paired.{length-paired, paired_at}
 use Rattle.tt_pack.proofs.MostBytes.{most_more, most_in_numbers}
-use Rattle.tt_pack.proofs.Writing.{piece_at, token_holds_at, put_fault, one_put}
+use Rattle.tt_pack.proofs.Writing.{token_holds_at, put_fault, one_put}
 use Rattle.tt_pack.proofs.writer.Writer.put_token.Goals as goal
 
 pub child_bytes-child_bytes-requires : goal.child_bytes-child_bytes-requires

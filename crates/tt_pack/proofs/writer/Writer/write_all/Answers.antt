@@ -1,4 +1,4 @@
-use Rattle.std.proofs.Common.{◌≡◌, ◌≤◌, ◌-◌, Err, ◌+◌, drop, length, refl, ap, sym, subst, arith, rules}
+use Rattle.std.proofs.Common.{◌≡◌, ◌-◌, Err, drop, length, refl, ap, sym, subst, arith, rules}
 use Rattle.std.proofs.lemmas.List.{drop_all, take_all}
 use Rattle.tt_base.proofs.WholeLists.{end_piece}
 use Rattle.tt_pack.specs.Room.{most_list_bytes}
@@ -12,8 +12,7 @@ pub loop-index-init : goal.loop-index-init
 loop-index-init c =
     let tokens = c.args.tokens.now in
     let none = drop_all (length tokens) tokens (omega arith) in
-    let all = take_all (length tokens) tokens (omega arith) in
-    (
+    let all = take_all (length tokens) tokens (omega arith) in (
       omega arith,
       subst (λ l. HasWritten (tables_of c.args.tables.now) l c.in_ok-writer.writer) (sym none) (c.in_ok-writer.ensures.ok (tables_of c.args.tables.now)),
       omega (arith, ap most_list_bytes all, c.requires.room, c.in_ok-writer.ensures.room),

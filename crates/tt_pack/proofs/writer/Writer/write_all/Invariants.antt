@@ -1,5 +1,5 @@
 -- All behind the index is written, and there is room for all before it and for a top.
-use Rattle.std.proofs.Common.{◌≡◌, ◌+◌, ◌≤◌, length, take, drop}
+use Rattle.std.proofs.Common.{◌+◌, ◌≤◌, length, take, drop}
 use Rattle.tt_back_buf.specs.Bytes.{room_of}
 use Rattle.tt_pack.specs.Room.{most_list_bytes}
 use Rattle.tt_pack.specs.TablesOf.{tables_of}

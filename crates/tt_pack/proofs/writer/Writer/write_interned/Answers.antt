@@ -1,4 +1,4 @@
-use Rattle.std.proofs.Common.{◌≡◌, ◌≤◌, ◌-◌, ◌+◌, ◌*◌, Err, drop, length, refl, sym, subst, arith, rules}
+use Rattle.std.proofs.Common.{◌≡◌, ◌-◌, Err, drop, length, refl, sym, subst, arith, rules}
 use Rattle.std.proofs.lemmas.List.{drop_all}
 use Rattle.tt_base.proofs.WholeLists.{end_piece}
 use Rattle.tt_interned.specs.ListOf.{list_of}
@@ -15,8 +15,7 @@ loop-index-init c =
     let below = c.args.below in
     let list = list_of below in
     let many : length below.tokens.now ≡ length list = as_many_named (tables_from below.parts.now below.symbols.now) below.tokens.now list below.list.1.named in
-    let none = drop_all (length below.tokens.now) list (omega (arith, many)) in
-    (
+    let none = drop_all (length below.tokens.now) list (omega (arith, many)) in (
       omega (arith, many),
       subst (λ l. HasWritten (tables_in c.args.tables.now) l c.in_ok-writer.writer) (sym none) (c.in_ok-writer.ensures.ok (tables_in c.args.tables.now)),
       omega (arith, many, c.requires.few, c.saturating_mul-room.ensures, c.in_ok-writer.ensures.room),
