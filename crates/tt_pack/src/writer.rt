@@ -100,9 +100,11 @@ impl Writer {
         ensures room { OnOk result (most_list_bytes (take index tokens.now) + 33 ≤ room_of self.new.bytes) }
         ensures err { IfErr result (λ fault. (fault ≡ Memory) ⊎ ((fault ≡ TooManyBytes) × (most_bytes < byte_count (tables_of tables.now) (drop index tokens.now)))) }
     {
+        // The uses are read first, so that nothing stands between the two questions for the token's kind, which become one.
+        let uses = tables.uses[index];
         let token = &tokens[index];
         let child_bytes = self.child_bytes(token);
-        let entry = tables.entry(token, tables.uses[index], child_bytes);
+        let entry = tables.entry(token, uses, child_bytes);
         self.put(entry)
     }
 

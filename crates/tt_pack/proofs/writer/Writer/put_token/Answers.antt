@@ -15,15 +15,15 @@ child_bytes-child_bytes-requires c =
     (token_holds_at (tables_of c.args.tables.now) c.args.tokens.now c.args.index c.index-tokens-index.result c.args.self.now.sums.items c.requires.index c.requires.whole
     c.index-tokens-index.is c.requires.written.sums).0
 
-pub index-requires : goal.index-requires
-index-requires c =
+pub index-uses-requires : goal.index-uses-requires
+index-uses-requires c =
     let long = length-paired (HasUses c.args.tables.now) c.args.tokens.now c.args.tables.now.uses.items c.requires.uses in
     omega (arith, long, c.requires.index)
 
 pub entry-entry-requires-clause-uses : goal.entry-entry-requires-clause-uses
 entry-entry-requires-clause-uses c =
-    paired_at (HasUses c.args.tables.now) c.args.tokens.now c.args.tables.now.uses.items c.args.index c.index-tokens-index.result c.index.result.now
-    c.requires.uses c.requires.index c.index-tokens-index.is c.index.ensures
+    paired_at (HasUses c.args.tables.now) c.args.tokens.now c.args.tables.now.uses.items c.args.index c.index-tokens-index.result c.index-uses.result.now
+    c.requires.uses c.requires.index c.index-tokens-index.is c.index-uses.ensures
 
 pub returns-clause-err : goal.returns-clause-err
 returns-clause-err c =
