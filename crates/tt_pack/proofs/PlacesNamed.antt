@@ -1,9 +1,10 @@
 -- What tokens in numbers name by places is what the tokens use that they mean.
-use Rattle.std.proofs.Common.{◌≡◌, ℕ, zero, suc, ◌<◌, inl, inr, Bool, true, false, not, cond, Some, All, List, [], ◌∷◌, ◌++◌, map, filter, length, nat_eq, get_or, slice_get, refl, ap, sym, subst, ◌∙◌, true≢false}
+use Rattle.std.proofs.Common.{◌≡◌, ℕ, zero, suc, ◌+◌, ◌<◌, inl, inr, Bool, true, false, not, cond, Some, All, List, [], ◌∷◌, ◌++◌, map, filter, length, nat_eq, get_or, take, slice_get, refl, ap, sym, subst, ◌∙◌, true≢false}
 use Rattle.std.proofs.lemmas.Bool.{eqb-true}
 use Rattle.std.proofs.lemmas.Cmp.{nat_eq_equiv}
 use Rattle.std.proofs.lemmas.List.Elements.{All-nil, All-cons}
-use Rattle.std.proofs.lemmas.Option.{slice_get_within}
+use Rattle.std.proofs.lemmas.List.{take_more}
+use Rattle.std.proofs.lemmas.Option.{slice_get_within, slice_get_read}
 use Rattle.std.specs.Cmp.{IsEquivalence}
 use Rattle.std.specs.List.{AllZip, AllByRecursion, IsDistinct}
 use Rattle.tt_base.specs.declared.leaf.Leaf.TheVariants as leaf
@@ -20,6 +21,7 @@ use Rattle.tt_tables.specs.Tables.{Tables}
 use Rattle.tt_tables.specs.Uses.{token_parts, part_uses}
 use Rattle.tt_tables.proofs.Members.{Member}
 use Rattle.tt_pack.specs.Places.{token_places, part_places, IsWithin, IsAt}
+use Rattle.tt_pack.proofs.Paired.{paired-snoc}
 use Rattle.tt_pack.proofs.TableFacts.{index_in-distinct}
 
 -- ---- lists in pairs
@@ -63,6 +65,15 @@ module _ {X : Type 0} (values : List X) where
   places_within [] (x ∷ xs) h = absurd h
   places_within (p ∷ places) [] h = absurd h
   places_within (p ∷ places) (x ∷ xs) h = All-cons (λ place. place < length values) p places (slice_get_within values p x h.0) (places_within places xs h.1)
+
+  -- One more value, which is read at the next place.
+  pub one_more_at : (places : List ℕ) (index : ℕ) (found more : List X) (x : X) → index < length places → All (λ place. place < length values) places
+      → x ≡ get_or values (get_or places index 0) x → more ≡ found ++ x ∷ [] → AllZip (IsAt values) (take index places) found → AllZip (IsAt values) (take (index + 1) places) more
+  one_more_at places index found more x within all read is before =
+      subst (λ l. AllZip (IsAt values) (take (index + 1) places) l) (sym is)
+      (subst (λ front. AllZip (IsAt values) front (found ++ x ∷ [])) (sym (take_more places index 0 within))
+      (paired-snoc (IsAt values) (take index places) found (get_or places index 0) x before
+      (slice_get_read values (length values) (get_or places index 0) x refl (all index 0 within) read)))
 
   -- What is computed from each value stands where the value does.
   pub mapped_at : {Y : Type 0} (f : X → Y) (places : List ℕ) (xs : List X) → AllZip (IsAt values) places xs → AllZip (IsAt (map f values)) places (map f xs)
