@@ -64,3 +64,14 @@ counted_of tokens parts symbols held named distinct right symbol_distinct symbol
 
     symbol_list : symbols_in held ≡ symbol_uses list
     symbol_list = ap symbols_in all ∙ symbols_in-whole list
+
+-- The same in slices of the same items.
+pub counted_from : (tokens tokens_now : List InternedToken) (parts parts_now : List SpanPart) (part_numbers part_numbers_now : List ℕ) (symbols symbols_now : List (List ℕ)) (symbol_numbers symbol_numbers_now : List ℕ) (list : List TokenTree)
+    → AreOf tokens parts part_numbers symbols symbol_numbers list → tokens_now ≡ tokens → parts_now ≡ parts → part_numbers_now ≡ part_numbers → symbols_now ≡ symbols → symbol_numbers_now ≡ symbol_numbers
+    → AreOf tokens_now parts_now part_numbers_now symbols_now symbol_numbers_now list
+counted_from tokens tokens_now parts parts_now part_numbers part_numbers_now symbols symbols_now symbol_numbers symbol_numbers_now list are e₁ e₂ e₃ e₄ e₅ =
+    subst (λ t. AreOf t parts_now part_numbers_now symbols_now symbol_numbers_now list) (sym e₁)
+    (subst (λ p. AreOf tokens p part_numbers_now symbols_now symbol_numbers_now list) (sym e₂)
+    (subst (λ n. AreOf tokens parts n symbols_now symbol_numbers_now list) (sym e₃)
+    (subst (λ s. AreOf tokens parts part_numbers s symbol_numbers_now list) (sym e₄)
+    (subst (λ n. AreOf tokens parts part_numbers symbols n list) (sym e₅) are))))

@@ -195,3 +195,9 @@ HasHeld-prop tokens parts symbols a b =
 pub held_is : (tokens : List InternedToken) (parts : List (SpanPart × ℕ)) (symbols : List (List ℕ × ℕ)) (has : HasHeld tokens parts symbols) (held : List HeldToken)
     → AreHeld tokens parts symbols held → has.0 ≡ held
 held_is tokens parts symbols has held are = lists_alike (tables_of parts symbols) tokens has.0 held has.1.named are.named
+
+-- The list that is meant is the one that is shown to be.
+pub list_is : (tokens : List InternedToken) (parts : List SpanPart) (part_numbers : List ℕ) (symbols : List (List ℕ)) (symbol_numbers : List ℕ) (has : IsListOf tokens parts part_numbers symbols symbol_numbers)
+    (list : List TokenTree) → AreOf tokens parts part_numbers symbols symbol_numbers list → has.0 ≡ list
+list_is tokens parts part_numbers symbols symbol_numbers has list are =
+    whole_alike has.0 list (lists_alike (tables_from parts symbols) tokens _ _ has.1.named are.named)

@@ -9,13 +9,15 @@ ghost use Rattle.tt_base.specs.declared.token_tree.TokenTree.TheVariants as toke
 ghost use Rattle.tt_base.specs.declared.leaf.Leaf.TheVariants as leaf;
 ghost use Rattle.tt_base.specs.Forest.{header};
 ghost use Rattle.tt_base.specs.Token.{delimiter};
-ghost use Rattle.tt_interned.specs.Held.{whole, opened, parts_in, symbols_in, token_alone};
+ghost use Rattle.tt_interned.specs.Held.{whole, opened, as_token, parts_in, symbols_in, open_places, token_alone};
 ghost use Rattle.tt_interned.specs.Interned.{HasHeld, AreNamed};
+ghost use Rattle.tt_interned.specs.ListOf.{list_of};
 ghost use Rattle.tt_interned.specs.OneList.{HasHeld-prop};
 ghost use Rattle.tt_interner.specs.Interner.{entries_of};
 ghost use Rattle.tt_tables.specs.TableOrder.{different, uses_of};
 ghost use Rattle.tt_tables.specs.Uses.{same_part};
 
+use crate::counted::CountedTokens;
 use crate::numbers::{span_numbers, symbol_place};
 use crate::token::InternedToken;
 use crate::uncount::uncount_all;
@@ -255,6 +257,20 @@ impl InternedTokens {
         ensures { AreNamed result.now self.now }
     {
         &self.tokens
+    }
+
+    /// The tokens with the values that they name, where no header is open.
+    pub fn counted(&self) -> CountedTokens<'_>
+        requires { open_places 1 self.now ≡ [] }
+        ensures { list_of result ≡ map as_token self.now }
+    {
+        CountedTokens {
+            tokens: &self.tokens,
+            parts: self.parts.values(),
+            part_uses: self.parts.numbers(),
+            symbols: self.symbols.values(),
+            symbol_uses: self.symbols.numbers(),
+        }
     }
 
     /// How often a part is used.
