@@ -4,6 +4,8 @@ use Rattle.tt_base.specs.declared.delimiter.DelimiterKind.{DelimiterKind}
 use Rattle.tt_base.specs.declared.span.Span.{Span}
 use Rattle.tt_base.specs.declared.span.SpanPart.{SpanPart}
 use Rattle.tt_base.specs.declared.token_tree.TokenTree.{TokenTree}
+use Rattle.tt_base.specs.declared.token_tree.TokenTree.TheVariants as token
+use Rattle.tt_base.specs.Building.{leaf_alone}
 use Rattle.tt_base.specs.Forest.{header}
 use Rattle.tt_base.specs.Span.{part_of}
 use Rattle.tt_base.specs.Token.{delimiter}
@@ -42,3 +44,8 @@ abbrev pub open_places : (first : ℕ) → List HeldToken → List ℕ
 open_places first [] = []
 open_places first (whole it ∷ held) = open_places (suc first) held
 open_places first (opened kind open_span ∷ held) = first ∷ open_places (suc first) held
+
+-- a token, alone if it is a punct
+abbrev pub token_alone : TokenTree → TokenTree
+token_alone (token.Leaf it) = token.Leaf (leaf_alone it)
+token_alone (token.Subtree it) = token.Subtree it

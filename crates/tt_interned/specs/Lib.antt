@@ -1,6 +1,9 @@
 -- What tokens mean that name values by places.
+pub mod Alone
 pub mod Counted
 pub mod Held
+pub mod HeldCode
+pub mod Interned
 pub mod ListOf
 pub mod Names
 pub mod OneList

@@ -2,7 +2,7 @@
 use Rattle.std.proofs.Common.{◌≡◌, ℕ, List, [], ◌∷◌, map, Option, Some, slice_get, bytes_eq, refl, ap, ap₂, sym, ◌∙◌}
 use Rattle.std.proofs.Props.{props}
 use Rattle.std.proofs.lemmas.Map.Keys.{IsDistinct-prop}
-use Rattle.std.specs.Coded.{Coded-set, coded_list, coded_ℕ, ×_prop}
+use Rattle.std.specs.Coded.{Coded-set, coded_list, coded_ℕ, le_prop, ×_prop}
 use Rattle.std.specs.List.{AllZip, IsDistinct}
 use mathlib.Core.HLevel.{Σ_prop_path}
 use Rattle.tt_base.specs.contracts.span.SpanPart.{the_row as part_row}
@@ -22,6 +22,7 @@ use Rattle.tt_interned.specs.declared.token.InternedToken.{InternedToken}
 use Rattle.tt_interned.specs.declared.token.InternedToken.TheVariants as interned
 use Rattle.tt_interned.specs.Counted.{AreOf, IsListOf}
 use Rattle.tt_interned.specs.Held.{HeldToken, whole, opened}
+use Rattle.tt_interned.specs.Interned.{AreHeld, HasHeld, tables_of}
 use Rattle.tt_interned.specs.Names.{Names, AllName}
 use Rattle.tt_tables.specs.Searches.{FindsSpan, FindsLeaf, FindsSubtree}
 use Rattle.tt_tables.specs.Tables.{Tables, tables_from}
@@ -172,3 +173,31 @@ pub IsListOf-prop : (tokens : List InternedToken) (parts : List SpanPart) (part_
 IsListOf-prop tokens parts part_numbers symbols symbol_numbers a b =
     Σ_prop_path (λ list. are_of-prop tokens parts part_numbers symbols symbol_numbers list)
     (whole_alike a.0 b.0 (lists_alike (tables_from parts symbols) tokens _ _ a.1.named b.1.named))
+
+-- ---- tokens that are held
+
+are_held-prop : (tokens : List InternedToken) (parts : List (SpanPart × ℕ)) (symbols : List (List ℕ × ℕ)) (held : List HeldToken) → IsProp (AreHeld tokens parts symbols held)
+are_held-prop tokens parts symbols held =
+    λ x y i. record {
+      named = all_name-prop (tables_of parts symbols) tokens held x.named y.named i;
+      parts_counted = λ p. Coded-set coded_ℕ _ _ (x.parts_counted p) (y.parts_counted p) i;
+      symbols_counted = λ p. Coded-set coded_ℕ _ _ (x.symbols_counted p) (y.symbols_counted p) i;
+      in_order = Coded-set (coded_list (coded_list coded_ℕ)) _ _ x.in_order y.in_order i;
+      few = le_prop x.few y.few i;
+    }
+
+-- So what is held can stand in a ghost field.
+pub HasHeld-prop : (tokens : List InternedToken) (parts : List (SpanPart × ℕ)) (symbols : List (List ℕ × ℕ)) → IsProp (HasHeld tokens parts symbols)
+HasHeld-prop tokens parts symbols a b =
+    Σ_prop_path (λ held. are_held-prop tokens parts symbols held) (lists_alike (tables_of parts symbols) tokens a.0 b.0 a.1.named b.1.named)
+
+-- What is held is what is shown to be.
+pub held_is : (tokens : List InternedToken) (parts : List (SpanPart × ℕ)) (symbols : List (List ℕ × ℕ)) (has : HasHeld tokens parts symbols) (held : List HeldToken)
+    → AreHeld tokens parts symbols held → has.0 ≡ held
+held_is tokens parts symbols has held are = lists_alike (tables_of parts symbols) tokens has.0 held has.1.named are.named
+
+-- The list that is meant is the one that is shown to be.
+pub list_is : (tokens : List InternedToken) (parts : List SpanPart) (part_numbers : List ℕ) (symbols : List (List ℕ)) (symbol_numbers : List ℕ) (has : IsListOf tokens parts part_numbers symbols symbol_numbers)
+    (list : List TokenTree) → AreOf tokens parts part_numbers symbols symbol_numbers list → has.0 ≡ list
+list_is tokens parts part_numbers symbols symbol_numbers has list are =
+    whole_alike has.0 list (lists_alike (tables_from parts symbols) tokens _ _ has.1.named are.named)

@@ -1,0 +1,9 @@
+-- Laws of tokens that name values.
+pub mod Changing
+pub mod Growing
+pub mod Naming
+pub mod Opening
+pub mod Ordering
+pub mod Packing
+pub mod Taking
+pub mod Using

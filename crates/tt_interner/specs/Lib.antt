@@ -1,0 +1,4 @@
+-- Different values at places, and how often each is used.
+pub mod Entries
+pub mod Index
+pub mod Interner
