@@ -177,6 +177,7 @@ impl HeaderEntry {
 
     /// Puts the header's bytes before the others, in the first format that can say it.
     #[tactic(auto, unfolding(crate::specs::Header::header_bytes))]
+    #[inline(always)]
     pub(crate) fn write(self, into: &mut BackBuf)
         requires fits { HeaderFits self }
         requires room { 33 ≤ room_of into.old }

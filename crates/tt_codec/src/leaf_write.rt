@@ -47,6 +47,7 @@ fn write_form(into: &mut BackBuf, kind: LitKind, suffix_len: u8)
 }
 
 // Puts a punct before the bytes.
+#[inline(always)]
 fn write_punct(into: &mut BackBuf, char: char, spacing: Spacing, numbers: SpanNumbers)
     requires fits { numbers.part < 2 ^ 28 }
     requires room { 17 ≤ room_of into.old }
@@ -67,6 +68,7 @@ fn write_punct(into: &mut BackBuf, char: char, spacing: Spacing, numbers: SpanNu
 }
 
 // Puts a literal before the bytes.
+#[inline(always)]
 fn write_literal(
     into: &mut BackBuf,
     symbol: u32,
@@ -90,6 +92,7 @@ fn write_literal(
 }
 
 // Puts an ident before the bytes.
+#[inline(always)]
 fn write_ident(into: &mut BackBuf, symbol: u32, is_raw: IdentIsRaw, numbers: SpanNumbers)
     requires part { numbers.part < 2 ^ 28 }
     requires symbol { symbol < 2 ^ 29 }

@@ -1,8 +1,6 @@
 -- What is held, where tokens come, change and go.
-use Rattle.std.proofs.Common.{◌≡◌, ℕ, zero, suc, ◌+◌, ◌<◌, ◌≤◌, ◌⊎◌, inl, inr, Bool, true, false, cond, bytes_eq, List, [], ◌∷◌, ◌++◌, Option, Some, None, length, map, take, drop, set, slice_get, refl, ap, ap₂, sym, subst, ◌∙◌, arith, append_assoc, append-nil, length-append}
-use Rattle.std.proofs.lemmas.List.{length-set, length-take-le}
-use Rattle.std.proofs.lemmas.Map.Entries.{length-keys_of}
-use Rattle.std.proofs.lemmas.Option.{slice_get_within}
+use Rattle.std.proofs.Common.{◌≡◌, ℕ, zero, suc, ◌+◌, ◌<◌, ◌≤◌, ◌⊎◌, inl, inr, Bool, true, false, cond, bytes_eq, List, [], ◌∷◌, ◌++◌, Some, None, length, take, drop, set, slice_get, refl, ap, sym, subst, ◌∙◌, arith, length-append}
+use Rattle.std.proofs.lemmas.List.{length-set}
 use Rattle.std.specs.Cmp.{IsEquivalence}
 use Rattle.std.specs.List.{AllByRecursion, IsDistinct, list_any, remove}
 use Rattle.std.specs.Map.{keys_of, values_of, lookup}
@@ -10,14 +8,13 @@ use Rattle.std.specs.Option.{unwrap_or}
 use Rattle.tt_base.specs.contracts.span.SpanPartEq.TheImpl.Laws as part_eq
 use Rattle.tt_base.specs.contracts.symbol.SymbolEq.TheImpl.Laws as symbol_eq
 use Rattle.tt_base.specs.declared.span.SpanPart.{SpanPart}
-use Rattle.tt_base.specs.declared.token_tree.TokenTree.{TokenTree}
 use Rattle.tt_interner.proofs.UseCounts.{entry_at, number_at, uses-append, uses-cons, one_if}
-use Rattle.tt_interned.proofs.Naming.{Keep, KeepAll, keeps_front, all_stay, keep_all, named-push, named-set, named-take, length-named}
+use Rattle.tt_interned.proofs.Naming.{KeepAll, keeps_front, all_stay, keep_all, named-push, named-set, named-take}
 use Rattle.tt_interned.proofs.Ordering.{keys_with, keys_cut, in_order_cut}
 use Rattle.tt_interned.proofs.Using.{uses_pushed, uses_cut, uses_set, same_uses_set, uses_removed, same_uses_removed}
 use Rattle.tt_interned.specs.declared.token.InternedToken.{InternedToken}
 use Rattle.tt_interner.specs.Entries.{with_entry, IsCut}
-use Rattle.tt_interned.specs.Held.{HeldToken, whole, opened, counted_parts, counted_symbols, parts_in, symbols_in}
+use Rattle.tt_interned.specs.Held.{HeldToken, counted_parts, counted_symbols, parts_in, symbols_in}
 use Rattle.tt_interned.specs.Interned.{AreHeld, tables_of}
 use Rattle.tt_interned.specs.Names.{Names, AllName}
 use Rattle.tt_tables.proofs.Members.{Member}
@@ -234,16 +231,16 @@ pub held_cut : (tokens : List InternedToken) (parts parts_mid parts_now : List (
 held_cut tokens parts parts_mid parts_now symbols symbols_mid symbols_now held n are part_distinct part_keys part_fewer part_cut part_same symbol_distinct symbol_keys symbol_fewer symbol_cut symbol_same =
     record {
       named = all_stay (tables_of parts symbols) (tables_of parts_now symbols_now) (take n tokens) (take n held)
-      (keep_used (tables_of parts symbols) (tables_of parts_now symbols_now) (take n held)
-      (λ i x some at. kept_by_cut same_part part_eq.lawful.laws part_sound (parts_in (take n held)) parts_mid parts_now i x
-      (subst (IsDistinct same_part) (sym part_keys) part_distinct) parts_mid_right part_cut some (ap (λ l. slice_get l i) part_keys ∙ at))
-      (λ i x some at. kept_by_cut bytes_eq symbol_eq.lawful.laws text_sound (symbols_in (take n held)) symbols_mid symbols_now i x
-      (subst (IsDistinct bytes_eq) (sym symbol_keys) symbol_distinct) symbols_mid_right symbol_cut some (ap (λ l. slice_get l i) symbol_keys ∙ at)))
-      (named-take (tables_of parts symbols) tokens held n are.named);
+          (keep_used (tables_of parts symbols) (tables_of parts_now symbols_now) (take n held)
+          (λ i x some at. kept_by_cut same_part part_eq.lawful.laws part_sound (parts_in (take n held)) parts_mid parts_now i x
+          (subst (IsDistinct same_part) (sym part_keys) part_distinct) parts_mid_right part_cut some (ap (λ l. slice_get l i) part_keys ∙ at))
+          (λ i x some at. kept_by_cut bytes_eq symbol_eq.lawful.laws text_sound (symbols_in (take n held)) symbols_mid symbols_now i x
+          (subst (IsDistinct bytes_eq) (sym symbol_keys) symbol_distinct) symbols_mid_right symbol_cut some (ap (λ l. slice_get l i) symbol_keys ∙ at)))
+          (named-take (tables_of parts symbols) tokens held n are.named);
       parts_counted = λ x. part_same x ∙ parts_mid_right x;
       symbols_counted = λ x. symbol_same x ∙ symbols_mid_right x;
       in_order = in_order_cut bytes_eq symbol_eq.lawful.laws text_sound (symbols_in (take n held)) (symbols_in (drop n held)) symbols_mid symbols_now
-      (subst (IsDistinct bytes_eq) (sym symbol_keys) symbol_distinct) (symbol_keys ∙ are.in_order ∙ ap (different bytes_eq) (uses_cut counted_symbols held n)) symbols_mid_right symbol_cut;
+          (subst (IsDistinct bytes_eq) (sym symbol_keys) symbol_distinct) (symbol_keys ∙ are.in_order ∙ ap (different bytes_eq) (uses_cut counted_symbols held n)) symbols_mid_right symbol_cut;
       few = omega (arith, are.few, length-take-most held n);
     }
   where

@@ -1,6 +1,5 @@
 -- What is held, where a call of the code appends a token, or closes, changes or takes out one.
-use Rattle.std.proofs.Common.{◌≡◌, ℕ, zero, suc, ◌+◌, ◌-◌, ◌⊎◌, inl, inr, min, take, drop, length-drop, ◌*◌, ◌^◌, ◌<◌, ◌≤◌, Bool, bytes_eq, List, [], ◌∷◌, ◌++◌, Some, length, set, get_or, slice_get, refl, ap, sym, subst, ◌∙◌, arith, append-nil}
-use Rattle.std.specs.List.{remove}
+use Rattle.std.proofs.Common.{◌≡◌, ℕ, zero, suc, ◌+◌, ◌-◌, ◌⊎◌, inl, inr, min, take, drop, length-drop, ◌^◌, ◌<◌, ◌≤◌, Bool, bytes_eq, List, [], ◌∷◌, ◌++◌, Some, length, set, get_or, slice_get, refl, ap, sym, subst, ◌∙◌, arith, append-nil}
 use Rattle.std.specs.Map.{keys_of}
 use Rattle.tt_base.specs.contracts.span.SpanPartEq.TheImpl.Laws as part_eq
 use Rattle.tt_base.specs.contracts.symbol.SymbolEq.TheImpl.Laws as symbol_eq
@@ -14,7 +13,7 @@ use Rattle.tt_base.specs.declared.token_tree.TokenTree.TheVariants as token
 use Rattle.tt_base.specs.declared.ident.Ident.{Ident}
 use Rattle.tt_base.specs.declared.literal.Literal.{Literal}
 use Rattle.tt_base.specs.declared.punct.Punct.{Punct}
-use Rattle.tt_base.specs.Fits.{SpanInRange, LeafInRange, TokenInRange}
+use Rattle.tt_base.specs.Fits.{SpanInRange, LeafInRange}
 use Rattle.tt_base.specs.Forest.{header}
 use Rattle.tt_base.specs.Literal.{symbol_of, span_of, kind_of, suffix_len_of}
 use Rattle.tt_base.specs.Span.{part_of}
@@ -23,11 +22,11 @@ use Rattle.tt_codec.specs.declared.entry.HeaderEntry.{HeaderEntry}
 use Rattle.tt_codec.specs.declared.entry.LeafEntry.TheVariants.{Punct as punct, Ident as ident, Literal as literal}
 use Rattle.tt_codec.specs.declared.span.SpanNumbers.{SpanNumbers}
 use Rattle.tt_codec.specs.SpanNumbers.{span_numbers}
-use Rattle.tt_interned.proofs.Changing.{Grows, counted_once, grows_with, more_with, number_with, held_still, held_pushed, held_set, held_removed}
+use Rattle.tt_interned.proofs.Changing.{Grows, counted_once, grows_with, more_with, number_with, held_still, held_pushed, held_set}
 use Rattle.std.proofs.lemmas.Option.{slice_get_within, slice_get_read}
 use Rattle.tt_interned.proofs.Naming.{length-named, named_at}
 use Rattle.tt_interned.proofs.Ordering.{in_order_more}
-use Rattle.tt_interned.proofs.Taking.{UsesParts, header_uses}
+use Rattle.tt_interned.proofs.Taking.{header_uses}
 use Rattle.std.proofs.lemmas.List.{take_all}
 use Rattle.tt_interned.proofs.Using.{few_parts, few_symbols, uses_within, uses_cut}
 use Rattle.tt_interned.specs.Alone.{interned_alone}
@@ -39,8 +38,8 @@ use Rattle.tt_interned.specs.Names.{Names, AllName}
 use Rattle.tt_interner.specs.Entries.{with_entry}
 use Rattle.tt_interner.proofs.UseCounts.{uses-le, uses-cons, uses-one, uses-append}
 use Rattle.tt_tables.proofs.TokenTables.{part_sound, text_sound}
-use Rattle.tt_tables.specs.Counts.{number_in, CountsUses, CountsMore}
-use Rattle.tt_tables.specs.Searches.{FindsSpan, FindsSubtree}
+use Rattle.tt_tables.specs.Counts.{number_in, CountsMore}
+use Rattle.tt_tables.specs.Searches.{FindsSpan}
 use Rattle.tt_tables.specs.TableOrder.{different, uses_of}
 use Rattle.tt_tables.specs.Tables.{Tables}
 use Rattle.tt_tables.specs.Uses.{same_part}
@@ -440,8 +439,7 @@ pub alone_held : (tokens now : List InternedToken) (parts : List (SpanPart × �
     → AreHeld tokens parts symbols held → slice_get tokens place ≡ Some t → now ≡ set tokens place (interned_alone t)
     → (h : HeldToken) × (slice_get held place ≡ Some h) × AreHeld now parts symbols (set held place (held_alone h))
 alone_held tokens now parts symbols held place t is at changed =
-    let (h, here, named) = held_at tokens parts symbols held place t is at in
-    (
+    let (h, here, named) = held_at tokens parts symbols held place t is at in (
       h,
       here,
       subst (λ l. AreHeld l parts symbols (set held place (held_alone h))) (sym changed)
@@ -469,7 +467,7 @@ rest_taken n xs = take_all (length xs - n) (drop n xs) (omega (arith, length-dro
 pub rest_named : (tokens seen_tokens : List InternedToken) (parts : List (SpanPart × ℕ)) (symbols : List (List ℕ × ℕ)) (held : List HeldToken) (n : ℕ) → AreHeld tokens parts symbols held → seen_tokens ≡ tokens
     → AllName (tables_of parts symbols) (take (length seen_tokens - n) (drop n seen_tokens)) (drop n held)
 rest_named tokens seen_tokens parts symbols held n is same =
-    subst (λ l. AllName (tables_of parts symbols) l (drop n held)) (sym (rest_taken n seen_tokens) )
+    subst (λ l. AllName (tables_of parts symbols) l (drop n held)) (sym (rest_taken n seen_tokens))
     (subst (λ l. AllName (tables_of parts symbols) (drop n l) (drop n held)) (sym same) (named-drop (tables_of parts symbols) tokens held n is.named))
 
 -- So they can be uncounted.

@@ -1,6 +1,5 @@
 -- Tokens go on to mean the same where the values that they name keep their places.
-use Rattle.std.proofs.Common.{◌≡◌, ℕ, zero, suc, ◌+◌, ◌<◌, List, [], ◌∷◌, ◌++◌, ◌⊎◌, inl, inr, Some, length, take, set, slice_get, refl, sym, subst, ◌∙◌, arith}
-use Rattle.std.specs.List.{AllZip, remove}
+use Rattle.std.proofs.Common.{◌≡◌, ℕ, zero, suc, List, [], ◌∷◌, ◌++◌, inl, inr, Some, length, take, set, slice_get, refl, subst, arith}
 use Rattle.tt_base.specs.declared.leaf.Leaf.{Leaf}
 use Rattle.tt_base.specs.declared.leaf.Leaf.TheVariants as leaf
 use Rattle.tt_base.specs.declared.span.Span.{Span}
@@ -17,7 +16,7 @@ use Rattle.tt_interned.specs.declared.token.InternedToken.TheVariants as interne
 use Rattle.tt_interned.specs.Held.{HeldToken, whole, opened, counted_parts, counted_symbols}
 use Rattle.tt_interned.specs.Names.{Names, AllName}
 use Rattle.tt_tables.proofs.Members.{Member}
-use Rattle.tt_tables.specs.Searches.{FindsSpan, FindsLeaf, FindsSubtree}
+use Rattle.tt_tables.specs.Searches.{FindsSpan, FindsLeaf}
 use Rattle.tt_tables.specs.Tables.{Tables}
 use Rattle.tt_tables.specs.Uses.{leaf_symbols, token_parts}
 

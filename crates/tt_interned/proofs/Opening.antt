@@ -1,11 +1,10 @@
 -- Where headers are open in a list, and what stands there.
-use Rattle.std.proofs.Common.{◌≡◌, ℕ, zero, suc, ◌+◌, ◌<◌, ◌≤◌, ◌⊎◌, inl, inr, List, [], ◌∷◌, ◌++◌, Some, length, map, take, drop, set, slice_get, refl, ap, ap₂, sym, subst, ◌∙◌, arith}
+use Rattle.std.proofs.Common.{◌≡◌, ℕ, zero, suc, ◌+◌, ◌<◌, ◌≤◌, List, [], ◌∷◌, ◌++◌, Some, length, map, take, drop, set, slice_get, refl, ap, ap₂, sym, ◌∙◌, arith}
 use Rattle.std.specs.List.{AllByRecursion, remove}
 use Rattle.tt_base.specs.declared.delimiter.DelimiterKind.{DelimiterKind}
 use Rattle.tt_base.specs.declared.span.Span.{Span}
 use Rattle.tt_base.specs.declared.token_tree.TokenTree.{TokenTree}
 use Rattle.tt_interned.specs.Held.{HeldToken, whole, opened, as_token, open_places}
-use native.Mathlib.Numerals.{unary_clauses}
 
 -- A whole token more.
 pub open_places-whole : (first : ℕ) (held : List HeldToken) (it : TokenTree) → open_places first (held ++ whole it ∷ []) ≡ open_places first held

@@ -1,5 +1,5 @@
 -- Values that stand in the order of their first uses, where one use more comes, or all from a place on go.
-use Rattle.std.proofs.Common.{◌≡◌, ◌≢◌, ℕ, zero, suc, ◌+◌, ◌<◌, ◌≤◌, ◌⊎◌, inl, inr, Bool, true, false, cond, ◌||◌, List, [], ◌∷◌, ◌++◌, Some, length, take, drop, slice_get, refl, ap, ap₂, sym, subst, ◌∙◌, arith, append_assoc, append-nil, length-append}
+use Rattle.std.proofs.Common.{◌≡◌, ℕ, zero, suc, ◌<◌, ◌≤◌, ◌⊎◌, inl, inr, Bool, true, false, cond, ◌||◌, List, [], ◌∷◌, ◌++◌, Some, length, take, drop, slice_get, refl, ap, ap₂, sym, subst, ◌∙◌, arith, append_assoc, append-nil}
 use Rattle.std.proofs.lemmas.Map.Entries.{length-keys_of}
 use Rattle.std.proofs.lemmas.Option.{slice_get_within}
 use Rattle.std.specs.Cmp.{IsEquivalence}
@@ -8,7 +8,7 @@ use Rattle.std.specs.Map.{keys_of, values_of}
 use Rattle.tt_interner.proofs.UseCounts.{entry_at, number_at, uses-append}
 use Rattle.tt_interner.specs.Entries.{with_entry, IsCut}
 use Rattle.tt_tables.proofs.Different.{different-snoc, any-different, not_used, is_used}
-use Rattle.tt_tables.specs.Counts.{number_in, CountsUses}
+use Rattle.tt_tables.specs.Counts.{CountsUses}
 use Rattle.tt_tables.specs.TableOrder.{different, uses_of}
 
 -- Keys of lists behind each other.

@@ -1,23 +1,19 @@
 -- What is packed of what is held.
-use Rattle.std.proofs.Common.{◌≡◌, ℕ, zero, suc, ◌+◌, Bool, true, bytes_eq, List, [], ◌∷◌, ◌++◌, Some, map, drop, slice_get, refl, ap, ap₂, sym, subst, ◌∙◌, arith}
+use Rattle.std.proofs.Common.{◌≡◌, ℕ, suc, Bool, bytes_eq, List, [], ◌∷◌, ◌++◌, Some, map, slice_get, refl, ap, ap₂, sym, subst, ◌∙◌}
 use Rattle.std.specs.Cmp.{IsEquivalence}
-use Rattle.std.specs.List.{IsDistinct, flat_map}
+use Rattle.std.specs.List.{IsDistinct}
 use Rattle.std.specs.Map.{keys_of, values_of}
 use Rattle.tt_base.specs.contracts.span.SpanPartEq.TheImpl.Laws as part_eq
 use Rattle.tt_base.specs.contracts.symbol.SymbolEq.TheImpl.Laws as symbol_eq
-use Rattle.tt_base.specs.declared.delimiter.Subtree.{Subtree}
 use Rattle.tt_base.specs.declared.span.SpanPart.{SpanPart}
 use Rattle.tt_base.specs.declared.token_tree.TokenTree.{TokenTree}
-use Rattle.tt_base.specs.declared.token_tree.TokenTree.TheVariants as token
 use Rattle.tt_interner.proofs.UseCounts.{number_at}
-use Rattle.tt_interned.proofs.Opening.{all_whole}
 use Rattle.tt_interned.specs.declared.token.InternedToken.{InternedToken}
 use Rattle.tt_interned.specs.Counted.{AreOf}
-use Rattle.tt_interned.specs.Held.{HeldToken, whole, as_token, counted_parts, counted_symbols, parts_in, symbols_in, open_places}
-use Rattle.tt_interned.specs.Interned.{AreHeld, tables_of}
+use Rattle.tt_interned.specs.Held.{HeldToken, whole, as_token, counted_parts, counted_symbols, parts_in, symbols_in}
+use Rattle.tt_interned.specs.Interned.{tables_of}
 use Rattle.tt_interned.specs.Names.{AllName}
-use Rattle.tt_tables.proofs.TokenTables.{text_sound}
-use Rattle.tt_tables.specs.Counts.{number_in, CountsUses}
+use Rattle.tt_tables.specs.Counts.{CountsUses}
 use Rattle.tt_tables.specs.TableOrder.{different, uses_of}
 use Rattle.tt_tables.specs.Uses.{same_part, part_uses, symbol_uses}
 

@@ -1,10 +1,10 @@
 -- What lists of items use, where one more comes, one is changed, one goes, or all from a place on go.
-use Rattle.std.proofs.Common.{◌≡◌, ℕ, zero, suc, ◌+◌, ◌*◌, ◌≤◌, Bool, List, [], ◌∷◌, ◌++◌, Some, length, take, drop, set, slice_get, refl, ap, sym, ◌∙◌, arith, append_assoc, append-nil, length-append}
+use Rattle.std.proofs.Common.{◌≡◌, ℕ, zero, suc, ◌+◌, ◌*◌, ◌≤◌, Bool, List, [], ◌∷◌, ◌++◌, Some, length, take, drop, set, slice_get, refl, ap, sym, ◌∙◌, arith, append_assoc, append-nil}
 use Rattle.std.specs.List.{flat_map, remove}
 use Rattle.tt_base.specs.declared.leaf.Leaf.TheVariants as leaf
 use Rattle.tt_base.specs.declared.token_tree.TokenTree.TheVariants as token
 use Rattle.tt_interner.proofs.UseCounts.{uses-append}
-use Rattle.tt_interned.specs.Held.{HeldToken, whole, opened, counted_parts, counted_symbols, parts_in, symbols_in}
+use Rattle.tt_interned.specs.Held.{HeldToken, whole, opened, parts_in, symbols_in}
 use Rattle.tt_tables.specs.TableOrder.{uses_of}
 
 -- ---- lists behind each other

@@ -1,5 +1,5 @@
 -- A flat list of tokens in which headers may be open.
-use Rattle.std.specs.Prelude.{ℕ, suc, List, [], ◌∷◌, flat_map, map}
+use Rattle.std.specs.Prelude.{ℕ, suc, List, [], ◌∷◌, flat_map}
 use Rattle.tt_base.specs.declared.delimiter.DelimiterKind.{DelimiterKind}
 use Rattle.tt_base.specs.declared.span.Span.{Span}
 use Rattle.tt_base.specs.declared.span.SpanPart.{SpanPart}

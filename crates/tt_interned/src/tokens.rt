@@ -122,8 +122,7 @@ impl InternedTokens {
         let symbol = symbol_place(&mut self.symbols, literal.symbol())?;
         self.parts.add_at(numbers.part);
         self.symbols.add_at(symbol);
-        let entry =
-            LeafEntry::Literal(symbol, literal.kind(), literal.suffix_len(), numbers);
+        let entry = LeafEntry::Literal(symbol, literal.kind(), literal.suffix_len(), numbers);
         self.tokens.push_reserved(InternedToken::Leaf(entry));
         Ok(())
     }
@@ -152,7 +151,8 @@ impl InternedTokens {
         self.tokens.reserve(1)?;
         let numbers = span_numbers(&mut self.parts, open_span)?;
         self.parts.add_at(numbers.part);
-        self.tokens.push_reserved(InternedToken::Open(kind, numbers));
+        self.tokens
+            .push_reserved(InternedToken::Open(kind, numbers));
         Ok(())
     }
 
@@ -167,14 +167,13 @@ impl InternedTokens {
         let closing = span_numbers(&mut self.parts, &subtree.delimiter.close)?;
         self.parts.add_at(opening.part);
         self.parts.add_at(closing.part);
-        self.tokens
-            .push_reserved(InternedToken::Header(HeaderEntry {
-                opening,
-                closing,
-                kind: subtree.delimiter.kind,
-                len: subtree.len,
-                child_bytes: 0,
-            }));
+        self.tokens.push_reserved(InternedToken::Header(HeaderEntry {
+            opening,
+            closing,
+            kind: subtree.delimiter.kind,
+            len: subtree.len,
+            child_bytes: 0,
+        }));
         Ok(())
     }
 

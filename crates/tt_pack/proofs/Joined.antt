@@ -1,5 +1,5 @@
 -- Facts about a result.
-use Rattle.std.proofs.Common.{IfOk, IfErr, Result, Ok, Err}
+use Rattle.std.proofs.Common.{IfOk, IfErr, OnOk, Result, Ok, Err}
 
 -- What follows from a fact about a value is a fact about each success.
 pub if_ok : {T E : Type 0} {P Q : T → Type 0} (result : Result T E) → ((x : T) → P x → Q x) → IfOk result P → IfOk result Q
@@ -15,3 +15,8 @@ if_ok_both (Err e) f h k = h
 pub if_err : {T E : Type 0} {P Q : E → Type 0} (result : Result T E) → ((e : E) → P e → Q e) → IfErr result P → IfErr result Q
 if_err (Ok x) f h = h
 if_err (Err e) f h = f e h
+
+-- What follows from a fact about success is one.
+pub on_ok : {T E A B : Type 0} (result : Result T E) → (A → B) → OnOk result A → OnOk result B
+on_ok (Ok x) f h = f h
+on_ok (Err e) f h = h

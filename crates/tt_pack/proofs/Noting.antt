@@ -29,7 +29,7 @@ module _ {X : Type 0} (same : X → X → Bool) where
   noted_by values x there e = ap (λ t. cond t values (values ++ x ∷ [])) e
 
   -- Where a value stands, it is noted.
-  any_there : IsEquivalence same → (values : List X) (i : ℕ) (x : X) → slice_get values i ≡ Some x → list_any (λ y. same y x) values ≡ true
+  pub any_there : IsEquivalence same → (values : List X) (i : ℕ) (x : X) → slice_get values i ≡ Some x → list_any (λ y. same y x) values ≡ true
   any_there laws [] i x at = absurd (cc at)
   any_there laws (y ∷ values) zero x at = ap (λ t. t || list_any (λ z. same z x) values) (ap (λ z. same z x) is ∙ laws.refl x)
     where
@@ -140,7 +140,7 @@ module _ {X : Type 0} (same : X → X → Bool) (laws : IsEquivalence same) wher
 -- ---- the values of tokens
 
 module _ {X : Type 0} (same : X → X → Bool) (laws : IsEquivalence same) where
-  different_more : (uses more : List X) → fold (note_value same) (different same uses) more ≡ different same (uses ++ more)
+  pub different_more : (uses more : List X) → fold (note_value same) (different same uses) more ≡ different same (uses ++ more)
   different_more uses [] = ap (different same) (sym (append-nil uses))
   different_more uses (x ∷ more) =
       ap (λ values. fold (note_value same) values more) (sym (different-snoc same laws uses x))

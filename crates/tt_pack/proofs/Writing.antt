@@ -1,6 +1,6 @@
 -- Steps of the writer, which goes from the last token to the first.
 use Rattle.std.proofs.Common.{◌≡◌, ◌⊎◌, inl, inr, ℕ, zero, suc, ◌+◌, ◌-◌, ◌<◌, ◌≤◌, List, [], ◌∷◌, ◌++◌, length, drop, get_or, refl, ap, ap₂, sym, subst, ◌∙◌, arith, length-append}
-use Rattle.std.proofs.lemmas.List.{get_or_append_left, get_or_push, get_or_read, drop_more}
+use Rattle.std.proofs.lemmas.List.{get_or_append_left, get_or_push, drop_more}
 use Rattle.tt_base.specs.declared.delimiter.Subtree.{Subtree}
 use Rattle.tt_base.specs.declared.fault.TtFault.{TtFault}
 use Rattle.tt_base.specs.declared.fault.TtFault.TheVariants.{Memory, TooManyBytes}
@@ -16,7 +16,9 @@ use Rattle.tt_base.specs.Unflat.{unflat}
 use Rattle.tt_tables.proofs.HeaderFirst.{header_first}
 use Rattle.tt_base.proofs.EndPieces.{header_within}
 use Rattle.tt_base.proofs.WholeLists.{end_piece}
-use Rattle.tt_pack.specs.Writing.{byte_count, child_bytes, byte_sums, IsWritten}
+use Rattle.tt_pack.specs.declared.writer.Writer.{Writer}
+use Rattle.tt_pack.specs.WriterOf.{HasWritten, HasPut}
+use Rattle.tt_pack.specs.Writing.{byte_count, child_bytes, first_child_bytes, byte_sums, CanHold, held_bytes, TokenCanHold, token_holds, IsWritten}
 
 -- The bytes of a whole list are those of its first token, and then of the others.
 pub first_written : (tables : Tables) (it : TokenTree) (others : List TokenTree) → IsWhole (it ∷ others)
@@ -146,17 +148,6 @@ header_at tables tokens index found it counts h w read is sums =
     long : length counts ≡ suc (length others)
     long = ap length sums ∙ byte_sums-length tables others
 
--- What is read there: the sum of what is behind the header, and of what is behind all that it holds.
-pub header_sums : (tables : Tables) (tokens : List TokenTree) (index : ℕ) (it : Subtree) (counts : List ℕ) (n m a b : ℕ) → HeaderAt tables tokens index it counts
-    → n ≡ length counts → m ≡ it.len → a ≡ get_or counts (n - 1) a → b ≡ get_or counts (n - 1 - m) b
-    → (a ≡ byte_count tables (drop (index + 1) tokens)) × (b ≡ byte_count tables (drop it.len (drop (index + 1) tokens)))
-header_sums tables tokens index it counts n m a b at long len read_a read_b = (
-  get_or_read counts (n - 1) a (omega (arith, at.room, long)) read_a 0 ∙ ap (λ i. get_or counts (i - 1) 0) long ∙ at.last,
-  get_or_read counts (n - 1 - m) b (omega (arith, at.room, long, len)) read_b 0
-      ∙ ap₂ (λ i k. get_or counts (i - 1 - k) 0) long len
-      ∙ at.earlier,
-)
-
 -- The reason for which a token is not written.
 abbrev pub IsWriteFault : ℕ → TtFault → Type 0
 IsWriteFault count fault = (fault ≡ Memory) ⊎ ((fault ≡ TooManyBytes) × (4294967295 < count))
@@ -167,3 +158,46 @@ pub too_many_in_all : (tables other : Tables) (n : ℕ) (tokens : List TokenTree
 too_many_in_all tables other n tokens fault w same (inl e) = inl e
 too_many_in_all tables other n tokens fault w same (inr (e, over)) =
     inr (e, omega (arith, over, ap (λ t. byte_count t (drop n tokens)) same, piece_within tables n tokens w))
+
+-- All that a header holds is written, and takes as many bytes as are counted.
+pub header_holds : (tables : Tables) (tokens : List TokenTree) (index : ℕ) (it : Subtree) (counts : List ℕ) → HeaderAt tables tokens index it counts
+    → CanHold counts it.len × (held_bytes counts it.len ≡ first_child_bytes tables (drop index tokens))
+header_holds tables tokens index it counts at = (
+  (at.room, omega (arith, at.last, at.earlier, at.within)),
+  ap₂ ◌-◌ at.last at.earlier ∙ sym (ap (first_child_bytes tables) at.here),
+)
+
+-- The same of the token that stands there.
+pub token_holds_at : (tables : Tables) (tokens : List TokenTree) (index : ℕ) (it : TokenTree) (counts : List ℕ) → index < length tokens → IsWhole (drop index tokens)
+    → it ≡ get_or tokens index it → counts ≡ byte_sums tables (drop (index + 1) tokens)
+    → TokenCanHold counts it × (token_holds counts it ≡ first_child_bytes tables (drop index tokens))
+token_holds_at tables tokens index (token.Leaf it) counts within whole read sums =
+    (tt, sym (ap (first_child_bytes tables) (piece_at tokens index (token.Leaf it) within read)))
+token_holds_at tables tokens index (token.Subtree it) counts within whole read sums =
+    header_holds tables tokens index it counts (header_at tables tokens index (token.Subtree it) it counts within whole read refl sums)
+
+-- A token is put that stands at an index, before those behind it.
+module _ (tables : Tables) (tokens : List TokenTree) (index : ℕ) (it : TokenTree) (entry : Entry) (child : ℕ) where
+  abbrev others : List TokenTree
+  others = drop (index + 1) tokens
+
+  -- Then those from there on are written.
+  pub one_put : (old new : Writer) → index < length tokens → IsWhole (drop index tokens) → it ≡ get_or tokens index it → HasWritten tables (drop (index + 1) tokens) old → TokenInRange it
+      → child ≡ first_child_bytes tables (drop index tokens) → entry ≡ entry_of tables it child → HasPut entry old new → HasWritten tables (drop index tokens) new
+  one_put old new within whole read written range held is put =
+      let here = piece_at tokens index it within read in
+      subst (λ l. HasWritten tables l new) (sym here)
+      (one_more tables it others entry child (entry_bytes entry) _ _ _ _ (subst IsWhole here whole) written range (held ∙ ap (first_child_bytes tables) here) is refl put.bytes put.few put.sums)
+
+  -- Where it cannot be put, those from there on cannot be written.
+  pub put_fault : (before sums : List ℕ) → index < length tokens → IsWhole (drop index tokens) → it ≡ get_or tokens index it → IsWritten tables (drop (index + 1) tokens) before sums
+      → child ≡ first_child_bytes tables (drop index tokens) → entry ≡ entry_of tables it child
+      → (fault : TtFault) → IsWriteFault (length (entry_bytes entry ++ before)) fault → IsWriteFault (byte_count tables (drop index tokens)) fault
+  put_fault before sums within whole read written held is fault (inl e) = inl e
+  put_fault before sums within whole read written held is fault (inr (e, over)) =
+      let here = piece_at tokens index it within read in
+      inr (
+        e,
+        subst (λ l. 4294967295 < byte_count tables l) (sym here)
+            (too_many tables it others entry child (entry_bytes entry) before sums _ (subst IsWhole here whole) written (held ∙ ap (first_child_bytes tables) here) is refl refl over),
+      )

@@ -1,8 +1,10 @@
 -- What the codec's contracts speak of.
 pub mod Counted
 pub mod Few
+pub mod InternedTables
 pub mod Known
 pub mod Packed
+pub mod Places
 pub mod ReaderOf
 pub mod Room
 pub mod Seen

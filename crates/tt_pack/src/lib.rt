@@ -3,6 +3,9 @@
 
 mod counts;
 mod few;
+mod first_uses;
+mod interned;
+mod interned_writer;
 mod known;
 pub mod laws;
 mod pack;

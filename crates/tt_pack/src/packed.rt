@@ -19,6 +19,7 @@ ghost use Rattle.std.specs.Cmp.Rules.{comparing};
 ghost use Rattle.tt_base.specs.Equality.{same_token-equivalence, same_root};
 
 mod ids;
+mod interned;
 mod top;
 
 use crate::known::Known;

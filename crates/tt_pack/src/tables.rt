@@ -27,9 +27,9 @@ pub(crate) struct ListTables {
     pub ghost few_symbols: { length symbols.values.items ≤ most_symbols },
 }
 
-// The index in the table that is noted at an index. Where none is, each value has stayed.
+/// The index in the table that is noted at an index. Where none is, each value has stayed.
 #[inline(always)]
-fn new_index_at(new_indices: &[u32], index: u32) -> u32
+pub(crate) fn new_index_at(new_indices: &[u32], index: u32) -> u32
     ensures { result ≡ new_index new_indices.now index }
 {
     match new_indices.get(index as usize) {

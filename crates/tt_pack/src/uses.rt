@@ -23,8 +23,8 @@ pub(crate) const SHORT_PARTS: usize = 15;
 const SHORT_SYMBOLS: usize = 63;
 /// The top has two parts of its own, which need an index each and stand last.
 pub(crate) const TOP_PARTS: usize = 2;
-// The most parts below the top.
-const MOST_PARTS_BELOW: usize = MOST_PARTS - TOP_PARTS;
+/// The most parts below the top.
+pub(crate) const MOST_PARTS_BELOW: usize = MOST_PARTS - TOP_PARTS;
 // A list mostly has no more parts.
 const FEW_PARTS: usize = 4;
 // The room that is made for symbols at first is for so many at most.

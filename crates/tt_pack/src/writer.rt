@@ -1,85 +1,68 @@
 //! Writing a list of tokens, from the last to the first.
-ghost use Rattle.std.specs.Prelude.{◌≡◌, ◌⊎◌, ◌+◌, ◌<◌, ◌≤◌, ◌^◌, ◌++◌, true, length, take, drop, IfOk, IfErr, OnOk, []};
+ghost use Rattle.std.specs.Prelude.{◌≡◌, ◌⊎◌, ◌+◌, ◌<◌, ◌≤◌, ◌^◌, ◌++◌, ◌∷◌, true, length, take, drop, IfOk, IfErr, OnOk, []};
 ghost use Rattle.std.specs.List.{AllByRecursion};
 ghost use Rattle.tt_back_buf.specs.Bytes.{bytes_of, room_of};
 ghost use Rattle.tt_base.specs.declared.fault.TtFault.TheVariants.{Memory, TooManyBytes};
 ghost use Rattle.tt_base.specs.Forest.{IsWhole};
+ghost use Rattle.tt_codec.specs.Entry.{EntryFits, entry_bytes};
 ghost use Rattle.tt_codec.specs.Header.{HeaderFits, format_4};
 ghost use Rattle.tt_tables.specs.Stored.{most_bytes};
-ghost use Rattle.tt_tables.specs.Tables.{Knows};
+ghost use Rattle.tt_tables.specs.Tables.{Tables, Knows};
 ghost use Rattle.tt_pack.specs.Room.{HasRoomForAll, most_list_bytes};
 ghost use Rattle.tt_pack.specs.TablesOf.{tables_of, UsesTables};
-ghost use Rattle.tt_pack.specs.Writing.{byte_count, first_child_bytes, IsWritten};
+ghost use Rattle.tt_pack.specs.Writing.{byte_count, CanHold, held_bytes, TokenCanHold, token_holds};
 
 use crate::room::MOST_HEADER_BYTES;
 use crate::tables::ListTables;
 use std::alloc::Global;
 use tt_back_buf::BackBuf;
 use tt_base::{TokenTree, TtFault};
-use tt_codec::HeaderEntry;
+use tt_codec::{Entry, HeaderEntry};
 
 // The most bytes below the top.
 const MOST_BYTES: usize = 4294967295;
 
 /// The bytes of the last tokens of a list.
 #[derive(Drop)]
-pub(crate) struct Writer<'a> {
-    tables: &'a ListTables,
+pub(crate) struct Writer {
     bytes: BackBuf,
     /// How many bytes each end piece of these tokens takes, the shortest first.
     sums: Vec<u32>,
 }
 
-impl<'a> Writer<'a> {
-    ghost use Rattle.tt_pack.specs.WriterOf.{HasWritten, HasWrittenUnder};
+impl Writer {
+    ghost use Rattle.tt_pack.specs.WriterOf.{HasWritten, HasPut};
 
-    /// A writer that has written nothing, and has room for all tokens, of which there are so many, and a top.
-    fn new(alloc: Global, tables: &'a ListTables, tokens: usize) -> Result<Writer<'a>, TtFault>
-        ensures ok { IfOk result (λ writer. (writer.tables.now ≡ tables.now) × HasWritten writer []) }
-        ensures room { IfOk result (λ writer. (room_of writer.bytes < 2 ^ 63) × (tables.now.room + 33 ≤ room_of writer.bytes)) }
+    /// A writer that has written nothing, and has room for so many bytes and a top. There are so many tokens.
+    pub(crate) fn new(alloc: Global, room: usize, tokens: usize) -> Result<Writer, TtFault>
+        ensures ok { IfOk result (λ writer. (tables : Tables) → HasWritten tables [] writer) }
+        ensures room { IfOk result (λ writer. (room_of writer.bytes < 2 ^ 63) × (room + 33 ≤ room_of writer.bytes)) }
         ensures err { IfErr result (λ fault. fault ≡ Memory) }
     {
-        let bytes = BackBuf::with_room(alloc, tables.room.saturating_add(MOST_HEADER_BYTES))?;
+        let bytes = BackBuf::with_room(alloc, room.saturating_add(MOST_HEADER_BYTES))?;
         let mut sums = Vec::with_capacity(alloc, tokens.saturating_add(1))?;
         sums.push(0)?;
-        Ok(Writer {
-            tables,
-            bytes,
-            sums,
-        })
+        Ok(Writer { bytes, sums })
     }
 
-    // How many bytes the token holds that comes next.
+    /// How many bytes the last so many tokens take.
     #[inline(always)]
-    fn child_bytes(&self, tokens: &[TokenTree], index: usize) -> u32
-        requires index { index < length tokens.now }
-        requires whole { IsWhole (drop index tokens.now) }
-        requires written { HasWritten self.now (drop (index + 1) tokens.now) }
-        ensures { result ≡ first_child_bytes (tables_of self.now.tables.now) (drop index tokens.now) }
+    pub(crate) fn held_bytes(&self, len: usize) -> u32
+        requires { CanHold self.now.sums.items len }
+        ensures { result ≡ held_bytes self.now.sums.items len }
     {
-        let TokenTree::Subtree(subtree) = &tokens[index] else {
-            return 0;
-        };
         let last = self.sums.len() - 1;
-        self.sums[last] - self.sums[last - subtree.usize_len()]
+        self.sums[last] - self.sums[last - len]
     }
 
-    /// Writes the token before those that are written.
-    fn put(&mut self, tokens: &[TokenTree], index: usize) -> Result<(), TtFault>
-        requires index { index < length tokens.now }
-        requires whole { IsWhole (drop index tokens.now) }
-        requires known { AllByRecursion (Knows (tables_of self.old.tables.now)) (drop index tokens.now) }
-        requires uses { UsesTables self.old.tables.now tokens.now }
-        requires written { HasWritten self.old (drop (index + 1) tokens.now) }
-        requires room { most_list_bytes (take (index + 1) tokens.now) + 33 ≤ room_of self.old.bytes }
-        ensures tables { OnOk result (self.new.tables.now ≡ self.old.tables.now) }
-        ensures ok { OnOk result (HasWritten self.new (drop index tokens.now)) }
-        ensures room { OnOk result (most_list_bytes (take index tokens.now) + 33 ≤ room_of self.new.bytes) }
-        ensures err { IfErr result (λ fault. (fault ≡ Memory) ⊎ ((fault ≡ TooManyBytes) × (most_bytes < byte_count (tables_of self.old.tables.now) (drop index tokens.now)))) }
+    /// Writes a token in numbers before those that are written. In the place of the call, so that its kind is asked once.
+    #[inline(always)]
+    pub(crate) fn put(&mut self, entry: Entry) -> Result<(), TtFault>
+        requires fits { EntryFits entry }
+        requires room { 33 ≤ room_of self.old.bytes }
+        ensures ok { OnOk result (HasPut entry self.old self.new) }
+        ensures err { IfErr result (λ fault. (fault ≡ Memory) ⊎ ((fault ≡ TooManyBytes) × (most_bytes < length (entry_bytes entry ++ bytes_of self.old.bytes)))) }
     {
-        let uses = self.tables.uses[index];
-        let child_bytes = self.child_bytes(tokens, index);
-        let entry = self.tables.entry(&tokens[index], uses, child_bytes);
         entry.write(&mut self.bytes);
         if self.bytes.len() > MOST_BYTES {
             return Err(TtFault::TooManyBytes);
@@ -88,11 +71,48 @@ impl<'a> Writer<'a> {
         Ok(())
     }
 
+    // How many bytes the token holds that comes next.
+    #[inline(always)]
+    fn child_bytes(&self, token: &TokenTree) -> u32
+        requires { TokenCanHold self.now.sums.items token.now }
+        ensures { result ≡ token_holds self.now.sums.items token.now }
+    {
+        let TokenTree::Subtree(subtree) = token else {
+            return 0;
+        };
+        self.held_bytes(subtree.usize_len())
+    }
+
+    // Writes the token before those that are written.
+    fn put_token(
+        &mut self,
+        tables: &ListTables,
+        tokens: &[TokenTree],
+        index: usize,
+    ) -> Result<(), TtFault>
+        requires index { index < length tokens.now }
+        requires whole { IsWhole (drop index tokens.now) }
+        requires known { AllByRecursion (Knows (tables_of tables.now)) (drop index tokens.now) }
+        requires uses { UsesTables tables.now tokens.now }
+        requires written { HasWritten (tables_of tables.now) (drop (index + 1) tokens.now) self.old }
+        requires room { most_list_bytes (take (index + 1) tokens.now) + 33 ≤ room_of self.old.bytes }
+        ensures ok { OnOk result (HasWritten (tables_of tables.now) (drop index tokens.now) self.new) }
+        ensures room { OnOk result (most_list_bytes (take index tokens.now) + 33 ≤ room_of self.new.bytes) }
+        ensures err { IfErr result (λ fault. (fault ≡ Memory) ⊎ ((fault ≡ TooManyBytes) × (most_bytes < byte_count (tables_of tables.now) (drop index tokens.now)))) }
+    {
+        // The uses are read first, so that nothing stands between the two questions for the token's kind, which become one.
+        let uses = tables.uses[index];
+        let token = &tokens[index];
+        let child_bytes = self.child_bytes(token);
+        let entry = tables.entry(token, uses, child_bytes);
+        self.put(entry)
+    }
+
     /// All bytes, with a header before them that is written in full. The sums are let go.
     pub(crate) fn finish(self, top: HeaderEntry) -> BackBuf
         requires fits { HeaderFits top }
         requires room { 33 ≤ room_of self.bytes }
-        ensures { bytes_of result ≡ format_4 true top ++ bytes_of self.entry.bytes }
+        ensures { bytes_of result ≡ format_4 true top ++ bytes_of self.bytes }
     {
         let Writer { mut bytes, .. } = self;
         top.write_in_full(&mut bytes, true);
@@ -111,22 +131,22 @@ impl<'a> Writer<'a> {
     #[inline(never)]
     pub(crate) fn write_all(
         alloc: Global,
-        tables: &'a ListTables,
+        tables: &ListTables,
         tokens: &[TokenTree],
-    ) -> Result<Writer<'a>, TtFault>
+    ) -> Result<Writer, TtFault>
         requires whole { IsWhole tokens.now }
         requires known { AllByRecursion (Knows (tables_of tables.now)) tokens.now }
         requires uses { UsesTables tables.now tokens.now }
         requires room { HasRoomForAll tokens.now tables.now.room }
-        ensures ok { IfOk result (HasWrittenUnder tables.now tokens.now) }
+        ensures ok { IfOk result (HasWritten (tables_of tables.now) tokens.now) }
         ensures room { IfOk result (λ writer. 33 ≤ room_of writer.bytes) }
         ensures err { IfErr result (λ fault. (fault ≡ Memory) ⊎ ((fault ≡ TooManyBytes) × (most_bytes < byte_count (tables_of tables.now) tokens.now))) }
     {
-        let mut writer = Writer::new(alloc, tables, tokens.len())?;
+        let mut writer = Writer::new(alloc, tables.room, tokens.len())?;
         let mut index = tokens.len();
         while index > 0 {
             index -= 1;
-            writer.put(tokens, index)?;
+            writer.put_token(tables, tokens, index)?;
         }
         Ok(writer)
     }

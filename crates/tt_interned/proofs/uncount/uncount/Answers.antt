@@ -1,4 +1,4 @@
-use Rattle.std.proofs.Common.{◌≡◌, [], ◌∷◌, bytes_eq, ap, subst, sym, refl, ◌∙◌, rules, slice_get}
+use Rattle.std.proofs.Common.{◌≡◌, bytes_eq, ap, subst, ◌∙◌, rules, slice_get}
 use Rattle.std.specs.Map.{keys_of}
 use Rattle.tt_base.specs.contracts.span.SpanPartEq.TheImpl.Laws as part_eq
 use Rattle.tt_base.specs.contracts.symbol.SymbolEq.TheImpl.Laws as symbol_eq
@@ -6,7 +6,7 @@ use Rattle.tt_codec.specs.declared.entry.LeafEntry.TheVariants.{Punct as punct, 
 use Rattle.tt_interned.specs.declared.token.InternedToken.TheVariants as interned
 use Rattle.tt_interned.specs.Interned.{tables_of}
 use Rattle.tt_interned.specs.Names.{Names}
-use Rattle.tt_interned.proofs.Taking.{punct_uses, ident_uses, literal_uses, open_uses, header_uses, has_one, has_first, has_second, both_gone, one_gone, none_gone}
+use Rattle.tt_interned.proofs.Taking.{punct_uses, ident_uses, literal_uses, open_uses, header_uses, has_one, has_first, has_second, both_gone, one_gone}
 use Rattle.tt_interner.specs.Interner.{entries_of}
 use Rattle.tt_tables.specs.Uses.{same_part}
 use Rattle.tt_interned.proofs.uncount.uncount.Goals as goal
@@ -104,4 +104,3 @@ returns-in-Header-clause-parts c = λ it given.
     let uses = header_uses _ _ _ named in
     let closing = ap (λ l. slice_get l c.in-Header.header.closing.part) c.take_at-in-Header.ensures.values ∙ uses.0.second_there in
     both_gone same_part part_eq.lawful.laws _ _ _ _ _ _ uses.0.counted (c.take_at-in-Header.ensures.less _ uses.0.first_there) (c.take_at-in-Header-2.ensures.less _ closing)
-

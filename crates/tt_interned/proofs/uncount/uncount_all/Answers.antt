@@ -1,4 +1,4 @@
-use Rattle.std.proofs.Common.{◌∙◌, bytes_eq, ap, sym, subst, arith, rules}
+use Rattle.std.proofs.Common.{◌∙◌, bytes_eq, subst, arith, rules}
 use Rattle.tt_interned.specs.Held.{parts_in, symbols_in}
 use Rattle.tt_interned.proofs.Taking.{can_take_next, next_parts_gone, next_symbols_gone, all_taken}
 use Rattle.tt_interner.specs.Interner.{entries_of}

@@ -1,12 +1,12 @@
-use Rattle.std.proofs.Common.{◌≡◌, ◌<◌, ◌^◌, ◌++◌, ◌∷◌, [], length, vec_len, true, Err, append_assoc, sym, subst, ap, ap₂, ◌∙◌, arith, rules}
+use Rattle.std.proofs.Common.{◌≡◌, ◌<◌, ◌^◌, ◌++◌, ◌∷◌, [], length, Err, sym, subst, ap, ◌∙◌, arith, rules}
 use Rattle.std.specs.List.{AllByRecursion}
-use Rattle.tt_codec.specs.Header.{format_4, top_entry}
+use Rattle.tt_codec.specs.Header.{top_entry}
 use Rattle.tt_back_buf.specs.Bytes.{bytes_of}
 use Rattle.tt_base.specs.Span.{part_of}
-use Rattle.tt_tables.specs.Tables.{Knows, part_table, tables_for}
+use Rattle.tt_tables.specs.Tables.{Knows, tables_for}
 use Rattle.tt_pack.specs.TablesOf.{tables_of}
 use Rattle.tt_pack.specs.Writing.{byte_count}
-use Rattle.tt_pack.specs.WriterOf.{HasWrittenUnder}
+use Rattle.tt_pack.specs.WriterOf.{HasWritten}
 use Rattle.tt_pack.proofs.Storing.{tables_made, tables_for_know, write_fault_is, is_stored}
 use Rattle.tt_pack.proofs.Writing.{IsWriteFault}
 use Rattle.tt_pack.proofs.pack.write_tree.Goals as goal
@@ -25,22 +25,14 @@ returns-in_err-writer-clause-err c =
 
 pub returns-clause-ok : goal.returns-clause-ok
 returns-clause-ok c =
-    let tables = c.in_ok-tables.tables in
     let below = c.args.below.now in
-    let made : tables_of tables ≡ tables_for below = tables_made _ _ _ c.in_ok-tables.ensures.parts.0 c.in_ok-tables.ensures.symbols.0 in
-    let written : HasWrittenUnder tables below c.in_ok-writer.writer = search rules in
+    let parts = c.in_ok-tables.ensures.parts in
+    let made : tables_of c.in_ok-tables.tables ≡ tables_for below = tables_made _ _ _ parts.0 c.in_ok-tables.ensures.symbols.0 in
+    let written : HasWritten (tables_of c.in_ok-tables.tables) below c.in_ok-writer.writer = search rules in
     let bound : c.args.top.len < 2 ^ 32 = search rules in
-    let counted : vec_len tables.parts.values ≡ length tables.parts.values.items = search rules in
-    let entry : c.of_top-entry.result ≡ top_entry (length (part_table below)) c.args.top.delimiter c.args.top.len (length (bytes_of c.in_ok-writer.writer.bytes)) =
-    c.of_top-entry.ensures.value
-    ∙ ap₂ (λ n m. top_entry n c.args.top.delimiter c.args.top.len m) (c.len.ensures ∙ counted ∙ ap length c.in_ok-tables.ensures.parts.0) c.len-2.ensures in
-    let all : c.in_ok-bytes.bytes.items ≡ format_4 true c.of_top-entry.result ++ bytes_of c.in_ok-writer.writer.bytes = search rules in
-    let opened : c.push.new.self.items ≡ tables.parts.values.items ++ part_of c.args.top.delimiter.open_span ∷ [] = search rules in
-    let closed : c.push-2.new.self.items ≡ c.push.new.self.items ++ part_of c.args.top.delimiter.close ∷ [] = search rules in
-    let with_top : c.push-2.new.self.items ≡ part_table below ++ part_of c.args.top.delimiter.open_span ∷ part_of c.args.top.delimiter.close ∷ [] =
-    closed
-    ∙ ap (λ l. l ++ part_of c.args.top.delimiter.close ∷ []) (opened ∙ ap (λ l. l ++ part_of c.args.top.delimiter.open_span ∷ []) c.in_ok-tables.ensures.parts.0)
-    ∙ append_assoc (part_table below) (part_of c.args.top.delimiter.open_span ∷ []) (part_of c.args.top.delimiter.close ∷ []) in
     is_stored c.args.top below c.in_ok-tables.ensures.whole c.requires.counted _ _ _ _ _ _ _ _
-    bound (ap tables_of written.0 ∙ made) c.in_ok-tables.ensures.parts.1 c.in_ok-tables.ensures.symbols.1 written.1 c.of_top-entry.ensures.range entry all with_top
+    bound made parts.1 c.in_ok-tables.ensures.symbols.1 written c.in_ok-bytes.ensures.range
+    (ap (λ l. top_entry (length l) c.args.top.delimiter c.args.top.len (length (bytes_of c.in_ok-writer.writer.bytes))) parts.0)
+    c.in_ok-bytes.ensures.bytes
+    (c.in_ok-bytes.ensures.parts ∙ ap (λ l. l ++ part_of c.args.top.delimiter.open_span ∷ part_of c.args.top.delimiter.close ∷ []) parts.0)
     c.in_ok-tables.ensures.symbols.0 (omega arith)

@@ -1,10 +1,7 @@
-use Rattle.std.proofs.Common.{◌≡◌, Err, ◌+◌, ◌<◌, Some, length, vec_len, set, slice_get, refl, rules, arith, ap, sym, ◌∙◌}
-use Rattle.tt_base.specs.Forest.{header}
+use Rattle.std.proofs.Common.{◌≡◌, Err, Some, length, vec_len, refl, rules, arith, sym, ◌∙◌}
 use Rattle.tt_base.specs.Span.{part_of}
-use Rattle.tt_base.specs.Token.{delimiter}
 use Rattle.tt_codec.specs.declared.entry.HeaderEntry.{HeaderEntry}
-use Rattle.tt_interned.specs.declared.token.InternedToken.TheVariants as interned
-use Rattle.tt_interned.specs.Held.{whole, opened}
+use Rattle.tt_interned.specs.Held.{opened}
 use Rattle.tt_interned.specs.OneList.{held_is}
 use Rattle.tt_interned.proofs.Growing.{IsPlaced, IsUsed, IsOpenAt, seen, same_held, part_room, open_at, not_open_at, closed_held, past_end, token_there}
 use Rattle.tt_interner.specs.Interner.{entries_of}

@@ -1,5 +1,4 @@
-use Rattle.std.proofs.Common.{◌≡◌, map, ap, ap₂, sym, subst, ◌∙◌, rules}
-use Rattle.tt_interned.specs.Counted.{AreOf}
+use Rattle.std.proofs.Common.{map, rules}
 use Rattle.tt_interned.specs.Held.{as_token}
 use Rattle.tt_interned.specs.OneList.{list_is}
 use Rattle.tt_interned.proofs.Growing.{seen}

@@ -1,11 +1,11 @@
-use Rattle.std.proofs.Common.{◌≡◌, Err, ◌+◌, ◌++◌, ◌∷◌, [], refl, rules, arith, ap, slice_get, ◌∙◌}
+use Rattle.std.proofs.Common.{◌≡◌, Err, ◌++◌, ◌∷◌, [], refl, rules, arith, ap, slice_get, ◌∙◌}
 use Rattle.tt_base.specs.declared.token_tree.TokenTree.TheVariants as token
 use Rattle.tt_base.specs.Span.{part_of}
 use Rattle.tt_interned.specs.declared.token.InternedToken.TheVariants as interned
 use Rattle.tt_codec.specs.declared.entry.HeaderEntry.{HeaderEntry}
 use Rattle.tt_interned.specs.Held.{whole}
 use Rattle.tt_interned.specs.OneList.{held_is}
-use Rattle.tt_interned.proofs.Growing.{IsPlaced, seen, same_held, part_noted, part_room, part_room_twice, place_later, header_held}
+use Rattle.tt_interned.proofs.Growing.{IsPlaced, seen, same_held, part_noted, part_room_twice, place_later, header_held}
 use Rattle.tt_interner.proofs.UseCounts.{uses-le}
 use Rattle.tt_interner.specs.Interner.{entries_of}
 use Rattle.tt_tables.specs.Uses.{same_part}

@@ -1,4 +1,4 @@
-use Rattle.std.proofs.Common.{◌≡◌, Err, ◌+◌, ◌++◌, ◌∷◌, [], bytes_eq, refl, rules, arith}
+use Rattle.std.proofs.Common.{◌≡◌, Err, ◌++◌, ◌∷◌, [], bytes_eq, refl, rules, arith}
 use Rattle.tt_base.specs.declared.leaf.Leaf.TheVariants as leaf
 use Rattle.tt_base.specs.declared.token_tree.TokenTree.TheVariants as token
 use Rattle.tt_base.specs.Span.{part_of}

@@ -1,4 +1,4 @@
-use Rattle.std.proofs.Common.{◌≡◌, Err, ◌+◌, ◌++◌, ◌∷◌, [], refl, rules, arith}
+use Rattle.std.proofs.Common.{◌≡◌, Err, ◌++◌, ◌∷◌, [], refl, rules, arith}
 use Rattle.tt_base.specs.Span.{part_of}
 use Rattle.tt_interned.specs.declared.token.InternedToken.TheVariants as interned
 use Rattle.tt_interned.specs.Held.{opened}

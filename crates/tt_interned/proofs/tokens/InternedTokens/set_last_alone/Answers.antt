@@ -1,5 +1,4 @@
-use Rattle.std.proofs.Common.{◌≡◌, ◌<◌, ◌-◌, Some, length, vec_len, set, slice_get, refl, rules, arith, ap, sym, subst, ◌∙◌}
-use Rattle.tt_interned.specs.declared.token.InternedToken.{InternedToken}
+use Rattle.std.proofs.Common.{◌≡◌, ◌<◌, ◌-◌, Some, length, vec_len, set, slice_get, refl, rules, arith, ap, sym, ◌∙◌}
 use Rattle.tt_interned.specs.Held.{whole}
 use Rattle.tt_interned.specs.OneList.{held_is}
 use Rattle.tt_interned.proofs.Growing.{seen, token_there, alone_held, held_alone}

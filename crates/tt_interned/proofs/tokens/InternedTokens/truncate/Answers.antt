@@ -1,4 +1,4 @@
-use Rattle.std.proofs.Common.{◌≡◌, ◌≤◌, ◌∙◌, length, vec_len, min, take, ap, sym, subst, rules}
+use Rattle.std.proofs.Common.{◌≡◌, length, vec_len, min, take, sym, subst, rules}
 use Rattle.tt_interned.specs.Interned.{AreHeld}
 use Rattle.tt_interned.specs.OneList.{held_is}
 use Rattle.tt_interned.proofs.Changing.{held_cut}

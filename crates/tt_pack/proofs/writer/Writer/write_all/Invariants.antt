@@ -1,13 +1,14 @@
 -- All behind the index is written, and there is room for all before it and for a top.
-use Rattle.std.proofs.Common.{◌≡◌, ◌+◌, ◌≤◌, length, take, drop}
+use Rattle.std.proofs.Common.{◌+◌, ◌≤◌, length, take, drop}
 use Rattle.tt_back_buf.specs.Bytes.{room_of}
 use Rattle.tt_pack.specs.Room.{most_list_bytes}
+use Rattle.tt_pack.specs.TablesOf.{tables_of}
 use Rattle.tt_pack.specs.WriterOf.{HasWritten}
 use Rattle.tt_pack.proofs.writer.Writer.write_all.Given as goal
 
 abbrev pub invariant-loop-index : goal.invariant-loop-index
 invariant-loop-index l =
-    (l.index ≤ length l.tokens) × (l.writer.tables.now ≡ l.tables) × HasWritten l.writer (drop l.index l.tokens)
+    (l.index ≤ length l.tokens) × HasWritten (tables_of l.tables) (drop l.index l.tokens) l.writer
     × (most_list_bytes (take l.index l.tokens) + 33 ≤ room_of l.writer.bytes)
 
 abbrev pub decreases-loop-index : goal.decreases-loop-index

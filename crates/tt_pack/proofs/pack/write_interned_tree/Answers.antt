@@ -1,0 +1,41 @@
+use Rattle.std.proofs.Common.{◌≡◌, ◌<◌, ◌^◌, ◌++◌, ◌∷◌, [], length, Err, sym, subst, ap, ◌∙◌, arith, rules}
+use Rattle.std.specs.List.{AllByRecursion}
+use Rattle.tt_codec.specs.Header.{top_entry}
+use Rattle.tt_back_buf.specs.Bytes.{bytes_of}
+use Rattle.tt_base.specs.Span.{part_of}
+use Rattle.tt_interned.specs.ListOf.{list_of}
+use Rattle.tt_tables.specs.Tables.{Knows, tables_for}
+use Rattle.tt_pack.specs.InternedTables.{tables_in}
+use Rattle.tt_pack.specs.Writing.{byte_count}
+use Rattle.tt_pack.specs.WriterOf.{HasWritten}
+use Rattle.tt_pack.proofs.Storing.{tables_made, tables_for_know, write_fault_is, is_stored}
+use Rattle.tt_pack.proofs.Writing.{IsWriteFault}
+use Rattle.tt_pack.proofs.pack.write_interned_tree.Goals as goal
+
+pub write_interned-requires-clause-known : goal.write_interned-requires-clause-known
+write_interned-requires-clause-known c =
+    let list = list_of c.args.below in
+    let made : tables_in c.in_ok-tables.tables ≡ tables_for list = tables_made _ _ _ c.in_ok-tables.ensures.parts.0 c.in_ok-tables.ensures.symbols.0 in
+    subst (λ t. AllByRecursion (Knows t) list) (sym made) (tables_for_know list)
+
+pub returns-in_err-writer-clause-err : goal.returns-in_err-writer-clause-err
+returns-in_err-writer-clause-err c =
+    let list = list_of c.args.below in
+    let made : tables_in c.in_ok-tables.tables ≡ tables_for list = tables_made _ _ _ c.in_ok-tables.ensures.parts.0 c.in_ok-tables.ensures.symbols.0 in
+    let told : IsWriteFault (byte_count (tables_in c.in_ok-tables.tables) list) c.in_err-writer.field-0.0 = search rules in
+    let is : c.from_residual-in_err-writer.result ≡ Err c.in_err-writer.field-0.0 = search rules in
+    rw is (write_fault_is _ _ _ made c.requires.whole c.in_ok-tables.ensures.parts.1 c.in_ok-tables.ensures.symbols.1 told)
+
+pub returns-clause-ok : goal.returns-clause-ok
+returns-clause-ok c =
+    let list = list_of c.args.below in
+    let parts = c.in_ok-tables.ensures.parts in
+    let made : tables_in c.in_ok-tables.tables ≡ tables_for list = tables_made _ _ _ parts.0 c.in_ok-tables.ensures.symbols.0 in
+    let written : HasWritten (tables_in c.in_ok-tables.tables) list c.in_ok-writer.writer = search rules in
+    let bound : c.args.top.len < 2 ^ 32 = search rules in
+    is_stored c.args.top list c.requires.whole c.requires.counted _ _ _ _ _ _ _ _
+    bound made parts.1 c.in_ok-tables.ensures.symbols.1 written c.in_ok-bytes.ensures.range
+    (ap (λ l. top_entry (length l) c.args.top.delimiter c.args.top.len (length (bytes_of c.in_ok-writer.writer.bytes))) parts.0)
+    c.in_ok-bytes.ensures.bytes
+    (c.in_ok-bytes.ensures.parts ∙ ap (λ l. l ++ part_of c.args.top.delimiter.open_span ∷ part_of c.args.top.delimiter.close ∷ []) parts.0)
+    c.in_ok-tables.ensures.symbols.0 (omega arith)

@@ -1,0 +1,64 @@
+-- What the tables of tokens in numbers say: where a value went that is named by its place, and a token in the new numbers.
+use Rattle.std.specs.Prelude.{◌≡◌, ℕ, List, length, bytes_eq}
+use Rattle.tt_base.specs.declared.span.SpanPart.{SpanPart}
+use Rattle.tt_codec.specs.declared.entry.Entry.{Entry}
+use Rattle.tt_codec.specs.declared.entry.Entry.TheVariants.{Leaf as of_leaf, Header as of_header}
+use Rattle.tt_codec.specs.declared.entry.HeaderEntry.{HeaderEntry}
+use Rattle.tt_codec.specs.declared.entry.LeafEntry.{LeafEntry}
+use Rattle.tt_codec.specs.declared.entry.LeafEntry.TheVariants.{Punct as punct, Ident as ident, Literal as literal}
+use Rattle.tt_codec.specs.declared.span.SpanNumbers.{SpanNumbers}
+use Rattle.tt_interned.specs.declared.counted.CountedTokens.{CountedTokens}
+use Rattle.tt_interned.specs.declared.token.InternedToken.{InternedToken}
+use Rattle.tt_interned.specs.declared.token.InternedToken.TheVariants as interned
+use Rattle.tt_tables.specs.TableOrder.{IsIn}
+use Rattle.tt_tables.specs.Tables.{Tables, tables_from}
+use Rattle.tt_tables.specs.Uses.{same_part}
+use Rattle.tt_pack.specs.declared.interned.InternedTables.{InternedTables}
+use Rattle.tt_pack.specs.Counted.{new_index}
+use Rattle.tt_pack.specs.Places.{IsAt}
+use Rattle.tt_pack.specs.TablesOf.{StandsAt, HasNewIndexAt}
+
+-- the parts and the symbols
+abbrev pub tables_in : InternedTables → Tables
+tables_in tables = tables_from tables.parts.items tables.symbols.values.items
+
+-- the new indices at the places of parts and symbols are the ones that these have in the tables, where the tables have them
+pub record LeadsFrom (below : CountedTokens) (tables : InternedTables) : Type 0 where
+  pub places : length tables.part_indices.items ≡ length below.parts.now
+  pub parts : (place : ℕ) (x : SpanPart) → IsAt below.parts.now place x → IsIn same_part tables.parts.items x
+      → HasNewIndexAt same_part tables.parts.items tables.part_indices.items place x
+  pub symbols : (place : ℕ) (x : List ℕ) → StandsAt below.symbols.now place x → HasNewIndexAt bytes_eq tables.symbols.values.items tables.symbols.new_indices.items place x
+
+-- no header is open
+abbrev pub IsClosed : InternedToken → Type 0
+IsClosed (interned.Leaf entry) = Unit {0}
+IsClosed (interned.Open kind opening) = ⊥
+IsClosed (interned.Header entry) = Unit {0}
+
+-- the numbers of a span, with the new index of its part
+abbrev pub new_span : (part_indices : List ℕ) → SpanNumbers → SpanNumbers
+new_span part_indices numbers = record { part = new_index part_indices numbers.part; start = numbers.start; length = numbers.length }
+
+-- a leaf with the new indices
+abbrev pub new_leaf : (part_indices symbol_indices : List ℕ) → LeafEntry → LeafEntry
+new_leaf part_indices symbol_indices (punct char spacing numbers) = punct char spacing (new_span part_indices numbers)
+new_leaf part_indices symbol_indices (ident symbol raw numbers) = ident (new_index symbol_indices symbol) raw (new_span part_indices numbers)
+new_leaf part_indices symbol_indices (literal symbol kind suffix_len numbers) =
+    literal (new_index symbol_indices symbol) kind suffix_len (new_span part_indices numbers)
+
+-- a header with the new indices, where what it holds takes so many bytes
+abbrev pub new_header : (part_indices : List ℕ) → HeaderEntry → (child_bytes : ℕ) → HeaderEntry
+new_header part_indices entry child_bytes =
+    record {
+      opening = new_span part_indices entry.opening;
+      closing = new_span part_indices entry.closing;
+      kind = entry.kind;
+      len = entry.len;
+      child_bytes = child_bytes;
+    }
+
+-- the token with the new indices; an open header has none
+abbrev pub IsRenumbered : (part_indices symbol_indices : List ℕ) → InternedToken → (child_bytes : ℕ) → Entry → Type 0
+IsRenumbered part_indices symbol_indices (interned.Leaf entry) child_bytes result = result ≡ of_leaf (new_leaf part_indices symbol_indices entry)
+IsRenumbered part_indices symbol_indices (interned.Open kind opening) child_bytes result = ⊥
+IsRenumbered part_indices symbol_indices (interned.Header entry) child_bytes result = result ≡ of_header (new_header part_indices entry child_bytes)

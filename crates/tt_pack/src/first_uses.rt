@@ -1,0 +1,142 @@
+//! The parts that tokens in numbers use, by their places, in the order of first use.
+ghost use Rattle.std.specs.Prelude.{◌≡◌, ◌<◌, ◌≤◌, ◌^◌, ◌+◌, [], true, All, nat_eq, nat_lt, fold, length, count_by, IfOk, OnOk};
+ghost use Rattle.std.specs.List.{list_any};
+ghost use Rattle.tt_tables.specs.TableOrder.{different};
+ghost use Rattle.tt_pack.specs.Counted.{note_value};
+ghost use Rattle.tt_pack.specs.Places.{leaf_place, token_places, part_places, IsWithin, AreRanked};
+
+use std::alloc::{AllocError, Global};
+use tt_codec::LeafEntry;
+use tt_interned::InternedToken;
+
+/// The places of the parts that are used, and where each of them stands in this order.
+#[derive(Drop)]
+pub(crate) struct FirstUses {
+    /// By first use.
+    pub(crate) order: Vec<u32>,
+    /// By place. Of a part that is not used it says nothing.
+    pub(crate) ranks: Vec<u32>,
+}
+
+/// How many of the numbers are above 0.
+pub(crate) fn count_used(numbers: &[usize]) -> usize
+    ensures { result ≡ count_by (nat_lt 0) numbers.now }
+{
+    let mut used = 0;
+    for index in 0..numbers.len() {
+        if numbers[index] > 0 {
+            used += 1;
+        }
+    }
+    used
+}
+
+// The place of a leaf's part.
+#[inline(always)]
+fn leaf_place(entry: &LeafEntry) -> u32
+    ensures { result ≡ leaf_place entry.now }
+{
+    match entry {
+        LeafEntry::Punct(_, _, numbers) => numbers.part,
+        LeafEntry::Ident(_, _, numbers) => numbers.part,
+        LeafEntry::Literal(_, _, _, numbers) => numbers.part,
+    }
+}
+
+impl FirstUses {
+    // Whether the part at the place is used so far.
+    #[inline(always)]
+    fn is_met(&self, place: u32) -> bool
+        requires within { place < length self.now.ranks.items }
+        requires ranked { AreRanked self.now.order.items self.now.ranks.items }
+        ensures { result ≡ list_any (λ other. nat_eq other place) self.now.order.items }
+    {
+        let rank = self.ranks[place as usize] as usize;
+        if rank >= self.order.len() {
+            return false;
+        }
+        self.order[rank] == place
+    }
+
+    // Notes the next use of a part.
+    #[inline(always)]
+    fn meet(&mut self, place: u32) -> Result<(), AllocError>
+        requires within { place < length self.old.ranks.items }
+        requires few { length self.old.order.items < 2 ^ 32 }
+        requires ranked { AreRanked self.old.order.items self.old.ranks.items }
+        ensures order { OnOk result (self.new.order.items ≡ note_value nat_eq self.old.order.items place) }
+        ensures ranked { OnOk result (AreRanked self.new.order.items self.new.ranks.items) }
+        ensures places { length self.new.ranks.items ≡ length self.old.ranks.items }
+        ensures few { length self.new.order.items ≤ length self.old.order.items + 1 }
+    {
+        if self.is_met(place) {
+            return Ok(());
+        }
+        self.ranks[place as usize] = self.order.len() as u32;
+        self.order.push(place)?;
+        Ok(())
+    }
+
+    // Notes what the next token uses.
+    #[inline(always)]
+    fn meet_token(&mut self, token: &InternedToken) -> Result<(), AllocError>
+        requires within { IsWithin (length self.old.ranks.items) token.now }
+        requires few { length self.old.order.items + 1 < 2 ^ 32 }
+        requires ranked { AreRanked self.old.order.items self.old.ranks.items }
+        ensures order { OnOk result (self.new.order.items ≡ fold (note_value nat_eq) self.old.order.items (token_places token.now)) }
+        ensures ranked { OnOk result (AreRanked self.new.order.items self.new.ranks.items) }
+        ensures places { length self.new.ranks.items ≡ length self.old.ranks.items }
+    {
+        match token {
+            InternedToken::Leaf(entry) => self.meet(leaf_place(entry)),
+            InternedToken::Open(_, opening) => self.meet(opening.part),
+            InternedToken::Header(entry) => {
+                self.meet(entry.opening.part)?;
+                self.meet(entry.closing.part)
+            }
+        }
+    }
+
+    // Notes what the tokens use, until all parts that are used have been met. None is noted before.
+    #[inline(never)]
+    fn meet_list(&mut self, tokens: &[InternedToken], used: usize) -> Result<(), AllocError>
+        requires within { All (IsWithin (length self.old.ranks.items)) tokens.now }
+        requires used { used ≡ length (different nat_eq (part_places tokens.now)) }
+        requires few { used < 2 ^ 31 }
+        requires order { self.old.order.items ≡ [] }
+        ensures order { OnOk result (self.new.order.items ≡ different nat_eq (part_places tokens.now)) }
+        ensures ranked { OnOk result (AreRanked self.new.order.items self.new.ranks.items) }
+        ensures places { length self.new.ranks.items ≡ length self.old.ranks.items }
+    {
+        for token in tokens {
+            if self.order.len() >= used {
+                return Ok(());
+            }
+            self.meet_token(token)?;
+        }
+        Ok(())
+    }
+
+    /// The order of the parts that the tokens use, of which there are so many, among all that they can name. It is found once
+    /// each of them has been met: the tokens behind are not read.
+    pub(crate) fn of_tokens(
+        alloc: Global,
+        tokens: &[InternedToken],
+        parts: usize,
+        used: usize,
+    ) -> Result<FirstUses, AllocError>
+        requires within { All (IsWithin parts) tokens.now }
+        requires used { used ≡ length (different nat_eq (part_places tokens.now)) }
+        requires few { used < 2 ^ 31 }
+        ensures order { IfOk result (λ uses. uses.order.items ≡ different nat_eq (part_places tokens.now)) }
+        ensures ranked { IfOk result (λ uses. AreRanked uses.order.items uses.ranks.items) }
+        ensures places { IfOk result (λ uses. length uses.ranks.items ≡ parts) }
+    {
+        let mut uses = FirstUses {
+            order: Vec::with_capacity(alloc, used)?,
+            ranks: Vec::from_elem(alloc, 0, parts)?,
+        };
+        uses.meet_list(tokens, used)?;
+        Ok(uses)
+    }
+}

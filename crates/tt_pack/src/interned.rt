@@ -1,0 +1,155 @@
+//! The two tables of tokens that name values by places, and such tokens under these tables.
+ghost use Rattle.std.specs.Prelude.{◌≡◌, ◌+◌, ◌<◌, ◌≤◌, All, length, map, IfOk, IfErr};
+ghost use Rattle.std.specs.List.{AllZip};
+ghost use Rattle.tt_base.specs.Forest.{IsWhole};
+ghost use Rattle.tt_interned.specs.ListOf.{list_of};
+ghost use Rattle.tt_tables.specs.Stored.{most_parts, most_symbols};
+ghost use Rattle.tt_tables.specs.Tables.{part_table, symbol_table};
+ghost use Rattle.tt_pack.specs.Counted.{new_index};
+ghost use Rattle.tt_pack.specs.Packed.{HasFewParts, HasFewSymbols, IsTableFault};
+ghost use Rattle.tt_pack.specs.Places.{IsAt, IsWithin};
+
+use crate::first_uses::{FirstUses, count_used};
+use crate::table::Table;
+use crate::tables::new_index_at;
+use crate::uses::{MOST_PARTS_BELOW, tables_of};
+use std::alloc::{AllocError, Global};
+use tt_base::{SpanPart, Symbol, TtFault};
+use tt_codec::{Entry, HeaderEntry, LeafEntry, SpanNumbers};
+use tt_interned::{CountedTokens, InternedToken};
+
+/// The tables of tokens in numbers, and where in them each value went that is named by its place.
+#[derive(Drop)]
+pub(crate) struct InternedTables {
+    pub(crate) parts: Vec<SpanPart>,
+    /// By place: the index of the part. Of a part that is not used it says nothing.
+    part_indices: Vec<u32>,
+    pub(crate) symbols: Table<Symbol>,
+    pub ghost few_parts: { length parts.items + 2 ≤ most_parts },
+    pub ghost few_symbols: { length symbols.values.items ≤ most_symbols },
+}
+
+// The values at these places.
+fn values_at<T: Copy>(alloc: Global, values: &[T], places: &[u32]) -> Result<Vec<T>, AllocError>
+    requires { All (λ place. place < length values.now) places.now }
+    ensures { IfOk result (λ found. AllZip (IsAt values.now) places.now found.items) }
+{
+    let mut found = Vec::with_capacity(alloc, places.len())?;
+    for index in 0..places.len() {
+        found.push(values[places[index] as usize])?;
+    }
+    Ok(found)
+}
+
+// The new index of each index. Where none is noted, it stays.
+fn renumbered(indices: Vec<u32>, new_indices: &[u32]) -> Vec<u32>
+    ensures { result.items ≡ map (new_index new_indices.now) indices.items }
+{
+    let mut indices = indices;
+    for place in 0..indices.len() {
+        indices[place] = new_index_at(new_indices, indices[place]);
+    }
+    indices
+}
+
+impl InternedTables {
+    ghost use Rattle.tt_interned.specs.declared.token.InternedToken.TheVariants as interned;
+    ghost use Rattle.tt_pack.specs.InternedTables.{LeadsFrom, IsClosed, IsRenumbered, new_span, new_leaf, new_header};
+
+    /// The tables of the tokens, where their indices can be written and the parts leave room for the top's two
+    /// (docs/FORMATS.md).
+    pub(crate) fn of_tokens(
+        alloc: Global,
+        below: CountedTokens<'_>,
+    ) -> Result<InternedTables, TtFault>
+        requires { IsWhole (list_of below) }
+        ensures parts { IfOk result (λ tables. (tables.parts.items ≡ part_table (list_of below.entry)) × HasFewParts (list_of below.entry)) }
+        ensures symbols { IfOk result (λ tables. (tables.symbols.values.items ≡ symbol_table (list_of below.entry)) × HasFewSymbols (list_of below.entry)) }
+        ensures leads { IfOk result (LeadsFrom below.entry) }
+        ensures err { IfErr result (IsTableFault (list_of below.entry)) }
+    {
+        let used = count_used(below.part_uses);
+        if used > MOST_PARTS_BELOW {
+            return Err(TtFault::TooManySpanParts);
+        }
+        let uses = FirstUses::of_tokens(alloc, below.tokens, below.parts.len(), used)?;
+        let parts = values_at(alloc, below.parts, &uses.order)?;
+        let part_uses = values_at(alloc, below.part_uses, &uses.order)?;
+        let (parts, symbols) = tables_of(
+            alloc,
+            &parts,
+            &part_uses,
+            below.symbols,
+            below.symbol_uses,
+        )?;
+        Ok(InternedTables {
+            part_indices: renumbered(uses.ranks, &parts.new_indices),
+            parts: parts.values,
+            symbols,
+        })
+    }
+
+    // The numbers of a span, with the new index of its part.
+    #[inline(always)]
+    fn span(&self, numbers: SpanNumbers) -> SpanNumbers
+        requires { numbers.part < length self.now.part_indices.items }
+        ensures { result ≡ new_span self.now.part_indices.items numbers }
+    {
+        SpanNumbers {
+            part: self.part_indices[numbers.part as usize],
+            start: numbers.start,
+            length: numbers.length,
+        }
+    }
+
+    // A leaf with the new indices.
+    #[inline(always)]
+    fn leaf(&self, entry: LeafEntry) -> LeafEntry
+        requires { IsWithin (length self.now.part_indices.items) (interned.Leaf entry) }
+        ensures { result ≡ new_leaf self.now.part_indices.items self.now.symbols.new_indices.items entry }
+    {
+        match entry {
+            LeafEntry::Literal(symbol, kind, suffix_len, numbers) => {
+                let symbol = new_index_at(&self.symbols.new_indices, symbol);
+                LeafEntry::Literal(symbol, kind, suffix_len, self.span(numbers))
+            }
+            LeafEntry::Punct(char, spacing, numbers) => {
+                LeafEntry::Punct(char, spacing, self.span(numbers))
+            }
+            LeafEntry::Ident(symbol, raw, numbers) => {
+                let symbol = new_index_at(&self.symbols.new_indices, symbol);
+                LeafEntry::Ident(symbol, raw, self.span(numbers))
+            }
+        }
+    }
+
+    // A header with the new indices, where what it holds takes so many bytes.
+    #[inline(always)]
+    fn header(&self, entry: HeaderEntry, child_bytes: u32) -> HeaderEntry
+        requires { IsWithin (length self.now.part_indices.items) (interned.Header entry) }
+        ensures { result ≡ new_header self.now.part_indices.items entry child_bytes }
+    {
+        HeaderEntry {
+            opening: self.span(entry.opening),
+            closing: self.span(entry.closing),
+            kind: entry.kind,
+            len: entry.len,
+            child_bytes,
+        }
+    }
+
+    /// A token with the new indices, where what it holds takes so many bytes. In the place of the call, so that its kind is
+    /// asked once until its bytes are written.
+    #[inline(always)]
+    pub(crate) fn entry(&self, token: &InternedToken, child_bytes: u32) -> Entry
+        requires within { IsWithin (length self.now.part_indices.items) token.now }
+        requires closed { IsClosed token.now }
+        ensures { IsRenumbered self.now.part_indices.items self.now.symbols.new_indices.items token.now child_bytes result }
+    {
+        match token {
+            InternedToken::Leaf(entry) => Entry::Leaf(self.leaf(*entry)),
+            InternedToken::Open(_, _) => unreachable!(),
+            InternedToken::Header(entry) => Entry::Header(self.header(*entry, child_bytes)),
+        }
+    }
+}
