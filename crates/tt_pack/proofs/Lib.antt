@@ -7,6 +7,7 @@ pub mod Kept
 pub mod MostBytes
 pub mod Moves
 pub mod Noting
+pub mod OneNode
 pub mod Paired
 pub mod PlacesNamed
 pub mod PutIds

@@ -3,6 +3,7 @@ pub mod Counted
 pub mod Few
 pub mod InternedTables
 pub mod Known
+pub mod OneNode
 pub mod Packed
 pub mod Places
 pub mod ReaderOf

@@ -20,6 +20,7 @@ ghost use Rattle.tt_base.specs.Equality.{same_token-equivalence, same_root};
 
 mod ids;
 mod interned;
+mod interned_node;
 mod top;
 
 use crate::known::Known;

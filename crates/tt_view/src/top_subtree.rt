@@ -1,22 +1,23 @@
 //! A token tree that is stored whole.
-ghost use Rattle.std.specs.Prelude.{◌≡◌, ◌≤◌, ◌+◌, ◌*◌, ◌-◌, suc, length, drop, take, ◌↔◌, IsTrue, IfOk, IfErr, bytes_eq};
+ghost use Rattle.std.specs.Prelude.{◌≡◌, ◌<◌, ◌≤◌, ◌+◌, ◌*◌, ◌-◌, ◌^◌, ◌∷◌, suc, length, drop, take, ◌↔◌, IsTrue, IfOk, IfErr, bytes_eq};
 ghost use Rattle.std.proofs.Common.{rules, ap};
 ghost use Rattle.std.specs.Cmp.Rules.{comparing};
 ghost use Rattle.tt_base.specs.declared.delimiter.DelimiterKind.TheVariants.{Invisible};
 ghost use Rattle.tt_base.specs.declared.fault.TtFault.TheVariants.{Memory};
 ghost use Rattle.tt_base.specs.Equality.{same_token-equivalence, same_root};
-ghost use Rattle.tt_base.specs.Forest.{only, end, size, flat, flat_root};
+ghost use Rattle.tt_base.specs.Forest.{only, end, size, header, flat, flat_root, IsWhole};
 ghost use Rattle.tt_base.specs.Siblings.{leaves as leaf_trees};
 ghost use Rattle.tt_base.specs.Token.{delimiter};
 ghost use Rattle.tt_base.proofs.SameTree.{same_root_iff};
+ghost use Rattle.tt_interned.specs.ListOf.{list_of};
 ghost use Rattle.tt_tables.specs.Cost.{IsCheapest};
-ghost use Rattle.tt_tables.specs.Counts.{CountsUses};
 ghost use Rattle.tt_tables.specs.PackFault.{IsPackFault};
 ghost use Rattle.tt_tables.specs.Shortest.{HasShortestHeaders};
 ghost use Rattle.tt_tables.specs.Stored.{most_tokens, packed, IsInRange, IsWithinLimits};
 ghost use Rattle.tt_tables.specs.TableOrder.{IsTable};
 ghost use Rattle.tt_tables.specs.Tables.{tables_for, short_parts, short_symbols};
 ghost use Rattle.tt_tables.specs.Uses.{same_part, part_uses, symbol_uses};
+ghost use Rattle.tt_pack.specs.OneNode.{IsOneNode};
 ghost use Rattle.tt_pack.specs.Packed.{fed_tree};
 ghost use Rattle.tt_view.specs.TreeFault.{under, IsTreeFault};
 
@@ -27,13 +28,13 @@ mod setters;
 use crate::iter::TtIter;
 use crate::subtree_view::SubtreeView;
 use crate::view::TokenTreesView;
-use indexmap::IndexMap;
 use std::alloc::Global;
 use std::hash::{Hash, Hasher};
 use std::marker::Model;
 use tt_base::{
     DelimSpan, Delimiter, Leaf, Refused, Span, SpanPart, Subtree, Symbol, TokenTree, TtFault,
 };
+use tt_interned::CountedTokens;
 use tt_pack::Packed;
 
 /// A token tree: a delimiter and the trees inside. A contract sees the tree. It is stored as bytes and two tables,
@@ -126,22 +127,38 @@ impl TopSubtree {
         Ok(TopSubtree { packed })
     }
 
-    /// The same, where each map gives every value its number of uses in the list below the top. A value that is absent,
-    /// or has the number 0, has none. The maps say nothing of the order.
-    pub fn from_tokens_counted(
+    /// The tree of tokens that name values by places, under a top of that delimiter. It is refused where
+    /// `from_serialized` refuses its flat list.
+    pub fn from_interned(
         alloc: Global,
-        tokens: &[TokenTree],
-        parts: &IndexMap<SpanPart, usize>,
-        symbols: &IndexMap<Symbol, usize>,
+        top: Delimiter,
+        below: CountedTokens<'_>,
     ) -> Result<TopSubtree, TtFault>
-        requires parts { CountsUses same_part (part_uses (drop 1 tokens.now)) parts.now.entries }
-        requires symbols { CountsUses bytes_eq (symbol_uses (drop 1 tokens.now)) symbols.now.entries }
-        ensures ok { IfOk result (λ tree. tokens.now ≡ flat_root tree) }
+        requires whole { IsWhole (list_of below) }
+        requires few { length (list_of below) < 2 ^ 32 }
+        ensures ok { IfOk result (λ tree. header top (length (list_of below.entry)) ∷ list_of below.entry ≡ flat_root tree) }
         ensures counts { IfOk result (λ tree. size tree.children ≤ most_tokens) }
         ensures limits { IfOk result (λ tree. IsWithinLimits tree) }
-        ensures err { IfErr result (IsPackFault tokens.now) }
+        ensures err { IfErr result (IsPackFault (header top (length (list_of below.entry)) ∷ list_of below.entry)) }
     {
-        let packed = Packed::of_list_counted(alloc, tokens, parts, symbols)?;
+        let packed = Packed::of_interned(alloc, top, below)?;
+        Ok(TopSubtree { packed })
+    }
+
+    /// The same of tokens that are those of one node, whose header becomes the top.
+    pub fn from_interned_node(
+        alloc: Global,
+        tokens: CountedTokens<'_>,
+    ) -> Result<TopSubtree, TtFault>
+        requires whole { IsWhole (list_of tokens) }
+        requires few { length (list_of tokens) ≤ 2 ^ 32 }
+        requires one { IsOneNode (list_of tokens) }
+        ensures ok { IfOk result (λ tree. list_of tokens.entry ≡ flat_root tree) }
+        ensures counts { IfOk result (λ tree. size tree.children ≤ most_tokens) }
+        ensures limits { IfOk result (λ tree. IsWithinLimits tree) }
+        ensures err { IfErr result (IsPackFault (list_of tokens.entry)) }
+    {
+        let packed = Packed::of_interned_node(alloc, tokens)?;
         Ok(TopSubtree { packed })
     }
 
