@@ -34,12 +34,18 @@ last_changed t (u ∷ tokens) = ap (λ l. whole t ∷ l) (last_changed u tokens)
 
 -- What stands at a place behind others.
 get_behind : (held more : List HeldToken) (i : ℕ) → slice_get (held ++ more) (length held + i) ≡ slice_get more i
-get_behind [] more i = ap (slice_get more) (omega arith)
-get_behind (h ∷ held) more i = ap (slice_get (h ∷ held ++ more)) (omega arith) ∙ get_behind held more i
+get_behind [] more i =
+    let same : length {A = HeldToken} [] + i ≡ i = omega arith in
+    ap (slice_get more) same
+get_behind (h ∷ held) more i =
+    let next : length (h ∷ held) + i ≡ suc (length held + i) = omega arith in
+    ap (slice_get (h ∷ held ++ more)) next ∙ get_behind held more i
 
 -- What is set there.
 set_behind : (held more : List HeldToken) (i : ℕ) (it : HeldToken) → set (held ++ more) (length held + i) it ≡ held ++ set more i it
-set_behind [] more i it = ap (λ n. set more n it) (omega arith)
+set_behind [] more i it =
+    let same : length {A = HeldToken} [] + i ≡ i = omega arith in
+    ap (λ n. set more n it) same
 set_behind (h ∷ held) more i it =
     let next : length (h ∷ held) + i ≡ suc (length held + i) = omega arith in
     ap (λ n. set (h ∷ held ++ more) n it) next ∙ ap (λ l. h ∷ l) (set_behind held more i it)

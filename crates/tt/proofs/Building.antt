@@ -1,75 +1,70 @@
--- What is written where no subtree is open is the tree, but for the top's count.
-use Rattle.std.proofs.Common.{◌≡◌, ℕ, ◌-◌, ◌<◌, ◌≤◌, List, [], ◌∷◌, ◌++◌, length, take, drop, set, get_or, true, false, Option, Some, None, refl, ap, sym, ◌∙◌, arith, append-nil, length-append, length-drop}
-use Rattle.std.proofs.lemmas.List.{take_all}
+-- What is held where no subtree is open is the tree below the top.
+use Rattle.std.proofs.Common.{◌≡◌, ℕ, ◌≤◌, nat_eq, List, [], ◌∷◌, ◌++◌, length, map, drop, true, false, Option, Some, None, refl, ap, ap₂, sym, ◌∙◌, arith, append-nil, length-append}
 use Rattle.std.proofs.lemmas.Bool.{eq-eqb, eqb-true}
+use Rattle.std.proofs.lemmas.List.{length-map}
 use Rattle.tt_base.specs.declared.delimiter.Delimiter.{Delimiter}
 use Rattle.tt_base.specs.declared.token_tree.TokenTree.{TokenTree}
 use Rattle.tt_base.specs.declared.token_tree.TokenTree.TheVariants as token
 use Rattle.tt_base.specs.Building.{Stack, lowest, above, bottom, BuilderState, IsOpen, IsAbove, built}
-use Rattle.tt_base.specs.Forest.{Forest, end, leaf, node, Root, size, flat, flat_root, header}
+use Rattle.tt_base.specs.Forest.{Forest, end, leaf, node, Root, size, flat, flat_root, header, IsWhole}
 use Rattle.tt_base.specs.OneRoot.{one_root}
 use Rattle.tt_base.specs.Unflat.{length-flat}
+use Rattle.tt_interned.specs.declared.token.InternedToken.{InternedToken}
+use Rattle.tt_interned.specs.declared.token.InternedToken.TheVariants as interned
+use Rattle.tt_interned.specs.Held.{HeldToken, whole, opened, as_token, open_places}
+use Rattle.tt_interned.specs.Interned.{AreNamed}
+use Rattle.tt_interned.specs.Names.{AllName}
+use Rattle.tt_interned.proofs.Naming.{length-named}
+use Rattle.tt_pack.specs.OneNode.{IsOneNode}
+use Rattle.tt_tables.specs.Tables.{Tables}
 use Rattle.tt.specs.declared.builder.standing.Standing.{Standing}
-use Rattle.tt.specs.BuilderFields.{written, counted, counted_token, is_one_node, IsStateOf}
-use Rattle.tt.specs.OneState.{length-written}
-
--- There is the top at least.
-pub some_token : (tokens : List TokenTree) (headers : List ℕ) (mark : Option ℕ) (points : List Standing) (taken : ℕ) (s : BuilderState)
-    → IsStateOf tokens headers mark points taken s → 0 < length tokens
-some_token tokens headers mark points taken s is = omega (arith, ap length is.list, length-written s.top s.stack)
-
--- The first header gets its count at the first place.
-pub counted_first : (tokens : List TokenTree) (n : ℕ) (d : TokenTree) → 0 < length tokens → set tokens 0 (counted_token n (get_or tokens 0 d)) ≡ counted n tokens
-counted_first [] n d some = absurd (omega (arith, some))
-counted_first (t ∷ tokens) n d some = refl
-
--- The last count is the one that is left.
-pub counted_twice : (tokens : List TokenTree) (m n : ℕ) → counted m (counted n tokens) ≡ counted m tokens
-counted_twice [] m n = refl
-counted_twice (token.Leaf it ∷ tokens) m n = refl
-counted_twice (token.Subtree s ∷ tokens) m n = refl
-
--- The tokens below stay.
-pub below_counted : (tokens : List TokenTree) (n : ℕ) → drop 1 (counted n tokens) ≡ drop 1 tokens
-below_counted [] n = refl
-below_counted (t ∷ tokens) n = refl
-
--- As many tokens are there as before.
-pub length-counted : (tokens : List TokenTree) (n : ℕ) → length (counted n tokens) ≡ length tokens
-length-counted [] n = refl
-length-counted (t ∷ tokens) n = refl
+use Rattle.tt.specs.BuilderFields.{written, places, is_one_node, IsStateOf}
+use Rattle.tt.specs.HeldList.{all_tokens, AreOpenIn}
+use Rattle.tt.specs.InternedKinds.{is_named_node}
 
 -- What is written where no subtree is open.
 all_written : (top : Delimiter) (stack : Stack) → (IsAbove stack → ⊥) → written top stack ≡ header top 0 ∷ flat (bottom stack)
 all_written top (lowest trees) none = refl
 all_written top (above outer kind open_span trees) none = absurd (none tt)
 
-module _ (tokens : List TokenTree) (headers : List ℕ) (mark : Option ℕ) (points : List Standing) (taken : ℕ) (s : BuilderState) (is : IsStateOf tokens headers mark points taken s) (none : IsOpen s → ⊥) where
-  -- That is the list.
-  pub lowest_list : tokens ≡ header s.top 0 ∷ flat (bottom s.stack)
-  lowest_list = is.list ∙ all_written s.top s.stack none
+-- the delimiter of the first header, or d
+first_delimiter : Delimiter → List TokenTree → Delimiter
+first_delimiter d [] = d
+first_delimiter d (token.Leaf it ∷ tokens) = d
+first_delimiter d (token.Subtree it ∷ tokens) = it.delimiter
 
-  -- Its first header has no count.
-  pub not_counted : counted 0 tokens ≡ tokens
-  not_counted = ap (counted 0) lowest_list ∙ sym lowest_list
+-- The first header tells its delimiter.
+same_delimiter : (c d : Delimiter) (m n : ℕ) (xs ys : List TokenTree) → header c m ∷ xs ≡ header d n ∷ ys → c ≡ d
+unfolding first_delimiter
+same_delimiter c d m n xs ys e = ap (first_delimiter c) e
+
+module _ (top : Delimiter) (held : List HeldToken) (headers : List ℕ) (mark : Option ℕ) (points : List Standing) (taken : ℕ) (s : BuilderState)
+    (is : IsStateOf (all_tokens top held) headers mark points taken s) (none : IsOpen s → ⊥) where
+  lowest_list : all_tokens top held ≡ header s.top 0 ∷ flat (bottom s.stack)
+  lowest_list = is.list ∙ all_written s.top s.stack none
 
   -- The trees are not too many to be counted.
   pub few_below : size (bottom s.stack) ≤ 4294967295
   few_below = omega (arith, is.few, ap length lowest_list, length-flat (bottom s.stack))
 
-  -- With its count it is the flat list of the tree.
-  pub built_list : counted (length tokens - 1) tokens ≡ flat_root (built s)
-  built_list =
-      let sized : length tokens - 1 ≡ size (bottom s.stack) = omega (arith, ap length lowest_list, length-flat (bottom s.stack)) in
-      ap (counted (length tokens - 1)) lowest_list ∙ ap (λ n. header s.top n ∷ flat (bottom s.stack)) sized
-
-  -- Without it, what it holds.
-  pub held_list : drop 1 tokens ≡ flat (bottom s.stack)
+  -- What is held are the tokens of the trees at the lowest level.
+  pub held_list : map as_token held ≡ flat (bottom s.stack)
   held_list = ap (drop 1) lowest_list
 
--- All items but the first.
-pub all_but_first : (list tokens : List TokenTree) → list ≡ tokens → take (length list - 1) (drop 1 list) ≡ drop 1 tokens
-all_but_first list tokens same = take_all (length list - 1) (drop 1 list) (omega (arith, length-drop 1 list)) ∙ ap (drop 1) same
+  -- So they are those of whole trees.
+  pub held_whole : (list : List TokenTree) → list ≡ map as_token held → IsWhole list
+  held_whole list told = (bottom s.stack, told ∙ held_list)
+
+  -- Under the top's header, with its count, they are the flat list of the tree.
+  pub built_list : (list : List TokenTree) → list ≡ map as_token held → header top (length list) ∷ list ≡ flat_root (built s)
+  built_list list told =
+      let top_is : top ≡ s.top = same_delimiter top s.top 0 0 (map as_token held) (flat (bottom s.stack)) lowest_list in
+      ap (λ l. header top (length l) ∷ l) (told ∙ held_list) ∙ ap₂ (λ d n. header d n ∷ flat (bottom s.stack)) top_is (length-flat (bottom s.stack))
+
+-- Where no subtree is open, there is no place of one.
+no_places : (stack : Stack) → (IsAbove stack → ⊥) → places stack ≡ []
+no_places (lowest trees) none = refl
+no_places (above outer kind open_span trees) none = absurd (none tt)
 
 -- A list whose first token is no header of all others is that of no node alone.
 pub no_node : (trees : Forest) → is_one_node (flat trees) ≡ false → one_root trees ≡ None
@@ -103,3 +98,37 @@ one_node (node d children (leaf it rest)) e =
     absurd (omega (arith, eqb-true (size children) (length (flat children ++ token.Leaf it ∷ flat rest)) e, length-append (flat children) (token.Leaf it ∷ flat rest), length-flat children))
 one_node (node d children (node other inner rest)) e =
     absurd (omega (arith, eqb-true (size children) (length (flat children ++ flat (node other inner rest))) e, length-append (flat children) (flat (node other inner rest)), length-flat children))
+
+-- Such trees are one node.
+pub node_list : (trees : Forest) (list : List TokenTree) → list ≡ flat trees → IsNode trees → IsOneNode list
+node_list trees list told one =
+    record {
+      top = record { delimiter = one.root.delimiter; len = size one.root.children };
+      rest = flat one.root.children;
+      list = told ∙ one.list;
+      counted = sym (length-flat one.root.children);
+    }
+
+-- Where no header is open, tokens that name values tell whether they are one node.
+node_named : (tables : Tables) (tokens : List InternedToken) (held : List HeldToken) → AllName tables tokens held → open_places 1 held ≡ [] → is_named_node tokens ≡ is_one_node (map as_token held)
+node_named tables [] [] named none = refl
+node_named tables [] (h ∷ held) named none = absurd named
+node_named tables (t ∷ tokens) [] named none = absurd named
+node_named tables (interned.Leaf entry ∷ tokens) (whole (token.Leaf it) ∷ held) named none = refl
+node_named tables (interned.Leaf entry ∷ tokens) (whole (token.Subtree it) ∷ held) named none = absurd named.0
+node_named tables (interned.Leaf entry ∷ tokens) (opened kind open_span ∷ held) named none = absurd named.0
+node_named tables (interned.Open kind numbers ∷ tokens) (whole it ∷ held) named none = absurd named.0
+node_named tables (interned.Open kind numbers ∷ tokens) (opened other open_span ∷ held) named none = absurd (cc none)
+node_named tables (interned.Header entry ∷ tokens) (whole (token.Leaf it) ∷ held) named none = absurd named.0
+node_named tables (interned.Header entry ∷ tokens) (whole (token.Subtree it) ∷ held) named none =
+    ap₂ nat_eq named.0.0.len (length-named tables tokens held named.1 ∙ sym (length-map held as_token))
+node_named tables (interned.Header entry ∷ tokens) (opened kind open_span ∷ held) named none = absurd named.0
+
+module _ (top : Delimiter) (held : List HeldToken) (headers : List ℕ) (mark : Option ℕ) (points : List Standing) (taken : ℕ) (s : BuilderState)
+    (is : IsStateOf (all_tokens top held) headers mark points taken s) (none : IsOpen s → ⊥) (opens : AreOpenIn held headers) where
+  none_open : open_places 1 held ≡ []
+  none_open = opens ∙ is.open_places ∙ no_places s.stack none
+
+  -- They tell whether the trees are one node.
+  pub one_named : (tokens : List InternedToken) → AreNamed tokens held → is_named_node tokens ≡ is_one_node (flat (bottom s.stack))
+  one_named tokens are = node_named are.0 tokens held are.1 none_open ∙ ap is_one_node (held_list top held headers mark points taken s is none)

@@ -162,22 +162,3 @@ place_within tokens headers left mark points taken s place is popped =
     by_stack (above outer kind open_span trees) some counted =
         let (same_left, same_place) = last_alike left (places outer) place (suc (tokens_held outer)) some in
         omega (arith, same_place, counted)
-
--- Where a subtree is open there is a header.
-pub some_header : (tokens : List TokenTree) (headers : List ℕ) (mark : Option ℕ) (points : List Standing) (taken : ℕ) (s : BuilderState)
-    → IsStateOf tokens headers mark points taken s → IsOpen s → 0 < length headers
-some_header tokens headers mark points taken s is open_one = by_stack s.stack open_one (ap length is.open_places ∙ length-places s.stack)
-  where
-    by_stack : (stack : Stack) → IsOpen (record { top = s.top; stack = stack; mark = s.mark; points = s.points; taken = s.taken })
-        → length headers ≡ depth stack → 0 < length headers
-    by_stack (lowest trees) impossible counted = absurd impossible
-    by_stack (above outer kind open_span trees) is_open counted = omega (arith, counted)
-
--- Where there is a header a subtree is open.
-pub open_there : (tokens : List TokenTree) (headers : List ℕ) (mark : Option ℕ) (points : List Standing) (taken : ℕ) (s : BuilderState)
-    → IsStateOf tokens headers mark points taken s → 0 < length headers → IsOpen s
-open_there tokens headers mark points taken s is some = by_stack s.stack (ap length is.open_places ∙ length-places s.stack)
-  where
-    by_stack : (stack : Stack) → length headers ≡ depth stack → IsOpen (record { top = s.top; stack = stack; mark = s.mark; points = s.points; taken = s.taken })
-    by_stack (lowest trees) counted = absurd (omega (arith, counted, some))
-    by_stack (above outer kind open_span trees) counted = tt

@@ -165,14 +165,6 @@ pub full : (tokens : List TokenTree) (headers : List ℕ) (mark : Option ℕ) (p
     → IsStateOf tokens headers mark points taken s → 4294967295 < length tokens → 4294967295 < tokens_held s.stack + 1
 full tokens headers mark points taken s is many = omega (arith, ap length is.list, length-written s.top s.stack, many)
 
--- Trees are appended if there was memory for them.
-pub maybe_extended : (added : Bool) (tokens now : List TokenTree) (headers : List ℕ) (mark : Option ℕ) (points : List Standing) (taken : ℕ) (s : BuilderState) (more : Forest)
-    → IsStateOf tokens headers mark points taken s → now ≡ cond added (tokens ++ flat more) tokens → length tokens + length (flat more) ≤ 4294967296
-    → IsStateOf now headers mark points taken (cond added (extended more s) s)
-maybe_extended true tokens now headers mark points taken s more is grown few =
-    extended_state tokens now headers mark points taken s more is grown (omega (arith, ap length grown, length-append tokens (flat more), few))
-maybe_extended false tokens now headers mark points taken s more is grown few = same_state tokens now headers headers mark points taken s is grown refl
-
 -- The same fields, in other vectors.
 pub same_fields : (tokens now : List TokenTree) (headers places_now : List ℕ) (mark : Option ℕ) (points points_now : List Standing) (taken : ℕ) (s : BuilderState)
     → IsStateOf tokens headers mark points taken s → now ≡ tokens → places_now ≡ headers → points_now ≡ points → IsStateOf now places_now mark points_now taken s

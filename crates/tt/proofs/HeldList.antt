@@ -1,7 +1,7 @@
 -- The tokens that a builder holds are told by the flat list and the places of the open headers.
-use Rattle.std.proofs.Common.{◌≡◌, ℕ, zero, suc, ◌+◌, ◌-◌, ◌<◌, ◌≤◌, Option, List, [], ◌∷◌, ◌++◌, map, length, drop, take, get_or, set, slice_get, Some, refl, ap, ap₂, sym, subst, ◌∙◌, arith, append_assoc, length-append}
+use Rattle.std.proofs.Common.{◌≡◌, ℕ, suc, ◌+◌, ◌≤◌, Option, List, [], ◌∷◌, ◌++◌, map, length, drop, refl, ap, ap₂, sym, ◌∙◌, arith, length-append}
 use Rattle.std.proofs.lemmas.List.{map-append, length-map}
-use Rattle.std.specs.List.{AllByRecursion, flat_map}
+use Rattle.std.specs.List.{AllByRecursion}
 use Rattle.tt_base.specs.declared.delimiter.Delimiter.{Delimiter}
 use Rattle.tt_base.specs.declared.delimiter.DelimiterKind.{DelimiterKind}
 use Rattle.tt_base.specs.declared.span.Span.{Span}
@@ -10,12 +10,10 @@ use Rattle.tt_base.specs.declared.token_tree.TokenTree.TheVariants as token
 use Rattle.tt_base.specs.Building.{Stack, lowest, above, tokens_held, BuilderState}
 use Rattle.tt_base.specs.Forest.{flat, header}
 use Rattle.tt_base.specs.Span.{part_of}
-use Rattle.tt_base.specs.Token.{delimiter}
 use Rattle.tt_interned.specs.Held.{HeldToken, whole, opened, as_token, counted_parts, counted_symbols, parts_in, symbols_in, open_places}
 use Rattle.tt_interned.proofs.Opening.{all_from, open_places-wholes}
 use Rattle.tt_interned.proofs.Packing.{parts_in-whole, symbols_in-whole}
 use Rattle.tt_interned.proofs.Using.{uses_joined}
-use Rattle.tt_tables.specs.Uses.{part_uses, symbol_uses}
 use Rattle.tt.specs.declared.builder.standing.Standing.{Standing}
 use Rattle.tt.specs.BuilderFields.{written, places, open_header, IsStateOf}
 use Rattle.tt.specs.HeldList.{all_tokens, AreOpenIn}

@@ -1,20 +1,18 @@
 -- Kinds and counts of tokens that name values are those of the tokens held.
-use Rattle.std.proofs.Common.{◌≡◌, ℕ, zero, suc, ◌+◌, ◌-◌, ◌<◌, ◌≤◌, Bool, true, false, List, [], ◌∷◌, ◌++◌, Option, Some, None, length, map, get_or, slice_get, refl, ap, ap₂, sym, subst, ◌∙◌, arith}
-use Rattle.std.proofs.lemmas.Option.{slice_get_within, slice_get-get_or}
+use Rattle.std.proofs.Common.{◌≡◌, ℕ, zero, suc, ◌+◌, ◌-◌, ◌<◌, ◌≤◌, true, false, List, [], ◌∷◌, Some, None, length, map, get_or, slice_get, refl, ap, ap₂, sym, subst, ◌∙◌, arith}
+use Rattle.std.proofs.lemmas.Option.{slice_get-get_or}
 use Rattle.std.specs.List.{AllByRecursion, remove}
 use Rattle.std.specs.Prelude.{reverse}
 use Rattle.tt_base.specs.declared.delimiter.Delimiter.{Delimiter}
-use Rattle.tt_base.specs.declared.delimiter.DelimiterKind.{DelimiterKind}
 use Rattle.tt_base.specs.declared.delimiter.DelimiterKind.TheVariants.{Invisible}
 use Rattle.tt_base.specs.declared.delimiter.Subtree.{Subtree}
 use Rattle.tt_base.specs.Building.{BuilderState, removed}
 use Rattle.tt_base.specs.declared.token_tree.TokenTree.{TokenTree}
 use Rattle.tt_base.specs.declared.token_tree.TokenTree.TheVariants as token
-use Rattle.tt_base.specs.Forest.{header}
 use Rattle.tt_base.specs.OneRoot.{is_invisible}
 use Rattle.tt_interned.specs.declared.token.InternedToken.{InternedToken}
 use Rattle.tt_interned.specs.declared.token.InternedToken.TheVariants as interned
-use Rattle.tt_interned.specs.Held.{HeldToken, whole, opened, as_token, open_places}
+use Rattle.tt_interned.specs.Held.{HeldToken, whole, opened, as_token}
 use Rattle.tt_interned.specs.Interned.{AreNamed}
 use Rattle.tt_interned.specs.Names.{Names, AllName}
 use Rattle.tt_interned.proofs.Naming.{length-named, named_at}
@@ -22,7 +20,7 @@ use Rattle.tt_interned.proofs.Opening.{all_from}
 use Rattle.tt_tables.specs.Tables.{Tables}
 use Rattle.tt.specs.BuilderFields.{kind_of, kind_at, kinds_at, invisible_token}
 use Rattle.tt.specs.HeldList.{all_tokens, AreOpenIn}
-use Rattle.tt.specs.InternedKinds.{named_kind, named_kind_at, named_kinds_at, is_named_invisible, is_named_node}
+use Rattle.tt.specs.InternedKinds.{named_kind, named_kind_at, named_kinds_at, is_named_invisible}
 use Rattle.tt.specs.declared.builder.standing.Standing.{Standing}
 use Rattle.tt.proofs.Steps.{Keeps, MarkThere, mark_whole, removed_keeps, mark_gone_keeps}
 

@@ -21,11 +21,6 @@ unread_is : (fields : Rewriting) (work : Work) → StandsFor fields work → unr
 unread_is fields work is = ap₂ (λ f l. size f + sum_by size l) is.ahead is.rests
 
 module _ {F : Type 0} (call : F → TokenTree → TransformTtAction → F → Type 0) (first : F) (trees : Forest) where
-  -- At the start.
-  pub sets_out : (fields : Rewriting) → StandsFor fields (lowest end trees) → IsOnTheWay call first trees first fields
-  sets_out fields is =
-      record { work = lowest end trees; stands = is; later = λ answers last asked. record { answers = answers; last = last; asked = asked; gives = refl } }
-
   module _ (now : F) (fields : Rewriting) (way : IsOnTheWay call first trees now fields) where
     -- One token further.
     pub goes_further : (then : F) (it : TokenTree) (below : Forest) (answer : TransformTtAction) (took new : Rewriting) (n : IsNextOf way.work took it below)

@@ -68,8 +68,3 @@ taken_state tokens headers mark points more taken s k is added n t d =
           (all_weaker (λ q. q.number < taken) (λ q. q.number < taken + 1) points (λ q below. omega (arith, below)) is.numbers) (omega (arith, n)));
       count = ap (λ m. m + 1) is.count;
     }
-
--- The same points, in a vector that has other room.
-pub same_points : (tokens : List TokenTree) (headers : List ℕ) (mark : Option ℕ) (points now : List Standing) (taken : ℕ) (s : BuilderState)
-    → IsStateOf tokens headers mark points taken s → now ≡ points → IsStateOf tokens headers mark now taken s
-same_points tokens headers mark points now taken s is same = subst (λ p. IsStateOf tokens headers mark p taken s) (sym same) is

@@ -1,29 +1,27 @@
 -- What each call of a builder makes of its list, its open headers and its state.
-use Rattle.std.proofs.Common.{◌≡◌, ℕ, zero, suc, ◌+◌, ◌-◌, ◌<◌, ◌≤◌, Bool, true, false, cond, is_err, true≢false, List, [], ◌∷◌, ◌++◌, Option, Some, None, Result, Ok, Err, OnOk, OnErr, length, map, filter, take, drop, get_or, set, slice_get, nat_le, refl, ap, ap₂, sym, subst, ◌∙◌, arith, length-append, append_assoc}
-use Rattle.std.proofs.lemmas.List.{map-append, length-map, length-set, length-take-le}
-use Rattle.std.proofs.lemmas.Option.{slice_get_within, slice_get-get_or}
+use Rattle.std.proofs.Common.{◌≡◌, ℕ, zero, suc, ◌+◌, ◌-◌, ◌<◌, ◌≤◌, Bool, true, false, cond, is_err, true≢false, List, [], ◌∷◌, ◌++◌, Option, Some, None, Result, Ok, Err, OnOk, OnErr, length, map, filter, take, drop, get_or, set, slice_get, nat_le, refl, ap, ap₂, sym, subst, ◌∙◌, arith, length-append}
+use Rattle.std.proofs.lemmas.List.{map-append, length-map, length-take-le}
 use Rattle.std.specs.List.{AllByRecursion, remove}
 use Rattle.tt_base.specs.declared.delimiter.Delimiter.{Delimiter}
 use Rattle.tt_base.specs.declared.delimiter.DelimiterKind.{DelimiterKind}
-use Rattle.tt_base.specs.declared.delimiter.Subtree.{Subtree}
 use Rattle.tt_base.specs.declared.leaf.Leaf.{Leaf}
 use Rattle.tt_base.specs.declared.span.Span.{Span}
 use Rattle.tt_base.specs.declared.token_tree.TokenTree.{TokenTree}
 use Rattle.tt_base.specs.declared.token_tree.TokenTree.TheVariants as token
-use Rattle.tt_base.specs.Building.{Stack, lowest, above, empty_builder, extended, opened, closed, removed, restored, tokens_held, Point, BuilderState, IsOpen}
+use Rattle.tt_base.specs.Building.{Stack, lowest, above, empty_builder, extended, opened, closed, removed, restored, tokens_held, BuilderState, IsOpen}
 use Rattle.tt_base.specs.Forest.{Forest, leaf, end, flat, size, header}
 use Rattle.tt_base.specs.Token.{delimiter}
 use Rattle.tt_base.specs.Unflat.{length-flat}
 use Rattle.tt_interned.specs.Held.{HeldToken, whole, opened as open_header_held, as_token, open_places}
 use Rattle.tt_interned.proofs.Opening.{IsInnermost, innermost_open, open_places-opened, open_places-wholes, open_places-take, open_places-remove, whole_at, all_from}
 use Rattle.tt.specs.declared.builder.standing.Standing.{Standing}
-use Rattle.tt.specs.BuilderFields.{written, places, closed_token, invisible_token, innermost_start, kept_under, HasState, IsNoted, IsStateOf}
+use Rattle.tt.specs.BuilderFields.{places, closed_token, invisible_token, innermost_start, kept_under, HasState, IsStateOf}
 use Rattle.tt.specs.HeldList.{all_tokens, AreOpenIn}
 use Rattle.tt.specs.OneState.{seen, length-written}
 use Rattle.tt.proofs.Closing.{closed_state}
 use Rattle.tt.proofs.Growing.{all_weaker, extended_state, opened_state, new_state, same_fields}
 use Rattle.tt.proofs.HeldList.{whole_tokens}
-use Rattle.tt.proofs.Removing.{Marked, marked, marked_within, removed_state, mark_gone}
+use Rattle.tt.proofs.Removing.{marked, marked_within, removed_state, mark_gone}
 use Rattle.tt.proofs.Restoring.{found_point, places_below, restored_state}
 
 -- the fields stand for the state, and the open headers stand at their places

@@ -131,9 +131,6 @@ closed_same outer d n out =
     given_shows (lowest came rest) actions = refl
     given_shows (above more x m came rest) actions = refl
 
-pub same_self : (a : Work) → ComesToSame a a
-same_self a = record { result = λ actions. refl; tokens = λ actions. refl; left = refl }
-
 -- The same, one after the other.
 pub same_then : (a b c : Work) → ComesToSame a b → ComesToSame b c → ComesToSame a c
 same_then a b c x y =

@@ -32,25 +32,10 @@ abbrev pub closed_token : Span → ℕ → TokenTree → TokenTree
 closed_token close_span len (token.Leaf it) = token.Leaf it
 closed_token close_span len (token.Subtree s) = header (delimiter s.delimiter.kind s.delimiter.open_span close_span) len
 
--- a header with another count; a leaf stays
-abbrev pub counted_token : ℕ → TokenTree → TokenTree
-counted_token len (token.Leaf it) = token.Leaf it
-counted_token len (token.Subtree s) = header s.delimiter len
-
--- the list, its first header with another count
-abbrev pub counted : ℕ → List TokenTree → List TokenTree
-counted len [] = []
-counted len (it ∷ tokens) = counted_token len it ∷ tokens
-
 -- the token is an invisible header
 abbrev pub invisible_token : TokenTree → Bool
 invisible_token (token.Leaf it) = false
 invisible_token (token.Subtree s) = is_invisible s.delimiter.kind
-
--- a token, alone if it is a punct
-abbrev pub token_alone : TokenTree → TokenTree
-token_alone (token.Leaf it) = token.Leaf (leaf_alone it)
-token_alone (token.Subtree s) = token.Subtree s
 
 -- the first token is a header, and all others stand below it
 abbrev pub is_one_node : List TokenTree → Bool

@@ -26,7 +26,3 @@ distinct_parts stack = length (different same_part (held_parts stack))
 -- how many different symbols are used
 abbrev pub distinct_symbols : Stack → ℕ
 distinct_symbols stack = length (different bytes_eq (held_symbols stack))
-
--- the part with which a token begins
-abbrev pub first_part : TokenTree → SpanPart
-first_part it = part_of (first_span it)

@@ -27,7 +27,7 @@ pub use standing::SubtreeBuilderRestorePoint;
 use standing::{Standing, drop_deeper, drop_later, find};
 use std::alloc::Global;
 use std::marker::Model;
-use tokens::{add_leaves, add_trees, add_trees_alone, is_invisible};
+use tokens::{add_leaves, add_trees, add_trees_alone, is_invisible, is_one_node};
 use tt_base::{Delimiter, DelimiterKind, Leaf, Refused, Span, SpanPart, Symbol, TtFault};
 use tt_interned::InternedTokens;
 use tt_view::{TokenTreesView, TopSubtree};
@@ -261,6 +261,38 @@ impl TopSubtreeBuilder {
         drop_later(&mut self.points, kept.tokens);
         self.mark = None;
         true
+    }
+
+    /// The tree, where no subtree is open, of which `is_open` tells. A refusal hands the builder back.
+    pub fn build(self) -> Result<TopSubtree, Refused<TopSubtreeBuilder>>
+        requires { IsOpen self → ⊥ }
+        ensures ok { IfOk result (λ tree. tree ≡ built self) }
+        ensures limits { IfOk result (λ tree. IsWithinLimits tree) }
+        ensures fault { IfErr result (λ refused. IsTreeFault (built self) refused.fault) }
+        ensures value { IfErr result (λ refused. refused.value ≡ self) }
+    {
+        match TopSubtree::from_interned(self.alloc, self.top, self.held.counted()) {
+            Ok(tree) => Ok(tree),
+            Err(fault) => Err(Refused { fault, value: self }),
+        }
+    }
+
+    /// What it holds as a tree of its own, where that is exactly one subtree; else as `build`. No subtree is open, of which
+    /// `is_open` tells.
+    pub fn build_skip_top_subtree(self) -> Result<TopSubtree, Refused<TopSubtreeBuilder>>
+        requires { IsOpen self → ⊥ }
+        ensures ok { IfOk result (λ tree. tree ≡ built_skipping self) }
+        ensures limits { IfOk result (λ tree. IsWithinLimits tree) }
+        ensures fault { IfErr result (λ refused. IsTreeFault (built_skipping self) refused.fault) }
+        ensures value { IfErr result (λ refused. refused.value ≡ self) }
+    {
+        if !is_one_node(self.held.tokens()) {
+            return self.build();
+        }
+        match TopSubtree::from_interned_node(self.alloc, self.held.counted()) {
+            Ok(tree) => Ok(tree),
+            Err(fault) => Err(Refused { fault, value: self }),
+        }
     }
 
     /// The kinds of the open subtrees, innermost first, without the top.

@@ -1,8 +1,8 @@
-use Rattle.std.proofs.Common.{◌≡◌, ◌++◌, ◌∷◌, ◌+◌, ◌-◌, ◌≤◌, [], filter, nat_le, length, refl, arith, rules, ap, sym, ◌∙◌}
+use Rattle.std.proofs.Common.{◌≡◌, ◌++◌, ◌∷◌, ◌-◌, [], filter, nat_le, length, refl, arith, rules, ap, sym, ◌∙◌}
 use Rattle.tt_base.specs.Building.{closed}
 use Rattle.tt.specs.OneState.{state_is}
 use Rattle.tt.proofs.Closing.{place_within}
-use Rattle.tt.proofs.Steps.{keeps, same_keeps, closed_keeps, behind_top, length-all, ok_of}
+use Rattle.tt.proofs.Steps.{keeps, same_keeps, closed_keeps, length-all, ok_of}
 use Rattle.tt.proofs.builder.TopSubtreeBuilder.close.Goals as goal
 
 pub overflow_sub-len : goal.overflow_sub-len

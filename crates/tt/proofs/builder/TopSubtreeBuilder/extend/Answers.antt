@@ -1,8 +1,8 @@
-use Rattle.std.proofs.Common.{◌≡◌, ◌++◌, ◌≤◌, ◌+◌, [], inl, inr, length, map, refl, rules, arith, ap, sym, ◌∙◌, length-append}
+use Rattle.std.proofs.Common.{◌≡◌, ◌++◌, ◌≤◌, ◌+◌, inl, inr, length, map, refl, rules, arith, ap, sym, ◌∙◌, length-append}
 use Rattle.std.proofs.lemmas.List.{length-map}
 use Rattle.tt_base.specs.declared.token_tree.TokenTree.TheVariants as token
 use Rattle.tt_base.specs.Building.{extended}
-use Rattle.tt_base.specs.Forest.{flat, size}
+use Rattle.tt_base.specs.Forest.{size}
 use Rattle.tt_base.specs.Siblings.{leaves}
 use Rattle.tt_base.specs.Unflat.{length-flat}
 use Rattle.tt_interned.specs.Held.{whole}

@@ -1,9 +1,8 @@
 use Rattle.std.proofs.Common.{◌≡◌, ◌≤◌, ◌<◌, ◌+◌, inr, cond, length, refl, arith, rules, ap}
-use Rattle.tt_base.specs.Building.{alone, extended, tokens_held}
+use Rattle.tt_base.specs.Building.{extended, tokens_held}
 use Rattle.tt_base.specs.Forest.{size}
 use Rattle.tt_view.specs.Views.{trees_of}
 use Rattle.tt.specs.OneState.{state_is, length-written}
-use Rattle.tt.proofs.Alone.{size-alone}
 use Rattle.tt.proofs.Growing.{room}
 use Rattle.tt.proofs.Steps.{keeps, maybe_keeps, length-all}
 use Rattle.tt.proofs.builder.TopSubtreeBuilder.extend_with_tt.Goals as goal

@@ -1,4 +1,4 @@
-use Rattle.std.proofs.Common.{None, refl, ap, rules}
+use Rattle.std.proofs.Common.{None, rules}
 use Rattle.tt_base.specs.Building.{empty_builder}
 use Rattle.tt.specs.BuilderFields.{IsStateOf}
 use Rattle.tt.specs.HeldList.{all_tokens}

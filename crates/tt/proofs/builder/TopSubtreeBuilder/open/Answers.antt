@@ -1,4 +1,4 @@
-use Rattle.std.proofs.Common.{◌≡◌, ◌+◌, ◌++◌, ◌∷◌, [], ◌≤◌, inr, length, refl, arith, rules, ◌∙◌, ap}
+use Rattle.std.proofs.Common.{◌≡◌, ◌+◌, ◌++◌, ◌∷◌, [], inr, refl, arith, rules}
 use Rattle.tt_base.specs.Building.{opened}
 use Rattle.tt_interned.specs.Held.{opened as open_header_held}
 use Rattle.tt.specs.OneState.{state_is}

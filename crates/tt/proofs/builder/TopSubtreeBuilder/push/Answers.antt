@@ -1,7 +1,6 @@
-use Rattle.std.proofs.Common.{◌≡◌, ◌+◌, ◌++◌, ◌∷◌, [], ◌≤◌, inr, length, refl, arith, rules, ap}
+use Rattle.std.proofs.Common.{◌≡◌, ◌++◌, ◌∷◌, [], inr, refl, arith, rules}
 use Rattle.tt_base.specs.declared.token_tree.TokenTree.TheVariants as token
 use Rattle.tt_base.specs.Forest.{leaf, end}
-use Rattle.tt_base.specs.Building.{pushed}
 use Rattle.tt_interned.specs.Held.{whole}
 use Rattle.tt.specs.OneState.{state_is}
 use Rattle.tt.proofs.Growing.{full, room}

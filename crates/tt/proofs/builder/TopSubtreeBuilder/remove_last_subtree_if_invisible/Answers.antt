@@ -1,4 +1,4 @@
-use Rattle.std.proofs.Common.{◌≡◌, ◌+◌, ◌-◌, length, rules, sym, ◌∙◌, arith}
+use Rattle.std.proofs.Common.{rules, sym, ◌∙◌, arith}
 use Rattle.tt_base.specs.Building.{removed}
 use Rattle.tt.specs.OneState.{state_is}
 use Rattle.tt.proofs.Steps.{keeps, mark_there}

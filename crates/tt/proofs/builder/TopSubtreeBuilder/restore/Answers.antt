@@ -1,4 +1,4 @@
-use Rattle.std.proofs.Common.{◌≡◌, ◌≤◌, None, Some, rules, sym, ◌∙◌, ap, is_some, arith}
+use Rattle.std.proofs.Common.{◌≡◌, None, Some, rules, sym, ◌∙◌, ap, is_some, arith}
 use Rattle.tt_base.specs.Building.{restored}
 use Rattle.tt.specs.Points.{number_of}
 use Rattle.tt.specs.BuilderFields.{kept_under}

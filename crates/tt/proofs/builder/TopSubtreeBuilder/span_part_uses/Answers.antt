@@ -1,4 +1,4 @@
-use Rattle.std.proofs.Common.{ap, ap₂, ◌∙◌}
+use Rattle.std.proofs.Common.{ap₂, ◌∙◌}
 use Rattle.tt_tables.specs.TableOrder.{uses_of}
 use Rattle.tt_tables.specs.Uses.{same_part}
 use Rattle.tt.proofs.HeldList.{parts_are_held}

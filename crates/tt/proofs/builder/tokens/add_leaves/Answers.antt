@@ -1,4 +1,4 @@
-use Rattle.std.proofs.Common.{◌≡◌, ◌≤◌, ◌+◌, inr, length, map, refl, arith, ap, rules, length-append}
+use Rattle.std.proofs.Common.{◌≤◌, ◌+◌, inr, length, map, refl, arith, ap, length-append}
 use Rattle.std.proofs.lemmas.List.{length-map}
 use Rattle.tt_base.specs.declared.token_tree.TokenTree.TheVariants as token
 use Rattle.tt_interned.specs.Held.{whole}

@@ -1,4 +1,4 @@
-use Rattle.std.proofs.Common.{◌≡◌, ◌+◌, ◌<◌, length, map, ap, arith, length-append}
+use Rattle.std.proofs.Common.{length, map, ap, arith, length-append}
 use Rattle.std.proofs.lemmas.List.{length-map}
 use Rattle.tt_base.specs.Forest.{flat}
 use Rattle.tt_base.specs.Unflat.{length-flat}
