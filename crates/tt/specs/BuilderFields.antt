@@ -10,7 +10,7 @@ use Rattle.tt_base.specs.declared.token_tree.TokenTree.TheVariants as token
 use Rattle.tt_base.specs.Token.{delimiter}
 use Rattle.tt_base.specs.Forest.{Forest, end, leaf, node, size, header, flat}
 use Rattle.tt.specs.declared.builder.standing.Standing.{Standing}
-use Rattle.tt_base.specs.Building.{Stack, lowest, above, innermost, tokens_held, leaf_alone, Point, BuilderState}
+use Rattle.tt_base.specs.Building.{Stack, lowest, above, innermost, tokens_held, Point, BuilderState}
 use Rattle.tt_base.specs.OneRoot.{is_invisible}
 
 -- the header of an open subtree: its count and its close span are not known yet

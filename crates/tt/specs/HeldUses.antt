@@ -4,8 +4,6 @@ use Rattle.tt_base.specs.declared.span.SpanPart.{SpanPart}
 use Rattle.tt_base.specs.Building.{Stack, lowest, above}
 use Rattle.tt_base.specs.Forest.{flat}
 use Rattle.tt_base.specs.Span.{part_of}
-use Rattle.tt_base.specs.Token.{first_span}
-use Rattle.tt_base.specs.declared.token_tree.TokenTree.{TokenTree}
 use Rattle.tt_tables.specs.TableOrder.{different}
 use Rattle.tt_tables.specs.Uses.{same_part, part_uses, symbol_uses}
 
