@@ -15,9 +15,10 @@ DEBUG_DEPTH = 1_000
 LEAVES = 100
 REPLACEMENT = 1_000
 SLOTS = 16
-# A builder of more tokens counts uses as it goes.
-UNCOUNTED = 256
 COUNTED_STEPS = 900
+# So many tokens the builder of that run holds at its end, or more. It has 62 parts and 53 symbols to find: more than are
+# compared one by one.
+COUNTED_TOKENS = 256
 LONG_TEXT = 70_000
 # A span of zeros.
 ZERO = "0:0@0..0#0"
@@ -240,7 +241,7 @@ class Held:
 
 
 def counts_of_many(program):
-    """The counts of a builder that grows past the tokens up to which it counts nothing, goes back, and grows again."""
+    """The counts of a builder that grows, goes back, and grows again."""
     held, commands, expected = Held(), [f"new brace {ZERO} {ZERO}"], ["ok"]
     for step in range(1, COUNTED_STEPS):
         part, symbol = step * 7 % 31, step * 11 % 53
@@ -271,7 +272,7 @@ def counts_of_many(program):
         commands.append("counts")
         expected.append(held.counts())
     wants("answers", answers_of(program, commands), expected)
-    if len(held.tokens) < UNCOUNTED:
+    if len(held.tokens) < COUNTED_TOKENS:
         raise Wrong(f"{len(held.tokens)} tokens are too few for this run")
 
 
