@@ -22,7 +22,8 @@ TAKE_MEMORY = {
         "empty invisible_from_leaves from_token_trees from_subtree TopSubtree::clone display_text pretty debug_text",
     ),
     "lists": ("is_one_subtree pack of_list from_serialized from_tokens",),
-    "counted": ("pack_counted of_list_counted from_tokens_counted",),
+    "counted": ("pack_counted of_list_counted",),
+    "interned": ("from_interned from_interned_node",),
     "levels": ("take",),
     "edits": ("set_token change_every_ast_id change_every_ast_id_joined transform_tt",),
     # of a cursor
@@ -30,7 +31,7 @@ TAKE_MEMORY = {
     # of a builder
     "builders": (
         "TopSubtreeBuilder::new open push close extend extend_by_names extend_with_tt extend_with_tt_alone restore_point",
-        "TopSubtreeBuilder::clone",
+        "open_of_many_values push_of_many_values close_of_many_values TopSubtreeBuilder::clone",
     ),
     "builds": ("build build_skip_top_subtree",),
     # of a macro

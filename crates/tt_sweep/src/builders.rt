@@ -10,10 +10,13 @@ use tt::{DelimiterKind, Leaf, Spacing, TokenTree, TopSubtree, TopSubtreeBuilder,
 
 /// How that call of the group ended.
 pub fn judged<R: Print>(rt: &R, alloc: Global, call: &str) -> Result<&'static str, TtFault> {
-    let trees = flat_tree(alloc, &ten())?;
     let after = after(alloc, call)?;
+    let appended = Appended {
+        leaf: new_leaf(alloc)?,
+        trees: flat_tree(alloc, &ten())?,
+    };
     let mut names = names_twice(alloc)?;
-    judged_of(rt, alloc, call, &after, &trees, &mut names)
+    judged_of(rt, alloc, call, &after, &appended, &mut names)
 }
 
 // The same, given the tree that is built behind the call, and what is appended. Each builder has a function of its own, since
@@ -23,11 +26,11 @@ fn judged_of<R: Print>(
     alloc: Global,
     call: &str,
     after: &TopSubtree,
-    trees: &TopSubtree,
+    appended: &Appended,
     names: &mut Vec<Vec<Leaf>>,
 ) -> Result<&'static str, TtFault> {
     let before = builder(alloc, call)?;
-    judged_beside(rt, alloc, call, after, trees, names, &before)
+    judged_beside(rt, alloc, call, after, appended, names, &before)
 }
 
 // The same, given a builder like the one that is changed.
@@ -36,7 +39,7 @@ fn judged_beside<R: Print>(
     alloc: Global,
     call: &str,
     after: &TopSubtree,
-    trees: &TopSubtree,
+    appended: &Appended,
     names: &mut Vec<Vec<Leaf>>,
     before: &TopSubtreeBuilder,
 ) -> Result<&'static str, TtFault> {
@@ -47,7 +50,7 @@ fn judged_beside<R: Print>(
         builder: &mut builder,
         before,
         after,
-        trees,
+        appended,
         names,
     };
     Ok(judge(rt, &mut call))
@@ -57,27 +60,68 @@ fn judged_beside<R: Print>(
 const OPEN: u32 = 4;
 
 // The id of their open spans.
-const OPEN_ID: u32 = 3;
+const OPEN_ID: u32 = 0;
 
 // The id of a span whose part the builder does not use.
-const NEW_ID: u32 = 20;
+const NEW_ID: u32 = 50;
 
-// The idents in the innermost one, and the id of each.
-const IDENTS: [(&str, u32); 2] = [("a", 1), ("b", 2)];
+// The idents in the innermost bracket, and the id of each. Each has a symbol and a span part of its own, of which the first is
+// that of the headers too. They stand in the order of names.
+const IDENTS: [(&str, u32); 24] = [
+    ("a", 0),
+    ("b", 12),
+    ("c", 13),
+    ("d", 14),
+    ("e", 15),
+    ("f", 16),
+    ("g", 17),
+    ("h", 18),
+    ("i", 19),
+    ("j", 20),
+    ("k", 21),
+    ("l", 22),
+    ("m", 23),
+    ("n", 24),
+    ("o", 25),
+    ("p", 26),
+    ("q", 27),
+    ("r", 28),
+    ("s", 29),
+    ("t", 30),
+    ("u", 31),
+    ("v", 32),
+    ("w", 33),
+    ("x", 34),
+];
 
-// How many puncts follow them. With these the builder has 256 tokens, which fill its room, and are not counted yet.
-const PUNCTS: usize = 248;
+// With so many of them the lists of values have no room for one more.
+const FULL: usize = 16;
 
-// Names that it does not have.
-const NEW_NAMES: [&str; 10] = ["k", "l", "m", "n", "o", "p", "q", "r", "s", "t"];
+// How many tokens the innermost bracket holds: what the idents leave of them are puncts. With the five headers that makes 31
+// tokens, for which a builder makes room at first.
+const INNERMOST: usize = 26;
+
+// Names that the builder does not have.
+const NEW_NAMES: [&str; 10] = ["A", "B", "C", "D", "E", "F", "G", "H", "I", "J"];
 
 // How many restore points it has taken.
 const TAKEN: u64 = 5;
 
-// A builder of braces over an empty invisible subtree and four open brackets, and in the innermost two idents and the puncts. Of
-// its five restore points the second does not stand. So it has 256 tokens, four open subtrees and four points, and no room for
-// one more of any. To be closed or cloned, it has leaves of five more span parts, so that uses are counted: nine parts, and no
-// room for one more.
+// How many idents the builder of a call has: as many as fill the lists of values; or all, and then the next value is found by
+// an index, which is made for it. A copy has such an index too.
+fn idents_for(call: &str) -> usize {
+    match call {
+        "TopSubtreeBuilder::clone"
+        | "open_of_many_values"
+        | "push_of_many_values"
+        | "close_of_many_values" => IDENTS.len(),
+        _ => FULL,
+    }
+}
+
+// A builder of braces over an empty invisible subtree and four open brackets, and in the innermost the idents and the puncts. Of
+// its five restore points the second does not stand. So it has 31 tokens, four open subtrees and four points, and no room for
+// one more of any. To be cloned, it has an ident of a new symbol and a new span part, so that both have an index.
 fn builder(alloc: Global, call: &str) -> Result<TopSubtreeBuilder, TtFault> {
     let mut builder = TopSubtreeBuilder::new(alloc, braces())?;
     fill(alloc, call, &mut builder)?;
@@ -86,14 +130,14 @@ fn builder(alloc: Global, call: &str) -> Result<TopSubtreeBuilder, TtFault> {
 
 fn fill(alloc: Global, call: &str, builder: &mut TopSubtreeBuilder) -> Result<(), TtFault> {
     builder.restore_point()?;
-    builder.open(DelimiterKind::Invisible, span(0))?;
+    builder.open(DelimiterKind::Invisible, span(OPEN_ID))?;
     builder.restore_point()?;
-    close_at(builder, span(0))?;
+    close_at(builder, span(OPEN_ID))?;
     open_brackets(builder)?;
-    push_leaves(builder, first_leaves(alloc)?)?;
+    push_leaves(builder, first_leaves(alloc, idents_for(call))?)?;
     take_points(builder)?;
     match call {
-        "close" | "TopSubtreeBuilder::clone" => push_leaves(builder, of_new_parts(alloc)?),
+        "TopSubtreeBuilder::clone" => Ok(builder.push(new_leaf(alloc)?)?),
         _ => Ok(()),
     }
 }
@@ -103,10 +147,6 @@ fn take_points(builder: &mut TopSubtreeBuilder) -> Result<(), TtFault> {
     builder.restore_point()?;
     builder.restore_point()?;
     Ok(())
-}
-
-fn of_new_parts(alloc: Global) -> Result<Vec<Leaf>, TtFault> {
-    Ok(vec![in alloc; plus(11), plus(12), plus(13), plus(14), plus(15)]?)
 }
 
 fn open_brackets(builder: &mut TopSubtreeBuilder) -> Result<(), TtFault> {
@@ -123,10 +163,10 @@ fn push_leaves(builder: &mut TopSubtreeBuilder, leaves: Vec<Leaf>) -> Result<(),
     Ok(())
 }
 
-// The idents and the puncts.
-fn first_leaves(alloc: Global) -> Result<Vec<Leaf>, TtFault> {
+// So many of the idents, and the puncts.
+fn first_leaves(alloc: Global, idents: usize) -> Result<Vec<Leaf>, TtFault> {
     let mut leaves = Vec::new(alloc);
-    for (name, id) in IDENTS.iter() {
+    for (name, id) in IDENTS.iter().take(idents) {
         leaves.push(ident(alloc, name, *id)?)?;
     }
     add_puncts(&mut leaves)?;
@@ -134,37 +174,31 @@ fn first_leaves(alloc: Global) -> Result<Vec<Leaf>, TtFault> {
 }
 
 fn add_puncts(leaves: &mut Vec<Leaf>) -> Result<(), TtFault> {
-    for _ in 0..PUNCTS {
-        leaves.push(plus(1))?;
+    for _ in leaves.len()..INNERMOST {
+        leaves.push(plus(OPEN_ID))?;
     }
     Ok(())
 }
 
-// The same as tokens.
-fn first_tokens(alloc: Global) -> Result<Vec<TokenTree>, TtFault> {
+// The same as tokens, of the builder of a call.
+fn first_tokens(alloc: Global, call: &str) -> Result<Vec<TokenTree>, TtFault> {
     let mut tokens = Vec::new(alloc);
-    push_all(&mut tokens, &first_leaves(alloc)?)?;
+    push_all(&mut tokens, &first_leaves(alloc, idents_for(call))?)?;
     Ok(tokens)
 }
 
 // The tree of what that builder makes when its innermost bracket gets these leaves too, and what is open is closed by the mark.
-fn with(alloc: Global, leaves: &[Leaf]) -> Result<TopSubtree, TtFault> {
-    let mut below = first_tokens(alloc)?;
+fn with(alloc: Global, call: &str, leaves: &[Leaf]) -> Result<TopSubtree, TtFault> {
+    let mut below = first_tokens(alloc, call)?;
     push_all(&mut below, leaves)?;
     over(alloc, below, MARK)
 }
 
-// The same, where the innermost bracket gets leaves of new parts, and is closed by a span of that id.
-fn with_new_parts(alloc: Global, innermost: u32) -> Result<TopSubtree, TtFault> {
-    let mut below = first_tokens(alloc)?;
-    push_all(&mut below, &of_new_parts(alloc)?)?;
-    over(alloc, below, innermost)
-}
-
 // The same, where it gets parentheses over nothing, which are open.
-fn with_parentheses(alloc: Global) -> Result<TopSubtree, TtFault> {
-    let mut below = first_tokens(alloc)?;
-    below.push(header(delimiter(DelimiterKind::Parenthesis, 0, MARK), 0))?;
+fn with_parentheses(alloc: Global, call: &str) -> Result<TopSubtree, TtFault> {
+    let mut below = first_tokens(alloc, call)?;
+    let parentheses = delimiter(DelimiterKind::Parenthesis, NEW_ID, MARK);
+    below.push(header(parentheses, 0))?;
     over(alloc, below, MARK)
 }
 
@@ -192,23 +226,29 @@ fn push_brackets(list: &mut Vec<TokenTree>, len: u32, innermost: u32) -> Result<
 fn after(alloc: Global, call: &str) -> Result<TopSubtree, TtFault> {
     match call {
         "TopSubtreeBuilder::new" => flat_tree(alloc, &[]),
-        "TopSubtreeBuilder::clone" => with_new_parts(alloc, MARK),
-        "restore_point" => with(alloc, &[]),
-        "open" => with_parentheses(alloc),
-        "push" => with(alloc, &[plus(1)]),
-        "close" => with_new_parts(alloc, NEW_ID),
-        "extend" | "extend_with_tt" => with(alloc, &ten()),
-        "extend_by_names" => with(alloc, &new_names(alloc)?),
-        "extend_with_tt_alone" => with(alloc, &ten_of_which_the_last_is_alone()),
+        "restore_point" => with(alloc, call, &[]),
+        "open" | "open_of_many_values" => with_parentheses(alloc, call),
+        "TopSubtreeBuilder::clone" | "push" | "push_of_many_values" => {
+            with(alloc, call, &[new_leaf(alloc)?])
+        }
+        "close" | "close_of_many_values" => over(alloc, first_tokens(alloc, call)?, NEW_ID),
+        "extend" | "extend_with_tt" => with(alloc, call, &ten()),
+        "extend_by_names" => with(alloc, call, &new_names(alloc)?),
+        "extend_with_tt_alone" => with(alloc, call, &ten_of_which_the_last_is_alone()),
         _ => Err(TtFault::NoSuchPlace),
     }
+}
+
+// An ident of a span part and a name that the builder does not use.
+fn new_leaf(alloc: Global) -> Result<Leaf, TtFault> {
+    ident(alloc, "new", NEW_ID)
 }
 
 // Ten idents of one span part, which the builder uses, and of names that it does not use.
 fn new_names(alloc: Global) -> Result<Vec<Leaf>, TtFault> {
     let mut leaves = Vec::new(alloc);
     for name in NEW_NAMES.iter() {
-        leaves.push(ident(alloc, name, 1)?)?;
+        leaves.push(ident(alloc, name, OPEN_ID)?)?;
     }
     Ok(leaves)
 }
@@ -226,8 +266,15 @@ fn ten_of_which_the_last_is_alone() -> [Leaf; 10] {
     leaves
 }
 
-// A call of a builder, of which there is a copy, the tree that it makes behind it, and what is appended: trees, or new names,
-// which are there twice, since a call that is refused has taken them.
+// What calls append, and are lent.
+#[derive(Drop)]
+struct Appended {
+    leaf: Leaf,
+    trees: TopSubtree,
+}
+
+// A call of a builder, of which there is a copy, the tree that it makes behind it, and what is appended. New names are there
+// twice, since a call that is refused has taken them.
 #[derive(Drop)]
 struct Growing<'a> {
     call: &'a str,
@@ -235,19 +282,19 @@ struct Growing<'a> {
     builder: &'a mut TopSubtreeBuilder,
     before: &'a TopSubtreeBuilder,
     after: &'a TopSubtree,
-    trees: &'a TopSubtree,
+    appended: &'a Appended,
     names: &'a mut Vec<Vec<Leaf>>,
 }
 
 impl Call for Growing<'_> {
     fn make(&mut self) -> Result<bool, TtFault> {
-        let trees = self.trees.token_trees();
+        let trees = self.appended.trees.token_trees();
         match self.call {
             "TopSubtreeBuilder::new" => self.renew(),
             "TopSubtreeBuilder::clone" => self.copy(),
-            "open" => done(self.builder.open(DelimiterKind::Parenthesis, span(0))),
-            "push" => self.push(),
-            "close" => done(close_at(self.builder, span(NEW_ID))),
+            "open" | "open_of_many_values" => self.open(),
+            "push" | "push_of_many_values" => self.push(),
+            "close" | "close_of_many_values" => done(close_at(self.builder, span(NEW_ID))),
             "extend" => done(self.builder.extend(ten().into_iter())),
             "extend_by_names" => self.extend_by_names(),
             "extend_with_tt" => done(self.builder.extend_with_tt(trees)),
@@ -301,10 +348,16 @@ impl Growing<'_> {
         Ok(true)
     }
 
+    fn open(&mut self) -> Result<bool, TtFault> {
+        let parenthesis = DelimiterKind::Parenthesis;
+        done(self.builder.open(parenthesis, span(NEW_ID)))
+    }
+
+    // A clone of a leaf takes no memory.
     fn push(&mut self) -> Result<bool, TtFault> {
-        match self.builder.push(plus(1)) {
+        match self.builder.push(self.appended.leaf.clone()?) {
             Ok(()) => Ok(true),
-            Err(refused) => handed_back(refused, &plus(1)),
+            Err(refused) => handed_back(refused, &self.appended.leaf),
         }
     }
 

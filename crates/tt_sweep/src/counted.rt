@@ -5,11 +5,12 @@ ghost use Rattle.tt_tables.specs.Counts.{number_in, CountsMore, CountsUses};
 ghost use Rattle.tt_tables.specs.Uses.{same_part, leaf_symbols, token_parts, token_symbols, part_uses, symbol_uses};
 
 use crate::call::{Call, judge};
-use crate::lists::{is_of, is_stored};
+use crate::counts::add_all;
+use crate::lists::is_stored;
 use crate::tokens::plus_list;
-use std::alloc::{AllocError, Global};
-use tt::{Leaf, Refused, SpanPart, Symbol, TokenTree, TopSubtree, TtFault};
-use tt_counts::Counts;
+use indexmap::IndexMap;
+use std::alloc::Global;
+use tt::{Refused, SpanPart, Symbol, TokenTree, TtFault};
 use tt_pack::Packed;
 
 /// How that call of the group ended.
@@ -29,10 +30,10 @@ pub fn judged<R: Print>(rt: &R, alloc: Global, call: &str) -> Result<&'static st
 #[derive(Drop)]
 struct Counted {
     list: Vec<TokenTree>,
-    parts: Counts<SpanPart>,
-    symbols: Counts<Symbol>,
-    ghost part_counts: { CountsUses same_part (part_uses (drop 1 list.items)) parts.numbers.entries },
-    ghost symbol_counts: { CountsUses bytes_eq (symbol_uses (drop 1 list.items)) symbols.numbers.entries },
+    parts: IndexMap<SpanPart, usize>,
+    symbols: IndexMap<Symbol, usize>,
+    ghost part_counts: { CountsUses same_part (part_uses (drop 1 list.items)) parts.entries },
+    ghost symbol_counts: { CountsUses bytes_eq (symbol_uses (drop 1 list.items)) symbols.entries },
 }
 
 // More than any list here has.
@@ -46,8 +47,8 @@ impl Counted {
         if below.len() > MOST_TOKENS {
             return Err(TtFault::NotOneSubtree);
         }
-        let mut parts = Counts::with_capacity(alloc, below.len())?;
-        let mut symbols = Counts::with_capacity(alloc, below.len())?;
+        let mut parts = IndexMap::with_capacity(alloc, below.len())?;
+        let mut symbols = IndexMap::with_capacity(alloc, below.len())?;
         add_all(&mut parts, &mut symbols, below)?;
         Ok(Counted {
             list,
@@ -65,7 +66,7 @@ impl Counted {
             parts,
             symbols,
         } = self;
-        match Packed::pack_counted(alloc, list, &parts.numbers, &symbols.numbers) {
+        match Packed::pack_counted(alloc, list, &parts, &symbols) {
             Ok(packed) => Ok(packed),
             Err(refused) => Err(Refused {
                 fault: refused.fault,
@@ -80,75 +81,10 @@ impl Counted {
 
     // Whether what is packed of the list is that list.
     fn is_stored(&self, alloc: Global, copy: &[TokenTree]) -> Result<bool, TtFault> {
-        let (parts, symbols) = (&self.parts.numbers, &self.symbols.numbers);
+        let (parts, symbols) = (&self.parts, &self.symbols);
         let packed = Packed::of_list_counted(alloc, &self.list, parts, symbols)?;
         Ok(is_stored(&packed, copy))
     }
-
-    // Whether the tree of the list has that list.
-    fn is_tree(&self, alloc: Global, copy: &[TokenTree]) -> Result<bool, TtFault> {
-        let (parts, symbols) = (&self.parts.numbers, &self.symbols.numbers);
-        let tree = TopSubtree::from_tokens_counted(alloc, &self.list, parts, symbols)?;
-        Ok(is_of(&tree, copy))
-    }
-}
-
-// One use more of the symbol of a leaf, if it has one.
-fn add_symbol(symbols: &mut Counts<Symbol>, leaf: &Leaf) -> Result<(), AllocError>
-    requires { (x : List ℕ) → number_in bytes_eq symbols.old.numbers.entries x + 1 < 2 ^ 64 }
-    ensures { OnOk result (CountsMore bytes_eq (leaf_symbols leaf.now) symbols.old.numbers.entries symbols.new.numbers.entries) }
-{
-    match leaf {
-        Leaf::Literal(literal) => {
-            symbols.add(literal.symbol())?;
-        }
-        Leaf::Punct(_) => {}
-        Leaf::Ident(ident) => {
-            symbols.add(&ident.sym)?;
-        }
-    }
-    Ok(())
-}
-
-// One use more of what a token uses.
-fn add_token(
-    parts: &mut Counts<SpanPart>,
-    symbols: &mut Counts<Symbol>,
-    token: &TokenTree,
-) -> Result<(), AllocError>
-    requires parts { (x : SpanPart) → number_in same_part parts.old.numbers.entries x + 2 < 2 ^ 64 }
-    requires symbols { (x : List ℕ) → number_in bytes_eq symbols.old.numbers.entries x + 1 < 2 ^ 64 }
-    ensures parts { OnOk result (CountsMore same_part (token_parts token.now) parts.old.numbers.entries parts.new.numbers.entries) }
-    ensures symbols { OnOk result (CountsMore bytes_eq (token_symbols token.now) symbols.old.numbers.entries symbols.new.numbers.entries) }
-{
-    match token {
-        TokenTree::Leaf(leaf) => {
-            parts.add(&SpanPart::from_span(leaf.span()))?;
-            add_symbol(symbols, leaf)
-        }
-        TokenTree::Subtree(header) => {
-            parts.add(&SpanPart::from_span(&header.delimiter.open_span))?;
-            parts.add(&SpanPart::from_span(&header.delimiter.close))?;
-            Ok(())
-        }
-    }
-}
-
-// One use more of all that the tokens use.
-fn add_all(
-    parts: &mut Counts<SpanPart>,
-    symbols: &mut Counts<Symbol>,
-    tokens: &[TokenTree],
-) -> Result<(), AllocError>
-    requires parts { (x : SpanPart) → number_in same_part parts.old.numbers.entries x + 2 * length tokens.now < 2 ^ 64 }
-    requires symbols { (x : List ℕ) → number_in bytes_eq symbols.old.numbers.entries x + length tokens.now < 2 ^ 64 }
-    ensures parts { OnOk result (CountsMore same_part (part_uses tokens.now) parts.old.numbers.entries parts.new.numbers.entries) }
-    ensures symbols { OnOk result (CountsMore bytes_eq (symbol_uses tokens.now) symbols.old.numbers.entries symbols.new.numbers.entries) }
-{
-    for token in tokens {
-        add_token(parts, symbols, token)?;
-    }
-    Ok(())
 }
 
 // A call that is told how often each value is used, the list that it takes or is lent, and a copy of that.
@@ -165,7 +101,6 @@ impl Call for OfCounted<'_> {
         match self.call {
             "pack_counted" => self.pack(),
             "of_list_counted" => self.of_list(),
-            "from_tokens_counted" => self.from_tokens(),
             _ => Ok(false),
         }
     }
@@ -208,13 +143,6 @@ impl OfCounted<'_> {
     fn of_list(&self) -> Result<bool, TtFault> {
         match &*self.counted {
             Some(counted) => counted.is_stored(self.alloc, self.copy),
-            None => Ok(false),
-        }
-    }
-
-    fn from_tokens(&self) -> Result<bool, TtFault> {
-        match &*self.counted {
-            Some(counted) => counted.is_tree(self.alloc, self.copy),
             None => Ok(false),
         }
     }

@@ -10,8 +10,10 @@ mod builders;
 mod builds;
 mod call;
 mod counted;
+mod counts;
 mod edits;
 mod faulty;
+mod interned;
 mod levels;
 mod lists;
 mod made;
@@ -65,6 +67,7 @@ fn judged<R: Print + AllocGlobal>(
     match group {
         "lists" => lists::judged(rt, rt.alloc(), call),
         "counted" => counted::judged(rt, rt.alloc(), call),
+        "interned" => interned::judged(rt, rt.alloc(), call),
         "edits" => edits::judged(rt, rt.alloc(), call),
         "builders" => builders::judged(rt, rt.alloc(), call),
         "builds" => builds::judged(rt, rt.alloc(), call),

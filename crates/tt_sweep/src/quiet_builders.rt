@@ -4,8 +4,7 @@ use crate::tokens::{invisible, plus, span};
 use std::alloc::Global;
 use tt::{DelimiterKind, SubtreeBuilderRestorePoint, Symbol, TopSubtreeBuilder, TtFault};
 
-/// A builder of an invisible top, with a point, a closed invisible subtree over a plus, and an open brace. It counts uses, as
-/// it does once leaves come from an iterator.
+/// A builder of an invisible top, with a point, a closed invisible subtree over a plus, and an open brace.
 pub fn builder(alloc: Global) -> Result<TopSubtreeBuilder, TtFault> {
     let mut builder = TopSubtreeBuilder::new(alloc, invisible())?;
     fill(&mut builder)?;

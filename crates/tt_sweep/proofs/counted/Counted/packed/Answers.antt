@@ -7,6 +7,6 @@ pub invariant_of-result : goal.invariant_of-result
 invariant_of-result c =
     let same : c.args.self.list.items ≡ c.in-Err.refused.value.items = sym (ap (λ list. list.items) c.in-Err.ensures.list) in
     record {
-      part_counts = subst (λ list. CountsUses same_part (part_uses (drop 1 list)) c.args.self.parts.numbers.entries) same c.args.self.part_counts;
-      symbol_counts = subst (λ list. CountsUses bytes_eq (symbol_uses (drop 1 list)) c.args.self.symbols.numbers.entries) same c.args.self.symbol_counts;
+      part_counts = subst (λ list. CountsUses same_part (part_uses (drop 1 list)) c.args.self.parts.entries) same c.args.self.part_counts;
+      symbol_counts = subst (λ list. CountsUses bytes_eq (symbol_uses (drop 1 list)) c.args.self.symbols.entries) same c.args.self.symbol_counts;
     }

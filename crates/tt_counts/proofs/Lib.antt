@@ -1,2 +1,0 @@
--- Laws of numbers of uses.
-pub mod UseCounts
