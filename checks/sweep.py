@@ -23,7 +23,6 @@ TAKE_MEMORY = {
     ),
     "lists": ("is_one_subtree pack of_list from_serialized from_tokens",),
     "counted": ("pack_counted of_list_counted",),
-    "interned": ("from_interned from_interned_node",),
     "levels": ("take",),
     "edits": ("set_token change_every_ast_id change_every_ast_id_joined transform_tt",),
     # of a cursor

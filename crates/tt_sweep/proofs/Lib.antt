@@ -1,3 +1,2 @@
--- Laws of numbers of uses, and of trees whose tokens name their values.
-pub mod InternedTrees
+-- Laws of numbers of uses.
 pub mod UseNumbers

@@ -13,7 +13,6 @@ mod counted;
 mod counts;
 mod edits;
 mod faulty;
-mod interned;
 mod levels;
 mod lists;
 mod made;
@@ -67,7 +66,6 @@ fn judged<R: Print + AllocGlobal>(
     match group {
         "lists" => lists::judged(rt, rt.alloc(), call),
         "counted" => counted::judged(rt, rt.alloc(), call),
-        "interned" => interned::judged(rt, rt.alloc(), call),
         "edits" => edits::judged(rt, rt.alloc(), call),
         "builders" => builders::judged(rt, rt.alloc(), call),
         "builds" => builds::judged(rt, rt.alloc(), call),
