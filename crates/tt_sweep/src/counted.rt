@@ -1,8 +1,7 @@
 //! Calls that are told how often each value is used in their list.
-ghost use Rattle.std.specs.Prelude.{◌≡◌, ◌+◌, ◌*◌, ◌<◌, ◌^◌, List, ℕ, bytes_eq, drop, length, OnOk};
-ghost use Rattle.tt_base.specs.declared.span.SpanPart.{SpanPart};
-ghost use Rattle.tt_tables.specs.Counts.{number_in, CountsMore, CountsUses};
-ghost use Rattle.tt_tables.specs.Uses.{same_part, leaf_symbols, token_parts, token_symbols, part_uses, symbol_uses};
+ghost use Rattle.std.specs.Prelude.{bytes_eq, drop};
+ghost use Rattle.tt_tables.specs.Counts.{CountsUses};
+ghost use Rattle.tt_tables.specs.Uses.{same_part, part_uses, symbol_uses};
 
 use crate::call::{Call, judge};
 use crate::counts::add_all;
