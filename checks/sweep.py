@@ -30,7 +30,7 @@ TAKE_MEMORY = {
     # of a builder
     "builders": (
         "TopSubtreeBuilder::new open push close extend extend_by_names extend_with_tt extend_with_tt_alone restore_point",
-        "open_of_many_values push_of_many_values close_of_many_values TopSubtreeBuilder::clone",
+        "TopSubtreeBuilder::clone",
     ),
     "builds": ("build build_skip_top_subtree",),
     # of a macro

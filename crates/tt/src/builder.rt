@@ -33,7 +33,7 @@ use tt_interned::InternedTokens;
 use tt_view::{TokenTreesView, TopSubtree};
 
 // For how many tokens room is made at first.
-const FEW_TOKENS: usize = 31;
+const FEW_TOKENS: usize = 32;
 
 /// Builds a token tree by opening and closing subtrees. A contract sees the levels, the mark and the points that stand.
 #[derive(Drop, Debug)]

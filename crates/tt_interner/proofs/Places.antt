@@ -1,105 +1,16 @@
--- Where values stand in a list, and numbers beside them.
-use Rattle.std.proofs.Common.{◌≡◌, ℕ, zero, suc, ◌+◌, ◌-◌, ◌<◌, ◌≤◌, Bool, true, false, cond, ◌||◌, if◌then◌else◌, Option, Some, None, List, [], ◌∷◌, ◌++◌, length, drop, take, min, nat_eq, nat_lt, slice_get, get_or, position, Result, Ok, Err, IfOk, OnOk, length-append, refl, ap, ap₂, sym, ◌∙◌, subst, true≢false, arith}
-use Rattle.std.proofs.Math.ListN.{set}
+-- What calls make of values at places, each beside its number of uses.
+use Rattle.std.proofs.Common.{◌≡◌, ℕ, zero, suc, ◌+◌, ◌-◌, ◌<◌, ◌≤◌, Bool, true, false, cond, ◌||◌, if◌then◌else◌, Some, None, List, [], ◌∷◌, ◌++◌, length, nat_eq, nat_lt, slice_get, Result, Ok, Err, OnOk, OnErr, refl, ap, sym, subst, ◌∙◌, arith}
 use Rattle.std.proofs.lemmas.Bool.{lt-ltb, ne_eqb}
-use Rattle.std.proofs.lemmas.List.{length-take}
-use Rattle.std.proofs.lemmas.Map.Keys.{IsDistinct-push}
-use Rattle.std.proofs.lemmas.Map.Made.{keys_of-zip}
-use Rattle.std.proofs.lemmas.Option.{slice_get_read, slice_get_within}
-use Rattle.std.proofs.lemmas.Slice.Zip.{seconds-zip}
 use Rattle.std.specs.Cmp.{IsEquivalence}
-use Rattle.std.specs.List.{AllByRecursion, IsDistinct, list_any, zip}
+use Rattle.std.specs.List.{IsDistinct, AllZip, list_any}
 use Rattle.std.specs.Map.{keys_of, values_of, lookup}
-use Rattle.std.specs.Option.{unwrap_or}
-use Rattle.std.specs.Result.{is_err}
-use Rattle.indexmap.proofs.MapLemmas.{distinct-take}
-use Rattle.indexmap.proofs.ReorderLemmas.{zip_push, zip-take}
-use Rattle.indexmap.specs.IndexMap.{set_value_at}
-use Rattle.indexmap.specs.IndexSet.{insert_key}
+use Rattle.std.specs.Option.{option_map}
+use Rattle.indexmap.specs.IndexMap.{insert_entry, set_value_at}
 use Rattle.tt_tables.specs.TableOrder.{index_in}
 use Rattle.tt_tables.specs.Counts.{number_in, used_count, CountsMore}
-use Rattle.tt_tables.specs.Searches.{IsIndex as IsFound}
-use Rattle.tt_tables.proofs.Positions.{same_index, position_is_index}
-use Rattle.tt_interner.specs.Entries.{with_entry, IsCut}
-use Rattle.tt_interner.specs.Index.{IsIndex}
-use Rattle.tt_interner.proofs.UseCounts.{number_at, counts_one_more, counts_one_less, used_set, used-le, used_new, used_front, number_front, found_at, entry_at, key_of, one_if}
+use Rattle.tt_interner.specs.Entries.{with_entry}
+use Rattle.tt_interner.proofs.UseCounts.{number_at, counts_one_more, counts_one_less, used_new, used_set, used-le, one_if}
 use mir.Val.{bool_byte}
-
--- ---- the first that passes a test
-
-module _ {X : Type 0} (p : X → Bool) where
-  -- None before it passes.
-  pub first_at : (xs : List X) (i : ℕ) (x : X) → i < length xs → x ≡ get_or xs i x → list_any p (take i xs) ≡ false → p x ≡ true → index_in p xs ≡ i
-  first_at [] i x within is none passes = absurd (omega (arith, within))
-  first_at (y ∷ ys) zero x within is none passes = ap (λ t. cond t 0 (suc (index_in p ys))) (ap p (sym is) ∙ passes)
-  first_at (y ∷ ys) (suc i) x within is none passes = by_test (p y) none (first_at ys i x (omega (arith, within)) is)
-    where
-      by_test : (t : Bool) → (t || list_any p (take i ys)) ≡ false → (list_any p (take i ys) ≡ false → p x ≡ true → index_in p ys ≡ i) → cond t 0 (suc (index_in p ys)) ≡ suc i
-      by_test true none later = absurd (true≢false none)
-      by_test false none later = ap suc (later none passes)
-
-  -- It is found there.
-  pub position_at : (xs : List X) (i : ℕ) → i < length xs → index_in p xs ≡ i → position p xs ≡ Some i
-  position_at xs i within is = ap (λ k. cond (nat_lt k (length xs)) (Some k) None) (same_index p xs ∙ is) ∙ ap (λ t. cond t (Some i) None) (lt-ltb i (length xs) within)
-
-  -- One that is in the list passes.
-  pub any_within : (xs : List X) → index_in p xs < length xs → list_any p xs ≡ true
-  any_within [] within = absurd (omega (arith, within))
-  any_within (y ∷ ys) within = by_test (p y) within (any_within ys)
-    where
-      by_test : (t : Bool) → cond t 0 (suc (index_in p ys)) < suc (length ys) → (index_in p ys < length ys → list_any p ys ≡ true) → (t || list_any p ys) ≡ true
-      by_test true within later = refl
-      by_test false within later = later (omega (arith, within))
-
-  -- One that passes is in the list.
-  pub within_any : (xs : List X) → list_any p xs ≡ true → index_in p xs < length xs
-  within_any [] some = absurd (true≢false (sym some))
-  within_any (y ∷ ys) some = by_test (p y) some (within_any ys)
-    where
-      by_test : (t : Bool) → (t || list_any p ys) ≡ true → (list_any p ys ≡ true → index_in p ys < length ys) → cond t 0 (suc (index_in p ys)) < suc (length ys)
-      by_test true some later = omega arith
-      by_test false some later = omega (arith, later some)
-
-  -- Where one is found, one passes.
-  pub any_found : (xs : List X) (i : ℕ) → position p xs ≡ Some i → (index_in p xs ≡ i) × (i < length xs) × (list_any p xs ≡ true)
-  any_found xs i found = by_found (position p xs) found (position_is_index p xs)
-    where
-      by_found : (o : Option ℕ) → o ≡ Some i → IsFound p xs o → (index_in p xs ≡ i) × (i < length xs) × (list_any p xs ≡ true)
-      by_found None is right = absurd (cc is)
-      by_found (Some k) is right = (sym right.0 ∙ same, omega (arith, same, right.1), any_within xs (omega (arith, right.0, right.1)))
-        where
-          same : k ≡ i
-          same = cc is
-
-  -- Where none is found, none passes.
-  pub none_found : (xs : List X) → position p xs ≡ None → list_any p xs ≡ false
-  none_found xs found = by_any (list_any p xs) refl
-    where
-      by_found : (o : Option ℕ) → o ≡ None → IsFound p xs o → index_in p xs < length xs → ⊥
-      by_found None is right = right
-      by_found (Some k) is right = absurd (cc is)
-
-      by_any : (t : Bool) → list_any p xs ≡ t → t ≡ false
-      by_any true some = absurd (by_found (position p xs) found (position_is_index p xs) (within_any xs some))
-      by_any false none = refl
-
-  -- Where none passes, none is found.
-  pub not_found : (xs : List X) → list_any p xs ≡ false → position p xs ≡ None
-  not_found xs none = by_found (position p xs) refl
-    where
-      by_found : (o : Option ℕ) → position p xs ≡ o → o ≡ None
-      by_found None is = refl
-      by_found (Some i) is = absurd (true≢false (sym (any_found xs i is).2 ∙ none))
-
-  -- Nor where none of all that were tried passes.
-  pub not_found_all : (xs : List X) (i : ℕ) → length xs ≤ i → list_any p (take i xs) ≡ false → position p xs ≡ None
-  not_found_all xs i past none = not_found xs (ap (list_any p) (sym (all xs i past)) ∙ none)
-    where
-      all : (ys : List X) (j : ℕ) → length ys ≤ j → take j ys ≡ ys
-      all [] zero past = refl
-      all [] (suc j) past = refl
-      all (y ∷ ys) zero past = absurd (omega (arith, past))
-      all (y ∷ ys) (suc j) past = ap (λ zs. y ∷ zs) (all ys j (omega (arith, past)))
 
 -- A value that stands in a list is found there.
 pub any_there : {X : Type 0} (same : X → X → Bool) → IsEquivalence same → (xs : List X) (i : ℕ) (x : X) → slice_get xs i ≡ Some x → list_any (same x) xs ≡ true
@@ -114,279 +25,186 @@ any_there same laws (y ∷ ys) (suc i) x at = by_test (same x y) (any_there same
     by_test true later = refl
     by_test false later = later
 
--- ---- an index of different values
+-- ---- a value gets an entry, unless it has one
 
-module _ {X : Type 0} (same : X → X → Bool) (laws : IsEquivalence same) where
-  -- No value before it is the same as one of them.
-  apart_before : (values : List X) (i : ℕ) (x : X) → IsDistinct same values → i < length values → x ≡ get_or values i x → list_any (same x) (take i values) ≡ false
-  unfolding IsDistinct
-  apart_before [] i x distinct within is = absurd (omega (arith, within))
-  apart_before (y ∷ ys) zero x distinct within is = refl
-  apart_before (y ∷ ys) (suc i) x distinct within is =
-      ap₂ (λ s t. s || t) (laws.symm x y ∙ apart ys i distinct.0 (omega (arith, within)) is) (apart_before ys i x distinct.1 (omega (arith, within)) is)
+module _ {X : Type 0} (same : X → X → Bool) where
+  -- A value that is there gets none.
+  pub entry_there : (counts : List (X × ℕ)) (x : X) → list_any (same x) (keys_of counts) ≡ true → with_entry same counts x ≡ counts
+  entry_there counts x some = ap (λ t. if t then counts else counts ++ (x, 0) ∷ []) some
+
+  -- One that is looked up is there.
+  looked_up : (counts : List (X × ℕ)) (x : X) (n : ℕ) → lookup (same x) counts ≡ Some n → list_any (same x) (keys_of counts) ≡ true
+  looked_up [] x n found = absurd (cc found)
+  looked_up (entry ∷ counts) x n found = by_test (same x entry.0) found (looked_up counts x n)
     where
-      apart : (zs : List X) (j : ℕ) → AllByRecursion (λ z. same y z ≡ false) zs → j < length zs → x ≡ get_or zs j x → same y x ≡ false
-      apart [] j all inside here = absurd (omega (arith, inside))
-      apart (z ∷ zs) zero all inside here = ap (same y) here ∙ all.0
-      apart (z ∷ zs) (suc j) all inside here = apart zs j all.1 (omega (arith, inside)) here
+      by_test : (t : Bool) → cond t (Some entry.1) (lookup (same x) counts) ≡ Some n → (lookup (same x) counts ≡ Some n → list_any (same x) (keys_of counts) ≡ true)
+          → (t || list_any (same x) (keys_of counts)) ≡ true
+      by_test true found later = refl
+      by_test false found later = later found
 
-  -- A copy of the next value goes behind the keys of those before it.
-  pub next_key : (values : List X) (i : ℕ) (x : X) (keys : List X) (copy : X) → IsDistinct same values → i < length values → x ≡ get_or values i x → keys ≡ take i values → copy ≡ x
-      → insert_key same keys copy ≡ take (i + 1) values
-  next_key values i x keys copy distinct within is so_far same_value =
-      ap₂ (insert_key same) so_far same_value
-      ∙ ap (λ t. if t then take i values else take i values ++ x ∷ []) (apart_before values i x distinct within is)
-      ∙ more values i within is
-      ∙ ap (λ len. take len values) behind
+  -- Inserted with no uses and then given its number again, it stays as it was.
+  pub put_back : (counts : List (X × ℕ)) (x : X) (n : ℕ) → lookup (same x) counts ≡ Some n
+      → set_value_at (insert_entry same counts x 0) (index_in (same x) (keys_of counts)) n ≡ with_entry same counts x
+  put_back counts x n found = back counts found ∙ sym (entry_there counts x (looked_up counts x n found))
     where
-      behind : suc i ≡ i + 1
-      behind = omega arith
-
-      more : (xs : List X) (j : ℕ) → j < length xs → x ≡ get_or xs j x → take j xs ++ x ∷ [] ≡ take (suc j) xs
-      more [] j inside here = absurd (omega (arith, inside))
-      more (y ∷ ys) zero inside here = ap (λ z. z ∷ []) here
-      more (y ∷ ys) (suc j) inside here = ap (λ zs. y ∷ zs) (more ys j (omega (arith, inside)) here)
-
--- An index of the values at the front.
-index_front : {X : Type 0} (keys values : List X) (len : ℕ) → IsIndex keys values → IsIndex (take len keys) (take len values)
-index_front [] values zero index = λ some. absurd (omega (arith, some))
-index_front [] values (suc len) index = λ some. absurd (omega (arith, some))
-index_front (key ∷ keys) values len index = λ some. ap (take len) (index (omega arith))
-
--- ---- numbers beside values
-
--- A number that is set beside its value.
-pub set_beside : {X : Type 0} (values : List X) (numbers : List ℕ) (i m : ℕ) → zip values (set numbers i m) ≡ set_value_at (zip values numbers) i m
-set_beside [] numbers i m = refl
-set_beside (x ∷ xs) [] i m = refl
-set_beside (x ∷ xs) (n ∷ ns) zero m = refl
-set_beside (x ∷ xs) (n ∷ ns) (suc i) m = ap (λ rest. (x, n) ∷ rest) (set_beside xs ns i m)
-
--- A value is looked up by where it stands.
-lookup_beside : {X : Type 0} (p : X → Bool) (values : List X) (numbers : List ℕ) → length numbers ≡ length values → lookup p (zip values numbers) ≡ slice_get numbers (index_in p values)
-lookup_beside p [] [] beside = refl
-lookup_beside p [] (n ∷ ns) beside = absurd (omega (arith, beside))
-lookup_beside p (x ∷ xs) [] beside = absurd (omega (arith, beside))
-lookup_beside p (x ∷ xs) (n ∷ ns) beside = by_test (p x) (lookup_beside p xs ns (omega (arith, beside)))
-  where
-    by_test : (t : Bool) → lookup p (zip xs ns) ≡ slice_get ns (index_in p xs) → cond t (Some n) (lookup p (zip xs ns)) ≡ slice_get (n ∷ ns) (cond t 0 (suc (index_in p xs)))
-    by_test true later = refl
-    by_test false later = later
-
-module _ {X : Type 0} (values : List X) (numbers : List ℕ) (beside : length numbers ≡ length values) where
-  -- Different values are different keys.
-  pub keys_distinct : (same : X → X → Bool) → IsDistinct same values → IsDistinct same (keys_of (zip values numbers))
-  keys_distinct same distinct = subst (IsDistinct same) (sym (keys_of-zip values numbers beside)) distinct
-
-  -- A value that is found has the number at its place.
-  pub number_found : (same : X → X → Bool) (x : X) (i n : ℕ) → position (same x) values ≡ Some i → n ≡ get_or numbers i n → n ≡ number_in same (zip values numbers) x
-  number_found same x i n found is =
-      let (place, within, some) = any_found (same x) values i found in
-      sym (ap (λ o. unwrap_or o 0) (lookup_beside (same x) values numbers beside ∙ ap (slice_get numbers) place ∙ slice_get_read numbers (length numbers) i n refl (omega (arith, beside, within)) is))
-
-  -- One that is not found has none.
-  pub number_not_found : (same : X → X → Bool) (x : X) → position (same x) values ≡ None → 0 ≡ number_in same (zip values numbers) x
-  number_not_found same x found = sym (ap (λ o. unwrap_or o 0) (absent values numbers beside (none_found (same x) values found)))
-    where
-      absent : (xs : List X) (ns : List ℕ) → length ns ≡ length xs → list_any (same x) xs ≡ false → lookup (same x) (zip xs ns) ≡ None
-      absent [] ns len none = refl
-      absent (y ∷ ys) [] len none = refl
-      absent (y ∷ ys) (n ∷ ns) len none = by_test (same x y) none (absent ys ns (omega (arith, len)))
+      back : (more : List (X × ℕ)) → lookup (same x) more ≡ Some n → set_value_at (insert_entry same more x 0) (index_in (same x) (keys_of more)) n ≡ more
+      back [] is = absurd (cc is)
+      back (entry ∷ more) is = by_test (same x entry.0) is (back more)
         where
-          by_test : (t : Bool) → (t || list_any (same x) ys) ≡ false → (list_any (same x) ys ≡ false → lookup (same x) (zip ys ns) ≡ None)
-              → cond t (Some n) (lookup (same x) (zip ys ns)) ≡ None
-          by_test true none later = absurd (true≢false none)
-          by_test false none later = later none
+          by_test : (t : Bool) → cond t (Some entry.1) (lookup (same x) more) ≡ Some n
+              → (lookup (same x) more ≡ Some n → set_value_at (insert_entry same more x 0) (index_in (same x) (keys_of more)) n ≡ more)
+              → set_value_at (cond t ((entry.0, 0) ∷ more) (entry ∷ insert_entry same more x 0)) (cond t 0 (suc (index_in (same x) (keys_of more)))) n ≡ entry ∷ more
+          by_test true is later = ap (λ m. (entry.0, m) ∷ more) (sym number)
+            where
+              number : entry.1 ≡ n
+              number = cc is
+          by_test false is later = ap (λ rest. entry ∷ rest) (later is)
 
-  -- The number at a place, and another in its stead.
-  module _ (i n : ℕ) (within : i < length numbers) (is : n ≡ get_or numbers i n) where
-    there : slice_get (values_of (zip values numbers)) i ≡ Some n
-    there = ap (λ ns. slice_get ns i) (seconds-zip values numbers beside) ∙ slice_get_read numbers (length numbers) i n refl within is
+  -- A new value goes behind the others.
+  pub put_new : (counts : List (X × ℕ)) (x : X) → lookup (same x) counts ≡ None → insert_entry same counts x 0 ≡ with_entry same counts x
+  put_new [] x none = refl
+  put_new (entry ∷ counts) x none = by_test (same x entry.0) none (put_new counts x)
+    where
+      behind : (t : Bool) → entry ∷ (if t then counts else counts ++ (x, 0) ∷ []) ≡ (if t then entry ∷ counts else entry ∷ counts ++ (x, 0) ∷ [])
+      behind true = refl
+      behind false = refl
 
-    -- The values stay.
-    pub keys_kept : (m : ℕ) → keys_of (zip values (set numbers i m)) ≡ keys_of (zip values numbers)
-    keys_kept m = keys_of-zip values (set numbers i m) (same_length numbers i ∙ beside) ∙ sym (keys_of-zip values numbers beside)
-      where
-        same_length : (ns : List ℕ) (j : ℕ) → length (set ns j m) ≡ length ns
-        same_length [] j = refl
-        same_length (k ∷ ns) zero = refl
-        same_length (k ∷ ns) (suc j) = ap suc (same_length ns j)
+      by_test : (t : Bool) → cond t (Some entry.1) (lookup (same x) counts) ≡ None → (lookup (same x) counts ≡ None → insert_entry same counts x 0 ≡ with_entry same counts x)
+          → cond t ((entry.0, 0) ∷ counts) (entry ∷ insert_entry same counts x 0) ≡ (if t || list_any (same x) (keys_of counts) then entry ∷ counts else entry ∷ counts ++ (x, 0) ∷ [])
+      by_test true none later = absurd (cc none)
+      by_test false none later = ap (λ rest. entry ∷ rest) (later none) ∙ behind (list_any (same x) (keys_of counts))
 
-    changed : (m : ℕ) → used_count (zip values (set numbers i m)) + one_if (nat_lt 0 n) ≡ used_count (zip values numbers) + one_if (nat_lt 0 m)
-    changed m = ap (λ entries. used_count entries + one_if (nat_lt 0 n)) (set_beside values numbers i m) ∙ used_set (zip values numbers) i n m there
+  -- It stands where it is found first, or last.
+  pub stands_with_entry : ((x y : X) → same x y ≡ true → x ≡ y) → (counts : List (X × ℕ)) (x : X)
+      → slice_get (keys_of (with_entry same counts x)) (index_in (same x) (keys_of counts)) ≡ Some x
+  stands_with_entry sound [] x = refl
+  stands_with_entry sound (entry ∷ counts) x = by_test (same x entry.0) refl (stands_with_entry sound counts x)
+    where
+      behind : (t : Bool) → slice_get (keys_of (if t then counts else counts ++ (x, 0) ∷ [])) (index_in (same x) (keys_of counts)) ≡ Some x
+          → slice_get (keys_of (if t then entry ∷ counts else entry ∷ counts ++ (x, 0) ∷ [])) (suc (index_in (same x) (keys_of counts))) ≡ Some x
+      behind true later = later
+      behind false later = later
 
-    -- One use more, and a value more with uses where it is the first.
-    pub used_more : used_count (zip values numbers) + bool_byte (nat_eq n 0) ≡ used_count (zip values (set numbers i (n + 1)))
-    used_more = by_number n (changed (n + 1))
-      where
-        by_number : (k : ℕ) → used_count (zip values (set numbers i (n + 1))) + one_if (nat_lt 0 k) ≡ used_count (zip values numbers) + one_if (nat_lt 0 (n + 1))
-            → used_count (zip values numbers) + bool_byte (nat_eq k 0) ≡ used_count (zip values (set numbers i (n + 1)))
-        by_number zero e = omega (arith, e, ap one_if (lt-ltb 0 (n + 1) (omega arith)))
-        by_number (suc k) e =
-            omega (arith, e, ap one_if (lt-ltb 0 (n + 1) (omega arith)), ap one_if (lt-ltb 0 (suc k) (omega arith)), ap bool_byte (ne_eqb (suc k) 0 (λ none. omega (arith, none))))
+      by_test : (t : Bool) → same x entry.0 ≡ t → slice_get (keys_of (with_entry same counts x)) (index_in (same x) (keys_of counts)) ≡ Some x
+          → slice_get (keys_of (if t || list_any (same x) (keys_of counts) then entry ∷ counts else entry ∷ counts ++ (x, 0) ∷ [])) (cond t 0 (suc (index_in (same x) (keys_of counts)))) ≡ Some x
+      by_test true e later = ap Some (sym (sound x entry.0 e))
+      by_test false e later = behind (list_any (same x) (keys_of counts)) later
 
-    -- There are no more of them than values.
-    pub used_within : used_count (zip values numbers) + bool_byte (nat_eq n 0) ≤ length numbers
-    used_within = omega (arith, used_more, used-le (zip values (set numbers i (n + 1))), shorter values (set numbers i (n + 1)), beside)
-      where
-        shorter : (xs : List X) (ns : List ℕ) → length (zip xs ns) ≤ length xs
-        shorter [] ns = omega arith
-        shorter (x ∷ xs) [] = omega arith
-        shorter (x ∷ xs) (k ∷ ns) = omega (arith, shorter xs ns)
+-- ---- the entry at a place, and another number in it
 
-    -- One use less, and a value less with uses where it was the last.
-    pub used_less : 0 < n → used_count (zip values (set numbers i (n - 1))) + bool_byte (nat_eq n 1) ≡ used_count (zip values numbers)
-    used_less some = by_number n some (changed (n - 1))
-      where
-        by_number : (k : ℕ) → 0 < k → used_count (zip values (set numbers i (n - 1))) + one_if (nat_lt 0 k) ≡ used_count (zip values numbers) + one_if (nat_lt 0 (k - 1))
-            → used_count (zip values (set numbers i (n - 1))) + bool_byte (nat_eq k 1) ≡ used_count (zip values numbers)
-        by_number zero some e = absurd (omega (arith, some))
-        by_number (suc zero) some e = omega (arith, e)
-        by_number (suc (suc k)) some e =
-            omega (
-              arith,
-              e,
-              ap one_if (lt-ltb 0 (suc (suc k)) (omega arith)),
-              ap one_if (lt-ltb 0 (suc (suc k) - 1) (omega arith)),
-              ap bool_byte (ne_eqb (suc (suc k)) 1 (λ last. omega (arith, last))),
-            )
+-- The value and the number of an entry.
+key_at : {X : Type 0} (counts : List (X × ℕ)) (i : ℕ) (x : X) (n : ℕ) → slice_get counts i ≡ Some (x, n) → slice_get (keys_of counts) i ≡ Some x
+key_at [] i x n at = absurd (cc at)
+key_at (entry ∷ counts) zero x n at = ap (λ o. option_map (λ e. e.0) o) at
+key_at (entry ∷ counts) (suc i) x n at = key_at counts i x n at
 
-    module _ (same : X → X → Bool) (laws : IsEquivalence same) (distinct : IsDistinct same values) where
-      apart : IsDistinct same (keys_of (zip values numbers))
-      apart = keys_distinct same distinct
+uses_at : {X : Type 0} (counts : List (X × ℕ)) (i : ℕ) (x : X) (n : ℕ) → slice_get counts i ≡ Some (x, n) → slice_get (values_of counts) i ≡ Some n
+uses_at [] i x n at = absurd (cc at)
+uses_at (entry ∷ counts) zero x n at = ap (λ o. option_map (λ e. e.1) o) at
+uses_at (entry ∷ counts) (suc i) x n at = uses_at counts i x n at
 
-      -- The value there has the number.
-      pub number_there : (x : X) → slice_get (keys_of (zip values numbers)) i ≡ Some x → number_in same (zip values numbers) x ≡ n
-      number_there x at = number_at same laws (zip values numbers) i x n apart (entry_at (zip values numbers) i x n at there)
+module _ {X : Type 0} (counts : List (X × ℕ)) (i : ℕ) (x : X) (n : ℕ) (stands : slice_get counts i ≡ Some (x, n)) where
+  -- One use more, and a value more with uses where it is the first.
+  pub used_more : used_count counts + bool_byte (nat_eq n 0) ≡ used_count (set_value_at counts i (n + 1))
+  used_more = by_number n (used_set counts i n (n + 1) (uses_at counts i x n stands))
+    where
+      by_number : (k : ℕ) → used_count (set_value_at counts i (n + 1)) + one_if (nat_lt 0 k) ≡ used_count counts + one_if (nat_lt 0 (n + 1))
+          → used_count counts + bool_byte (nat_eq k 0) ≡ used_count (set_value_at counts i (n + 1))
+      by_number zero e = omega (arith, e, ap one_if (lt-ltb 0 (n + 1) (omega arith)))
+      by_number (suc k) e =
+          omega (arith, e, ap one_if (lt-ltb 0 (n + 1) (omega arith)), ap one_if (lt-ltb 0 (suc k) (omega arith)), ap bool_byte (ne_eqb (suc k) 0 (λ none. omega (arith, none))))
 
-      -- Some value is there.
-      pub number_of_one : (x : X) × (number_in same (zip values numbers) x ≡ n)
-      number_of_one =
-          let (x, at) = key_of (zip values numbers) i n there in
-          (x, number_at same laws (zip values numbers) i x n apart at)
+  -- There are no more of them than values.
+  pub used_within : used_count counts + bool_byte (nat_eq n 0) ≤ length counts
+  used_within = omega (arith, used_more, used-le (set_value_at counts i (n + 1)), as_long counts i)
+    where
+      as_long : (more : List (X × ℕ)) (k : ℕ) → length (set_value_at more k (n + 1)) ≡ length more
+      as_long [] k = refl
+      as_long (entry ∷ more) zero = refl
+      as_long (entry ∷ more) (suc k) = ap suc (as_long more k)
 
-      -- The value there gets one use more.
-      pub one_more : ((x y : X) → same x y ≡ true → x ≡ y) → (x : X) → slice_get (keys_of (zip values numbers)) i ≡ Some x
-          → CountsMore same (x ∷ []) (zip values numbers) (zip values (set numbers i (n + 1)))
-      one_more sound x at =
-          subst (CountsMore same (x ∷ []) (zip values numbers)) (sym (set_beside values numbers i (n + 1)))
-          (counts_one_more same laws sound (zip values numbers) i x n apart (entry_at (zip values numbers) i x n at there))
+  -- One use less, and a value less with uses where it was the last.
+  pub used_less : 0 < n → used_count (set_value_at counts i (n - 1)) + bool_byte (nat_eq n 1) ≡ used_count counts
+  used_less some = by_number n some (used_set counts i n (n - 1) (uses_at counts i x n stands))
+    where
+      by_number : (k : ℕ) → 0 < k → used_count (set_value_at counts i (n - 1)) + one_if (nat_lt 0 k) ≡ used_count counts + one_if (nat_lt 0 (k - 1))
+          → used_count (set_value_at counts i (n - 1)) + bool_byte (nat_eq k 1) ≡ used_count counts
+      by_number zero some e = absurd (omega (arith, some))
+      by_number (suc zero) some e = omega (arith, e)
+      by_number (suc (suc k)) some e =
+          omega (
+            arith,
+            e,
+            ap one_if (lt-ltb 0 (suc (suc k)) (omega arith)),
+            ap one_if (lt-ltb 0 (suc (suc k) - 1) (omega arith)),
+            ap bool_byte (ne_eqb (suc (suc k)) 1 (λ last. omega (arith, last))),
+          )
 
-      -- The value there loses one.
-      pub one_less : ((x y : X) → same x y ≡ true → x ≡ y) → 0 < n → (x : X) → slice_get (keys_of (zip values numbers)) i ≡ Some x
-          → CountsMore same (x ∷ []) (zip values (set numbers i (n - 1))) (zip values numbers)
-      one_less sound some x at =
-          subst (λ counts. CountsMore same (x ∷ []) counts (zip values numbers)) (sym (set_beside values numbers i (n - 1)))
-          (counts_one_less same laws sound (zip values numbers) i x n (n - 1) apart (entry_at (zip values numbers) i x n at there) (omega (arith, some)))
+  -- Its value stands at the place, and no other.
+  pub stands_at : slice_get (keys_of counts) i ≡ Some x
+  stands_at = key_at counts i x n stands
 
-  -- A place that has a value is one of a number.
-  pub place_within : (i : ℕ) (x : X) → slice_get (keys_of (zip values numbers)) i ≡ Some x → i < length numbers
-  place_within i x at = omega (arith, slice_get_within values i x (ap (λ xs. slice_get xs i) (sym (keys_of-zip values numbers beside)) ∙ at), beside)
+  one_value : (y : X) → slice_get (keys_of counts) i ≡ Some y → x ≡ y
+  one_value y at = is (sym stands_at ∙ at)
+    where
+      is : Some x ≡ Some y → x ≡ y
+      is e = cc e
 
-  -- A value that is there gets no entry.
-  pub entry_there : (same : X → X → Bool) (x : X) → list_any (same x) values ≡ true → zip values numbers ≡ with_entry same (zip values numbers) x
-  entry_there same x some =
-      sym (ap (λ t. if t then zip values numbers else zip values numbers ++ (x, 0) ∷ []) (ap (list_any (same x)) (keys_of-zip values numbers beside) ∙ some))
+  module _ (same : X → X → Bool) (laws : IsEquivalence same) (distinct : IsDistinct same (keys_of counts)) where
+    -- It has the number.
+    pub number_there : number_in same counts x ≡ n
+    number_there = number_at same laws counts i x n distinct stands
 
-  -- One that is not goes behind the others.
-  pub entry_new : (same : X → X → Bool) (x : X) → list_any (same x) values ≡ false → zip values numbers ++ (x, 0) ∷ [] ≡ with_entry same (zip values numbers) x
-  entry_new same x none =
-      sym (ap (λ t. if t then zip values numbers else zip values numbers ++ (x, 0) ∷ []) (ap (list_any (same x)) (keys_of-zip values numbers beside) ∙ none))
+    -- The value there gets one use more.
+    pub one_more : ((y z : X) → same y z ≡ true → y ≡ z) → (y : X) → slice_get (keys_of counts) i ≡ Some y → CountsMore same (y ∷ []) counts (set_value_at counts i (n + 1))
+    one_more sound y at =
+        subst (λ z. CountsMore same (z ∷ []) counts (set_value_at counts i (n + 1))) (one_value y at) (counts_one_more same laws sound counts i x n distinct stands)
 
-  -- The value that is found stands there.
-  pub found_there : (same : X → X → Bool) → ((x y : X) → same x y ≡ true → x ≡ y) → (x : X) (i : ℕ) → position (same x) values ≡ Some i → slice_get (keys_of (zip values numbers)) i ≡ Some x
-  found_there same sound x i found = ap (λ xs. slice_get xs i) (keys_of-zip values numbers beside) ∙ found_at same sound values i x found
+    -- The value there loses one.
+    pub one_less : ((y z : X) → same y z ≡ true → y ≡ z) → 0 < n → (y : X) → slice_get (keys_of counts) i ≡ Some y → CountsMore same (y ∷ []) (set_value_at counts i (n - 1)) counts
+    one_less sound some y at =
+        subst (λ z. CountsMore same (z ∷ []) (set_value_at counts i (n - 1)) counts) (one_value y at)
+        (counts_one_less same laws sound counts i x n (n - 1) distinct stands (omega (arith, some)))
 
-  -- A value that stands among the values stands in the entries.
-  pub stands_there : (x : X) (i : ℕ) → slice_get values i ≡ Some x → slice_get (keys_of (zip values numbers)) i ≡ Some x
-  stands_there x i at = ap (λ xs. slice_get xs i) (keys_of-zip values numbers beside) ∙ at
+-- The values stay.
+pub keys_kept : {X : Type 0} (counts : List (X × ℕ)) (i m : ℕ) → keys_of (set_value_at counts i m) ≡ keys_of counts
+keys_kept [] i m = refl
+keys_kept (entry ∷ counts) zero m = refl
+keys_kept (entry ∷ counts) (suc i) m = ap (λ keys. entry.0 ∷ keys) (keys_kept counts i m)
 
-  -- ---- a value more, with the number 0
+-- No value stands behind all.
+pub none_behind : {X : Type 0} (counts : List (X × ℕ)) (i : ℕ) (x : X) → length counts ≤ i → slice_get (keys_of counts) i ≡ Some x → ⊥
+none_behind [] i x past at = absurd (cc at)
+none_behind (entry ∷ counts) zero x past at = absurd (omega (arith, past))
+none_behind (entry ∷ counts) (suc i) x past at = none_behind counts i x (omega (arith, past)) at
 
-  module _ (now : List X) (numbers_now : List ℕ) (x : X) (pushed : now ≡ values ++ x ∷ []) (with_none : numbers_now ≡ numbers ++ 0 ∷ []) where
-    -- Its entry goes last.
-    pub entries_pushed : zip now numbers_now ≡ zip values numbers ++ (x, 0) ∷ []
-    entries_pushed = ap₂ zip pushed with_none ∙ zip_push values numbers x 0 beside
+-- Entries that are copies one by one are the same.
+pub copied : {X : Type 0} (is_copy : X → X → Type 0) → ((x y : X) → is_copy x y → y ≡ x) → (counts now : List (X × ℕ)) → AllZip (λ p q. is_copy p.0 q.0 × (q.1 ≡ p.1)) counts now → now ≡ counts
+copied is_copy copies [] [] all = refl
+copied is_copy copies [] (q ∷ now) all = absurd all
+copied is_copy copies (p ∷ counts) [] all = absurd all
+copied is_copy copies (p ∷ counts) (q ∷ now) all =
+    ap (λ k. (k, q.1) ∷ now) (copies p.0 q.0 all.0.0) ∙ ap (λ m. (p.0, m) ∷ now) all.0.1 ∙ ap (λ rest. p ∷ rest) (copied is_copy copies counts now all.1)
 
-    -- There are as many numbers as values.
-    pub beside_pushed : length numbers_now ≡ length now
-    beside_pushed = omega (arith, ap length pushed, ap length with_none, length-append values (x ∷ []), length-append numbers (0 ∷ []), beside)
+-- ---- what is left where a value gets an entry, or memory is wanting for it
 
-    -- It stands behind the others.
-    pub last_pushed : (i : ℕ) → i ≡ length values → slice_get (keys_of (zip now numbers_now)) i ≡ Some x
-    last_pushed i last = ap (λ xs. slice_get xs i) (keys_of-zip now numbers_now beside_pushed ∙ pushed) ∙ ap (slice_get (values ++ x ∷ [])) last ∙ last_of values
-      where
-        last_of : (xs : List X) → slice_get (xs ++ x ∷ []) (length xs) ≡ Some x
-        last_of [] = refl
-        last_of (y ∷ ys) = last_of ys
+module _ {X R E : Type 0} (same : X → X → Bool) (result : Result R E) (old now : List (X × ℕ)) where
+  -- The values are different still.
+  pub distinct_still : IsDistinct same (keys_of old) → OnOk result (IsDistinct same (keys_of now)) → OnErr result (now ≡ old) → IsDistinct same (keys_of now)
+  distinct_still distinct = by_result result
+    where
+      by_result : (r : Result R E) → OnOk r (IsDistinct same (keys_of now)) → OnErr r (now ≡ old) → IsDistinct same (keys_of now)
+      by_result (Ok v) ok err = ok
+      by_result (Err e) ok err = subst (λ entries. IsDistinct same (keys_of entries)) (sym err) distinct
 
-    -- The values are different still.
-    pub distinct_pushed : (same : X → X → Bool) → IsEquivalence same → IsDistinct same values → list_any (same x) values ≡ false → IsDistinct same now
-    distinct_pushed same laws distinct is_new = subst (IsDistinct same) (sym pushed) (IsDistinct-push laws values x distinct is_new)
+  -- As many have uses.
+  pub used_still : (x : X) → OnOk result (now ≡ with_entry same old x) → OnErr result (now ≡ old) → used_count now ≡ used_count old
+  used_still x = by_result result
+    where
+      by_test : (t : Bool) → used_count (if t then old else old ++ (x, 0) ∷ []) ≡ used_count old
+      by_test true = refl
+      by_test false = used_new old x
 
-    -- An index that has it is one of all.
-    pub index_pushed : (keys given : List X) → given ≡ values → IsIndex keys (given ++ x ∷ []) → IsIndex keys now
-    index_pushed keys given same_values = subst (IsIndex keys) (ap (λ xs. xs ++ x ∷ []) same_values ∙ sym pushed)
-
-    -- As many have uses.
-    pub used_pushed : used_count (zip now numbers_now) ≡ used_count (zip values numbers)
-    used_pushed = ap used_count entries_pushed ∙ used_new (zip values numbers) x
-
-  -- ---- the values up to the last that has uses
-
-  module _ (len : ℕ) (now : List X) (numbers_now : List ℕ) (front : now ≡ take len values) (numbers_front : numbers_now ≡ take len numbers) where
-    -- There are as many numbers as values.
-    pub beside_cut : length numbers_now ≡ length now
-    beside_cut = ap length numbers_front ∙ length-take len numbers ∙ ap (min len) beside ∙ sym (length-take len values) ∙ sym (ap length front)
-
-    -- The values are different still.
-    pub distinct_cut : (same : X → X → Bool) → IsEquivalence same → IsDistinct same values → IsDistinct same now
-    distinct_cut same laws distinct = subst (IsDistinct same) (sym front) (distinct-take laws len values distinct)
-
-    -- An index that is cut alike is one of them.
-    pub index_cut : (keys keys_now : List X) → keys_now ≡ take len keys → IsIndex keys values → IsIndex keys_now now
-    index_cut keys keys_now keys_front index = subst (IsIndex keys_now) (sym front) (subst (λ ks. IsIndex ks (take len values)) (sym keys_front) (index_front keys values len index))
-
-    -- The entries are cut alike.
-    pub entries_cut : zip now numbers_now ≡ take len (zip values numbers)
-    entries_cut = ap₂ zip front numbers_front ∙ zip-take len values numbers
-
-    module _ (unused : AllByRecursion (λ number. number ≡ 0) (drop len numbers)) where
-      unused_entries : AllByRecursion (λ number. number ≡ 0) (drop len (values_of (zip values numbers)))
-      unused_entries = subst (λ ns. AllByRecursion (λ number. number ≡ 0) (drop len ns)) (sym (seconds-zip values numbers beside)) unused
-
-      -- As many have uses.
-      pub used_cut : used_count (zip now numbers_now) ≡ used_count (zip values numbers)
-      used_cut = ap used_count entries_cut ∙ used_front (zip values numbers) len unused_entries
-
-      -- No number changes.
-      pub number_cut : (same : X → X → Bool) (x : X) → number_in same (zip now numbers_now) x ≡ number_in same (zip values numbers) x
-      number_cut same x = ap (λ entries. number_in same entries x) entries_cut ∙ number_front same (zip values numbers) len x unused_entries
-
-      -- They are cut behind the last that has uses.
-      pub is_cut : ((k : ℕ) → len ≡ suc k → (number : ℕ) × (slice_get numbers k ≡ Some number) × (0 < number)) → IsCut (zip values numbers) (zip now numbers_now)
-      is_cut ends = record {
-        len = len;
-        front = entries_cut;
-        unused = unused_entries;
-        ends_used =
-            subst (λ ns. (k : ℕ) → len ≡ suc k → (number : ℕ) × (slice_get ns k ≡ Some number) × (0 < number)) (sym (seconds-zip values numbers beside)) ends;
-      }
-
--- ---- what calls answer
-
--- What holds in either case holds where a call has not failed.
-pub for_ok : {R E : Type 0} {P : Type 0} (result : Result R E) → P → OnOk result P
-for_ok (Ok v) p = p
-for_ok (Err f) p = tt
-
--- A place that is answered is the index.
-pub ok_place : {X E : Type 0} (result : Result ℕ E) (values : List X) (index : ℕ) (x : X) → IfOk result (λ place. place ≡ index) → slice_get values index ≡ Some x
-    → IfOk result (λ place. slice_get values place ≡ Some x)
-ok_place (Ok v) values index x is at = ap (slice_get values) is ∙ at
-ok_place (Err f) values index x is at = tt
-
--- What follows where a call has not failed.
-pub when_ok : {R E : Type 0} {P : Type 0} (result : Result R E) → is_err result ≡ false → OnOk result P → P
-when_ok (Ok v) e p = p
-when_ok (Err f) e p = absurd (true≢false e)
+      by_result : (r : Result R E) → OnOk r (now ≡ with_entry same old x) → OnErr r (now ≡ old) → used_count now ≡ used_count old
+      by_result (Ok v) ok err = ap used_count ok ∙ by_test (list_any (same x) (keys_of old))
+      by_result (Err e) ok err = ap used_count err

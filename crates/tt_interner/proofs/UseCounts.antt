@@ -1,11 +1,9 @@
 -- Numbers of uses that change by one use, and how many values have uses.
-use Rattle.std.proofs.Common.{◌≡◌, ℕ, zero, suc, ◌+◌, ◌<◌, ◌≤◌, Bool, true, false, cond, ◌⊎◌, inl, inr, Some, None, List, [], ◌∷◌, ◌++◌, length, drop, take, filter, not, if◌then◌else◌, nat_lt, slice_get, get_or, position, refl, ap, ap₂, sym, ◌∙◌, subst, true≢false, arith, Result, Ok, Err, OnOk, OnErr}
+use Rattle.std.proofs.Common.{◌≡◌, ℕ, zero, suc, ◌+◌, ◌<◌, ◌≤◌, Bool, true, false, cond, ◌⊎◌, inl, inr, Some, None, List, [], ◌∷◌, ◌++◌, length, drop, take, filter, not, if◌then◌else◌, nat_lt, slice_get, refl, ap, ap₂, sym, ◌∙◌, subst, true≢false, arith}
 use Rattle.std.proofs.lemmas.Bool.{lt-ltb, ltb-true}
-use Rattle.std.proofs.lemmas.List.Quantifiers.{position-Some}
 use Rattle.std.proofs.lemmas.List.Sums.{sum_by-cons, sum_by-append, count_by-le-length}
 use Rattle.std.proofs.lemmas.Map.Entries.{lookup_from_place}
 use Rattle.std.proofs.lemmas.Map.Made.{IsDistinct-keys_filter}
-use Rattle.std.proofs.lemmas.Option.{slice_get-get_or}
 use Rattle.std.specs.Cmp.{IsEquivalence}
 use Rattle.std.specs.List.{AllByRecursion, IsDistinct, list_any}
 use Rattle.std.specs.Map.{keys_of, values_of, lookup}
@@ -297,12 +295,6 @@ entry_at {X} (entry ∷ counts) zero x n at number = ap₂ (λ k m. Some (k, m))
     value = cc number
 entry_at (entry ∷ counts) (suc i) x n at number = entry_at counts i x n at number
 
--- Where a search among the keys ends, the value stands.
-pub found_at : {X : Type 0} (same : X → X → Bool) → ((x y : X) → same x y ≡ true → x ≡ y) → (keys : List X) (i : ℕ) (x : X) → position (same x) keys ≡ Some i → slice_get keys i ≡ Some x
-found_at same sound keys i x found =
-    let (within, passes, first) = position-Some (same x) keys i x found in
-    slice_get-get_or keys i x within ∙ ap Some (sym (sound x (get_or keys i x) passes))
-
 -- ---- a value more
 
 -- One of no uses changes how many have uses by none.
@@ -341,56 +333,16 @@ module _ {X : Type 0} (same : X → X → Bool) where
       by_test true = refl
       by_test false = number_new counts x y
 
--- ---- the relation and its laws
+-- ---- the relation
 
 module _ {X : Type 0} (same : X → X → Bool) where
-  -- More uses behind those that are counted.
-  pub counts_behind : (uses more : List X) (old now : List (X × ℕ)) → CountsUses same uses old → CountsMore same more old now → CountsUses same (uses ++ more) now
-  counts_behind uses more old now right grown x = grown x ∙ ap (λ n. n + uses_of same more x) (right x) ∙ sym (uses-append same uses more x)
-
-  -- The last uses go.
-  pub counts_cut : (uses more : List X) (old now : List (X × ℕ)) → CountsUses same (uses ++ more) old → CountsMore same more now old → CountsUses same uses now
-  counts_cut uses more old now right fewer x = omega (arith, fewer x, right x, uses-append same uses more x)
-
-  -- Numbers that stay.
-  pub counts_same : (uses : List X) (old now : List (X × ℕ)) → CountsUses same uses old → CountsMore same [] old now → CountsUses same uses now
-  counts_same uses old now right stay x = omega (arith, stay x, right x, none)
-    where
-      none : uses_of same [] x ≡ 0
-      none = refl
-
-  -- The same counts have the same numbers.
-  pub counts_unchanged : (counts : List (X × ℕ)) → CountsMore same [] counts counts
-  counts_unchanged counts x = omega (arith, none)
-    where
-      none : uses_of same [] x ≡ 0
-      none = refl
-
-  -- They stay where a value has an entry from now on.
+  -- Numbers stay where a value has an entry from now on.
   pub counts_with_entry : (counts : List (X × ℕ)) (x : X) → CountsMore same [] counts (with_entry same counts x)
   counts_with_entry counts x y = omega (arith, number_with_entry same counts x y, none)
     where
       none : uses_of same [] y ≡ 0
       none = refl
 
-  -- So they do where a call gives it one or leaves things as they are.
-  pub counts_stay : {R E : Type 0} (result : Result R E) (old now : List (X × ℕ)) (x : X) → OnOk result (now ≡ with_entry same old x) → OnErr result (now ≡ old) → CountsMore same [] old now
-  counts_stay (Ok v) old now x ok err = subst (CountsMore same [] old) (sym ok) (counts_with_entry old x)
-  counts_stay (Err e) old now x ok err = subst (CountsMore same [] old) (sym err) (counts_unchanged old)
-
-  -- Uses added one after the other.
-  pub more_twice : (first second : List X) (old mid now : List (X × ℕ)) → CountsMore same first old mid → CountsMore same second mid now → CountsMore same (first ++ second) old now
-  more_twice first second old mid now a b x = omega (arith, a x, b x, uses-append same first second x)
-
   -- There are no more uses of one value than uses.
   pub uses-le : (uses : List X) (x : X) → uses_of same uses x ≤ length uses
   uses-le uses x = count_by-le-length (same x) uses
-
--- A number stands beside a value.
-pub key_of : {X : Type 0} (counts : List (X × ℕ)) (i n : ℕ) → slice_get (values_of counts) i ≡ Some n → (x : X) × (slice_get counts i ≡ Some (x, n))
-key_of [] i n at = absurd (cc at)
-key_of (entry ∷ counts) zero n at = (entry.0, ap (λ m. Some (entry.0, m)) number)
-  where
-    number : entry.1 ≡ n
-    number = cc at
-key_of (entry ∷ counts) (suc i) n at = key_of counts i n at

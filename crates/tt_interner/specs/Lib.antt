@@ -1,4 +1,3 @@
 -- Different values at places, and how often each is used.
 pub mod Entries
-pub mod Index
 pub mod Interner

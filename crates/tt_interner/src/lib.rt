@@ -1,21 +1,21 @@
 //! Different values, each at a place of its own, and how often each is used.
 #![tactic(auto)]
 
-ghost use Rattle.std.specs.Prelude.{◌≡◌, ◌+◌, ◌<◌, ◌^◌, [], ◌∷◌, ◌++◌, ℕ, suc, true, false, List, Some, drop, length, position, slice_get, IfOk, OnOk, OnErr};
+ghost use Rattle.std.specs.Prelude.{◌≡◌, ◌+◌, ◌<◌, ◌^◌, [], ◌∷◌, ℕ, suc, true, List, None, Some, drop, length, slice_get, IfOk, OnOk, OnErr};
 ghost use Rattle.std.specs.Bool.{OnTrue};
-ghost use Rattle.std.specs.List.{AllByRecursion, IsDistinct, list_any, zip};
+ghost use Rattle.std.specs.List.{AllByRecursion, IsDistinct};
 ghost use Rattle.std.specs.Map.{keys_of, values_of};
 ghost use Rattle.std.proofs.Props.{props};
 ghost use Rattle.tt_tables.specs.TableOrder.{different};
 ghost use Rattle.tt_tables.specs.Counts.{number_in, used_count, CountsUses, CountsMore};
-ghost use Rattle.tt_interner.specs.Index.{IsIndex, IsIndex-prop};
+ghost use Rattle.tt_interner.specs.Entries.{with_entry};
 
-use indexmap::IndexSet;
+use indexmap::IndexMap;
 use std::alloc::{AllocError, Global};
 use std::hash::Hash;
 
-/// Up to so many values are found by comparing them in order. Where there are more, they are found by hash.
-const FEW_VALUES: usize = 24;
+// For how many values room is made with the first.
+const FEW_VALUES: usize = 18;
 
 // Whether the value stands at the index.
 #[inline(always)]
@@ -27,18 +27,6 @@ fn is_at<T: Eq>(values: &[T], index: usize, value: &T) -> bool
         return false;
     }
     values[index] == *value
-}
-
-// Where the value stands first.
-fn place_in<T: Eq>(values: &[T], value: &T) -> Option<usize>
-    ensures { result ≡ position (T.eq value.now) values.now }
-{
-    for place in 0..values.len() {
-        if *value == values[place] {
-            return Some(place);
-        }
-    }
-    None
 }
 
 // How many numbers stand up to the last that is not 0.
@@ -55,137 +43,65 @@ fn len_to_last_used(numbers: &[usize]) -> usize
     0
 }
 
-// An index as a place, of which there are no more than a u32 can say.
-fn as_place(index: usize) -> Result<u32, AllocError>
-    ensures { IfOk result (λ place. place ≡ index) }
+// Makes room for a few values, where there are none.
+fn reserve_few<T: Eq + Hash>(entries: &mut IndexMap<T, usize>) -> Result<(), AllocError>
+    ensures { entries.new.entries ≡ entries.old.entries }
 {
-    if index > u32::MAX as usize {
-        return Err(AllocError);
+    if entries.is_empty() {
+        return entries.reserve(FEW_VALUES);
     }
-    Ok(index as u32)
+    Ok(())
 }
 
-// An index with all values as keys, and with room for more.
-fn index_of_all<T: Eq + Hash + Clone + Drop>(
-    alloc: Global,
-    values: &[T],
-) -> Result<IndexSet<T>, AllocError>
+// The index of a value. One that is new goes behind the others, with no uses. It is sought and inserted at once, so that its
+// hash is asked for once.
+#[inline(always)]
+fn insert<T: Eq + Hash + Clone + Drop>(
+    entries: &mut IndexMap<T, usize>,
+    value: &T,
+) -> Result<usize, AllocError>
     requires copies { (x y : T) → T.is_clone x y → y ≡ x }
-    requires distinct { IsDistinct T.eq values.now }
-    ensures { IfOk result (λ index. index.keys ≡ values.now) }
+    requires same { (x y : T) → T.eq x y ≡ true → x ≡ y }
+    ensures ok { OnOk result (entries.new.entries ≡ with_entry T.eq entries.old.entries value.now) }
+    ensures err { OnErr result (entries.new.entries ≡ entries.old.entries) }
+    ensures index { IfOk result (λ index. slice_get (keys_of entries.new.entries) index ≡ Some value.now) }
+    ensures distinct { OnOk result (IsDistinct T.eq (keys_of entries.new.entries)) }
 {
-    let mut index = IndexSet::with_capacity(alloc, 4 * FEW_VALUES)?;
-    for place in 0..values.len() {
-        index.insert(values[place].clone()?)?;
+    reserve_few(entries)?;
+    let (index, uses) = entries.insert_full(value.clone()?, 0)?;
+    if let Some(uses) = uses {
+        entries[index] = uses;
     }
     Ok(index)
-}
-
-// A value that comes behind the values is noted in their index. One is made where the values are no longer few.
-fn note_in_index<T: Eq + Hash + Clone + Drop>(
-    index: &mut IndexSet<T>,
-    values: &[T],
-    value: &T,
-) -> Result<(), AllocError>
-    requires copies { (x y : T) → T.is_clone x y → y ≡ x }
-    requires indexed { IsIndex index.old.keys values.now }
-    requires distinct { IsDistinct T.eq values.now }
-    requires is_new { list_any (T.eq value.now) values.now ≡ false }
-    ensures ok { OnOk result (IsIndex index.new.keys (values.now ++ value.now ∷ [])) }
-    ensures err { OnErr result (IsIndex index.new.keys values.now) }
-{
-    if index.is_empty() {
-        if values.len() < FEW_VALUES {
-            return Ok(());
-        }
-        *index = index_of_all(*index.allocator(), values)?;
-    }
-    index.insert(value.clone()?)?;
-    Ok(())
-}
-
-// A value goes behind the others, and a 0 behind the numbers. Where memory is wanting for one of them, none of them goes there.
-fn push_both<T: Drop>(
-    values: &mut Vec<T>,
-    numbers: &mut Vec<usize>,
-    value: T,
-) -> Result<(), AllocError>
-    ensures values_ok { OnOk result (values.new.items ≡ values.old.items ++ value ∷ []) }
-    ensures numbers_ok { OnOk result (numbers.new.items ≡ numbers.old.items ++ 0 ∷ []) }
-    ensures values_err { OnErr result (values.new.items ≡ values.old.items) }
-    ensures numbers_err { OnErr result (numbers.new.items ≡ numbers.old.items) }
-{
-    let len = numbers.len();
-    numbers.push(0)?;
-    if values.push(value).is_err() {
-        numbers.truncate(len);
-        return Err(AllocError);
-    }
-    Ok(())
 }
 
 /// Different values, each at a place of its own, in the order in which they came first, and how often each is used. A value may
 /// have no uses.
 #[derive(Drop, Debug)]
 pub struct Interner<T: Eq + Hash> {
-    pub values: Vec<T>,
-    pub numbers: Vec<usize>,
-    // all values once more, so that they are found by hash; none while there are few
-    index: IndexSet<T>,
+    /// Each value beside its number of uses.
+    pub entries: IndexMap<T, usize>,
     // how many values have uses
     used: usize,
     // where a value was found last
     last: u32,
-    pub ghost beside: { length numbers.items ≡ length values.items },
-    pub ghost distinct: { IsDistinct T.eq values.items } by { Prim.hlevel props },
-    ghost indexed: { IsIndex index.keys values.items } by { IsIndex-prop T.code index.keys values.items },
-    ghost tallied: { used ≡ used_count (zip values.items numbers.items) },
+    pub ghost distinct: { IsDistinct T.eq (keys_of entries.entries) } by { Prim.hlevel props },
+    ghost tallied: { used ≡ used_count entries.entries },
 }
 
 impl<T: Eq + Hash + Clone + Drop> Interner<T> {
     ghost use Rattle.tt_interner.specs.Interner.{entries_of};
-    ghost use Rattle.tt_interner.specs.Entries.{with_entry, IsCut};
+    ghost use Rattle.tt_interner.specs.Entries.{IsCut};
 
     /// No values, which takes no memory.
     pub fn new(alloc: Global) -> Interner<T>
         ensures { entries_of result ≡ [] }
     {
         Interner {
-            values: Vec::new(alloc),
-            numbers: Vec::new(alloc),
-            index: IndexSet::new(alloc),
+            entries: IndexMap::new(alloc),
             used: 0,
             last: 0,
         }
-    }
-
-    // Where a value stands.
-    fn find(&self, value: &T) -> Option<usize>
-        ensures { result ≡ position (T.eq value.now) self.now.values.items }
-    {
-        if self.index.is_empty() {
-            return place_in(&self.values, value);
-        }
-        self.index.get_index_of(value)
-    }
-
-    // A new value goes behind the others, with no uses. Answers its place.
-    fn add_new(&mut self, value: &T) -> Result<u32, AllocError>
-        requires copies { (x y : T) → T.is_clone x y → y ≡ x }
-        requires is_new { list_any (T.eq value.now) self.old.values.items ≡ false }
-        ensures ok { OnOk result (entries_of self.new ≡ entries_of self.old ++ (value.now, 0) ∷ []) }
-        ensures err { OnErr result (entries_of self.new ≡ entries_of self.old) }
-        ensures place { IfOk result (λ place. slice_get (keys_of (entries_of self.new)) place ≡ Some value.now) }
-    {
-        let len = self.values.len();
-        let place = as_place(len)?;
-        let copy = value.clone()?;
-        note_in_index(&mut self.index, &self.values, value)?;
-        if push_both(&mut self.values, &mut self.numbers, copy).is_err() {
-            self.index.truncate(len);
-            return Err(AllocError);
-        }
-        Ok(place)
     }
 
     /// The place of a value. One that is new goes behind the others, with no uses; it is refused where a place would not fit.
@@ -198,10 +114,11 @@ impl<T: Eq + Hash + Clone + Drop> Interner<T> {
         ensures stays { CountsMore T.eq [] (entries_of self.old) (entries_of self.new) }
         ensures place { IfOk result (λ place. slice_get (keys_of (entries_of self.new)) place ≡ Some value.now) }
     {
-        match self.find(value) {
-            Some(index) => as_place(index),
-            None => self.add_new(value),
+        if self.entries.len() > u32::MAX as usize {
+            return Err(AllocError);
         }
+        let index = insert(&mut self.entries, value)?;
+        Ok(index as u32)
     }
 
     /// The same, but it is first looked for at a place.
@@ -214,7 +131,7 @@ impl<T: Eq + Hash + Clone + Drop> Interner<T> {
         ensures stays { CountsMore T.eq [] (entries_of self.old) (entries_of self.new) }
         ensures place { IfOk result (λ place. slice_get (keys_of (entries_of self.new)) place ≡ Some value.now) }
     {
-        if is_at(&self.values, place as usize, value) {
+        if is_at(self.values(), place as usize, value) {
             return Ok(place);
         }
         self.place_of(value)
@@ -235,42 +152,41 @@ impl<T: Eq + Hash + Clone + Drop> Interner<T> {
         Ok(place)
     }
 
-    /// One use more of the value at a place.
+    /// One use more of the value at a place; nothing where there is none.
     #[inline(always)]
     pub fn add_at(&mut self, place: u32)
         requires same { (x y : T) → T.eq x y ≡ true → x ≡ y }
         requires room { (x : T) → number_in T.eq (entries_of self.old) x + 1 < 2 ^ 64 }
         ensures more { (x : T) → slice_get (keys_of (entries_of self.old)) place ≡ Some x → CountsMore T.eq (x ∷ []) (entries_of self.old) (entries_of self.new) }
         ensures values { keys_of (entries_of self.new) ≡ keys_of (entries_of self.old) }
+        ensures none { slice_get (keys_of (entries_of self.old)) place ≡ None → entries_of self.new ≡ entries_of self.old }
     {
         let index = place as usize;
-        if index >= self.numbers.len() {
+        if index >= self.entries.len() {
             return;
         }
-        let uses = self.numbers[index];
+        let (_, uses) = self.entries.pair_mut(index);
         // No branch, since which value is new is not to be foreseen.
-        self.used += usize::from(uses == 0);
-        self.numbers[index] = uses + 1;
+        self.used += usize::from(*uses == 0);
+        *uses += 1;
     }
 
-    /// One use less of the value at a place, which has some.
+    /// One use less of the value at a place, which has some; nothing where there is none.
     #[inline(always)]
     pub fn take_at(&mut self, place: u32)
         requires same { (x y : T) → T.eq x y ≡ true → x ≡ y }
         requires some { (x : T) → slice_get (keys_of (entries_of self.old)) place ≡ Some x → 0 < number_in T.eq (entries_of self.old) x }
         ensures less { (x : T) → slice_get (keys_of (entries_of self.old)) place ≡ Some x → CountsMore T.eq (x ∷ []) (entries_of self.new) (entries_of self.old) }
         ensures values { keys_of (entries_of self.new) ≡ keys_of (entries_of self.old) }
+        ensures none { slice_get (keys_of (entries_of self.old)) place ≡ None → entries_of self.new ≡ entries_of self.old }
     {
         let index = place as usize;
-        if index >= self.numbers.len() {
+        if index >= self.entries.len() {
             return;
         }
-        let uses = self.numbers[index];
-        if uses == 0 {
-            return;
-        }
-        self.used -= usize::from(uses == 1);
-        self.numbers[index] = uses - 1;
+        let (_, uses) = self.entries.pair_mut(index);
+        self.used -= usize::from(*uses == 1);
+        *uses -= 1;
     }
 
     /// The values of no uses behind all others go, so that one that comes next stands behind one that is used.
@@ -278,32 +194,30 @@ impl<T: Eq + Hash + Clone + Drop> Interner<T> {
         ensures cut { IsCut (entries_of self.old) (entries_of self.new) }
         ensures numbers { (x : T) → number_in T.eq (entries_of self.new) x ≡ number_in T.eq (entries_of self.old) x }
     {
-        let len = len_to_last_used(&self.numbers);
-        self.values.truncate(len);
-        self.numbers.truncate(len);
-        self.index.truncate(len);
+        let len = len_to_last_used(self.numbers());
+        self.entries.truncate(len);
     }
 
     /// The values, in the order of places.
     pub fn values(&self) -> &[T]
         ensures { result.now ≡ keys_of (entries_of self.now) }
     {
-        &self.values
+        self.entries.keys().as_slice()
     }
 
     /// The number of uses of each value, in the order of places.
     pub fn numbers(&self) -> &[usize]
         ensures { result.now ≡ values_of (entries_of self.now) }
     {
-        &self.numbers
+        self.entries.values().as_slice()
     }
 
     /// The number of uses of a value.
     pub fn uses(&self, value: &T) -> usize
         ensures { result ≡ number_in T.eq (entries_of self.now) value.now }
     {
-        match self.find(value) {
-            Some(index) => self.numbers[index],
+        match self.entries.get(value) {
+            Some(uses) => *uses,
             None => 0,
         }
     }
@@ -322,9 +236,7 @@ impl<T: Eq + Hash + Clone + Drop> Interner<T> {
         ensures { IfOk result (λ copy. entries_of copy ≡ entries_of self.now) }
     {
         Ok(Interner {
-            values: self.values.clone()?,
-            numbers: self.numbers.clone()?,
-            index: self.index.clone()?,
+            entries: self.entries.clone()?,
             used: self.used,
             last: self.last,
         })

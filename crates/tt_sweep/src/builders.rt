@@ -29,7 +29,7 @@ fn judged_of<R: Print>(
     appended: &Appended,
     names: &mut Vec<Vec<Leaf>>,
 ) -> Result<&'static str, TtFault> {
-    let before = builder(alloc, call)?;
+    let before = builder(alloc)?;
     judged_beside(rt, alloc, call, after, appended, names, &before)
 }
 
@@ -43,7 +43,7 @@ fn judged_beside<R: Print>(
     names: &mut Vec<Vec<Leaf>>,
     before: &TopSubtreeBuilder,
 ) -> Result<&'static str, TtFault> {
-    let mut builder = builder(alloc, call)?;
+    let mut builder = builder(alloc)?;
     let mut call = Growing {
         call,
         alloc,
@@ -66,8 +66,8 @@ const OPEN_ID: u32 = 0;
 const NEW_ID: u32 = 50;
 
 // The idents in the innermost bracket, and the id of each. Each has a symbol and a span part of its own, of which the first is
-// that of the headers too. They stand in the order of names.
-const IDENTS: [(&str, u32); 24] = [
+// that of the headers too. With so many of them a builder has no room for one more symbol or one more part.
+const IDENTS: [(&str, u32); 18] = [
     ("a", 0),
     ("b", 12),
     ("c", 13),
@@ -86,20 +86,11 @@ const IDENTS: [(&str, u32); 24] = [
     ("p", 26),
     ("q", 27),
     ("r", 28),
-    ("s", 29),
-    ("t", 30),
-    ("u", 31),
-    ("v", 32),
-    ("w", 33),
-    ("x", 34),
 ];
 
-// With so many of them the lists of values have no room for one more.
-const FULL: usize = 16;
-
-// How many tokens the innermost bracket holds: what the idents leave of them are puncts. With the five headers that makes 31
+// How many tokens the innermost bracket holds: what the idents leave of them are puncts. With the five headers that makes 32
 // tokens, for which a builder makes room at first.
-const INNERMOST: usize = 26;
+const INNERMOST: usize = 27;
 
 // Names that the builder does not have.
 const NEW_NAMES: [&str; 10] = ["A", "B", "C", "D", "E", "F", "G", "H", "I", "J"];
@@ -107,39 +98,23 @@ const NEW_NAMES: [&str; 10] = ["A", "B", "C", "D", "E", "F", "G", "H", "I", "J"]
 // How many restore points it has taken.
 const TAKEN: u64 = 5;
 
-// How many idents the builder of a call has: as many as fill the lists of values; or all, and then the next value is found by
-// an index, which is made for it. A copy has such an index too.
-fn idents_for(call: &str) -> usize {
-    match call {
-        "TopSubtreeBuilder::clone"
-        | "open_of_many_values"
-        | "push_of_many_values"
-        | "close_of_many_values" => IDENTS.len(),
-        _ => FULL,
-    }
-}
-
 // A builder of braces over an empty invisible subtree and four open brackets, and in the innermost the idents and the puncts. Of
-// its five restore points the second does not stand. So it has 31 tokens, four open subtrees and four points, and no room for
-// one more of any. To be cloned, it has an ident of a new symbol and a new span part, so that both have an index.
-fn builder(alloc: Global, call: &str) -> Result<TopSubtreeBuilder, TtFault> {
+// its five restore points the second does not stand. So it has 32 tokens, four open subtrees and four points, and no room for
+// one more of any.
+fn builder(alloc: Global) -> Result<TopSubtreeBuilder, TtFault> {
     let mut builder = TopSubtreeBuilder::new(alloc, braces())?;
-    fill(alloc, call, &mut builder)?;
+    fill(alloc, &mut builder)?;
     Ok(builder)
 }
 
-fn fill(alloc: Global, call: &str, builder: &mut TopSubtreeBuilder) -> Result<(), TtFault> {
+fn fill(alloc: Global, builder: &mut TopSubtreeBuilder) -> Result<(), TtFault> {
     builder.restore_point()?;
     builder.open(DelimiterKind::Invisible, span(OPEN_ID))?;
     builder.restore_point()?;
     close_at(builder, span(OPEN_ID))?;
     open_brackets(builder)?;
-    push_leaves(builder, first_leaves(alloc, idents_for(call))?)?;
-    take_points(builder)?;
-    match call {
-        "TopSubtreeBuilder::clone" => Ok(builder.push(new_leaf(alloc)?)?),
-        _ => Ok(()),
-    }
+    push_leaves(builder, first_leaves(alloc)?)?;
+    take_points(builder)
 }
 
 fn take_points(builder: &mut TopSubtreeBuilder) -> Result<(), TtFault> {
@@ -163,10 +138,10 @@ fn push_leaves(builder: &mut TopSubtreeBuilder, leaves: Vec<Leaf>) -> Result<(),
     Ok(())
 }
 
-// So many of the idents, and the puncts.
-fn first_leaves(alloc: Global, idents: usize) -> Result<Vec<Leaf>, TtFault> {
+// The idents and the puncts.
+fn first_leaves(alloc: Global) -> Result<Vec<Leaf>, TtFault> {
     let mut leaves = Vec::new(alloc);
-    for (name, id) in IDENTS.iter().take(idents) {
+    for (name, id) in IDENTS.iter() {
         leaves.push(ident(alloc, name, *id)?)?;
     }
     add_puncts(&mut leaves)?;
@@ -180,23 +155,23 @@ fn add_puncts(leaves: &mut Vec<Leaf>) -> Result<(), TtFault> {
     Ok(())
 }
 
-// The same as tokens, of the builder of a call.
-fn first_tokens(alloc: Global, call: &str) -> Result<Vec<TokenTree>, TtFault> {
+// The same as tokens.
+fn first_tokens(alloc: Global) -> Result<Vec<TokenTree>, TtFault> {
     let mut tokens = Vec::new(alloc);
-    push_all(&mut tokens, &first_leaves(alloc, idents_for(call))?)?;
+    push_all(&mut tokens, &first_leaves(alloc)?)?;
     Ok(tokens)
 }
 
 // The tree of what that builder makes when its innermost bracket gets these leaves too, and what is open is closed by the mark.
-fn with(alloc: Global, call: &str, leaves: &[Leaf]) -> Result<TopSubtree, TtFault> {
-    let mut below = first_tokens(alloc, call)?;
+fn with(alloc: Global, leaves: &[Leaf]) -> Result<TopSubtree, TtFault> {
+    let mut below = first_tokens(alloc)?;
     push_all(&mut below, leaves)?;
     over(alloc, below, MARK)
 }
 
 // The same, where it gets parentheses over nothing, which are open.
-fn with_parentheses(alloc: Global, call: &str) -> Result<TopSubtree, TtFault> {
-    let mut below = first_tokens(alloc, call)?;
+fn with_parentheses(alloc: Global) -> Result<TopSubtree, TtFault> {
+    let mut below = first_tokens(alloc)?;
     let parentheses = delimiter(DelimiterKind::Parenthesis, NEW_ID, MARK);
     below.push(header(parentheses, 0))?;
     over(alloc, below, MARK)
@@ -226,15 +201,14 @@ fn push_brackets(list: &mut Vec<TokenTree>, len: u32, innermost: u32) -> Result<
 fn after(alloc: Global, call: &str) -> Result<TopSubtree, TtFault> {
     match call {
         "TopSubtreeBuilder::new" => flat_tree(alloc, &[]),
-        "restore_point" => with(alloc, call, &[]),
-        "open" | "open_of_many_values" => with_parentheses(alloc, call),
-        "TopSubtreeBuilder::clone" | "push" | "push_of_many_values" => {
-            with(alloc, call, &[new_leaf(alloc)?])
-        }
-        "close" | "close_of_many_values" => over(alloc, first_tokens(alloc, call)?, NEW_ID),
-        "extend" | "extend_with_tt" => with(alloc, call, &ten()),
-        "extend_by_names" => with(alloc, call, &new_names(alloc)?),
-        "extend_with_tt_alone" => with(alloc, call, &ten_of_which_the_last_is_alone()),
+        "restore_point" => with(alloc, &[]),
+        "open" => with_parentheses(alloc),
+        "TopSubtreeBuilder::clone" => with(alloc, &[]),
+        "push" => with(alloc, &[new_leaf(alloc)?]),
+        "close" => over(alloc, first_tokens(alloc)?, NEW_ID),
+        "extend" | "extend_with_tt" => with(alloc, &ten()),
+        "extend_by_names" => with(alloc, &new_names(alloc)?),
+        "extend_with_tt_alone" => with(alloc, &ten_of_which_the_last_is_alone()),
         _ => Err(TtFault::NoSuchPlace),
     }
 }
@@ -292,9 +266,9 @@ impl Call for Growing<'_> {
         match self.call {
             "TopSubtreeBuilder::new" => self.renew(),
             "TopSubtreeBuilder::clone" => self.copy(),
-            "open" | "open_of_many_values" => self.open(),
-            "push" | "push_of_many_values" => self.push(),
-            "close" | "close_of_many_values" => done(close_at(self.builder, span(NEW_ID))),
+            "open" => self.open(),
+            "push" => self.push(),
+            "close" => done(close_at(self.builder, span(NEW_ID))),
             "extend" => done(self.builder.extend(ten().into_iter())),
             "extend_by_names" => self.extend_by_names(),
             "extend_with_tt" => done(self.builder.extend_with_tt(trees)),

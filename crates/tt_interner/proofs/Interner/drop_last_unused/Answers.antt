@@ -1,39 +1,33 @@
-use Rattle.std.proofs.Common.{◌≡◌, ℕ, suc, ◌<◌, Some, slice_get, drop, sym, subst, ◌∙◌}
+use Rattle.std.proofs.Common.{◌≡◌, ℕ, suc, ◌<◌, Some, slice_get, drop, ap, sym, subst, ◌∙◌}
 use Rattle.std.specs.List.{AllByRecursion}
-use Rattle.tt_interner.proofs.Places.{beside_cut, distinct_cut, index_cut, used_cut, number_cut, is_cut}
+use Rattle.tt_tables.specs.Counts.{number_in, used_count}
+use Rattle.tt_interner.specs.Interner.{entries_of}
+use Rattle.tt_interner.proofs.UseCounts.{number_front, used_front}
 use Rattle.tt_interner.proofs.Interner.drop_last_unused.Goals as goal
 
 pub invariant_of-self : goal.invariant_of-self
 invariant_of-self g c =
-    let it = c.args.self.now in
-    let values = c.truncate.new.self.items in
-    let numbers = c.truncate-2.new.self.items in
+    let counts = entries_of c.args.self.now in
     let len = c.len_to_last_used-len.result in
-    let unused = subst (λ ns. AllByRecursion (λ number. number ≡ 0) (drop len ns)) c.deref.ensures.value c.len_to_last_used-len.ensures.unused in
+    let unused = subst (λ ns. AllByRecursion (λ number. number ≡ 0) (drop len ns)) c.numbers.ensures c.len_to_last_used-len.ensures.unused in
     record {
-      beside = beside_cut it.values.items it.numbers.items it.beside len values numbers c.truncate.ensures.items c.truncate-2.ensures.items;
-      distinct = distinct_cut it.values.items it.numbers.items it.beside len values numbers c.truncate.ensures.items c.truncate-2.ensures.items g.T.PartialEq.eq g.met.T.Eq.laws it.distinct;
-      indexed =
-          index_cut it.values.items it.numbers.items it.beside len values numbers c.truncate.ensures.items c.truncate-2.ensures.items it.index.keys c.truncate-3.new.self.keys
-          c.truncate-3.ensures.keys it.indexed;
-      tallied = it.tallied ∙ sym (used_cut it.values.items it.numbers.items it.beside len values numbers c.truncate.ensures.items c.truncate-2.ensures.items unused);
+      distinct = c.truncate.ensures.unique;
+      tallied = c.args.self.now.tallied ∙ sym (ap used_count c.truncate.ensures.entries ∙ used_front counts len unused);
     }
 
 pub returns-clause-cut : goal.returns-clause-cut
 returns-clause-cut g c =
-    let it = c.args.self.now in
-    let values = c.truncate.new.self.items in
-    let numbers = c.truncate-2.new.self.items in
     let len = c.len_to_last_used-len.result in
-    let unused = subst (λ ns. AllByRecursion (λ number. number ≡ 0) (drop len ns)) c.deref.ensures.value c.len_to_last_used-len.ensures.unused in
-    is_cut it.values.items it.numbers.items it.beside len values numbers c.truncate.ensures.items c.truncate-2.ensures.items unused
-    (subst (λ ns. (k : ℕ) → len ≡ suc k → (number : ℕ) × (slice_get ns k ≡ Some number) × (0 < number)) c.deref.ensures.value c.len_to_last_used-len.ensures.ends_used)
+    record {
+      len = len;
+      front = c.truncate.ensures.entries;
+      unused = subst (λ ns. AllByRecursion (λ number. number ≡ 0) (drop len ns)) c.numbers.ensures c.len_to_last_used-len.ensures.unused;
+      ends_used = subst (λ ns. (k : ℕ) → len ≡ suc k → (number : ℕ) × (slice_get ns k ≡ Some number) × (0 < number)) c.numbers.ensures c.len_to_last_used-len.ensures.ends_used;
+    }
 
 pub returns-clause-numbers : goal.returns-clause-numbers
-returns-clause-numbers g c =
-    let it = c.args.self.now in
-    let values = c.truncate.new.self.items in
-    let numbers = c.truncate-2.new.self.items in
+returns-clause-numbers g c = λ x.
+    let counts = entries_of c.args.self.now in
     let len = c.len_to_last_used-len.result in
-    let unused = subst (λ ns. AllByRecursion (λ number. number ≡ 0) (drop len ns)) c.deref.ensures.value c.len_to_last_used-len.ensures.unused in
-    number_cut it.values.items it.numbers.items it.beside len values numbers c.truncate.ensures.items c.truncate-2.ensures.items unused g.T.PartialEq.eq
+    let unused = subst (λ ns. AllByRecursion (λ number. number ≡ 0) (drop len ns)) c.numbers.ensures c.len_to_last_used-len.ensures.unused in
+    ap (λ entries. number_in g.T.PartialEq.eq entries x) c.truncate.ensures.entries ∙ number_front g.T.PartialEq.eq counts len x unused

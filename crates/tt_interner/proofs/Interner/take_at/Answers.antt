@@ -1,60 +1,50 @@
-use Rattle.std.proofs.Common.{◌-◌, ◌∙◌, arith}
-use Rattle.std.proofs.lemmas.List.{length-set}
-use Rattle.tt_interner.proofs.Places.{used_less, number_there, one_less, keys_kept, place_within}
+use Rattle.std.proofs.Common.{◌≡◌, ◌∙◌, Some, None, sym, subst, arith}
+use Rattle.std.specs.List.{IsDistinct}
+use Rattle.tt_interner.specs.Interner.{entries_of}
+use Rattle.tt_interner.proofs.Places.{used_less, stands_at, number_there, one_less, keys_kept, none_behind}
 use Rattle.tt_interner.proofs.Interner.take_at.Goals as goal
 
 pub returns-then-index-len-clause-less : goal.returns-then-index-len-clause-less
-returns-then-index-len-clause-less g c = λ x at.
-    let it = c.args.self.now in
-    absurd (omega (arith, place_within it.values.items it.numbers.items it.beside c.args.place x at, c.len.ensures, c.if-index-len.true))
+returns-then-index-len-clause-less g c = λ x at. absurd (none_behind (entries_of c.args.self.now) c.args.place x (omega (arith, c.len.ensures.len, c.if-index-len.true)) at)
 
-pub returns-then-uses-eq0-clause-less : goal.returns-then-uses-eq0-clause-less
-returns-then-uses-eq0-clause-less g c = λ x at.
+pub overflow_sub-uses : goal.overflow_sub-uses
+overflow_sub-uses g c =
     let it = c.args.self.now in
-    absurd (omega (
-      arith,
-      c.requires.some x at,
-      number_there it.values.items it.numbers.items it.beside c.args.place c.index-uses.result.now (omega (arith, c.len.ensures, c.if-index-len.false)) c.index-uses.ensures
-          g.T.PartialEq.eq g.met.T.Eq.laws it.distinct x at,
-      c.if-uses-eq0.true,
-    ))
+    let value = c.pair_mut-uses.ensures.value in
+    let number = number_there (entries_of it) c.args.place _ _ value g.T.PartialEq.eq g.met.T.Eq.laws it.distinct in
+    omega (arith, c.requires.some c.pair_mut-uses.result.0.now (stands_at (entries_of it) c.args.place _ _ value), number)
 
 pub overflow_sub-self : goal.overflow_sub-self
 overflow_sub-self g c =
     let it = c.args.self.now in
-    omega (
-      arith,
-      it.tallied,
-      c.from.ensures,
-      used_less it.values.items it.numbers.items it.beside c.args.place c.index-uses.result.now (omega (arith, c.len.ensures, c.if-index-len.false)) c.index-uses.ensures
-          (omega (arith, c.if-uses-eq0.false)),
-    )
+    let value = c.pair_mut-uses.ensures.value in
+    let number = number_there (entries_of it) c.args.place _ _ value g.T.PartialEq.eq g.met.T.Eq.laws it.distinct in
+    let some = c.requires.some c.pair_mut-uses.result.0.now (stands_at (entries_of it) c.args.place _ _ value) in
+    omega (arith, it.tallied, c.from.ensures, used_less (entries_of it) c.args.place _ _ value (omega (arith, some, number)))
 
 pub invariant_of-self : goal.invariant_of-self
 invariant_of-self g c =
     let it = c.args.self.now in
+    let value = c.pair_mut-uses.ensures.value in
+    let number = number_there (entries_of it) c.args.place _ _ value g.T.PartialEq.eq g.met.T.Eq.laws it.distinct in
+    let some = c.requires.some c.pair_mut-uses.result.0.now (stands_at (entries_of it) c.args.place _ _ value) in
     record {
-      beside = length-set it.numbers.items c.args.place (c.index-uses.result.now - 1) ∙ it.beside;
-      distinct = it.distinct;
-      indexed = it.indexed;
-      tallied =
-          omega (
-            arith,
-            it.tallied,
-            c.from.ensures,
-            used_less it.values.items it.numbers.items it.beside c.args.place c.index-uses.result.now (omega (arith, c.len.ensures, c.if-index-len.false)) c.index-uses.ensures
-                (omega (arith, c.if-uses-eq0.false)),
-          );
+      distinct = subst (IsDistinct g.T.PartialEq.eq) (sym (keys_kept (entries_of it) c.args.place _)) it.distinct;
+      tallied = omega (arith, it.tallied, c.from.ensures, used_less (entries_of it) c.args.place _ _ value (omega (arith, some, number)));
     }
 
 pub returns-clause-less : goal.returns-clause-less
 returns-clause-less g c =
     let it = c.args.self.now in
-    one_less it.values.items it.numbers.items it.beside c.args.place c.index-uses.result.now (omega (arith, c.len.ensures, c.if-index-len.false)) c.index-uses.ensures
-    g.T.PartialEq.eq g.met.T.Eq.laws it.distinct c.requires.same (omega (arith, c.if-uses-eq0.false))
+    let value = c.pair_mut-uses.ensures.value in
+    let number = number_there (entries_of it) c.args.place _ _ value g.T.PartialEq.eq g.met.T.Eq.laws it.distinct in
+    let some = c.requires.some c.pair_mut-uses.result.0.now (stands_at (entries_of it) c.args.place _ _ value) in
+    one_less (entries_of it) c.args.place _ _ value g.T.PartialEq.eq g.met.T.Eq.laws it.distinct c.requires.same (omega (arith, some, number))
 
 pub returns-clause-values : goal.returns-clause-values
-returns-clause-values g c =
-    let it = c.args.self.now in
-    keys_kept it.values.items it.numbers.items it.beside c.args.place c.index-uses.result.now (omega (arith, c.len.ensures, c.if-index-len.false)) c.index-uses.ensures
-    (c.index-uses.result.now - 1)
+returns-clause-values g c = keys_kept (entries_of c.args.self.now) c.args.place _
+
+pub returns-clause-none : goal.returns-clause-none
+returns-clause-none g c = λ none.
+    let both : None ≡ Some c.pair_mut-uses.result.0.now = sym none ∙ stands_at (entries_of c.args.self.now) c.args.place _ _ c.pair_mut-uses.ensures.value in
+    absurd (cc both)
