@@ -1,25 +1,27 @@
 -- Tokens in numbers under their tables.
-use Rattle.std.proofs.Common.{◌≡◌, ℕ, zero, suc, ◌<◌, Some, All, List, [], ◌∷◌, ◌++◌, map, set, get_or, take, drop, length, count_by, nat_lt, nat_eq, slice_get, ap, ap₂, sym, subst, ◌∙◌, arith}
+use Rattle.std.proofs.Common.{◌≡◌, ℕ, zero, suc, ◌<◌, ◌≤◌, Some, All, List, [], ◌∷◌, ◌++◌, map, set, get_or, take, drop, length, count_by, nat_lt, nat_eq, bytes_eq, slice_get, ap, ap₂, sym, subst, ◌∙◌, arith}
 use Rattle.std.proofs.lemmas.List.{length-map}
 use Rattle.std.proofs.lemmas.Option.{slice_get-map, get_or_from_slice_get}
 use Rattle.std.specs.Option.{option_map}
-use Rattle.std.specs.List.{AllZip, AllByRecursion}
+use Rattle.std.specs.List.{AllZip}
 use Rattle.tt_base.specs.contracts.span.SpanPartEq.TheImpl.Laws as part_eq
+use Rattle.tt_base.specs.contracts.symbol.SymbolEq.TheImpl.Laws as symbol_eq
 use Rattle.tt_base.specs.declared.span.SpanPart.{SpanPart}
 use Rattle.tt_base.specs.declared.token_tree.TokenTree.{TokenTree}
-use Rattle.tt_base.specs.Forest.{IsWhole}
 use Rattle.tt_interned.specs.declared.token.InternedToken.{InternedToken}
 use Rattle.tt_interned.specs.Counted.{AreOf}
-use Rattle.tt_tables.specs.TableOrder.{different, uses_of, IsIn}
-use Rattle.tt_tables.specs.Tables.{tables_from, part_table}
-use Rattle.tt_tables.specs.Uses.{same_part, part_uses}
-use Rattle.tt_tables.proofs.TokenTables.{part_sound, part_table_is}
-use Rattle.tt_pack.specs.Counted.{new_index}
+use Rattle.tt_tables.specs.Stored.{most_parts, most_symbols}
+use Rattle.tt_tables.specs.TableOrder.{different, uses_of, IsIn, IsTable}
+use Rattle.tt_tables.specs.Tables.{tables_from, short_parts, short_symbols, part_table, symbol_table}
+use Rattle.tt_tables.specs.Uses.{same_part, part_uses, symbol_uses}
+use Rattle.tt_tables.proofs.TokenTables.{part_sound, part_table_is, text_sound, symbol_table_only}
+use Rattle.tt_pack.specs.declared.table.Table.{Table}
+use Rattle.tt_pack.specs.Counted.{new_index, LeadsTo}
 use Rattle.tt_pack.specs.Places.{part_places, AreRanked, IsAt}
-use Rattle.tt_pack.specs.TablesOf.{IsTallyOf, StandsAt, HasNewIndexAt}
+use Rattle.tt_pack.specs.TablesOf.{StandsAt, HasNewIndexAt}
 use Rattle.tt_pack.proofs.Paired.{length-paired}
 use Rattle.tt_pack.proofs.PlacesNamed.{values_alike, places_within, mapped_at, member_at_place, different_at, places_named, partner_at}
-use Rattle.tt_pack.proofs.TableFacts.{index_in-distinct}
+use Rattle.tt_pack.proofs.TableFacts.{index_in-distinct, length-table_of, new_index_noted}
 use Rattle.tt_pack.proofs.UsedParts.{used_different, stands_by_first_use}
 
 -- One more index is put.
@@ -47,7 +49,7 @@ module _ (tokens : List InternedToken) (parts : List SpanPart) (part_numbers : L
   places_at = places_named (tables_from parts symbols) tokens list are.named
 
   -- The different places are those of the different parts.
-  pub order_at : AllZip (IsAt parts) (different nat_eq (part_places tokens)) (different same_part (part_uses list))
+  order_at : AllZip (IsAt parts) (different nat_eq (part_places tokens)) (different same_part (part_uses list))
   order_at = different_at parts same_part part_eq.lawful.laws part_sound are.distinct (part_places tokens) (part_uses list) places_at
 
   pub order_length : length (different nat_eq (part_places tokens)) ≡ length (different same_part (part_uses list))
@@ -59,42 +61,68 @@ module _ (tokens : List InternedToken) (parts : List SpanPart) (part_numbers : L
       ap (count_by (nat_lt 0)) are.parts_counted
       ∙ used_different same_part part_eq.lawful.laws part_sound (part_uses list) parts are.distinct (member_at_place parts (part_places tokens) (part_uses list) places_at)
 
+  -- The tables are as long as there are parts that are used, and symbols.
+  pub length-part_table : length (part_table list) ≡ count_by (nat_lt 0) part_numbers
+  length-part_table = length-table_of same_part part_sound part_eq.lawful.laws short_parts (part_uses list) ∙ sym used_parts
+
+  pub length-symbol_table : length (symbol_table list) ≡ length symbols
+  length-symbol_table = length-table_of bytes_eq text_sound symbol_eq.lawful.laws short_symbols (symbol_uses list) ∙ sym (ap length are.in_order)
+
   -- There is a number for each part.
   as_many : length part_numbers ≡ length parts
   as_many = ap length are.parts_counted ∙ length-map parts (uses_of same_part (part_uses list))
 
-  pub order_within : All (λ place. place < length parts) (different nat_eq (part_places tokens))
-  order_within = places_within parts _ _ order_at
+  -- The symbols stand in their table.
+  module _ (table : Table (List ℕ))
+      (is : (uses : List (List ℕ)) → symbols ≡ different bytes_eq uses → symbol_numbers ≡ map (uses_of bytes_eq uses) symbols → IsTable bytes_eq short_symbols uses table.values.items) where
+    symbols_are : IsTable bytes_eq short_symbols (symbol_uses list) table.values.items
+    symbols_are = is (symbol_uses list) are.in_order are.symbols_counted
 
-  pub order_within_numbers : All (λ place. place < length part_numbers) (different nat_eq (part_places tokens))
-  order_within_numbers = subst (λ n. All (λ place. place < n) (different nat_eq (part_places tokens))) (sym as_many) order_within
+    pub symbols_made : table.values.items ≡ symbol_table list
+    symbols_made = symbol_table_only list table.values.items symbols_are
 
-  -- What stands at the different places, in their order, is the tally.
-  module _ (order : List ℕ) (found : List SpanPart) (numbers : List ℕ) (is : order ≡ different nat_eq (part_places tokens))
-      (at : AllZip (IsAt parts) order found) (beside : AllZip (IsAt part_numbers) order numbers) where
-    pub parts_found : found ≡ different same_part (part_uses list)
-    parts_found = values_alike parts order found _ at (subst (λ l. AllZip (IsAt parts) l (different same_part (part_uses list))) (sym is) order_at)
+    -- Their new indices lead there.
+    pub symbols_lead : length symbols ≤ most_symbols → ((index : ℕ) → index < length symbols → LeadsTo symbols table.values.items table.new_indices.items index)
+        → (place : ℕ) (x : List ℕ) → StandsAt symbols place x → HasNewIndexAt bytes_eq table.values.items table.new_indices.items place x
+    symbols_lead few leads place x =
+        new_index_noted bytes_eq text_sound symbol_eq.lawful.laws short_symbols (symbol_uses list) symbols table.values.items table.new_indices.items place x symbols_are (omega (arith, few)) leads
 
-    pub tally : IsWhole list → IsTallyOf found numbers symbols symbol_numbers list
-    tally whole = record {
-      whole = whole;
-      all_parts = parts_found;
-      part_uses_are =
-          values_alike part_numbers order numbers (map (uses_of same_part (part_uses list)) found) beside
-          (subst (λ l. AllZip (IsAt l) order (map (uses_of same_part (part_uses list)) found)) (sym are.parts_counted) (mapped_at parts (uses_of same_part (part_uses list)) order found at));
-      all_symbols = are.in_order;
-      symbol_uses_are = are.symbols_counted;
-    }
+  -- At the different places stand the parts by first use.
+  module _ (order : List ℕ) (is : order ≡ different nat_eq (part_places tokens)) where
+    used_at : AllZip (IsAt parts) order (different same_part (part_uses list))
+    used_at = subst (λ l. AllZip (IsAt parts) l (different same_part (part_uses list))) (sym is) order_at
+
+    -- Each place is one of a part, and of its number.
+    pub within_parts : All (λ place. place < length parts) order
+    within_parts = places_within parts order _ used_at
+
+    pub within_numbers : All (λ place. place < length part_numbers) order
+    within_numbers = subst (λ n. All (λ place. place < n) order) (sym as_many) within_parts
+
+    -- What is found there are these parts.
+    pub parts_found : (found : List SpanPart) → AllZip (IsAt parts) order found → found ≡ different same_part (part_uses list)
+    parts_found found at = values_alike parts order found _ at used_at
+
+    -- What is found there among the numbers are their numbers of uses.
+    pub numbers_found : (found : List SpanPart) (numbers : List ℕ) → AllZip (IsAt parts) order found → AllZip (IsAt part_numbers) order numbers
+        → numbers ≡ map (uses_of same_part (part_uses list)) found
+    numbers_found found numbers at beside =
+        values_alike part_numbers order numbers (map (uses_of same_part (part_uses list)) found) beside
+        (subst (λ l. AllZip (IsAt l) order (map (uses_of same_part (part_uses list)) found)) (sym are.parts_counted) (mapped_at parts (uses_of same_part (part_uses list)) order found at))
 
     -- The rank of a place leads to the new index of its part.
-    pub parts_lead : (ranks new_indices part_indices : List ℕ) (table : List SpanPart) → AreRanked order ranks → part_indices ≡ map (new_index new_indices) ranks → table ≡ part_table list
-        → ((i : ℕ) (x : SpanPart) → StandsAt found i x → HasNewIndexAt same_part table new_indices i x)
+    pub parts_lead : (ranks new_indices part_indices : List ℕ) (table : List SpanPart) → length order ≤ most_parts → AreRanked order ranks → part_indices ≡ map (new_index new_indices) ranks
+        → table ≡ part_table list → ((index : ℕ) → index < length order → LeadsTo (different same_part (part_uses list)) table new_indices index)
         → (place : ℕ) (x : SpanPart) → IsAt parts place x → IsIn same_part table x → HasNewIndexAt same_part table part_indices place x
-    parts_lead ranks new_indices part_indices table ranked indices made new place x here known =
-        let (j, by_use) = stands_by_first_use same_part part_eq.lawful.laws part_sound (part_uses list) table x (subst (AllByRecursion (IsIn same_part (part_uses list))) (sym made) (part_table_is list).has_no_other) known in
-        let stands : slice_get found j ≡ Some x = ap (λ l. slice_get l j) parts_found ∙ by_use in
-        let (p, at_rank, value) = partner_at (IsAt parts) order found j x at stands in
+    parts_lead ranks new_indices part_indices table few ranked indices made leads place x here known =
+        let used : List SpanPart = different same_part (part_uses list) in
+        let as_long : length order ≡ length used = length-paired (IsAt parts) _ _ used_at in
+        let is_table : IsTable same_part short_parts (part_uses list) table = subst (IsTable same_part short_parts (part_uses list)) (sym made) (part_table_is list) in
+        let (j, stands) = stands_by_first_use same_part part_eq.lawful.laws part_sound (part_uses list) table x is_table.has_no_other known in
+        let (p, at_rank, value) = partner_at (IsAt parts) order used j x used_at stands in
         let same_place : p ≡ place = sym (index_in-distinct same_part part_eq.lawful.laws parts p x are.distinct value) ∙ index_in-distinct same_part part_eq.lawful.laws parts place x are.distinct here in
         let rank : slice_get ranks place ≡ Some j = ap (slice_get ranks) (sym same_place) ∙ ranked j p at_rank in
         let noted : slice_get part_indices place ≡ Some (new_index new_indices j) = ap (λ l. slice_get l place) indices ∙ slice_get-map (new_index new_indices) ranks place ∙ ap (option_map (new_index new_indices)) rank in
-        get_or_from_slice_get part_indices place (new_index new_indices j) place noted ∙ new j x (λ few. stands)
+        get_or_from_slice_get part_indices place (new_index new_indices j) place noted
+        ∙ new_index_noted same_part part_sound part_eq.lawful.laws short_parts (part_uses list) used table new_indices j x is_table (omega (arith, as_long, few))
+        (λ index l. leads index (omega (arith, as_long, l))) (λ wide. stands)

@@ -1,21 +1,23 @@
 //! The two tables of tokens that name values by places, and such tokens under these tables.
-ghost use Rattle.std.specs.Prelude.{◌≡◌, ◌+◌, ◌<◌, ◌≤◌, All, length, map, IfOk, IfErr};
+ghost use Rattle.std.specs.Prelude.{◌≡◌, ℕ, ◌+◌, ◌<◌, ◌≤◌, All, length, map, nat_eq, IfOk, IfErr};
 ghost use Rattle.std.specs.List.{AllZip};
 ghost use Rattle.tt_base.specs.Forest.{IsWhole};
 ghost use Rattle.tt_interned.specs.ListOf.{list_of};
 ghost use Rattle.tt_tables.specs.Stored.{most_parts, most_symbols};
+ghost use Rattle.tt_tables.specs.TableOrder.{different};
 ghost use Rattle.tt_tables.specs.Tables.{part_table, symbol_table};
-ghost use Rattle.tt_pack.specs.Counted.{new_index};
+ghost use Rattle.tt_tables.specs.Uses.{same_part, part_uses};
+ghost use Rattle.tt_pack.specs.Counted.{new_index, LeadsTo};
 ghost use Rattle.tt_pack.specs.Packed.{HasFewParts, HasFewSymbols, IsTableFault};
-ghost use Rattle.tt_pack.specs.Places.{IsAt, IsWithin};
+ghost use Rattle.tt_pack.specs.Places.{part_places, IsAt, IsWithin};
 
 use crate::first_uses::{FirstUses, count_used};
 use crate::table::Table;
 use crate::tables::new_index_at;
-use crate::uses::{MOST_PARTS_BELOW, tables_of};
+use crate::uses::{MOST_PARTS_BELOW, SHORT_PARTS, SHORT_SYMBOLS, TOP_PARTS};
 use std::alloc::{AllocError, Global};
 use tt_base::{SpanPart, Symbol, TtFault};
-use tt_codec::{Entry, HeaderEntry, LeafEntry, SpanNumbers};
+use tt_codec::{Entry, HeaderEntry, LeafEntry, MOST_SYMBOLS, SpanNumbers};
 use tt_interned::{CountedTokens, InternedToken};
 
 /// The tables of tokens in numbers, and where in them each value went that is named by its place.
@@ -29,16 +31,42 @@ pub(crate) struct InternedTables {
     pub ghost few_symbols: { length symbols.values.items ≤ most_symbols },
 }
 
-// The values at these places.
-fn values_at<T: Copy>(alloc: Global, values: &[T], places: &[u32]) -> Result<Vec<T>, AllocError>
+// The values at these places, with room for `more`.
+fn values_at<T: Copy>(
+    alloc: Global,
+    values: &[T],
+    places: &[u32],
+    more: usize,
+) -> Result<Vec<T>, AllocError>
     requires { All (λ place. place < length values.now) places.now }
     ensures { IfOk result (λ found. AllZip (IsAt values.now) places.now found.items) }
 {
-    let mut found = Vec::with_capacity(alloc, places.len())?;
+    let mut found = Vec::with_capacity(alloc, places.len().saturating_add(more))?;
     for index in 0..places.len() {
         found.push(values[places[index] as usize])?;
     }
     Ok(found)
+}
+
+// The table of the parts that the tokens use, from their places by first use, with room for the top's two. Up to 15 stay as
+// they stand, so their numbers of uses are not copied.
+fn part_table(
+    alloc: Global,
+    below: CountedTokens<'_>,
+    order: &[u32],
+) -> Result<Table<SpanPart>, AllocError>
+    requires order { order.now ≡ different nat_eq (part_places below.tokens.now) }
+    requires few { length order.now ≤ most_parts }
+    ensures values { IfOk result (λ table. table.values.items ≡ part_table (list_of below.entry)) }
+    ensures new_indices { IfOk result (λ table. (index : ℕ) → index < length order.now → LeadsTo (different same_part (part_uses (list_of below.entry))) table.values.items table.new_indices.items index) }
+{
+    if order.len() <= SHORT_PARTS {
+        let parts = values_at(alloc, below.parts, order, TOP_PARTS)?;
+        return Ok(Table::by_first_use(alloc, parts));
+    }
+    let parts = values_at(alloc, below.parts, order, 0)?;
+    let uses = values_at(alloc, below.part_uses, order, 0)?;
+    Table::of_counts(alloc, &parts, &uses, SHORT_PARTS, TOP_PARTS)
 }
 
 // The new index of each index. Where none is noted, it stays.
@@ -72,16 +100,12 @@ impl InternedTables {
         if used > MOST_PARTS_BELOW {
             return Err(TtFault::TooManySpanParts);
         }
+        if below.symbols.len() > MOST_SYMBOLS {
+            return Err(TtFault::TooManySymbols);
+        }
         let uses = FirstUses::of_tokens(alloc, below.tokens, below.parts.len(), used)?;
-        let parts = values_at(alloc, below.parts, &uses.order)?;
-        let part_uses = values_at(alloc, below.part_uses, &uses.order)?;
-        let (parts, symbols) = tables_of(
-            alloc,
-            &parts,
-            &part_uses,
-            below.symbols,
-            below.symbol_uses,
-        )?;
+        let parts = part_table(alloc, below, &uses.order)?;
+        let symbols = Table::of_counts(alloc, below.symbols, below.symbol_uses, SHORT_SYMBOLS, 0)?;
         Ok(InternedTables {
             part_indices: renumbered(uses.ranks, &parts.new_indices),
             parts: parts.values,

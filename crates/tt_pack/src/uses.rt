@@ -19,8 +19,8 @@ use tt_codec::{MOST_PARTS, MOST_SYMBOLS};
 
 /// Up to so many parts stand by first use: an index of theirs has four bits.
 pub(crate) const SHORT_PARTS: usize = 15;
-// Up to so many symbols: a reference to one takes one byte.
-const SHORT_SYMBOLS: usize = 63;
+/// Up to so many symbols: a reference to one takes one byte.
+pub(crate) const SHORT_SYMBOLS: usize = 63;
 /// The top has two parts of its own, which need an index each and stand last.
 pub(crate) const TOP_PARTS: usize = 2;
 /// The most parts below the top.
