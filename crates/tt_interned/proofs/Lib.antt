@@ -5,5 +5,6 @@ pub mod Naming
 pub mod Opening
 pub mod Ordering
 pub mod Packing
+pub mod Standing
 pub mod Taking
 pub mod Using

@@ -5,5 +5,6 @@ pub mod Held
 pub mod HeldCode
 pub mod Interned
 pub mod ListOf
+pub mod Missing
 pub mod Names
 pub mod OneList

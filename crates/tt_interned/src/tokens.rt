@@ -12,6 +12,7 @@ ghost use Rattle.tt_base.specs.Token.{delimiter};
 ghost use Rattle.tt_interned.specs.Held.{whole, opened, as_token, parts_in, symbols_in, open_places, token_alone};
 ghost use Rattle.tt_interned.specs.Interned.{HasHeld, AreNamed};
 ghost use Rattle.tt_interned.specs.ListOf.{list_of};
+ghost use Rattle.tt_interned.specs.Missing.{NoOpenAt, NoHeaderAt, NoWholeAt};
 ghost use Rattle.tt_interned.specs.OneList.{HasHeld-prop};
 ghost use Rattle.tt_interner.specs.Interner.{entries_of};
 ghost use Rattle.tt_tables.specs.TableOrder.{different, uses_of};
@@ -190,9 +191,10 @@ impl InternedTokens {
         }
     }
 
-    /// Gives the open header at a place its close span and its count.
+    /// Gives the open header at a place its close span and its count; nothing where none stands there.
     pub fn close(&mut self, place: usize, close_span: &Span, len: u32) -> Result<(), AllocError>
         ensures ok { OnOk result ((kind : Kind) (open_span : SpanOf) → slice_get self.old place ≡ Some (opened kind open_span) → self.new ≡ set self.old place (whole (header (delimiter kind open_span close_span.now) len))) }
+        ensures none { OnOk result (NoOpenAt self.old place → self.new ≡ self.old) }
         ensures err { OnErr result (self.new ≡ self.old) }
     {
         if place >= self.tokens.len() {
@@ -213,9 +215,10 @@ impl InternedTokens {
         Ok(())
     }
 
-    /// Takes out the header at a place, if one stands there that is closed.
+    /// Takes out the header at a place; nothing where no header stands there that is closed.
     pub fn remove_header(&mut self, place: usize)
-        ensures { (it : Header) → slice_get self.old place ≡ Some (whole (token.Subtree it)) → self.new ≡ remove self.old place }
+        ensures removed { (it : Header) → slice_get self.old place ≡ Some (whole (token.Subtree it)) → self.new ≡ remove self.old place }
+        ensures none { NoHeaderAt self.old place → self.new ≡ self.old }
     {
         if place >= self.tokens.len() {
             return;
@@ -228,9 +231,10 @@ impl InternedTokens {
         let _ = self.tokens.remove(place);
     }
 
-    /// The last token becomes alone, if it is a punct.
+    /// The last token becomes alone, if it is a punct; nothing changes where there is none, or an open header is last.
     pub fn set_last_alone(&mut self)
-        ensures { (it : Token) → slice_get self.old (length self.old - 1) ≡ Some (whole it) → self.new ≡ set self.old (length self.old - 1) (whole (token_alone it)) }
+        ensures alone { (it : Token) → slice_get self.old (length self.old - 1) ≡ Some (whole it) → self.new ≡ set self.old (length self.old - 1) (whole (token_alone it)) }
+        ensures none { NoWholeAt self.old (length self.old - 1) → self.new ≡ self.old }
     {
         let Some(last) = self.tokens.len().checked_sub(1) else {
             return;

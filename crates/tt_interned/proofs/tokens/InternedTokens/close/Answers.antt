@@ -3,7 +3,8 @@ use Rattle.tt_base.specs.Span.{part_of}
 use Rattle.tt_codec.specs.declared.entry.HeaderEntry.{HeaderEntry}
 use Rattle.tt_interned.specs.Held.{opened}
 use Rattle.tt_interned.specs.OneList.{held_is}
-use Rattle.tt_interned.proofs.Growing.{IsPlaced, IsUsed, IsOpenAt, seen, same_held, part_room, open_at, not_open_at, closed_held, past_end, token_there}
+use Rattle.tt_interned.proofs.Growing.{IsPlaced, IsUsed, seen, same_held, part_room, closed_held}
+use Rattle.tt_interned.proofs.Standing.{IsOpenAt, open_at, not_open_at, past_end, token_there}
 use Rattle.tt_interner.specs.Interner.{entries_of}
 use Rattle.tt_tables.specs.Uses.{same_part}
 use Rattle.tt_interned.proofs.tokens.InternedTokens.close.Goals as goal
@@ -23,6 +24,7 @@ returns-in_default c = record {
       let (k, (numbers, is_open)) = not_open_at _ _ _ _ c.args.place _ kind open_span is token at in
       absurd (c.in_default.not-Open k numbers is_open);
   err = tt;
+  none = λ lacking. refl;
 }
 
 pub returns-in_err-closing-clause-err : goal.returns-in_err-closing-clause-err
@@ -66,3 +68,11 @@ returns-clause-ok c = λ kind open_span at.
     let spans : there.open_span ≡ open_span = cc both in
     let next = closed_held _ _ _ _ _ _ _ c.args.place there.kind there.open_span c.args.close_span.now c.args.len entry is there.there used closing there.named refl refl in
     rw (sym kinds, sym spans) (search (rules, held_is, next))
+
+pub returns-clause-none : goal.returns-clause-none
+returns-clause-none c = λ lacking.
+    let is = seen _ _ _ c.self.inside.held _ c.self.view_is in
+    let counted : vec_len c.self.inside.tokens ≡ length c.self.inside.tokens.items = search rules in
+    let token = token_there c.self.inside.tokens.items c.args.place _ _ _ counted (omega (arith, c.if-place-len.false, c.len.ensures)) c.index.ensures c.in-Open.is in
+    let there : IsOpenAt (entries_of c.self.inside.parts) (entries_of c.self.inside.symbols) c.args.self.now c.args.place c.in-Open.kind c.in-Open.opening = open_at _ _ _ _ _ _ _ is token in
+    absurd (lacking there.kind there.open_span there.there)

@@ -5,20 +5,21 @@ use Rattle.tt_base.specs.contracts.span.SpanPartEq.TheImpl.Laws as part_eq
 use Rattle.tt_interned.specs.Interned.{AreHeld}
 use Rattle.tt_interned.specs.OneList.{held_is}
 use Rattle.tt_interned.proofs.Changing.{held_removed}
-use Rattle.tt_interned.proofs.Growing.{HeaderThere, seen, past_end, token_there, header_at, header_there}
+use Rattle.tt_interned.proofs.Growing.{seen}
+use Rattle.tt_interned.proofs.Standing.{HeaderThere, closed_at, past_end, token_there, header_at, header_there}
 use Rattle.tt_interned.proofs.Taking.{has_first, has_second, both_gone}
 use Rattle.tt_interner.specs.Interner.{entries_of}
 use Rattle.tt_tables.specs.Uses.{same_part}
 use Rattle.tt_interned.proofs.tokens.InternedTokens.remove_header.Goals as goal
 
-pub returns-then-place-len : goal.returns-then-place-len
-returns-then-place-len c = λ it at.
+pub returns-then-place-len-clause-removed : goal.returns-then-place-len-clause-removed
+returns-then-place-len-clause-removed c = λ it at.
     let is = seen _ _ _ c.self.inside.held _ c.self.view_is in
     let counted : vec_len c.self.inside.tokens ≡ length c.self.inside.tokens.items = search rules in
     absurd (past_end _ _ _ _ c.args.place _ is (omega (arith, c.if-place-len.true, c.len.ensures, counted)) at)
 
-pub returns-in_default : goal.returns-in_default
-returns-in_default c = λ it at.
+pub returns-in_default-clause-removed : goal.returns-in_default-clause-removed
+returns-in_default-clause-removed c = λ it at.
     let is = seen _ _ _ c.self.inside.held _ c.self.view_is in
     let counted : vec_len c.self.inside.tokens ≡ length c.self.inside.tokens.items = search rules in
     let token = token_there c.self.inside.tokens.items c.args.place _ _ _ counted (omega (arith, c.if-place-len.false, c.len.ensures)) c.index.ensures refl in
@@ -55,8 +56,8 @@ invariant_of-self-inside c =
     let removed : c.remove.new.self.items ≡ remove c.self.inside.tokens.items c.args.place = search rules in
     ((_, subst (λ l. AreHeld l (entries_of c.take_at-2.new.self) (entries_of c.self.inside.symbols) (remove c.args.self.now c.args.place)) (sym removed) (held_removed _ _ _ _ _ c.args.place there.it is there.there there.no_symbol (c.take_at-2.ensures.values ∙ c.take_at.ensures.values) fewer)), tt)
 
-pub returns : goal.returns
-returns c = λ it at.
+pub returns-clause-removed : goal.returns-clause-removed
+returns-clause-removed c = λ it at.
     let is = seen _ _ _ c.self.inside.held _ c.self.view_is in
     let counted : vec_len c.self.inside.tokens ≡ length c.self.inside.tokens.items = search rules in
     let token = token_there c.self.inside.tokens.items c.args.place _ _ _ counted (omega (arith, c.if-place-len.false, c.len.ensures)) c.index.ensures c.in-Header.is in
@@ -67,3 +68,11 @@ returns c = λ it at.
     let removed : c.remove.new.self.items ≡ remove c.self.inside.tokens.items c.args.place = search rules in
     let next = subst (λ l. AreHeld l (entries_of c.take_at-2.new.self) (entries_of c.self.inside.symbols) (remove c.args.self.now c.args.place)) (sym removed) (held_removed _ _ _ _ _ c.args.place there.it is there.there there.no_symbol (c.take_at-2.ensures.values ∙ c.take_at.ensures.values) fewer) in
     search (rules, held_is, next)
+
+pub returns-clause-none : goal.returns-clause-none
+returns-clause-none c = λ lacking.
+    let is = seen _ _ _ c.self.inside.held _ c.self.view_is in
+    let counted : vec_len c.self.inside.tokens ≡ length c.self.inside.tokens.items = search rules in
+    let token = token_there c.self.inside.tokens.items c.args.place _ _ _ counted (omega (arith, c.if-place-len.false, c.len.ensures)) c.index.ensures c.in-Header.is in
+    let (it, there) = closed_at _ _ _ _ c.args.place _ is token in
+    absurd (lacking it there)
