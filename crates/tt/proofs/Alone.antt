@@ -1,6 +1,6 @@
 -- The last token of trees becomes alone.
 use Rattle.std.proofs.Common.{◌≡◌, ℕ, suc, ◌+◌, ◌-◌, List, [], ◌∷◌, ◌++◌, Some, length, map, set, slice_get, false, refl, ap, ap₂, sym, ◌∙◌, arith, append-nil, length-append}
-use Rattle.std.proofs.lemmas.List.{length-map}
+use Rattle.std.proofs.lemmas.List.{length-map, set-append_right}
 use Rattle.tt_base.specs.declared.delimiter.Delimiter.{Delimiter}
 use Rattle.tt_base.specs.declared.token_tree.TokenTree.{TokenTree}
 use Rattle.tt_base.specs.declared.token_tree.TokenTree.TheVariants as token
@@ -43,12 +43,9 @@ get_behind (h ∷ held) more i =
 
 -- What is set there.
 set_behind : (held more : List HeldToken) (i : ℕ) (it : HeldToken) → set (held ++ more) (length held + i) it ≡ held ++ set more i it
-set_behind [] more i it =
-    let same : length {A = HeldToken} [] + i ≡ i = omega arith in
-    ap (λ n. set more n it) same
-set_behind (h ∷ held) more i it =
-    let next : length (h ∷ held) + i ≡ suc (length held + i) = omega arith in
-    ap (λ n. set (h ∷ held ++ more) n it) next ∙ ap (λ l. h ∷ l) (set_behind held more i it)
+set_behind held more i it =
+    let place : length held + i - length held ≡ i = omega arith in
+    set-append_right held more (length held) (length held + i) it refl (omega arith) ∙ ap (λ n. held ++ set more n it) place
 
 -- What stands before stays.
 last_behind : (before : List TokenTree) (t : TokenTree) (tokens : List TokenTree) → last_alone (before ++ t ∷ tokens) ≡ before ++ last_alone (t ∷ tokens)

@@ -32,8 +32,8 @@ use tt_base::{Delimiter, DelimiterKind, Leaf, Refused, Span, SpanPart, Symbol, T
 use tt_interned::InternedTokens;
 use tt_view::{TokenTreesView, TopSubtree};
 
-// For how many tokens room is made at first.
-const FEW_TOKENS: usize = 32;
+// For how many tokens room is made at first. They take 1,000 bytes, which allocators still take for a small block.
+const FEW_TOKENS: usize = 25;
 
 /// Builds a token tree by opening and closing subtrees. A contract sees the levels, the mark and the points that stand.
 #[derive(Drop, Debug)]

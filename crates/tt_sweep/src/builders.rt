@@ -88,9 +88,9 @@ const IDENTS: [(&str, u32); 18] = [
     ("r", 28),
 ];
 
-// How many tokens the innermost bracket holds: what the idents leave of them are puncts. With the five headers that makes 32
+// How many tokens the innermost bracket holds: what the idents leave of them are puncts. With the five headers that makes 25
 // tokens, for which a builder makes room at first.
-const INNERMOST: usize = 27;
+const INNERMOST: usize = 20;
 
 // Names that the builder does not have.
 const NEW_NAMES: [&str; 10] = ["A", "B", "C", "D", "E", "F", "G", "H", "I", "J"];
@@ -99,7 +99,7 @@ const NEW_NAMES: [&str; 10] = ["A", "B", "C", "D", "E", "F", "G", "H", "I", "J"]
 const TAKEN: u64 = 5;
 
 // A builder of braces over an empty invisible subtree and four open brackets, and in the innermost the idents and the puncts. Of
-// its five restore points the second does not stand. So it has 32 tokens, four open subtrees and four points, and no room for
+// its five restore points the second does not stand. So it has 25 tokens, four open subtrees and four points, and no room for
 // one more of any.
 fn builder(alloc: Global) -> Result<TopSubtreeBuilder, TtFault> {
     let mut builder = TopSubtreeBuilder::new(alloc, braces())?;

@@ -24,7 +24,7 @@ invariant_of-self-inside c =
     let is = rw c.in-Some.is at (keeps _ _ _ _ _ _ c.self.inside.state c.self.inside.open_headers _ c.self.view_is) in
     let there = mark_there _ _ _ _ _ _ c.in-Some.place is in
     let m = marked_token_at _ c.tokens.result.now c.self.inside.held c.self.inside.headers.items c.in-Some.place _ is.opens there c.tokens.ensures in
-    let next = removed_marked _ _ _ _ _ _ _ _ is m c.remove_header.new.self (sym c.is_invisible.ensures ∙ c.if-is_invisible.true) c.remove_header.ensures in
+    let next = removed_marked _ _ _ _ _ _ _ _ is m c.remove_header.new.self (sym c.is_invisible.ensures ∙ c.if-is_invisible.true) c.remove_header.ensures.removed in
     ((removed c.args.self.now, next.state), (next.opens, tt))
 
 pub invariant_of-self-inside-else-is_invisible : goal.invariant_of-self-inside-else-is_invisible
@@ -40,7 +40,7 @@ returns-then-is_invisible c =
     let is = rw c.in-Some.is at (keeps _ _ _ _ _ _ c.self.inside.state c.self.inside.open_headers _ c.self.view_is) in
     let there = mark_there _ _ _ _ _ _ c.in-Some.place is in
     let m = marked_token_at _ c.tokens.result.now c.self.inside.held c.self.inside.headers.items c.in-Some.place _ is.opens there c.tokens.ensures in
-    let next = removed_marked _ _ _ _ _ _ _ _ is m c.remove_header.new.self (sym c.is_invisible.ensures ∙ c.if-is_invisible.true) c.remove_header.ensures in
+    let next = removed_marked _ _ _ _ _ _ _ _ is m c.remove_header.new.self (sym c.is_invisible.ensures ∙ c.if-is_invisible.true) c.remove_header.ensures.removed in
     let state = next.state in
     search (rules, state_is, state)
 

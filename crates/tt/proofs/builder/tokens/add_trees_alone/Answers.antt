@@ -11,4 +11,4 @@ returns-then-not-is_empty c =
     let trees = trees_of c.args.trees in
     let some : is_end trees ≡ false = search rules in
     let added : c.add_trees.new.held ≡ c.args.held.now ++ map whole (flat trees) = search rules in
-    added_alone c.args.held.now c.add_trees.new.held _ trees some added c.set_last_alone.ensures
+    added_alone c.args.held.now c.add_trees.new.held _ trees some added c.set_last_alone.ensures.alone
