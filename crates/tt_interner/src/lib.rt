@@ -14,8 +14,10 @@ use indexmap::IndexMap;
 use std::alloc::{AllocError, Global};
 use std::hash::Hash;
 
-// For how many values room is made with the first.
+// For how many values room is made with the first; where there are more, room is made for many.
 const FEW_VALUES: usize = 18;
+
+const MANY_VALUES: usize = 288;
 
 // Whether the value stands at the index.
 #[inline(always)]
@@ -43,14 +45,16 @@ fn len_to_last_used(numbers: &[usize]) -> usize
     0
 }
 
-// Makes room for a few values, where there are none.
-fn reserve_few<T: Eq + Hash>(entries: &mut IndexMap<T, usize>) -> Result<(), AllocError>
+// Makes room for few values or for many, where one comes for which there may be none. A map that grows by itself doubles, and
+// puts all its entries into the new room each time.
+fn reserve_more<T: Eq + Hash>(entries: &mut IndexMap<T, usize>) -> Result<(), AllocError>
     ensures { entries.new.entries ≡ entries.old.entries }
 {
-    if entries.is_empty() {
-        return entries.reserve(FEW_VALUES);
+    match entries.len() {
+        0 => entries.reserve(FEW_VALUES),
+        FEW_VALUES => entries.reserve(MANY_VALUES - FEW_VALUES),
+        _ => Ok(()),
     }
-    Ok(())
 }
 
 // The index of a value. One that is new goes behind the others, with no uses. It is sought and inserted at once, so that its
@@ -67,7 +71,7 @@ fn insert<T: Eq + Hash + Clone + Drop>(
     ensures index { IfOk result (λ index. slice_get (keys_of entries.new.entries) index ≡ Some value.now) }
     ensures distinct { OnOk result (IsDistinct T.eq (keys_of entries.new.entries)) }
 {
-    reserve_few(entries)?;
+    reserve_more(entries)?;
     let (index, uses) = entries.insert_full(value.clone()?, 0)?;
     if let Some(uses) = uses {
         entries[index] = uses;

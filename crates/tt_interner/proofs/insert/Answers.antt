@@ -13,10 +13,10 @@ returns-in-Some-clause-ok g c =
     let before = c.args.entries.now.entries in
     let value = c.args.value.now in
     let key : c.in_ok-clone.field-0 ≡ value = c.requires.copies _ _ (search rules) in
-    let stays = c.reserve_few.ensures in
+    let stays = c.reserve_more.ensures in
     let inserted : c.insert_full.new.self.entries ≡ insert_entry same before value 0 = c.in_ok-index.ensures.entries ∙ ap₂ (λ es k. insert_entry same es k 0) stays key in
     let found_at : c.in_ok-index.index ≡ index_in (same value) (keys_of before) =
-    c.in_ok-index.ensures.index ∙ same_index (same c.in_ok-clone.field-0) (keys_of c.reserve_few.new.entries.entries) ∙ ap₂ (λ k es. index_in (same k) (keys_of es)) key stays in
+    c.in_ok-index.ensures.index ∙ same_index (same c.in_ok-clone.field-0) (keys_of c.reserve_more.new.entries.entries) ∙ ap₂ (λ k es. index_in (same k) (keys_of es)) key stays in
     let found : c.in_ok-index.uses ≡ lookup (same value) before = c.in_ok-index.ensures.old ∙ ap₂ (λ k es. lookup (same k) es) key stays in
     ap₂ (λ entries i. set_value_at entries i c.in-Some.uses) inserted found_at ∙ put_back same before value c.in-Some.uses (sym found ∙ c.in-Some.is)
 
@@ -26,9 +26,9 @@ returns-in-Some-clause-index g c =
     let before = c.args.entries.now.entries in
     let value = c.args.value.now in
     let key : c.in_ok-clone.field-0 ≡ value = c.requires.copies _ _ (search rules) in
-    let stays = c.reserve_few.ensures in
+    let stays = c.reserve_more.ensures in
     let found_at : c.in_ok-index.index ≡ index_in (same value) (keys_of before) =
-    c.in_ok-index.ensures.index ∙ same_index (same c.in_ok-clone.field-0) (keys_of c.reserve_few.new.entries.entries) ∙ ap₂ (λ k es. index_in (same k) (keys_of es)) key stays in
+    c.in_ok-index.ensures.index ∙ same_index (same c.in_ok-clone.field-0) (keys_of c.reserve_more.new.entries.entries) ∙ ap₂ (λ k es. index_in (same k) (keys_of es)) key stays in
     ap₂ (λ entries i. slice_get (keys_of entries) i) (returns-in-Some-clause-ok g c) found_at ∙ stands_with_entry same c.requires.same before value
 
 pub returns-in-Some-clause-distinct : goal.returns-in-Some-clause-distinct
@@ -40,7 +40,7 @@ returns-in_default-clause-ok g c =
     let before = c.args.entries.now.entries in
     let value = c.args.value.now in
     let key : c.in_ok-clone.field-0 ≡ value = c.requires.copies _ _ (search rules) in
-    let stays = c.reserve_few.ensures in
+    let stays = c.reserve_more.ensures in
     let inserted : c.insert_full.new.self.entries ≡ insert_entry same before value 0 = c.in_ok-index.ensures.entries ∙ ap₂ (λ es k. insert_entry same es k 0) stays key in
     let found : c.in_ok-index.uses ≡ lookup (same value) before = c.in_ok-index.ensures.old ∙ ap₂ (λ k es. lookup (same k) es) key stays in
     inserted ∙ put_new same before value (sym found ∙ c.in_default.is)
@@ -51,7 +51,7 @@ returns-in_default-clause-index g c =
     let before = c.args.entries.now.entries in
     let value = c.args.value.now in
     let key : c.in_ok-clone.field-0 ≡ value = c.requires.copies _ _ (search rules) in
-    let stays = c.reserve_few.ensures in
+    let stays = c.reserve_more.ensures in
     let found_at : c.in_ok-index.index ≡ index_in (same value) (keys_of before) =
-    c.in_ok-index.ensures.index ∙ same_index (same c.in_ok-clone.field-0) (keys_of c.reserve_few.new.entries.entries) ∙ ap₂ (λ k es. index_in (same k) (keys_of es)) key stays in
+    c.in_ok-index.ensures.index ∙ same_index (same c.in_ok-clone.field-0) (keys_of c.reserve_more.new.entries.entries) ∙ ap₂ (λ k es. index_in (same k) (keys_of es)) key stays in
     ap₂ (λ entries i. slice_get (keys_of entries) i) (returns-in_default-clause-ok g c) found_at ∙ stands_with_entry same c.requires.same before value
