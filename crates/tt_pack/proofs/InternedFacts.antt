@@ -3,7 +3,7 @@ use Rattle.std.proofs.Common.{◌≡◌, ℕ, zero, suc, ◌<◌, ◌≤◌, Som
 use Rattle.std.proofs.lemmas.List.{length-map}
 use Rattle.std.proofs.lemmas.Option.{slice_get-map, get_or_from_slice_get}
 use Rattle.std.specs.Option.{option_map}
-use Rattle.std.specs.List.{AllZip}
+use Rattle.std.specs.List.{AllZip, range_with_len}
 use Rattle.tt_base.specs.contracts.span.SpanPartEq.TheImpl.Laws as part_eq
 use Rattle.tt_base.specs.contracts.symbol.SymbolEq.TheImpl.Laws as symbol_eq
 use Rattle.tt_base.specs.declared.span.SpanPart.{SpanPart}
@@ -14,11 +14,13 @@ use Rattle.tt_tables.specs.Stored.{most_parts, most_symbols}
 use Rattle.tt_tables.specs.TableOrder.{different, uses_of, IsIn, IsTable}
 use Rattle.tt_tables.specs.Tables.{tables_from, short_parts, short_symbols, part_table, symbol_table}
 use Rattle.tt_tables.specs.Uses.{same_part, part_uses, symbol_uses}
-use Rattle.tt_tables.proofs.TokenTables.{part_sound, part_table_is, text_sound, symbol_table_only}
+use Rattle.tt_tables.proofs.TokenTables.{part_sound, part_table_is, part_table_only, text_sound, symbol_table_only}
 use Rattle.tt_pack.specs.declared.table.Table.{Table}
 use Rattle.tt_pack.specs.Counted.{new_index, LeadsTo}
+use Rattle.tt_pack.specs.Leading.{LeadsByPlace}
 use Rattle.tt_pack.specs.Places.{part_places, AreRanked, IsAt}
 use Rattle.tt_pack.specs.TablesOf.{StandsAt, HasNewIndexAt}
+use Rattle.tt_pack.proofs.InOrder.{all_in_order}
 use Rattle.tt_pack.proofs.Paired.{length-paired}
 use Rattle.tt_pack.proofs.PlacesNamed.{values_alike, places_within, mapped_at, member_at_place, different_at, places_named, partner_at}
 use Rattle.tt_pack.proofs.TableFacts.{index_in-distinct, length-table_of, new_index_noted}
@@ -126,3 +128,23 @@ module _ (tokens : List InternedToken) (parts : List SpanPart) (part_numbers : L
         get_or_from_slice_get part_indices place (new_index new_indices j) place noted
         ∙ new_index_noted same_part part_sound part_eq.lawful.laws short_parts (part_uses list) used table new_indices j x is_table (omega (arith, as_long, few))
         (λ index l. leads index (omega (arith, as_long, l))) (λ wide. stands)
+
+  -- Where the parts stand by first use as they are, they are those that are used.
+  module _ (in_order : different nat_eq (part_places tokens) ≡ range_with_len 0 (length parts)) where
+    pub used_in_order : parts ≡ different same_part (part_uses list)
+    used_in_order = parts_found (range_with_len 0 (length parts)) (sym in_order) parts (all_in_order [] parts)
+
+    -- Their table is made of them.
+    module _ (table : Table SpanPart)
+        (is : (uses : List SpanPart) → parts ≡ different same_part uses → part_numbers ≡ map (uses_of same_part uses) parts → IsTable same_part short_parts uses table.values.items) where
+      parts_are : IsTable same_part short_parts (part_uses list) table.values.items
+      parts_are = is (part_uses list) used_in_order are.parts_counted
+
+      pub parts_made : table.values.items ≡ part_table list
+      parts_made = part_table_only list table.values.items parts_are
+
+      -- Their new indices lead there.
+      pub parts_lead_on : length parts ≤ most_parts → ((index : ℕ) → index < length parts → LeadsTo parts table.values.items table.new_indices.items index)
+          → LeadsByPlace parts table.values.items table.new_indices.items
+      parts_lead_on few leads place x here known =
+          new_index_noted same_part part_sound part_eq.lawful.laws short_parts (part_uses list) parts table.values.items table.new_indices.items place x parts_are (omega (arith, few)) leads (λ wide. here)

@@ -1,6 +1,7 @@
 pub mod Copies
 pub mod Counting
 pub mod Decoded
+pub mod InOrder
 pub mod InternedFacts
 pub mod Joined
 pub mod Kept

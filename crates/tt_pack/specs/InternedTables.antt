@@ -1,6 +1,5 @@
 -- What the tables of tokens in numbers say: where a value went that is named by its place, and a token in the new numbers.
-use Rattle.std.specs.Prelude.{◌≡◌, ℕ, List, length, bytes_eq}
-use Rattle.tt_base.specs.declared.span.SpanPart.{SpanPart}
+use Rattle.std.specs.Prelude.{◌≡◌, ℕ, List, bytes_eq}
 use Rattle.tt_codec.specs.declared.entry.Entry.{Entry}
 use Rattle.tt_codec.specs.declared.entry.Entry.TheVariants.{Leaf as of_leaf, Header as of_header}
 use Rattle.tt_codec.specs.declared.entry.HeaderEntry.{HeaderEntry}
@@ -10,23 +9,19 @@ use Rattle.tt_codec.specs.declared.span.SpanNumbers.{SpanNumbers}
 use Rattle.tt_interned.specs.declared.counted.CountedTokens.{CountedTokens}
 use Rattle.tt_interned.specs.declared.token.InternedToken.{InternedToken}
 use Rattle.tt_interned.specs.declared.token.InternedToken.TheVariants as interned
-use Rattle.tt_tables.specs.TableOrder.{IsIn}
 use Rattle.tt_tables.specs.Tables.{Tables, tables_from}
-use Rattle.tt_tables.specs.Uses.{same_part}
 use Rattle.tt_pack.specs.declared.interned.InternedTables.{InternedTables}
 use Rattle.tt_pack.specs.Counted.{new_index}
-use Rattle.tt_pack.specs.Places.{IsAt}
+use Rattle.tt_pack.specs.Leading.{LeadsByPlace}
 use Rattle.tt_pack.specs.TablesOf.{StandsAt, HasNewIndexAt}
 
 -- the parts and the symbols
 abbrev pub tables_in : InternedTables → Tables
 tables_in tables = tables_from tables.parts.items tables.symbols.values.items
 
--- the new indices at the places of parts and symbols are the ones that these have in the tables, where the tables have them
+-- the new indices at the places of parts and symbols lead to where they stand in the tables
 pub record LeadsFrom (below : CountedTokens) (tables : InternedTables) : Type 0 where
-  pub places : length tables.part_indices.items ≡ length below.parts.now
-  pub parts : (place : ℕ) (x : SpanPart) → IsAt below.parts.now place x → IsIn same_part tables.parts.items x
-      → HasNewIndexAt same_part tables.parts.items tables.part_indices.items place x
+  pub parts : LeadsByPlace below.parts.now tables.parts.items tables.part_indices.items
   pub symbols : (place : ℕ) (x : List ℕ) → StandsAt below.symbols.now place x → HasNewIndexAt bytes_eq tables.symbols.values.items tables.symbols.new_indices.items place x
 
 -- no header is open

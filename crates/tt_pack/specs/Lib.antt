@@ -2,6 +2,7 @@
 pub mod Counted
 pub mod Few
 pub mod InternedTables
+pub mod Leading
 pub mod Known
 pub mod OneNode
 pub mod Packed

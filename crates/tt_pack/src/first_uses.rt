@@ -1,6 +1,7 @@
 //! The parts that tokens in numbers use, by their places, in the order of first use.
-ghost use Rattle.std.specs.Prelude.{◌≡◌, ◌<◌, ◌≤◌, ◌^◌, ◌+◌, [], true, All, nat_eq, nat_lt, fold, length, count_by, IfOk, OnOk};
-ghost use Rattle.std.specs.List.{list_any};
+ghost use Rattle.std.specs.Prelude.{◌≡◌, ◌<◌, ◌≤◌, ◌^◌, ◌+◌, [], true, All, nat_eq, nat_lt, fold, length, count_by, IfOk, IfSome, OnOk};
+ghost use Rattle.std.specs.Bool.{OnTrue};
+ghost use Rattle.std.specs.List.{list_any, range_with_len};
 ghost use Rattle.tt_tables.specs.TableOrder.{different};
 ghost use Rattle.tt_pack.specs.Counted.{note_value};
 ghost use Rattle.tt_pack.specs.Places.{leaf_place, token_places, part_places, IsWithin, AreRanked};
@@ -41,6 +42,56 @@ fn leaf_place(entry: &LeafEntry) -> u32
         LeafEntry::Ident(_, _, numbers) => numbers.part,
         LeafEntry::Literal(_, _, _, numbers) => numbers.part,
     }
+}
+
+// How many of the first places have been met, with the next use of a place; none where it is met out of turn.
+#[inline(always)]
+fn met_with(met: usize, place: u32) -> Option<usize>
+    ensures { IfSome result (λ more. note_value nat_eq (range_with_len 0 met) place ≡ range_with_len 0 more) }
+{
+    let place = place as usize;
+    if place < met {
+        return Some(met);
+    }
+    if place > met {
+        return None;
+    }
+    Some(place + 1)
+}
+
+// The same with what the next token uses.
+#[inline(always)]
+fn met_with_token(met: usize, token: &InternedToken) -> Option<usize>
+    ensures { IfSome result (λ more. fold (note_value nat_eq) (range_with_len 0 met) (token_places token.now) ≡ range_with_len 0 more) }
+{
+    match token {
+        InternedToken::Leaf(entry) => met_with(met, leaf_place(entry)),
+        InternedToken::Open(_, opening) => met_with(met, opening.part),
+        InternedToken::Header(entry) => {
+            let met = met_with(met, entry.opening.part)?;
+            met_with(met, entry.closing.part)
+        }
+    }
+}
+
+/// Whether the parts that the tokens use stand by first use as they are: the first at the place 0, the second at 1, and so on.
+/// It is seen once all of them have been met, of which there are so many.
+#[inline(never)]
+pub(crate) fn stand_by_first_use(tokens: &[InternedToken], used: usize) -> bool
+    requires { used ≡ length (different nat_eq (part_places tokens.now)) }
+    ensures { OnTrue result (different nat_eq (part_places tokens.now) ≡ range_with_len 0 used) }
+{
+    let mut met = 0;
+    for token in tokens {
+        if met == used {
+            return true;
+        }
+        let Some(more) = met_with_token(met, token) else {
+            return false;
+        };
+        met = more;
+    }
+    met == used
 }
 
 impl FirstUses {

@@ -8,10 +8,11 @@ ghost use Rattle.tt_tables.specs.TableOrder.{different};
 ghost use Rattle.tt_tables.specs.Tables.{part_table, symbol_table};
 ghost use Rattle.tt_tables.specs.Uses.{same_part, part_uses};
 ghost use Rattle.tt_pack.specs.Counted.{new_index, LeadsTo};
+ghost use Rattle.tt_pack.specs.Leading.{LeadsByPlace};
 ghost use Rattle.tt_pack.specs.Packed.{HasFewParts, HasFewSymbols, IsTableFault};
-ghost use Rattle.tt_pack.specs.Places.{part_places, IsAt, IsWithin};
+ghost use Rattle.tt_pack.specs.Places.{part_places, IsAt};
 
-use crate::first_uses::{FirstUses, count_used};
+use crate::first_uses::{FirstUses, count_used, stand_by_first_use};
 use crate::table::Table;
 use crate::tables::new_index_at;
 use crate::uses::{MOST_PARTS_BELOW, SHORT_PARTS, SHORT_SYMBOLS, TOP_PARTS};
@@ -24,7 +25,7 @@ use tt_interned::{CountedTokens, InternedToken};
 #[derive(Drop)]
 pub(crate) struct InternedTables {
     pub(crate) parts: Vec<SpanPart>,
-    /// By place: the index of the part. Of a part that is not used it says nothing.
+    /// By place: the index of the part. Of a part that is not used it says nothing. There are none where each has stayed.
     part_indices: Vec<u32>,
     pub(crate) symbols: Table<Symbol>,
     pub ghost few_parts: { length parts.items + 2 ≤ most_parts },
@@ -80,8 +81,30 @@ fn renumbered(indices: Vec<u32>, new_indices: &[u32]) -> Vec<u32>
     indices
 }
 
+// The table of the parts that the tokens use, of which there are so many, and by place the index of each in it. Mostly they
+// stand by first use as they are, and then their order is not sought.
+fn parts_by_place(
+    alloc: Global,
+    below: CountedTokens<'_>,
+    used: usize,
+) -> Result<Table<SpanPart>, AllocError>
+    requires used { used ≡ length (different nat_eq (part_places below.tokens.now)) }
+    requires few { used + 2 ≤ most_parts }
+    ensures values { IfOk result (λ table. table.values.items ≡ part_table (list_of below.entry)) }
+    ensures new_indices { IfOk result (λ table. LeadsByPlace below.entry.parts.now table.values.items table.new_indices.items) }
+{
+    if used <= SHORT_PARTS && used == below.parts.len() && stand_by_first_use(below.tokens, used) {
+        return Table::of_counts(alloc, below.parts, below.part_uses, SHORT_PARTS, TOP_PARTS);
+    }
+    let uses = FirstUses::of_tokens(alloc, below.tokens, below.parts.len(), used)?;
+    let table = part_table(alloc, below, &uses.order)?;
+    Ok(Table {
+        new_indices: renumbered(uses.ranks, &table.new_indices),
+        values: table.values,
+    })
+}
+
 impl InternedTables {
-    ghost use Rattle.tt_interned.specs.declared.token.InternedToken.TheVariants as interned;
     ghost use Rattle.tt_pack.specs.InternedTables.{LeadsFrom, IsClosed, IsRenumbered, new_span, new_leaf, new_header};
 
     /// The tables of the tokens, where their indices can be written and the parts leave room for the top's two
@@ -103,11 +126,10 @@ impl InternedTables {
         if below.symbols.len() > MOST_SYMBOLS {
             return Err(TtFault::TooManySymbols);
         }
-        let uses = FirstUses::of_tokens(alloc, below.tokens, below.parts.len(), used)?;
-        let parts = part_table(alloc, below, &uses.order)?;
+        let parts = parts_by_place(alloc, below, used)?;
         let symbols = Table::of_counts(alloc, below.symbols, below.symbol_uses, SHORT_SYMBOLS, 0)?;
         Ok(InternedTables {
-            part_indices: renumbered(uses.ranks, &parts.new_indices),
+            part_indices: parts.new_indices,
             parts: parts.values,
             symbols,
         })
@@ -116,11 +138,10 @@ impl InternedTables {
     // The numbers of a span, with the new index of its part.
     #[inline(always)]
     fn span(&self, numbers: SpanNumbers) -> SpanNumbers
-        requires { numbers.part < length self.now.part_indices.items }
         ensures { result ≡ new_span self.now.part_indices.items numbers }
     {
         SpanNumbers {
-            part: self.part_indices[numbers.part as usize],
+            part: new_index_at(&self.part_indices, numbers.part),
             start: numbers.start,
             length: numbers.length,
         }
@@ -129,7 +150,6 @@ impl InternedTables {
     // A leaf with the new indices.
     #[inline(always)]
     fn leaf(&self, entry: LeafEntry) -> LeafEntry
-        requires { IsWithin (length self.now.part_indices.items) (interned.Leaf entry) }
         ensures { result ≡ new_leaf self.now.part_indices.items self.now.symbols.new_indices.items entry }
     {
         match entry {
@@ -150,7 +170,6 @@ impl InternedTables {
     // A header with the new indices, where what it holds takes so many bytes.
     #[inline(always)]
     fn header(&self, entry: HeaderEntry, child_bytes: u32) -> HeaderEntry
-        requires { IsWithin (length self.now.part_indices.items) (interned.Header entry) }
         ensures { result ≡ new_header self.now.part_indices.items entry child_bytes }
     {
         HeaderEntry {
@@ -166,8 +185,7 @@ impl InternedTables {
     /// asked once until its bytes are written.
     #[inline(always)]
     pub(crate) fn entry(&self, token: &InternedToken, child_bytes: u32) -> Entry
-        requires within { IsWithin (length self.now.part_indices.items) token.now }
-        requires closed { IsClosed token.now }
+        requires { IsClosed token.now }
         ensures { IsRenumbered self.now.part_indices.items self.now.symbols.new_indices.items token.now child_bytes result }
     {
         match token {

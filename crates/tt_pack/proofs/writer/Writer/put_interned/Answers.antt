@@ -1,4 +1,4 @@
-use Rattle.std.proofs.Common.{◌+◌, ◌<◌, ◌≤◌, ◌^◌, drop, length, get_or, sym, subst, ◌∙◌, arith, rules}
+use Rattle.std.proofs.Common.{◌+◌, ◌<◌, ◌≤◌, ◌^◌, drop, length, get_or, ◌∙◌, arith, rules}
 use Rattle.std.proofs.lemmas.List.{length-drop}
 use Rattle.tt_base.specs.declared.punct.Spacing.TheVariants.{Alone}
 use Rattle.tt_codec.specs.declared.entry.LeafEntry.TheVariants.{Punct as punct}
@@ -8,9 +8,8 @@ use Rattle.tt_interned.specs.ListOf.{list_of}
 use Rattle.tt_pack.specs.InternedTables.{tables_in}
 use Rattle.tt_tables.specs.Searches.{IsNamed}
 use Rattle.tt_tables.specs.Tables.{Tables, tables_from}
-use Rattle.tt_pack.specs.Places.{IsWithin}
 use Rattle.tt_pack.proofs.Joined.{on_ok, if_err}
-use Rattle.tt_pack.proofs.PlacesNamed.{as_many_named, token_within}
+use Rattle.tt_pack.proofs.PlacesNamed.{as_many_named}
 use Rattle.tt_pack.proofs.Renumbered.{meant_at, named_closed, numbers_hold_at, token_renumbered, most_is_header}
 use Rattle.tt_pack.proofs.Writing.{one_put, put_fault}
 use Rattle.tt_pack.proofs.writer.Writer.put_interned.Goals as goal
@@ -36,19 +35,8 @@ held_by-child_bytes-requires c =
     let holds = numbers_hold_at old new list index it meant c.args.self.now.sums.items is.named c.requires.index c.requires.whole is.read c.requires.written.sums in
     holds.0
 
-pub entry-entry-requires-clause-within : goal.entry-entry-requires-clause-within
-entry-entry-requires-clause-within c =
-    let below = c.args.below in
-    let list = list_of below in
-    let index = c.args.index in
-    let old : Tables = tables_from below.parts.now below.symbols.now in
-    let new : Tables = tables_in c.args.tables.now in
-    let it : InternedToken = get_or below.tokens.now index nothing in
-    let (meant, is) = meant_at old new below.tokens.now list index nothing below.list.1.named c.requires.index c.requires.known c.requires.whole in
-    subst (λ n. IsWithin n it) (sym c.requires.leads.places) (token_within old it meant is.named)
-
-pub entry-entry-requires-clause-closed : goal.entry-entry-requires-clause-closed
-entry-entry-requires-clause-closed c =
+pub entry-entry-requires : goal.entry-entry-requires
+entry-entry-requires c =
     let below = c.args.below in
     let list = list_of below in
     let index = c.args.index in
