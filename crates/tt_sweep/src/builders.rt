@@ -138,21 +138,21 @@ fn push_leaves(builder: &mut TopSubtreeBuilder, leaves: Vec<Leaf>) -> Result<(),
     Ok(())
 }
 
-// The idents and the puncts.
+// The puncts and the idents. The last ident brings the last value, so nothing is sought behind it.
 fn first_leaves(alloc: Global) -> Result<Vec<Leaf>, TtFault> {
-    let mut leaves = Vec::new(alloc);
+    let mut leaves = first_puncts(alloc)?;
     for (name, id) in IDENTS.iter() {
         leaves.push(ident(alloc, name, *id)?)?;
     }
-    add_puncts(&mut leaves)?;
     Ok(leaves)
 }
 
-fn add_puncts(leaves: &mut Vec<Leaf>) -> Result<(), TtFault> {
-    for _ in leaves.len()..INNERMOST {
+fn first_puncts(alloc: Global) -> Result<Vec<Leaf>, TtFault> {
+    let mut leaves = Vec::new(alloc);
+    for _ in IDENTS.len()..INNERMOST {
         leaves.push(plus(OPEN_ID))?;
     }
-    Ok(())
+    Ok(leaves)
 }
 
 // The same as tokens.
