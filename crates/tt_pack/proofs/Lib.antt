@@ -1,10 +1,13 @@
 pub mod Copies
+pub mod CountedValues
 pub mod Counting
 pub mod Decoded
+pub mod FewMeeting
 pub mod InOrder
 pub mod InternedFacts
 pub mod Joined
-pub mod Kept
+pub mod ListTables
+pub mod Meeting
 pub mod MostBytes
 pub mod Moves
 pub mod Noting
@@ -19,7 +22,6 @@ pub mod SameStored
 pub mod Sorted
 pub mod Storing
 pub mod TableFacts
-pub mod Tally
 pub mod UsedParts
 pub mod UsesGrow
 pub mod Writing

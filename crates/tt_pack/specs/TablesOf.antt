@@ -1,19 +1,19 @@
 -- What tables in the code stand for.
-use Rattle.std.specs.Prelude.{◌≡◌, ℕ, ◌≤◌, ◌^◌, Bool, Some, List, map, slice_get, length, bytes_eq}
+use Rattle.std.specs.Prelude.{◌≡◌, ℕ, ◌≤◌, ◌^◌, Bool, Some, List, slice_get, length, bytes_eq}
 use Rattle.tt_base.specs.declared.span.SpanPart.{SpanPart}
 use Rattle.tt_base.specs.declared.token_tree.TokenTree.{TokenTree}
 use Rattle.tt_base.specs.Literal.{symbol_of, span_of}
 use Rattle.tt_base.specs.Span.{part_of}
-use Rattle.tt_tables.specs.TableOrder.{index_in, different, uses_of}
+use Rattle.tt_tables.specs.TableOrder.{index_in, different, IsTable}
 use Rattle.tt_pack.specs.declared.uses.TokenUses.{TokenUses}
 use Rattle.tt_pack.specs.declared.table.Table.{Table}
-use Rattle.tt_pack.specs.declared.uses.Uses.{Uses}
 use Rattle.tt_pack.specs.Packed.{HasFewParts, HasFewSymbols}
+use Rattle.tt_pack.specs.Room.{HasRoomForAll}
 use Rattle.std.specs.List.{AllZip}
-use Rattle.tt_tables.specs.Tables.{Tables, tables_from, part_table, symbol_table}
+use Rattle.tt_tables.specs.Tables.{Tables, tables_from, part_table, symbol_table, short_parts, short_symbols}
 use Rattle.tt_tables.specs.Uses.{same_part, part_uses, symbol_uses}
 use Rattle.tt_base.specs.Forest.{IsWhole}
-use Rattle.tt_pack.specs.Counted.{counted, new_index}
+use Rattle.tt_pack.specs.Counted.{new_index}
 use Rattle.tt_pack.specs.declared.tables.ListTables.{ListTables}
 use Rattle.tt_base.specs.declared.leaf.Leaf.TheVariants as leaf
 use Rattle.tt_base.specs.declared.token_tree.TokenTree.TheVariants as token
@@ -34,28 +34,17 @@ module _ (IsPart : ℕ → SpanPart → Type 0) (IsSymbol : ℕ → List ℕ →
   AreUses (token.Leaf (leaf.Ident it)) uses = IsPart uses.part (part_of it.span) × IsSymbol uses.other it.sym
   AreUses (token.Subtree it) uses = IsPart uses.part (part_of it.delimiter.open_span) × IsPart uses.other (part_of it.delimiter.close)
 
--- the tokens are a whole list, and what they use is counted
-pub record IsCountOf (uses : Uses) (tokens : List TokenTree) : Type 0 where
-  pub whole : IsWhole tokens
-  pub parts : uses.parts.entries ≡ counted same_part (part_uses tokens)
-  pub symbols : uses.symbols.entries ≡ counted bytes_eq (symbol_uses tokens)
+-- the values are the table of these uses, and it is told where each of the different ones went
+pub record IsTableFor {X : Type 0} (same : X → X → Bool) (short : ℕ) (uses : List X) (table : Table X) : Type 0 where
+  pub is : IsTable same short uses table.values.items
+  pub leads : (i : ℕ) (x : X) → StandsAt (different same uses) i x → HasNewIndexAt same table.values.items table.new_indices.items i x
 
--- the tokens are a whole list; these are their parts and their symbols by first use, each with its number of uses
-pub record IsTallyOf (parts : List SpanPart) (part_numbers : List ℕ) (symbols : List (List ℕ)) (symbol_numbers : List ℕ) (tokens : List TokenTree) : Type 0 where
-  pub whole : IsWhole tokens
-  pub all_parts : parts ≡ different same_part (part_uses tokens)
-  pub part_uses_are : part_numbers ≡ map (uses_of same_part (part_uses tokens)) parts
-  pub all_symbols : symbols ≡ different bytes_eq (symbol_uses tokens)
-  pub symbol_uses_are : symbol_numbers ≡ map (uses_of bytes_eq (symbol_uses tokens)) symbols
-
--- the two tables of the tokens, which have these parts and symbols: they can be written, and tell where what is used went
-pub record AreTables (part_list : List SpanPart) (symbol_list : List (List ℕ)) (tokens : List TokenTree) (parts : Table SpanPart) (symbols : Table (List ℕ)) : Type 0 where
-  pub all_parts : parts.values.items ≡ part_table tokens
+-- the two tables of the tokens, which can be written
+pub record AreTables (tokens : List TokenTree) (parts : Table SpanPart) (symbols : Table (List ℕ)) : Type 0 where
+  pub all_parts : IsTableFor same_part short_parts (part_uses tokens) parts
   pub few_parts : HasFewParts tokens
-  pub new_parts : (i : ℕ) (x : SpanPart) → StandsAt part_list i x → HasNewIndexAt same_part parts.values.items parts.new_indices.items i x
-  pub all_symbols : symbols.values.items ≡ symbol_table tokens
+  pub all_symbols : IsTableFor bytes_eq short_symbols (symbol_uses tokens) symbols
   pub few_symbols : HasFewSymbols tokens
-  pub new_symbols : (i : ℕ) (x : List ℕ) → StandsAt symbol_list i x → HasNewIndexAt bytes_eq symbols.values.items symbols.new_indices.items i x
 
 -- the parts and the symbols
 abbrev pub tables_of : ListTables → Tables
@@ -70,3 +59,13 @@ HasUses tables =
 -- the uses of each of the tokens are kept
 abbrev pub UsesTables : ListTables → List TokenTree → Type 0
 UsesTables tables tokens = AllZip (HasUses tables) tokens tables.uses.items
+
+-- the tables of a whole list of tokens, which can be written, where what each of these uses went, and room for all
+pub record AreListTables (tokens : List TokenTree) (tables : ListTables) : Type 0 where
+  pub whole : IsWhole tokens
+  pub all_parts : tables.parts.values.items ≡ part_table tokens
+  pub few_parts : HasFewParts tokens
+  pub all_symbols : tables.symbols.values.items ≡ symbol_table tokens
+  pub few_symbols : HasFewSymbols tokens
+  pub uses : UsesTables tables tokens
+  pub room : HasRoomForAll tokens tables.room

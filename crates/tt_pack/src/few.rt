@@ -1,33 +1,28 @@
-//! What a list of few tokens uses: its different parts and symbols by first use, which are found by comparing.
-ghost use Rattle.std.specs.Prelude.{◌≡◌, ◌≤◌, [], true, false, fold, length, bytes_eq, slice_get, Some, IfOk, OnOk, IfErr, IfSome, IfNone};
+//! The values of few tokens, which are found by comparing.
+ghost use Rattle.std.specs.Prelude.{◌≡◌, ◌≤◌, [], true, false, length, bytes_eq, slice_get, Some, IfOk, IfSome, IfNone};
 ghost use Rattle.std.specs.Bool.{OnTrue};
 ghost use Rattle.std.specs.List.{list_any};
 ghost use Rattle.tt_base.specs.Span.{part_of};
-ghost use Rattle.tt_tables.specs.Uses.{same_part, token_parts, token_symbols};
+ghost use Rattle.tt_tables.specs.Uses.{same_part};
 ghost use Rattle.tt_pack.specs.Counted.{note_value};
-ghost use Rattle.tt_pack.specs.Few.{AreFew, HasFew};
-ghost use Rattle.tt_pack.specs.Packed.{IsCountFault};
-ghost use Rattle.tt_pack.specs.Room.{HasRoomForAll};
-ghost use Rattle.tt_pack.specs.TablesOf.{StandsAt, AreUses};
+ghost use Rattle.tt_pack.specs.TablesOf.{StandsAt};
 
-use crate::counts::kept_index;
-use crate::room::{MOST_HEADER_BYTES, MOST_IDENT_BYTES, MOST_LITERAL_BYTES, most_punct_bytes};
-use crate::uses::{SHORT_PARTS, TOP_PARTS, TokenUses};
+use crate::counted::kept_index;
+use crate::table::{SHORT_PARTS, TOP_PARTS};
+use crate::values::Values;
 use std::alloc::{AllocError, Global};
-use tt_base::{Leaf, Levels, Span, SpanPart, Subtree, Symbol, TokenTree, TtFault};
+use tt_base::{Span, SpanPart, Symbol};
 
 /// A list of up to so many tokens is seen here first.
 pub(crate) const FEW_TOKENS: usize = 64;
 // So many symbols are found by comparing as fast as by hashing. Up to 63 stand by first use.
 const FEW_SYMBOLS: usize = 24;
 
-/// The different parts and symbols by first use, which of them each token uses, and how many bytes all can take.
+/// Different parts and symbols by first use. There is a place for 15 parts and for 24 symbols.
 #[derive(Drop)]
-pub(crate) struct FewUses {
+pub(crate) struct FewValues {
     pub(crate) parts: Vec<SpanPart>,
     pub(crate) symbols: Vec<Symbol>,
-    pub(crate) tokens: Vec<TokenUses>,
-    pub(crate) room: usize,
 }
 
 // Where a part stands among others, if it does.
@@ -140,162 +135,33 @@ fn note_elsewhere(symbols: &mut Vec<Symbol>, symbol: &Symbol) -> Result<Option<u
     Ok(index)
 }
 
-impl FewUses {
-    ghost use Rattle.tt_base.specs.declared.token_tree.TokenTree.TheVariants as token;
-    ghost use Rattle.tt_base.specs.Levels.{open_levels, TakesToken};
-    ghost use Rattle.tt_pack.specs.Room.{TakesRoom, IsTakeFault};
-
-    // Nothing is used, and there is room for what so many tokens use.
-    fn new(alloc: Global, tokens: usize) -> Result<FewUses, AllocError>
-        ensures parts { IfOk result (λ uses. uses.parts.items ≡ []) }
-        ensures symbols { IfOk result (λ uses. uses.symbols.items ≡ []) }
-        ensures tokens { IfOk result (λ uses. uses.tokens.items ≡ []) }
+impl FewValues {
+    /// No value has been met, and there is room for those of so many tokens.
+    pub(crate) fn new(alloc: Global, tokens: usize) -> Result<FewValues, AllocError>
+        ensures parts { IfOk result (λ values. values.parts.items ≡ []) }
+        ensures symbols { IfOk result (λ values. values.symbols.items ≡ []) }
     {
-        Ok(FewUses {
+        Ok(FewValues {
             parts: Vec::with_capacity(alloc, tokens.min(SHORT_PARTS) + TOP_PARTS)?,
             symbols: Vec::with_capacity(alloc, tokens.min(FEW_SYMBOLS))?,
-            tokens: Vec::with_capacity(alloc, tokens)?,
-            room: 0,
         })
     }
+}
 
-    // What a leaf uses, if there is a place for it, and the most bytes that it can take. Tokens side by side mostly have one
-    // part, so a part is first looked for where that of the token before stands, which is `before`.
+impl Values for FewValues {
+    ghost use Rattle.tt_pack.specs.Few.{HasNoted};
+
+    ghost has_met = { HasNoted };
+
+    ghost may_lack = { Unit {0} };
+
     #[inline(always)]
-    fn note_leaf(&mut self, before: u32, leaf: &Leaf) -> Result<Option<TokenUses>, AllocError>
-        ensures parts { IfOk result (λ found. IfSome found (λ uses. self.new.parts.items ≡ fold (note_value same_part) self.old.parts.items (token_parts (token.Leaf leaf.now)))) }
-        ensures symbols { IfOk result (λ found. IfSome found (λ uses. self.new.symbols.items ≡ fold (note_value bytes_eq) self.old.symbols.items (token_symbols (token.Leaf leaf.now)))) }
-        ensures uses { IfOk result (λ found. IfSome found (AreUses (StandsAt self.new.parts.items) (StandsAt self.new.symbols.items) (token.Leaf leaf.now))) }
-        ensures few_parts { length self.old.parts.items ≤ 15 → length self.new.parts.items ≤ 15 }
-        ensures few_symbols { length self.old.symbols.items ≤ 24 → length self.new.symbols.items ≤ 24 }
-        ensures room { IfOk result (λ found. IfSome found (λ uses. TakesRoom (token.Leaf leaf.now) self.old.room self.new.room)) }
-        ensures tokens { self.new.tokens ≡ self.old.tokens }
-    {
-        match leaf {
-            Leaf::Literal(literal) => {
-                self.room = self.room.saturating_add(MOST_LITERAL_BYTES);
-                let Some(part) = note_part(&mut self.parts, before, literal.span())? else {
-                    return Ok(None);
-                };
-                let Some(other) = note_symbol(&mut self.symbols, literal.symbol())? else {
-                    return Ok(None);
-                };
-                Ok(Some(TokenUses { part, other }))
-            }
-            Leaf::Punct(punct) => {
-                self.room = self.room.saturating_add(most_punct_bytes(punct.char));
-                let Some(part) = note_part(&mut self.parts, before, &punct.span)? else {
-                    return Ok(None);
-                };
-                Ok(Some(TokenUses { part, other: part }))
-            }
-            Leaf::Ident(ident) => {
-                self.room = self.room.saturating_add(MOST_IDENT_BYTES);
-                let Some(part) = note_part(&mut self.parts, before, &ident.span)? else {
-                    return Ok(None);
-                };
-                let Some(other) = note_symbol(&mut self.symbols, &ident.sym)? else {
-                    return Ok(None);
-                };
-                Ok(Some(TokenUses { part, other }))
-            }
-        }
+    fn part_index(&mut self, other: u32, span: &Span) -> Result<Option<u32>, AllocError> {
+        note_part(&mut self.parts, other, span)
     }
 
-    // What a header uses, if there is a place for it, and the most bytes that it can take.
     #[inline(always)]
-    fn note_header(&mut self, before: u32, header: Subtree) -> Result<Option<TokenUses>, AllocError>
-        ensures parts { IfOk result (λ found. IfSome found (λ uses. self.new.parts.items ≡ fold (note_value same_part) self.old.parts.items (token_parts (token.Subtree header)))) }
-        ensures symbols { self.new.symbols ≡ self.old.symbols }
-        ensures uses { IfOk result (λ found. IfSome found (AreUses (StandsAt self.new.parts.items) (StandsAt self.new.symbols.items) (token.Subtree header))) }
-        ensures few_parts { length self.old.parts.items ≤ 15 → length self.new.parts.items ≤ 15 }
-        ensures room { IfOk result (λ found. IfSome found (λ uses. TakesRoom (token.Subtree header) self.old.room self.new.room)) }
-        ensures tokens { self.new.tokens ≡ self.old.tokens }
-    {
-        self.room = self.room.saturating_add(MOST_HEADER_BYTES);
-        let delimiter = &header.delimiter;
-        let Some(part) = note_part(&mut self.parts, before, &delimiter.open_span)? else {
-            return Ok(None);
-        };
-        let Some(other) = note_part(&mut self.parts, part, &delimiter.close)? else {
-            return Ok(None);
-        };
-        Ok(Some(TokenUses { part, other }))
-    }
-
-    // What one more token uses, if it fits behind those before it; there is nothing where there is no place for that. Its kind
-    // is asked once, so each arm asks the levels.
-    #[inline(always)]
-    fn note_token(
-        &mut self,
-        levels: &mut Levels,
-        before: u32,
-        token: &TokenTree,
-    ) -> Result<Option<TokenUses>, TtFault>
-        ensures levels { OnOk result (TakesToken (open_levels levels.old) token.now (open_levels levels.new) true) }
-        ensures parts { IfOk result (λ found. IfSome found (λ uses. self.new.parts.items ≡ fold (note_value same_part) self.old.parts.items (token_parts token.now))) }
-        ensures symbols { IfOk result (λ found. IfSome found (λ uses. self.new.symbols.items ≡ fold (note_value bytes_eq) self.old.symbols.items (token_symbols token.now))) }
-        ensures uses { IfOk result (λ found. IfSome found (AreUses (StandsAt self.new.parts.items) (StandsAt self.new.symbols.items) token.now)) }
-        ensures few_parts { length self.old.parts.items ≤ 15 → length self.new.parts.items ≤ 15 }
-        ensures few_symbols { length self.old.symbols.items ≤ 24 → length self.new.symbols.items ≤ 24 }
-        ensures room { IfOk result (λ found. IfSome found (λ uses. TakesRoom token.now self.old.room self.new.room)) }
-        ensures tokens { self.new.tokens ≡ self.old.tokens }
-        ensures err { IfErr result (IsTakeFault (open_levels levels.old) token.now) }
-    {
-        match token {
-            TokenTree::Leaf(leaf) => {
-                if !levels.take(token)? {
-                    return Err(TtFault::NotOneSubtree);
-                }
-                Ok(self.note_leaf(before, leaf)?)
-            }
-            TokenTree::Subtree(header) => {
-                if !levels.take(token)? {
-                    return Err(TtFault::NotOneSubtree);
-                }
-                Ok(self.note_header(before, *header)?)
-            }
-        }
-    }
-
-    // Notes what the tokens use, and sees in the same pass that they are a whole list, and how many bytes they can take. The
-    // answer is whether there is a place for all. Nothing is used before.
-    #[inline(never)]
-    fn note_list(&mut self, alloc: Global, tokens: &[TokenTree]) -> Result<bool, TtFault>
-        requires parts { self.old.parts.items ≡ [] }
-        requires symbols { self.old.symbols.items ≡ [] }
-        requires tokens { self.old.tokens.items ≡ [] }
-        ensures few { IfOk result (λ all. OnTrue all (AreFew self.new tokens.now)) }
-        ensures tokens { IfOk result (λ all. OnTrue all (HasFew self.new tokens.now)) }
-        ensures room { IfOk result (λ all. OnTrue all (HasRoomForAll tokens.now self.new.room)) }
-        ensures err { IfErr result (IsCountFault tokens.now) }
-    {
-        let mut levels = Levels::new(alloc, tokens.len());
-        let mut before = 0;
-        for token in tokens {
-            let Some(found) = self.note_token(&mut levels, before, token)? else {
-                return Ok(false);
-            };
-            self.tokens.push(found)?;
-            before = found.part;
-        }
-        if !levels.is_done() {
-            return Err(TtFault::NotOneSubtree);
-        }
-        Ok(true)
-    }
-
-    /// What the tokens use, if they are a whole list, and there is a place for all parts and symbols.
-    pub(crate) fn of_tokens(alloc: Global, tokens: &[TokenTree]) -> Result<Option<FewUses>, TtFault>
-        ensures few { IfOk result (λ found. IfSome found (λ uses. AreFew uses tokens.now)) }
-        ensures tokens { IfOk result (λ found. IfSome found (λ uses. HasFew uses tokens.now)) }
-        ensures room { IfOk result (λ found. IfSome found (λ uses. HasRoomForAll tokens.now uses.room)) }
-        ensures err { IfErr result (IsCountFault tokens.now) }
-    {
-        let mut uses = FewUses::new(alloc, tokens.len())?;
-        if uses.note_list(alloc, tokens)? {
-            return Ok(Some(uses));
-        }
-        Ok(None)
+    fn symbol_index(&mut self, symbol: &Symbol) -> Result<Option<u32>, AllocError> {
+        note_symbol(&mut self.symbols, symbol)
     }
 }

@@ -13,9 +13,8 @@ ghost use Rattle.tt_pack.specs.Packed.{HasFewParts, HasFewSymbols, IsTableFault}
 ghost use Rattle.tt_pack.specs.Places.{part_places, IsAt};
 
 use crate::first_uses::{FirstUses, count_used, stand_by_first_use};
-use crate::table::Table;
+use crate::table::{MOST_PARTS_BELOW, SHORT_PARTS, SHORT_SYMBOLS, TOP_PARTS, Table};
 use crate::tables::new_index_at;
-use crate::uses::{MOST_PARTS_BELOW, SHORT_PARTS, SHORT_SYMBOLS, TOP_PARTS};
 use std::alloc::{AllocError, Global};
 use tt_base::{SpanPart, Symbol, TtFault};
 use tt_codec::{Entry, HeaderEntry, LeafEntry, MOST_SYMBOLS, SpanNumbers};

@@ -1,12 +1,11 @@
 //! The packed form of token trees: how tokens are written as bytes and read back, and the tables that those bytes name.
 #![tactic(auto)]
 
-mod counts;
+mod counted;
 mod few;
 mod first_uses;
 mod interned;
 mod interned_writer;
-mod known;
 pub mod laws;
 mod pack;
 mod packed;
@@ -16,6 +15,7 @@ mod table;
 mod tables;
 mod token_reader;
 mod uses;
+mod values;
 mod writer;
 
 pub use packed::Packed;

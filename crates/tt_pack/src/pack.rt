@@ -10,11 +10,10 @@ ghost use Rattle.tt_codec.specs.Header.{format_4, top_entry};
 ghost use Rattle.tt_interned.specs.ListOf.{list_of};
 ghost use Rattle.tt_tables.specs.Meaning.{IsStored};
 ghost use Rattle.tt_tables.specs.Stored.{most_parts, most_bytes};
-ghost use Rattle.tt_pack.specs.Known.{AreKnown};
 ghost use Rattle.tt_pack.specs.Packed.{stored_of, root_of, IsStoreFault};
 
+use crate::counted::FirstRoom;
 use crate::interned::InternedTables;
-use crate::known::Known;
 use crate::tables::ListTables;
 use crate::writer::Writer;
 use std::alloc::Global;
@@ -44,20 +43,20 @@ pub(crate) fn with_top(
     Ok((bytes, parts))
 }
 
-/// The bytes, the parts and the symbols that are stored for a header and the tokens below it.
+/// The bytes, the parts and the symbols that are stored for a header and the tokens below it. Where their uses are counted, there
+/// is this room at first.
 pub(crate) fn write_tree(
     alloc: Global,
     top: Subtree,
     below: &[TokenTree],
-    known: Option<Known<'_>>,
+    room: FirstRoom,
 ) -> Result<(Vec<u8>, Vec<SpanPart>, Vec<Symbol>), TtFault>
-    requires counted { top.len ≡ length below.now }
-    requires known { AreKnown known below.now }
+    requires { top.len ≡ length below.now }
     ensures whole { IfOk result (λ found. IsWhole below.now) }
     ensures ok { IfOk result (λ found. IsStored (stored_of found.0.items found.1.items found.2.items (length below.now + 1)) (root_of top below.now)) }
     ensures err { IfErr result (IsStoreFault below.now) }
 {
-    let tables = ListTables::of_tokens(alloc, below, known)?;
+    let tables = ListTables::of_tokens(alloc, below, room)?;
     let writer = Writer::write_all(alloc, &tables, below)?;
     // What stands for each token is let go before the bytes are copied, so that the two never take memory at once.
     let ListTables {

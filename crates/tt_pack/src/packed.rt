@@ -23,7 +23,7 @@ mod interned;
 mod interned_node;
 mod top;
 
-use crate::known::Known;
+use crate::counted::FirstRoom;
 use crate::pack::write_tree;
 use indexmap::IndexMap;
 use std::alloc::Global;
@@ -55,7 +55,6 @@ impl Model for Packed {
 }
 
 impl Packed {
-    ghost use Rattle.tt_pack.specs.Known.{AreKnown};
     ghost use Rattle.tt_pack.specs.StoredIn.{tables_stored};
     ghost use Rattle.tt_tables.specs.TablesOf.{tables_of};
 
@@ -78,7 +77,8 @@ impl Packed {
     }
 
     /// The tree of a flat list, as `pack` gives it, where each map gives every value its number of uses in the list
-    /// below the top. A value that is absent, or has the number 0, has none. The maps say nothing of the order.
+    /// below the top. A value that is absent, or has the number 0, has none. The maps say nothing of the order. They tell for how
+    /// many values room is made at once; the uses are counted with the order, which only the list tells.
     pub fn pack_counted(
         alloc: Global,
         tokens: Vec<TokenTree>,
@@ -107,7 +107,7 @@ impl Packed {
         ensures ok { IfOk result (λ stored. (tokens.now ≡ flat_root stored) × (size stored.children ≤ most_tokens) × IsWithinLimits stored) }
         ensures err { IfErr result (IsPackFault tokens.now) }
     {
-        Packed::of_known(alloc, tokens, None)
+        Packed::of_list_with(alloc, tokens, FirstRoom::for_tokens(tokens.len()))
     }
 
     /// The same, where the numbers of uses are known, as in `pack_counted`.
@@ -122,16 +122,15 @@ impl Packed {
         ensures ok { IfOk result (λ stored. (tokens.now ≡ flat_root stored) × (size stored.children ≤ most_tokens) × IsWithinLimits stored) }
         ensures err { IfErr result (IsPackFault tokens.now) }
     {
-        Packed::of_known(alloc, tokens, Some(Known { parts, symbols }))
+        let room = FirstRoom {
+            parts: parts.len(),
+            symbols: symbols.len(),
+        };
+        Packed::of_list_with(alloc, tokens, room)
     }
 
-    // The tree of a flat list, whose numbers of uses are counted where they are not known.
-    fn of_known(
-        alloc: Global,
-        tokens: &[TokenTree],
-        known: Option<Known<'_>>,
-    ) -> Result<Packed, TtFault>
-        requires { AreKnown known (drop 1 tokens.now) }
+    // The tree of a flat list. Where its uses are counted, there is this room at first.
+    fn of_list_with(alloc: Global, tokens: &[TokenTree], room: FirstRoom) -> Result<Packed, TtFault>
         ensures ok { IfOk result (λ stored. (tokens.now ≡ flat_root stored) × (size stored.children ≤ most_tokens) × IsWithinLimits stored) }
         ensures err { IfErr result (IsPackFault tokens.now) }
     {
@@ -141,7 +140,7 @@ impl Packed {
         if top.len as usize != below.len() {
             return Err(TtFault::NotOneSubtree);
         }
-        let (bytes, parts, symbols) = write_tree(alloc, *top, below, known)?;
+        let (bytes, parts, symbols) = write_tree(alloc, *top, below, room)?;
         Ok(Packed {
             bytes,
             parts,

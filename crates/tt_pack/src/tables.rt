@@ -1,17 +1,14 @@
 //! The two tables of a list of tokens, and tokens in numbers under them.
 ghost use Rattle.std.specs.Prelude.{◌≡◌, ◌+◌, ◌≤◌, length, IfOk, IfErr, IfSome};
-ghost use Rattle.tt_base.specs.Forest.{IsWhole};
 ghost use Rattle.tt_tables.specs.Stored.{most_parts, most_symbols};
-ghost use Rattle.tt_tables.specs.Tables.{Knows, part_table, symbol_table};
+ghost use Rattle.tt_tables.specs.Tables.{Knows};
 ghost use Rattle.tt_pack.specs.Counted.{new_index};
-ghost use Rattle.tt_pack.specs.Known.{IsKnown, AreKnown};
-ghost use Rattle.tt_pack.specs.Packed.{HasFewParts, HasFewSymbols, IsTableFault};
-ghost use Rattle.tt_pack.specs.Room.{HasRoomForAll};
+ghost use Rattle.tt_pack.specs.Packed.{IsTableFault};
 
-use crate::few::{FEW_TOKENS, FewUses};
-use crate::known::{Known, KnownUses};
+use crate::counted::{CountedValues, FirstRoom};
+use crate::few::{FEW_TOKENS, FewValues};
 use crate::table::Table;
-use crate::uses::{FirstRoom, TokenUses, Uses, tables_of};
+use crate::uses::{ListUses, TokenUses};
 use std::alloc::Global;
 use tt_base::{Leaf, SpanPart, Subtree, Symbol, TokenTree, TtFault};
 use tt_codec::{Entry, HeaderEntry, LeafEntry, SpanNumbers};
@@ -41,44 +38,16 @@ pub(crate) fn new_index_at(new_indices: &[u32], index: u32) -> u32
 impl ListTables {
     ghost use Rattle.tt_base.specs.declared.token_tree.TokenTree.TheVariants as token;
     ghost use Rattle.tt_tables.specs.Searches.{IsNamedLeaf, IsNamedHeader, IsNamed};
-    ghost use Rattle.tt_pack.specs.TablesOf.{tables_of, HasUses, UsesTables};
+    ghost use Rattle.tt_pack.specs.TablesOf.{tables_of, HasUses, AreListTables};
 
     /// The tables of the tokens, where these are a whole list, their indices can be written and the parts leave room for
-    /// the top's two (docs/FORMATS.md). The numbers of uses are counted where they are not known, or the values do not stand in
-    /// the order of their first uses.
+    /// the top's two (docs/FORMATS.md). Where their uses are counted, there is this room at first.
     pub(crate) fn of_tokens(
-        alloc: Global,
-        below: &[TokenTree],
-        known: Option<Known<'_>>,
-    ) -> Result<ListTables, TtFault>
-        requires { AreKnown known below.now }
-        ensures whole { IfOk result (λ tables. IsWhole below.now) }
-        ensures parts { IfOk result (λ tables. (tables.parts.values.items ≡ part_table below.now) × HasFewParts below.now) }
-        ensures symbols { IfOk result (λ tables. (tables.symbols.values.items ≡ symbol_table below.now) × HasFewSymbols below.now) }
-        ensures uses { IfOk result (λ tables. UsesTables tables below.now) }
-        ensures room { IfOk result (λ tables. HasRoomForAll below.now tables.room) }
-        ensures err { IfErr result (IsTableFault below.now) }
-    {
-        let Some(known) = known else {
-            return ListTables::of_unknown(alloc, below, FirstRoom::for_tokens(below.len()));
-        };
-        if let Some(tables) = ListTables::of_known(alloc, below, known)? {
-            return Ok(tables);
-        }
-        ListTables::of_unknown(alloc, below, known.first_room())
-    }
-
-    // The same, where the numbers of uses are not known.
-    fn of_unknown(
         alloc: Global,
         below: &[TokenTree],
         room: FirstRoom,
     ) -> Result<ListTables, TtFault>
-        ensures whole { IfOk result (λ tables. IsWhole below.now) }
-        ensures parts { IfOk result (λ tables. (tables.parts.values.items ≡ part_table below.now) × HasFewParts below.now) }
-        ensures symbols { IfOk result (λ tables. (tables.symbols.values.items ≡ symbol_table below.now) × HasFewSymbols below.now) }
-        ensures uses { IfOk result (λ tables. UsesTables tables below.now) }
-        ensures room { IfOk result (λ tables. HasRoomForAll below.now tables.room) }
+        ensures ok { IfOk result (AreListTables below.now) }
         ensures err { IfErr result (IsTableFault below.now) }
     {
         if below.len() <= FEW_TOKENS {
@@ -89,21 +58,19 @@ impl ListTables {
         ListTables::of_counted(alloc, below, room)
     }
 
-    // The same, where there are few parts and symbols. All stand by first use then, so nothing is counted.
+    // The same, where there are few parts and symbols. All stand by first use then, so nothing is counted. There are none where
+    // there are more.
     fn of_few(alloc: Global, below: &[TokenTree]) -> Result<Option<ListTables>, TtFault>
-        ensures whole { IfOk result (λ found. IfSome found (λ tables. IsWhole below.now)) }
-        ensures parts { IfOk result (λ found. IfSome found (λ tables. (tables.parts.values.items ≡ part_table below.now) × HasFewParts below.now)) }
-        ensures symbols { IfOk result (λ found. IfSome found (λ tables. (tables.symbols.values.items ≡ symbol_table below.now) × HasFewSymbols below.now)) }
-        ensures uses { IfOk result (λ found. IfSome found (λ tables. UsesTables tables below.now)) }
-        ensures room { IfOk result (λ found. IfSome found (λ tables. HasRoomForAll below.now tables.room)) }
+        ensures ok { IfOk result (λ found. IfSome found (AreListTables below.now)) }
         ensures err { IfErr result (IsTableFault below.now) }
     {
-        let Some(uses) = FewUses::of_tokens(alloc, below)? else {
+        let mut values = FewValues::new(alloc, below.len())?;
+        let Some(uses) = ListUses::of_tokens(alloc, &mut values, below)? else {
             return Ok(None);
         };
         Ok(Some(ListTables {
-            parts: Table::by_first_use(alloc, uses.parts),
-            symbols: Table::by_first_use(alloc, uses.symbols),
+            parts: Table::by_first_use(alloc, values.parts),
+            symbols: Table::by_first_use(alloc, values.symbols),
             uses: uses.tokens,
             room: uses.room,
         }))
@@ -115,59 +82,20 @@ impl ListTables {
         below: &[TokenTree],
         room: FirstRoom,
     ) -> Result<ListTables, TtFault>
-        ensures whole { IfOk result (λ tables. IsWhole below.now) }
-        ensures parts { IfOk result (λ tables. (tables.parts.values.items ≡ part_table below.now) × HasFewParts below.now) }
-        ensures symbols { IfOk result (λ tables. (tables.symbols.values.items ≡ symbol_table below.now) × HasFewSymbols below.now) }
-        ensures uses { IfOk result (λ tables. UsesTables tables below.now) }
-        ensures room { IfOk result (λ tables. HasRoomForAll below.now tables.room) }
+        ensures ok { IfOk result (AreListTables below.now) }
         ensures err { IfErr result (IsTableFault below.now) }
     {
-        let uses = Uses::of_tokens(alloc, below, room)?;
-        let (parts, symbols) = tables_of(
-            alloc,
-            uses.parts.keys().as_slice(),
-            uses.parts.values().as_slice(),
-            uses.symbols.keys().as_slice(),
-            uses.symbols.values().as_slice(),
-        )?;
+        let mut values = CountedValues::new(alloc, room)?;
+        let Some(uses) = ListUses::of_tokens(alloc, &mut values, below)? else {
+            unreachable!()
+        };
+        let (parts, symbols) = values.tables(alloc)?;
         Ok(ListTables {
             parts,
             symbols,
             uses: uses.tokens,
             room: uses.room,
         })
-    }
-
-    // The same, where they are known. There is none where the values do not stand in the order of their first uses.
-    fn of_known(
-        alloc: Global,
-        below: &[TokenTree],
-        known: Known<'_>,
-    ) -> Result<Option<ListTables>, TtFault>
-        requires { IsKnown known below.now }
-        ensures whole { IfOk result (λ found. IfSome found (λ tables. IsWhole below.now)) }
-        ensures parts { IfOk result (λ found. IfSome found (λ tables. (tables.parts.values.items ≡ part_table below.now) × HasFewParts below.now)) }
-        ensures symbols { IfOk result (λ found. IfSome found (λ tables. (tables.symbols.values.items ≡ symbol_table below.now) × HasFewSymbols below.now)) }
-        ensures uses { IfOk result (λ found. IfSome found (λ tables. UsesTables tables below.now)) }
-        ensures room { IfOk result (λ found. IfSome found (λ tables. HasRoomForAll below.now tables.room)) }
-        ensures err { IfErr result (IsTableFault below.now) }
-    {
-        let Some(uses) = KnownUses::of_tokens(alloc, known, below)? else {
-            return Ok(None);
-        };
-        let (parts, symbols) = tables_of(
-            alloc,
-            &known.parts.keys().as_slice()[..uses.parts],
-            &known.parts.values().as_slice()[..uses.parts],
-            &known.symbols.keys().as_slice()[..uses.symbols],
-            &known.symbols.values().as_slice()[..uses.symbols],
-        )?;
-        Ok(Some(ListTables {
-            parts,
-            symbols,
-            uses: uses.tokens,
-            room: uses.room,
-        }))
     }
 
     // A leaf in numbers.

@@ -6,7 +6,7 @@ ghost use Rattle.tt_tables.specs.Stored.{packed, root_parts, IsWithinLimits};
 ghost use Rattle.tt_tables.specs.Uses.{same_part};
 
 use crate::packed::Packed;
-use crate::uses::TOP_PARTS;
+use crate::table::TOP_PARTS;
 use indexmap::IndexSet;
 use std::alloc::{AllocError, Global};
 use tt_base::{ErasedFileAstId, SpanAnchor, SpanPart};

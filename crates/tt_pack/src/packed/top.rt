@@ -5,7 +5,7 @@ ghost use Rattle.tt_pack.specs.Packed.{with_top};
 
 use crate::packed::Packed;
 use crate::reader::{Reader, TOP_BYTES};
-use crate::uses::TOP_PARTS;
+use crate::table::TOP_PARTS;
 use tt_base::{DelimSpan, Delimiter, DelimiterKind, SpanPart, Subtree, TokenTree};
 use tt_codec::HeaderEntry;
 

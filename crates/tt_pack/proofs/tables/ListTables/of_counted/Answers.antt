@@ -1,55 +1,29 @@
-use Rattle.std.proofs.Common.{◌+◌, ◌≤◌, length, sym, subst, ◌∙◌, rules}
-use Rattle.tt_tables.specs.Stored.{most_parts, most_symbols}
-use Rattle.tt_pack.specs.TablesOf.{StandsAt}
-use Rattle.tt_pack.proofs.Kept.{uses_map}
-use Rattle.tt_pack.proofs.Paired.{paired_map}
-use Rattle.tt_pack.proofs.Tally.{count_tally, as_many_parts, as_many_symbols, tally_of_slices}
+use Rattle.std.proofs.Common.{refl, rules}
+use Rattle.tt_tables.specs.Uses.{part_uses, symbol_uses}
+use Rattle.tt_pack.specs.CountedValues.{HasCounted}
+use Rattle.tt_pack.specs.Meeting.{AreListUses}
+use Rattle.tt_pack.specs.TablesOf.{AreTables}
+use Rattle.tt_pack.proofs.ListTables.{few_in_tables, list_tables}
 use Rattle.tt_pack.proofs.tables.ListTables.of_counted.Goals as goal
-
-pub tables_of-requires-clause-parts : goal.tables_of-requires-clause-parts
-tables_of-requires-clause-parts c =
-    let tally = tally_of_slices _ _ _ _ c.args.below.now (count_tally c.in_ok-uses.uses c.args.below.now c.in_ok-uses.ensures.count) _ _ _ _ (c.as_slice.ensures ∙ c.keys.ensures.rest) (c.as_slice-2.ensures ∙ c.values.ensures.rest) (c.as_slice-3.ensures ∙ c.keys-2.ensures.rest) (c.as_slice-4.ensures ∙ c.values-2.ensures.rest) in
-    as_many_parts _ _ _ _ c.args.below.now tally
-
-pub tables_of-requires-clause-symbols : goal.tables_of-requires-clause-symbols
-tables_of-requires-clause-symbols c =
-    let tally = tally_of_slices _ _ _ _ c.args.below.now (count_tally c.in_ok-uses.uses c.args.below.now c.in_ok-uses.ensures.count) _ _ _ _ (c.as_slice.ensures ∙ c.keys.ensures.rest) (c.as_slice-2.ensures ∙ c.values.ensures.rest) (c.as_slice-3.ensures ∙ c.keys-2.ensures.rest) (c.as_slice-4.ensures ∙ c.values-2.ensures.rest) in
-    as_many_symbols _ _ _ _ c.args.below.now tally
 
 pub returns-in_err-parts-clause-err : goal.returns-in_err-parts-clause-err
 returns-in_err-parts-clause-err c =
-    let tally = tally_of_slices _ _ _ _ c.args.below.now (count_tally c.in_ok-uses.uses c.args.below.now c.in_ok-uses.ensures.count) _ _ _ _ (c.as_slice.ensures ∙ c.keys.ensures.rest) (c.as_slice-2.ensures ∙ c.values.ensures.rest) (c.as_slice-3.ensures ∙ c.keys-2.ensures.rest) (c.as_slice-4.ensures ∙ c.values-2.ensures.rest) in
-    let fault = c.in_err-parts.ensures.err c.args.below.now tally in
-    search (rules, fault)
+    let below = c.args.below.now in
+    let met : HasCounted c.of_tokens.new.values (part_uses below) (symbol_uses below) = rw c.in-Some.is at c.in_ok-uses.ensures.met in
+    let uses : AreListUses below c.in-Some.uses = rw c.in-Some.is at c.in_ok-uses.ensures.uses in
+    search (rules, c.in_err-parts.ensures.err below uses.whole met)
 
 pub invariant_of-result : goal.invariant_of-result
 invariant_of-result c =
-    let tally = tally_of_slices _ _ _ _ c.args.below.now (count_tally c.in_ok-uses.uses c.args.below.now c.in_ok-uses.ensures.count) _ _ _ _ (c.as_slice.ensures ∙ c.keys.ensures.rest) (c.as_slice-2.ensures ∙ c.values.ensures.rest) (c.as_slice-3.ensures ∙ c.keys-2.ensures.rest) (c.as_slice-4.ensures ∙ c.values-2.ensures.rest) in
-    let are = c.in_ok-parts.ensures.tables c.args.below.now tally in
-    record {
-      few_parts = subst (λ values. length values + 2 ≤ most_parts) (sym are.all_parts) are.few_parts;
-      few_symbols = subst (λ values. length values ≤ most_symbols) (sym are.all_symbols) are.few_symbols;
-    }
+    let below = c.args.below.now in
+    let met : HasCounted c.of_tokens.new.values (part_uses below) (symbol_uses below) = rw c.in-Some.is at c.in_ok-uses.ensures.met in
+    let few = few_in_tables below _ _ (c.in_ok-parts.ensures.tables below met) in
+    record { few_parts = few.0; few_symbols = few.1 }
 
-pub returns-clause-whole : goal.returns-clause-whole
-returns-clause-whole c = c.in_ok-uses.ensures.count.whole
-
-pub returns-clause-parts : goal.returns-clause-parts
-returns-clause-parts c =
-    let tally = tally_of_slices _ _ _ _ c.args.below.now (count_tally c.in_ok-uses.uses c.args.below.now c.in_ok-uses.ensures.count) _ _ _ _ (c.as_slice.ensures ∙ c.keys.ensures.rest) (c.as_slice-2.ensures ∙ c.values.ensures.rest) (c.as_slice-3.ensures ∙ c.keys-2.ensures.rest) (c.as_slice-4.ensures ∙ c.values-2.ensures.rest) in
-    let are = c.in_ok-parts.ensures.tables c.args.below.now tally in (are.all_parts, are.few_parts)
-
-pub returns-clause-symbols : goal.returns-clause-symbols
-returns-clause-symbols c =
-    let tally = tally_of_slices _ _ _ _ c.args.below.now (count_tally c.in_ok-uses.uses c.args.below.now c.in_ok-uses.ensures.count) _ _ _ _ (c.as_slice.ensures ∙ c.keys.ensures.rest) (c.as_slice-2.ensures ∙ c.values.ensures.rest) (c.as_slice-3.ensures ∙ c.keys-2.ensures.rest) (c.as_slice-4.ensures ∙ c.values-2.ensures.rest) in
-    let are = c.in_ok-parts.ensures.tables c.args.below.now tally in (are.all_symbols, are.few_symbols)
-
-pub returns-clause-uses : goal.returns-clause-uses
-returns-clause-uses c =
-    let tally = tally_of_slices _ _ _ _ c.args.below.now (count_tally c.in_ok-uses.uses c.args.below.now c.in_ok-uses.ensures.count) _ _ _ _ (c.as_slice.ensures ∙ c.keys.ensures.rest) (c.as_slice-2.ensures ∙ c.values.ensures.rest) (c.as_slice-3.ensures ∙ c.keys-2.ensures.rest) (c.as_slice-4.ensures ∙ c.values-2.ensures.rest) in
-    let are = c.in_ok-parts.ensures.tables c.args.below.now tally in
-    paired_map _ _ c.args.below.now c.in_ok-uses.uses.tokens.items
-    (λ it uses. uses_map _ _ _ _ it uses
-    (λ i x at. are.new_parts i x (subst (λ l. StandsAt l i x) (sym (c.as_slice.ensures ∙ c.keys.ensures.rest)) at))
-    (λ i x at. are.new_symbols i x (subst (λ l. StandsAt l i x) (sym (c.as_slice-3.ensures ∙ c.keys-2.ensures.rest)) at)))
-    c.in_ok-uses.ensures.tokens
+pub returns-clause-ok : goal.returns-clause-ok
+returns-clause-ok c =
+    let below = c.args.below.now in
+    let met : HasCounted c.of_tokens.new.values (part_uses below) (symbol_uses below) = rw c.in-Some.is at c.in_ok-uses.ensures.met in
+    let uses : AreListUses below c.in-Some.uses = rw c.in-Some.is at c.in_ok-uses.ensures.uses in
+    let are : AreTables below c.in_ok-parts.parts c.in_ok-parts.symbols = c.in_ok-parts.ensures.tables below met in
+    list_tables below _ _ are uses refl refl

@@ -1,0 +1,199 @@
+//! Values that are counted: a map from each different value, by first use, to its number of uses.
+ghost use Rattle.std.specs.Prelude.{◌≡◌, ◌<◌, ◌≤◌, ◌^◌, List, [], true, false, Some, length, bytes_eq, slice_get, IfOk, IfErr, OnOk};
+ghost use Rattle.std.specs.Bool.{OnTrue};
+ghost use Rattle.indexmap.specs.IndexMap.{keys};
+ghost use Rattle.tt_base.specs.declared.token_tree.TokenTree.{TokenTree};
+ghost use Rattle.tt_base.specs.Forest.{IsWhole};
+ghost use Rattle.tt_tables.specs.Uses.{part_uses, symbol_uses};
+ghost use Rattle.tt_pack.specs.Counted.{count_use, counted, HasRoomFor};
+ghost use Rattle.tt_pack.specs.Packed.{IsTableFault};
+ghost use Rattle.tt_pack.specs.TablesOf.{StandsAt, IsTableFor};
+
+use crate::table::{MOST_PARTS_BELOW, SHORT_PARTS, SHORT_SYMBOLS, TOP_PARTS, Table};
+use crate::values::Values;
+use indexmap::IndexMap;
+use std::alloc::{AllocError, Global};
+use std::hash::Hash;
+use tt_base::{Span, SpanPart, Symbol, TtFault};
+use tt_codec::MOST_SYMBOLS;
+
+// A list mostly has no more parts.
+const FEW_PARTS: usize = 4;
+// The room that is made for symbols at first is for so many at most.
+const MOST_SYMBOLS_AT_FIRST: usize = 1 << 12;
+
+/// For how many parts and symbols room is made at first. No contract speaks of it.
+#[derive(Clone, Copy)]
+pub(crate) struct FirstRoom {
+    pub(crate) parts: usize,
+    pub(crate) symbols: usize,
+}
+
+impl FirstRoom {
+    /// The room for so many tokens of which nothing is known: about a third of the tokens of source are its different symbols.
+    pub(crate) fn for_tokens(tokens: usize) -> FirstRoom {
+        FirstRoom {
+            parts: tokens.min(FEW_PARTS),
+            symbols: (tokens / 3).min(MOST_SYMBOLS_AT_FIRST),
+        }
+    }
+}
+
+/// Different parts and symbols with their numbers of uses. There is a place for each.
+#[derive(Drop)]
+pub(crate) struct CountedValues {
+    pub(crate) parts: IndexMap<SpanPart, usize>,
+    pub(crate) symbols: IndexMap<Symbol, usize>,
+}
+
+/// An index as it is kept for each use. One that does not fit stands for none: no table has so many entries.
+pub(crate) fn kept_index(index: usize) -> u32
+    ensures { index < 2 ^ 32 → result ≡ index }
+{
+    index.min(u32::MAX as usize) as u32
+}
+
+// Counts one more use of a value, and gives its index. A value that is new goes last.
+#[inline(never)]
+fn count_use<T: Eq + Hash + Clone + Drop>(
+    counts: &mut IndexMap<T, usize>,
+    value: &T,
+) -> Result<u32, AllocError>
+    requires copies { (x y : T) → T.is_clone x y → y ≡ x }
+    requires same { (x y : T) → T.eq x y ≡ true → x ≡ y }
+    requires room { HasRoomFor 1 counts.old.entries }
+    ensures counts { OnOk result (counts.new.entries ≡ count_use T.eq counts.old.entries value.now) }
+    ensures index { IfOk result (λ index. StandsAt (keys counts.new) index value.now) }
+{
+    let (index, before) = counts.insert_full(value.clone()?, 1)?;
+    if let Some(uses) = before {
+        counts[index] = uses + 1;
+    }
+    Ok(kept_index(index))
+}
+
+// Counts one more use of the value at the index, if that is the value.
+#[inline(always)]
+fn count_at<T: Eq + Hash>(counts: &mut IndexMap<T, usize>, index: usize, value: &T) -> bool
+    requires same { (x y : T) → T.eq x y ≡ true → x ≡ y }
+    requires room { HasRoomFor 1 counts.old.entries }
+    ensures counted { OnTrue result (counts.new.entries ≡ count_use T.eq counts.old.entries value.now) }
+    ensures index { OnTrue result (slice_get (keys counts.new) index ≡ Some value.now) }
+    ensures stays { result ≡ false → counts.new.entries ≡ counts.old.entries }
+    ensures answer { slice_get (keys counts.old) index ≡ Some value.now → result ≡ true }
+{
+    let known = counts.keys().as_slice();
+    if index >= known.len() {
+        return false;
+    }
+    if known[index] != *value {
+        return false;
+    }
+    counts[index] += 1;
+    true
+}
+
+// Counts one more use of a value, as `count_use` does. It is first looked for at the index of another use.
+// Mostly it stands there, so that is tried in place, and the rest is a call.
+#[inline(always)]
+fn count_near<T: Eq + Hash + Clone + Drop>(
+    counts: &mut IndexMap<T, usize>,
+    other: u32,
+    value: &T,
+) -> Result<u32, AllocError>
+    requires copies { (x y : T) → T.is_clone x y → y ≡ x }
+    requires same { (x y : T) → T.eq x y ≡ true → x ≡ y }
+    requires room { HasRoomFor 1 counts.old.entries }
+    ensures counts { OnOk result (counts.new.entries ≡ count_use T.eq counts.old.entries value.now) }
+    ensures index { IfOk result (λ index. StandsAt (keys counts.new) index value.now) }
+{
+    if count_at(counts, other as usize, value) {
+        return Ok(other);
+    }
+    count_use(counts, value)
+}
+
+// Counts one more use of a symbol, as `count_use` does. It is first looked for at the place that it notes, and where it
+// stands elsewhere it notes that.
+#[inline(always)]
+fn count_symbol(counts: &mut IndexMap<Symbol, usize>, symbol: &Symbol) -> Result<u32, AllocError>
+    requires room { HasRoomFor 1 counts.old.entries }
+    ensures counts { OnOk result (counts.new.entries ≡ count_use bytes_eq counts.old.entries symbol.now) }
+    ensures index { IfOk result (λ index. StandsAt (keys counts.new) index symbol.now) }
+{
+    let place = symbol.place();
+    let index = count_near(counts, place, symbol)?;
+    if index != place {
+        symbol.note_place(index);
+    }
+    Ok(index)
+}
+
+// The table of what is counted: up to `short` values by first use, and more by falling number of uses, ties by first use
+// (docs/FORMATS.md). There is room for `more` values.
+fn counted_table<T: Eq + Hash + Clone + Drop>(
+    alloc: Global,
+    counts: &IndexMap<T, usize>,
+    short: usize,
+    more: usize,
+) -> Result<Table<T>, AllocError>
+    requires copies { (x y : T) → T.is_clone x y → y ≡ x }
+    requires same { (x y : T) → T.eq x y ≡ true → x ≡ y }
+    requires few { length (keys counts.now) ≤ 2 ^ 32 }
+    ensures { IfOk result (λ table. (uses : List T) → counts.now.entries ≡ counted T.eq uses → IsTableFor T.eq short uses table) }
+{
+    let values = counts.keys().as_slice();
+    let numbers = counts.values().as_slice();
+    Table::of_counts(alloc, values, numbers, short, more)
+}
+
+impl CountedValues {
+    ghost use Rattle.tt_pack.specs.CountedValues.{HasCounted};
+    ghost use Rattle.tt_pack.specs.TablesOf.{AreTables};
+
+    /// No value has been met.
+    pub(crate) fn new(alloc: Global, room: FirstRoom) -> Result<CountedValues, AllocError>
+        ensures parts { IfOk result (λ values. values.parts.entries ≡ []) }
+        ensures symbols { IfOk result (λ values. values.symbols.entries ≡ []) }
+    {
+        Ok(CountedValues {
+            parts: IndexMap::with_capacity(alloc, room.parts)?,
+            symbols: IndexMap::with_capacity(alloc, room.symbols)?,
+        })
+    }
+
+    /// The two tables of what has been met, where their indices can be written and the parts leave room for the top's two.
+    pub(crate) fn tables(&self, alloc: Global) -> Result<(Table<SpanPart>, Table<Symbol>), TtFault>
+        ensures tables { IfOk result (λ tables. (tokens : List TokenTree) → HasCounted self.now (part_uses tokens) (symbol_uses tokens) → AreTables tokens tables.0 tables.1) }
+        ensures err { IfErr result (λ fault. (tokens : List TokenTree) → IsWhole tokens → HasCounted self.now (part_uses tokens) (symbol_uses tokens) → IsTableFault tokens fault) }
+    {
+        if self.parts.len() > MOST_PARTS_BELOW {
+            return Err(TtFault::TooManySpanParts);
+        }
+        if self.symbols.len() > MOST_SYMBOLS {
+            return Err(TtFault::TooManySymbols);
+        }
+        let parts = counted_table(alloc, &self.parts, SHORT_PARTS, TOP_PARTS)?;
+        let symbols = counted_table(alloc, &self.symbols, SHORT_SYMBOLS, 0)?;
+        Ok((parts, symbols))
+    }
+}
+
+impl Values for CountedValues {
+    ghost use Rattle.tt_pack.specs.CountedValues.{HasCounted};
+
+    ghost has_met = { HasCounted };
+
+    ghost may_lack = { ⊥ };
+
+    #[inline(always)]
+    fn part_index(&mut self, other: u32, span: &Span) -> Result<Option<u32>, AllocError> {
+        let part = SpanPart::from_span(span);
+        Ok(Some(count_near(&mut self.parts, other, &part)?))
+    }
+
+    #[inline(always)]
+    fn symbol_index(&mut self, symbol: &Symbol) -> Result<Option<u32>, AllocError> {
+        Ok(Some(count_symbol(&mut self.symbols, symbol)?))
+    }
+}
