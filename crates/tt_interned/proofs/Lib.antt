@@ -1,6 +1,7 @@
 -- Laws of tokens that name values.
 pub mod Changing
 pub mod Growing
+mod MissingRows
 pub mod Naming
 pub mod Opening
 pub mod Ordering

@@ -1,12 +1,13 @@
 -- What calls make of values at places, each beside its number of uses.
-use Rattle.std.proofs.Common.{◌≡◌, ℕ, zero, suc, ◌+◌, ◌-◌, ◌<◌, ◌≤◌, Bool, true, false, cond, ◌||◌, if◌then◌else◌, Some, None, List, [], ◌∷◌, ◌++◌, length, nat_eq, nat_lt, slice_get, Result, Ok, Err, OnOk, OnErr, refl, ap, sym, subst, ◌∙◌, arith}
+use Rattle.std.proofs.Common.{◌≡◌, ℕ, zero, suc, ◌+◌, ◌-◌, ◌<◌, ◌≤◌, Bool, true, false, cond, ◌||◌, if◌then◌else◌, Some, List, [], ◌∷◌, ◌++◌, length, nat_eq, nat_lt, slice_get, Result, Ok, Err, OnOk, OnErr, refl, ap, sym, subst, ◌∙◌, arith}
 use Rattle.std.proofs.lemmas.Bool.{lt-ltb, ne_eqb}
+use Rattle.std.proofs.lemmas.Option.{slice_get-map}
 use Rattle.std.specs.Cmp.{IsEquivalence}
 use Rattle.std.specs.List.{IsDistinct, AllZip, list_any}
-use Rattle.std.specs.Map.{keys_of, values_of, lookup}
+use Rattle.std.specs.Map.{keys_of, values_of}
 use Rattle.std.specs.Option.{option_map}
-use Rattle.indexmap.specs.IndexMap.{insert_entry, set_value_at}
-use Rattle.tt_tables.specs.TableOrder.{index_in}
+use Rattle.indexmap.specs.IndexMap.{set_value_at}
+use Rattle.tt_tables.specs.Entering.{entered}
 use Rattle.tt_tables.specs.Counts.{number_in, used_count, CountsMore}
 use Rattle.tt_interner.specs.Entries.{with_entry}
 use Rattle.tt_interner.proofs.UseCounts.{number_at, counts_one_more, counts_one_less, used_new, used_set, used-le, one_if}
@@ -32,76 +33,25 @@ module _ {X : Type 0} (same : X → X → Bool) where
   pub entry_there : (counts : List (X × ℕ)) (x : X) → list_any (same x) (keys_of counts) ≡ true → with_entry same counts x ≡ counts
   entry_there counts x some = ap (λ t. if t then counts else counts ++ (x, 0) ∷ []) some
 
-  -- One that is looked up is there.
-  looked_up : (counts : List (X × ℕ)) (x : X) (n : ℕ) → lookup (same x) counts ≡ Some n → list_any (same x) (keys_of counts) ≡ true
-  looked_up [] x n found = absurd (cc found)
-  looked_up (entry ∷ counts) x n found = by_test (same x entry.0) found (looked_up counts x n)
+  -- Entered with no uses, and with the number that it had, a value has an entry.
+  pub entered_is : (counts : List (X × ℕ)) (x : X) → entered same 0 (λ n. n) counts x ≡ with_entry same counts x
+  entered_is [] x = refl
+  entered_is (entry ∷ counts) x = by_test (same x entry.0) (list_any (same x) (keys_of counts)) (entered_is counts x)
     where
-      by_test : (t : Bool) → cond t (Some entry.1) (lookup (same x) counts) ≡ Some n → (lookup (same x) counts ≡ Some n → list_any (same x) (keys_of counts) ≡ true)
-          → (t || list_any (same x) (keys_of counts)) ≡ true
-      by_test true found later = refl
-      by_test false found later = later found
-
-  -- Inserted with no uses and then given its number again, it stays as it was.
-  pub put_back : (counts : List (X × ℕ)) (x : X) (n : ℕ) → lookup (same x) counts ≡ Some n
-      → set_value_at (insert_entry same counts x 0) (index_in (same x) (keys_of counts)) n ≡ with_entry same counts x
-  put_back counts x n found = back counts found ∙ sym (entry_there counts x (looked_up counts x n found))
-    where
-      back : (more : List (X × ℕ)) → lookup (same x) more ≡ Some n → set_value_at (insert_entry same more x 0) (index_in (same x) (keys_of more)) n ≡ more
-      back [] is = absurd (cc is)
-      back (entry ∷ more) is = by_test (same x entry.0) is (back more)
-        where
-          by_test : (t : Bool) → cond t (Some entry.1) (lookup (same x) more) ≡ Some n
-              → (lookup (same x) more ≡ Some n → set_value_at (insert_entry same more x 0) (index_in (same x) (keys_of more)) n ≡ more)
-              → set_value_at (cond t ((entry.0, 0) ∷ more) (entry ∷ insert_entry same more x 0)) (cond t 0 (suc (index_in (same x) (keys_of more)))) n ≡ entry ∷ more
-          by_test true is later = ap (λ m. (entry.0, m) ∷ more) (sym number)
-            where
-              number : entry.1 ≡ n
-              number = cc is
-          by_test false is later = ap (λ rest. entry ∷ rest) (later is)
-
-  -- A new value goes behind the others.
-  pub put_new : (counts : List (X × ℕ)) (x : X) → lookup (same x) counts ≡ None → insert_entry same counts x 0 ≡ with_entry same counts x
-  put_new [] x none = refl
-  put_new (entry ∷ counts) x none = by_test (same x entry.0) none (put_new counts x)
-    where
-      behind : (t : Bool) → entry ∷ (if t then counts else counts ++ (x, 0) ∷ []) ≡ (if t then entry ∷ counts else entry ∷ counts ++ (x, 0) ∷ [])
-      behind true = refl
-      behind false = refl
-
-      by_test : (t : Bool) → cond t (Some entry.1) (lookup (same x) counts) ≡ None → (lookup (same x) counts ≡ None → insert_entry same counts x 0 ≡ with_entry same counts x)
-          → cond t ((entry.0, 0) ∷ counts) (entry ∷ insert_entry same counts x 0) ≡ (if t || list_any (same x) (keys_of counts) then entry ∷ counts else entry ∷ counts ++ (x, 0) ∷ [])
-      by_test true none later = absurd (cc none)
-      by_test false none later = ap (λ rest. entry ∷ rest) (later none) ∙ behind (list_any (same x) (keys_of counts))
-
-  -- It stands where it is found first, or last.
-  pub stands_with_entry : ((x y : X) → same x y ≡ true → x ≡ y) → (counts : List (X × ℕ)) (x : X)
-      → slice_get (keys_of (with_entry same counts x)) (index_in (same x) (keys_of counts)) ≡ Some x
-  stands_with_entry sound [] x = refl
-  stands_with_entry sound (entry ∷ counts) x = by_test (same x entry.0) refl (stands_with_entry sound counts x)
-    where
-      behind : (t : Bool) → slice_get (keys_of (if t then counts else counts ++ (x, 0) ∷ [])) (index_in (same x) (keys_of counts)) ≡ Some x
-          → slice_get (keys_of (if t then entry ∷ counts else entry ∷ counts ++ (x, 0) ∷ [])) (suc (index_in (same x) (keys_of counts))) ≡ Some x
-      behind true later = later
-      behind false later = later
-
-      by_test : (t : Bool) → same x entry.0 ≡ t → slice_get (keys_of (with_entry same counts x)) (index_in (same x) (keys_of counts)) ≡ Some x
-          → slice_get (keys_of (if t || list_any (same x) (keys_of counts) then entry ∷ counts else entry ∷ counts ++ (x, 0) ∷ [])) (cond t 0 (suc (index_in (same x) (keys_of counts)))) ≡ Some x
-      by_test true e later = ap Some (sym (sound x entry.0 e))
-      by_test false e later = behind (list_any (same x) (keys_of counts)) later
+      by_test : (t some : Bool) → entered same 0 (λ n. n) counts x ≡ (if some then counts else counts ++ (x, 0) ∷ [])
+          → cond t (entry ∷ counts) (entry ∷ entered same 0 (λ n. n) counts x) ≡ (if t || some then entry ∷ counts else entry ∷ counts ++ (x, 0) ∷ [])
+      by_test true some later = refl
+      by_test false true later = ap (λ rest. entry ∷ rest) later
+      by_test false false later = ap (λ rest. entry ∷ rest) later
 
 -- ---- the entry at a place, and another number in it
 
 -- The value and the number of an entry.
 key_at : {X : Type 0} (counts : List (X × ℕ)) (i : ℕ) (x : X) (n : ℕ) → slice_get counts i ≡ Some (x, n) → slice_get (keys_of counts) i ≡ Some x
-key_at [] i x n at = absurd (cc at)
-key_at (entry ∷ counts) zero x n at = ap (λ o. option_map (λ e. e.0) o) at
-key_at (entry ∷ counts) (suc i) x n at = key_at counts i x n at
+key_at counts i x n at = slice_get-map (λ entry. entry.0) counts i ∙ ap (option_map (λ entry. entry.0)) at
 
 uses_at : {X : Type 0} (counts : List (X × ℕ)) (i : ℕ) (x : X) (n : ℕ) → slice_get counts i ≡ Some (x, n) → slice_get (values_of counts) i ≡ Some n
-uses_at [] i x n at = absurd (cc at)
-uses_at (entry ∷ counts) zero x n at = ap (λ o. option_map (λ e. e.1) o) at
-uses_at (entry ∷ counts) (suc i) x n at = uses_at counts i x n at
+uses_at counts i x n at = slice_get-map (λ entry. entry.1) counts i ∙ ap (option_map (λ entry. entry.1)) at
 
 module _ {X : Type 0} (counts : List (X × ℕ)) (i : ℕ) (x : X) (n : ℕ) (stands : slice_get counts i ≡ Some (x, n)) where
   -- One use more, and a value more with uses where it is the first.
@@ -173,10 +123,10 @@ keys_kept (entry ∷ counts) zero m = refl
 keys_kept (entry ∷ counts) (suc i) m = ap (λ keys. entry.0 ∷ keys) (keys_kept counts i m)
 
 -- No value stands behind all.
-pub none_behind : {X : Type 0} (counts : List (X × ℕ)) (i : ℕ) (x : X) → length counts ≤ i → slice_get (keys_of counts) i ≡ Some x → ⊥
-none_behind [] i x past at = absurd (cc at)
-none_behind (entry ∷ counts) zero x past at = absurd (omega (arith, past))
-none_behind (entry ∷ counts) (suc i) x past at = none_behind counts i x (omega (arith, past)) at
+pub no_value_behind : {X : Type 0} (counts : List (X × ℕ)) (i : ℕ) (x : X) → length counts ≤ i → slice_get (keys_of counts) i ≡ Some x → ⊥
+no_value_behind [] i x past at = absurd (cc at)
+no_value_behind (entry ∷ counts) zero x past at = absurd (omega (arith, past))
+no_value_behind (entry ∷ counts) (suc i) x past at = no_value_behind counts i x (omega (arith, past)) at
 
 -- Entries that are copies one by one are the same.
 pub copied : {X : Type 0} (is_copy : X → X → Type 0) → ((x y : X) → is_copy x y → y ≡ x) → (counts now : List (X × ℕ)) → AllZip (λ p q. is_copy p.0 q.0 × (q.1 ≡ p.1)) counts now → now ≡ counts

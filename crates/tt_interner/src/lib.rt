@@ -45,14 +45,14 @@ fn len_to_last_used(numbers: &[usize]) -> usize
     0
 }
 
-// Makes room for few values or for many, where one comes for which there may be none. A map that grows by itself doubles, and
-// puts all its entries into the new room each time.
-fn reserve_more<T: Eq + Hash>(entries: &mut IndexMap<T, usize>) -> Result<(), AllocError>
+// Makes room for few values or for many, where one comes that is new and for which there may be none. A map that grows by itself
+// doubles, and puts all its entries into the new room each time.
+fn reserve_more<T: Eq + Hash>(entries: &mut IndexMap<T, usize>, value: &T) -> Result<(), AllocError>
     ensures { entries.new.entries ≡ entries.old.entries }
 {
     match entries.len() {
         0 => entries.reserve(FEW_VALUES),
-        FEW_VALUES => entries.reserve(MANY_VALUES - FEW_VALUES),
+        FEW_VALUES if !entries.contains_key(value) => entries.reserve(MANY_VALUES - FEW_VALUES),
         _ => Ok(()),
     }
 }
@@ -71,7 +71,7 @@ fn insert<T: Eq + Hash + Clone + Drop>(
     ensures index { IfOk result (λ index. slice_get (keys_of entries.new.entries) index ≡ Some value.now) }
     ensures distinct { OnOk result (IsDistinct T.eq (keys_of entries.new.entries)) }
 {
-    reserve_more(entries)?;
+    reserve_more(entries, value)?;
     let (index, uses) = entries.insert_full(value.clone()?, 0)?;
     if let Some(uses) = uses {
         entries[index] = uses;

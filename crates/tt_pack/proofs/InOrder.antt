@@ -1,15 +1,19 @@
 -- Places that are met from 0 on, each in its turn.
-use Rattle.std.proofs.Common.{◌≡◌, ℕ, zero, suc, ◌+◌, ◌<◌, ◌≤◌, Bool, true, false, ◌||◌, if◌then◌else◌, Some, List, [], ◌∷◌, ◌++◌, length, take, nat_eq, slice_get, refl, ap, sym, subst, ◌∙◌, append_assoc, length-append, true≢false, arith}
+use Rattle.std.proofs.Common.{◌≡◌, ℕ, zero, suc, ◌+◌, ◌<◌, ◌≤◌, Bool, true, false, ◌||◌, if◌then◌else◌, Some, List, [], ◌∷◌, ◌++◌, fold, flat_map, length, take, drop, nat_eq, slice_get, refl, ap, sym, subst, ◌∙◌, append_assoc, length-append, true≢false, arith}
 use Rattle.std.proofs.lemmas.Bool.{ne_eqb, eqb-true}
 use Rattle.std.proofs.lemmas.Cmp.{nat_eq_equiv}
+use Rattle.std.proofs.lemmas.Grind.{flat_map-append}
+use Rattle.std.proofs.lemmas.List.{take-append-drop}
 use Rattle.std.proofs.lemmas.List.FromFn.{length-range_with_len}
 use Rattle.std.specs.Bool.{OnTrue}
 use Rattle.std.specs.List.{AllZip, list_any, range_with_len}
 use Rattle.tt_interned.specs.declared.token.InternedToken.{InternedToken}
 use Rattle.tt_tables.specs.TableOrder.{different}
 use Rattle.tt_pack.specs.Counted.{note_value}
-use Rattle.tt_pack.specs.Places.{token_places, part_places, IsAt}
+use Rattle.tt_pack.specs.Places.{token_places, part_places, IsAt, HasOutOfTurn}
+use Rattle.tt_pack.proofs.Noting.{different_more, stays_noted}
 use Rattle.tt_pack.proofs.Ranks.{all_met}
+use Rattle.tt_pack.proofs.RowOrder.{slice_get-snoc}
 
 -- One of them is there.
 is_there : (start n place : ℕ) → start ≤ place → place < start + n → list_any (λ other. nat_eq other place) (range_with_len start n) ≡ true
@@ -54,6 +58,39 @@ noted_next met place is =
     ∙ ap (λ p. range_with_len 0 met ++ p ∷ []) (sym same)
     ∙ one_behind 0 met
     ∙ ap (range_with_len 0) next
+
+-- ---- out of turn
+
+-- One behind the next stands out of its turn.
+pub noted_early : (met place : ℕ) → met < place → HasOutOfTurn (note_value nat_eq (range_with_len 0 met) place)
+noted_early met place past = record {
+  index = met;
+  place = place;
+  at =
+      ap (λ t. slice_get (if t then range_with_len 0 met else range_with_len 0 met ++ place ∷ []) met) (is_behind 0 met place (omega (arith, past)))
+      ∙ ap (slice_get (range_with_len 0 met ++ place ∷ [])) (sym (length-range_with_len 0 met)) ∙ slice_get-snoc (range_with_len 0 met) place;
+  other = λ is. omega (arith, is, past);
+}
+
+-- It does so when more are noted.
+pub stays_early : (places more : List ℕ) → HasOutOfTurn places → HasOutOfTurn (fold (note_value nat_eq) places more)
+stays_early places [] early = early
+stays_early places (x ∷ more) early =
+    stays_early (note_value nat_eq places x) more (record { index = early.index; place = early.place; at = stays_noted nat_eq places x early.index early.place early.at; other = early.other })
+
+-- It does so among all, where it does among those of the first tokens.
+pub all_early : (tokens : List InternedToken) (index : ℕ) → HasOutOfTurn (different nat_eq (part_places (take index tokens))) → HasOutOfTurn (different nat_eq (part_places tokens))
+all_early tokens index early =
+    subst HasOutOfTurn
+    (different_more nat_eq nat_eq_equiv (part_places (take index tokens)) (part_places (drop index tokens))
+    ∙ ap (different nat_eq) (sym (flat_map-append token_places (take index tokens) (drop index tokens)) ∙ ap (flat_map token_places) (take-append-drop index tokens)))
+    (stays_early (different nat_eq (part_places (take index tokens))) (part_places (drop index tokens)) early)
+
+-- ---- in turn
+
+-- Where all have been met, there are as many as are different.
+pub as_many_met : (tokens : List InternedToken) (met used : ℕ) → range_with_len 0 met ≡ different nat_eq (part_places tokens) → used ≡ length (different nat_eq (part_places tokens)) → met ≡ used
+as_many_met tokens met used is counted = omega (arith, counted, length-range_with_len 0 met, ap length is)
 
 -- Where as many have been met as are different, they are all.
 pub in_order : (tokens : List InternedToken) (index met used : ℕ) → range_with_len 0 met ≡ different nat_eq (part_places (take index tokens))

@@ -39,16 +39,6 @@ uses_map P Q S R (token.Subtree it) uses f g h = (f _ _ h.0, f _ _ h.1)
 -- ---- one token; `has_met` tells what values have met
 
 module _ {V : Type 0} (has_met : V → List SpanPart → List (List ℕ) → Type 0) where
-  -- Where there are numbers for more, there are for less.
-  pub can_meet_less : (values : V) (a b c d : ℕ) → c ≤ a → d ≤ b → CanMeet has_met values a b → CanMeet has_met values c d
-  can_meet_less values a b c d fewer less can = record {
-    parts = can.parts;
-    symbols = can.symbols;
-    met = can.met;
-    few_parts = omega (arith, can.few_parts, fewer);
-    few_symbols = omega (arith, can.few_symbols, less);
-  }
-
   -- A part that is met takes one.
   pub can_meet_on : (old new : V) (x : SpanPart) (index a b : ℕ) → MeetsPart has_met old new x index → CanMeet has_met old (a + 1) b → CanMeet has_met new a b
   can_meet_on old new x index a b meets can = record {
@@ -59,22 +49,7 @@ module _ {V : Type 0} (has_met : V → List SpanPart → List (List ℕ) → Typ
     few_symbols = can.few_symbols;
   }
 
-  -- A part is met, and then a symbol.
-  pub meets_both : (old between new : V) (x : SpanPart) (y : List ℕ) (uses : TokenUses) → MeetsPart has_met old between x uses.part
-      → MeetsSymbol has_met between new y uses.other → MeetsBoth has_met old new x y uses
-  meets_both old between new x y uses part symbol parts symbols met =
-      let (first, at) = part parts symbols met in
-      let (second, there) = symbol (parts ++ x ∷ []) symbols first in
-      (second, (at, there))
-
-  -- A punct has a part alone.
-  pub meets_punct : (old new : V) (it : Punct) (uses : TokenUses) → MeetsPart has_met old new (part_of it.span) uses.part
-      → MeetsToken has_met old new (token.Leaf (leaf.Punct it)) uses
-  meets_punct old new it uses part parts symbols met =
-      let (now, at) = part parts symbols met in
-      (subst (λ l. has_met new (parts ++ part_of it.span ∷ []) l) (sym (append-nil symbols)) now, at)
-
-  -- A header has two.
+  -- A header has two parts.
   pub meets_header : (old between new : V) (it : Subtree) (uses : TokenUses) → MeetsPart has_met old between (part_of it.delimiter.open_span) uses.part
       → MeetsPart has_met between new (part_of it.delimiter.close) uses.other → MeetsToken has_met old new (token.Subtree it) uses
   meets_header old between new it uses opens closes parts symbols met =

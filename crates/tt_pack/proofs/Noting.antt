@@ -32,11 +32,8 @@ module _ {X : Type 0} (same : X → X → Bool) where
   pub noted_there : IsEquivalence same → (values : List X) (i : ℕ) (x : X) → slice_get values i ≡ Some x → values ≡ note_value same values x
   noted_there laws values i x at = sym (noted_by values x true (any_there laws values i x at))
 
-  pub noted_new : (values : List X) (x : X) → list_any (λ y. same y x) values ≡ false → values ++ x ∷ [] ≡ note_value same values x
-  noted_new values x new = sym (noted_by values x false new)
-
   -- Noting a value leaves each where it stands.
-  stays_noted : (values : List X) (x : X) (i : ℕ) (y : X) → slice_get values i ≡ Some y → slice_get (note_value same values x) i ≡ Some y
+  pub stays_noted : (values : List X) (x : X) (i : ℕ) (y : X) → slice_get values i ≡ Some y → slice_get (note_value same values x) i ≡ Some y
   stays_noted values x i y at = by_test (list_any (λ z. same z x) values)
     where
       by_test : (t : Bool) → slice_get (cond t values (values ++ x ∷ [])) i ≡ Some y

@@ -97,8 +97,8 @@ module _ {X : Type 0} (same : X → X → Bool) where
         let (behind, is) = noted_behind (different same xs) ys in
         (behind, sym (different_more same laws xs ys) ∙ is)
 
-    pub none_behind : (xs ys : List X) → length (different same (xs ++ ys)) ≤ length (different same xs) → different same xs ≡ different same (xs ++ ys)
-    none_behind xs ys few =
+    pub no_more_different : (xs ys : List X) → length (different same (xs ++ ys)) ≤ length (different same xs) → different same xs ≡ different same (xs ++ ys)
+    no_more_different xs ys few =
         let (behind, is) = different_behind xs ys in
         sym (is ∙ ap (λ l. different same xs ++ l) (empty behind (omega (arith, few, ap length is, length-append (different same xs) behind))) ∙ append-nil (different same xs))
       where
@@ -119,7 +119,7 @@ module _ {X : Type 0} (same : X → X → Bool) where
     pub all_met : {A : Type 0} (f : A → List X) (tokens : List A) (i : ℕ) → length (different same (flat_map f tokens)) ≤ length (different same (flat_map f (take i tokens)))
         → different same (flat_map f (take i tokens)) ≡ different same (flat_map f tokens)
     all_met f tokens i few =
-        none_behind (flat_map f (take i tokens)) (flat_map f (drop i tokens)) (subst (λ uses. length (different same uses) ≤ length (different same (flat_map f (take i tokens)))) (sym parts) few)
+        no_more_different (flat_map f (take i tokens)) (flat_map f (drop i tokens)) (subst (λ uses. length (different same uses) ≤ length (different same (flat_map f (take i tokens)))) (sym parts) few)
         ∙ ap (different same) parts
       where
         parts : flat_map f (take i tokens) ++ flat_map f (drop i tokens) ≡ flat_map f tokens

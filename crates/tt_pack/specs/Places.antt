@@ -33,3 +33,10 @@ AreRanked order ranks = (rank place : ℕ) → slice_get order rank ≡ Some pla
 -- the value stands at the place
 abbrev pub IsAt : {X : Type 0} → List X → (place : ℕ) → X → Type 0
 IsAt values place x = slice_get values place ≡ Some x
+
+-- a place stands where it is not its turn
+pub record HasOutOfTurn (places : List ℕ) : Type 0 where
+  pub index : ℕ
+  pub place : ℕ
+  pub at : slice_get places index ≡ Some place
+  pub other : place ≡ index → ⊥

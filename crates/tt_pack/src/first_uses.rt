@@ -1,10 +1,10 @@
 //! The parts that tokens in numbers use, by their places, in the order of first use.
-ghost use Rattle.std.specs.Prelude.{◌≡◌, ◌<◌, ◌≤◌, ◌^◌, ◌+◌, [], true, All, nat_eq, nat_lt, fold, length, count_by, IfOk, IfSome, OnOk};
+ghost use Rattle.std.specs.Prelude.{◌≡◌, ◌<◌, ◌≤◌, ◌^◌, ◌+◌, [], true, false, All, nat_eq, nat_lt, fold, length, count_by, IfOk, IfSome, IfNone, OnOk};
 ghost use Rattle.std.specs.Bool.{OnTrue};
 ghost use Rattle.std.specs.List.{list_any, range_with_len};
 ghost use Rattle.tt_tables.specs.TableOrder.{different};
 ghost use Rattle.tt_pack.specs.Counted.{note_value};
-ghost use Rattle.tt_pack.specs.Places.{leaf_place, token_places, part_places, IsWithin, AreRanked};
+ghost use Rattle.tt_pack.specs.Places.{leaf_place, token_places, part_places, IsWithin, AreRanked, HasOutOfTurn};
 
 use std::alloc::{AllocError, Global};
 use tt_codec::LeafEntry;
@@ -47,7 +47,8 @@ fn leaf_place(entry: &LeafEntry) -> u32
 // How many of the first places have been met, with the next use of a place; none where it is met out of turn.
 #[inline(always)]
 fn met_with(met: usize, place: u32) -> Option<usize>
-    ensures { IfSome result (λ more. note_value nat_eq (range_with_len 0 met) place ≡ range_with_len 0 more) }
+    ensures turn { IfSome result (λ more. note_value nat_eq (range_with_len 0 met) place ≡ range_with_len 0 more) }
+    ensures none { IfNone result (HasOutOfTurn (note_value nat_eq (range_with_len 0 met) place)) }
 {
     let place = place as usize;
     if place < met {
@@ -62,7 +63,8 @@ fn met_with(met: usize, place: u32) -> Option<usize>
 // The same with what the next token uses.
 #[inline(always)]
 fn met_with_token(met: usize, token: &InternedToken) -> Option<usize>
-    ensures { IfSome result (λ more. fold (note_value nat_eq) (range_with_len 0 met) (token_places token.now) ≡ range_with_len 0 more) }
+    ensures turn { IfSome result (λ more. fold (note_value nat_eq) (range_with_len 0 met) (token_places token.now) ≡ range_with_len 0 more) }
+    ensures none { IfNone result (HasOutOfTurn (fold (note_value nat_eq) (range_with_len 0 met) (token_places token.now))) }
 {
     match token {
         InternedToken::Leaf(entry) => met_with(met, leaf_place(entry)),
@@ -75,11 +77,12 @@ fn met_with_token(met: usize, token: &InternedToken) -> Option<usize>
 }
 
 /// Whether the parts that the tokens use stand by first use as they are: the first at the place 0, the second at 1, and so on.
-/// It is seen once all of them have been met, of which there are so many.
+/// It is seen once all of them have been met, of which there are so many, or one out of its turn.
 #[inline(never)]
 pub(crate) fn stand_by_first_use(tokens: &[InternedToken], used: usize) -> bool
     requires { used ≡ length (different nat_eq (part_places tokens.now)) }
-    ensures { OnTrue result (different nat_eq (part_places tokens.now) ≡ range_with_len 0 used) }
+    ensures yes { OnTrue result (different nat_eq (part_places tokens.now) ≡ range_with_len 0 used) }
+    ensures no { result ≡ false → HasOutOfTurn (different nat_eq (part_places tokens.now)) }
 {
     let mut met = 0;
     for token in tokens {

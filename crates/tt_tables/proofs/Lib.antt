@@ -3,6 +3,7 @@ mod AstIdRows
 pub mod Cheapest
 mod CostRows
 pub mod Different
+pub mod Entering
 pub mod Finding
 pub mod Found
 pub mod HeaderFirst

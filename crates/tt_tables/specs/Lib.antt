@@ -2,6 +2,7 @@
 pub mod AstIds
 pub mod Cost
 pub mod Counts
+pub mod Entering
 pub mod Meaning
 pub mod NextToken
 pub mod PackFault

@@ -1,11 +1,11 @@
 use Rattle.std.proofs.Common.{◌≡◌, ◌∙◌, Some, None, sym, subst, arith}
 use Rattle.std.specs.List.{IsDistinct}
 use Rattle.tt_interner.specs.Interner.{entries_of}
-use Rattle.tt_interner.proofs.Places.{used_more, used_within, stands_at, number_there, one_more, keys_kept, none_behind}
+use Rattle.tt_interner.proofs.Places.{used_more, used_within, stands_at, number_there, one_more, keys_kept, no_value_behind}
 use Rattle.tt_interner.proofs.Interner.add_at.Goals as goal
 
 pub returns-then-index-len-clause-more : goal.returns-then-index-len-clause-more
-returns-then-index-len-clause-more g c = λ x at. absurd (none_behind (entries_of c.args.self.now) c.args.place x (omega (arith, c.len.ensures.len, c.if-index-len.true)) at)
+returns-then-index-len-clause-more g c = λ x at. absurd (no_value_behind (entries_of c.args.self.now) c.args.place x (omega (arith, c.len.ensures.len, c.if-index-len.true)) at)
 
 pub overflow_add-self : goal.overflow_add-self
 overflow_add-self g c =

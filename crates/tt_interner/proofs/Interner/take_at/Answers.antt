@@ -1,11 +1,11 @@
 use Rattle.std.proofs.Common.{◌≡◌, ◌∙◌, Some, None, sym, subst, arith}
 use Rattle.std.specs.List.{IsDistinct}
 use Rattle.tt_interner.specs.Interner.{entries_of}
-use Rattle.tt_interner.proofs.Places.{used_less, stands_at, number_there, one_less, keys_kept, none_behind}
+use Rattle.tt_interner.proofs.Places.{used_less, stands_at, number_there, one_less, keys_kept, no_value_behind}
 use Rattle.tt_interner.proofs.Interner.take_at.Goals as goal
 
 pub returns-then-index-len-clause-less : goal.returns-then-index-len-clause-less
-returns-then-index-len-clause-less g c = λ x at. absurd (none_behind (entries_of c.args.self.now) c.args.place x (omega (arith, c.len.ensures.len, c.if-index-len.true)) at)
+returns-then-index-len-clause-less g c = λ x at. absurd (no_value_behind (entries_of c.args.self.now) c.args.place x (omega (arith, c.len.ensures.len, c.if-index-len.true)) at)
 
 pub overflow_sub-uses : goal.overflow_sub-uses
 overflow_sub-uses g c =

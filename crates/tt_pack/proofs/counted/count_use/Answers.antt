@@ -3,7 +3,8 @@ use Rattle.std.proofs.lemmas.Option.{slice_get_within}
 use Rattle.std.specs.Map.{lookup, keys_of}
 use Rattle.indexmap.specs.IndexMap.{get, insert_entry, set_value_at}
 use Rattle.tt_tables.specs.TableOrder.{index_in}
-use Rattle.tt_pack.proofs.Counting.{count_again, count_new, stands_counted, room_there}
+use Rattle.tt_pack.proofs.Counting.{room_there}
+use Rattle.tt_tables.proofs.Entering.{entered_again, entered_new, stands_entered}
 use Rattle.tt_tables.proofs.Positions.{same_index}
 use Rattle.tt_pack.proofs.counted.count_use.Goals as goal
 use Rattle.tt_pack.proofs.counted.count_use.Goals.{in-Some, in_default}
@@ -30,8 +31,8 @@ returns-clause-counts g c =
       | in-Some w ↦
           ap (λ m. m.entries) w.counts-is
           ∙ ap₂ (λ entries i. set_value_at entries i (w.in-Some.uses + 1)) inserted found_at
-          ∙ count_again same before value w.in-Some.uses (sym found ∙ w.in-Some.is)
-      | in_default w ↦ ap (λ m. m.entries) w.counts-is ∙ inserted ∙ count_new same before value (sym found ∙ w.in_default.is)
+          ∙ entered_again same 1 (λ n. n + 1) before value w.in-Some.uses (sym found ∙ w.in-Some.is)
+      | in_default w ↦ ap (λ m. m.entries) w.counts-is ∙ inserted ∙ entered_new same 1 (λ n. n + 1) before value (sym found ∙ w.in_default.is)
     ]
 
 pub returns-clause-index : goal.returns-clause-index
@@ -43,7 +44,7 @@ returns-clause-index g c few =
     let found_at : c.in_ok-index.index ≡ index_in (same value) (keys_of before) =
     c.in_ok-index.ensures.index ∙ same_index (same c.in_ok-clone.field-0) (keys_of before) ∙ ap (λ k. index_in (same k) (keys_of before)) key in
     let stands : slice_get (keys_of c.match-before.counts.entries) c.in_ok-index.index ≡ Some value =
-    ap₂ (λ entries i. slice_get (keys_of entries) i) (returns-clause-counts g c) found_at ∙ stands_counted same c.requires.same before value in
+    ap₂ (λ entries i. slice_get (keys_of entries) i) (returns-clause-counts g c) found_at ∙ stands_entered same 1 (λ n. n + 1) c.requires.same before value in
     let kept : c.kept_index.result ≡ c.in_ok-index.index =
     c.kept_index.ensures (omega (arith, few, slice_get_within (keys_of c.match-before.counts.entries) c.in_ok-index.index value stands)) in
     ap (slice_get (keys_of c.match-before.counts.entries)) kept ∙ stands
