@@ -1,5 +1,5 @@
 -- How the values of a list are met, token by token.
-use Rattle.std.proofs.Common.{◌≡◌, ℕ, ◌+◌, ◌<◌, ◌≤◌, Bool, List, [], ◌∷◌, ◌++◌, get_or, take, length, length-append, length-take, ◌^◌, bytes_eq, refl, ap, sym, subst, ◌∙◌, append-nil, append_assoc, arith}
+use Rattle.std.proofs.Common.{◌≡◌, ℕ, ◌+◌, ◌<◌, Bool, List, [], ◌∷◌, ◌++◌, get_or, take, length, length-append, length-take, ◌^◌, bytes_eq, refl, ap, sym, subst, ◌∙◌, append-nil, append_assoc, arith}
 use Rattle.std.proofs.lemmas.List.{take_more}
 use Rattle.std.specs.Cmp.{IsEquivalence}
 use Rattle.std.specs.List.{AllZip}
@@ -7,7 +7,6 @@ use Rattle.tt_base.specs.contracts.span.SpanPartEq.TheImpl.Laws as part_eq
 use Rattle.tt_base.specs.contracts.symbol.SymbolEq.TheImpl.Laws as symbol_eq
 use Rattle.tt_base.specs.declared.delimiter.Subtree.{Subtree}
 use Rattle.tt_base.specs.declared.leaf.Leaf.TheVariants as leaf
-use Rattle.tt_base.specs.declared.punct.Punct.{Punct}
 use Rattle.tt_base.specs.declared.span.SpanPart.{SpanPart}
 use Rattle.tt_base.specs.declared.token_tree.TokenTree.{TokenTree}
 use Rattle.tt_base.specs.declared.token_tree.TokenTree.TheVariants as token
@@ -15,7 +14,7 @@ use Rattle.tt_base.specs.Span.{part_of}
 use Rattle.tt_tables.specs.TableOrder.{different}
 use Rattle.tt_tables.specs.Uses.{same_part, token_parts, token_symbols, part_uses, symbol_uses}
 use Rattle.tt_pack.specs.declared.uses.TokenUses.{TokenUses}
-use Rattle.tt_pack.specs.Meeting.{IsPartAt, IsSymbolAt, CanMeet, MeetsPart, MeetsSymbol, MeetsBoth, MeetsToken}
+use Rattle.tt_pack.specs.Meeting.{IsPartAt, IsSymbolAt, CanMeet, MeetsPart, MeetsToken}
 use Rattle.tt_pack.specs.TablesOf.{StandsAt, AreUses}
 use Rattle.tt_pack.proofs.Counting.{few_parts, few_symbols}
 use Rattle.tt_pack.proofs.Noting.{different_more, stands_for_noted}

@@ -14,13 +14,13 @@ use Rattle.tt_pack.proofs.interned.parts_by_place.Goals as goal
 pub returns-then-stand_by_first_use-clause-values : goal.returns-then-stand_by_first_use-clause-values
 returns-then-stand_by_first_use-clause-values c =
     let below = c.args.below in
-    let in_order : different nat_eq (part_places below.tokens.now) ≡ range_with_len 0 (length below.parts.now) = c.if-stand_by_first_use.ensures ∙ ap (range_with_len 0) c.if-used-below.true in
+    let in_order : different nat_eq (part_places below.tokens.now) ≡ range_with_len 0 (length below.parts.now) = c.if-stand_by_first_use.ensures.yes ∙ ap (range_with_len 0) c.if-used-below.true in
     if_ok c.of_counts.result (λ table is. parts_made _ _ _ _ _ _ below.list.1 in_order table is) c.of_counts.ensures.values
 
 pub returns-then-stand_by_first_use-clause-new_indices : goal.returns-then-stand_by_first_use-clause-new_indices
 returns-then-stand_by_first_use-clause-new_indices c =
     let below = c.args.below in
-    let in_order : different nat_eq (part_places below.tokens.now) ≡ range_with_len 0 (length below.parts.now) = c.if-stand_by_first_use.ensures ∙ ap (range_with_len 0) c.if-used-below.true in
+    let in_order : different nat_eq (part_places below.tokens.now) ≡ range_with_len 0 (length below.parts.now) = c.if-stand_by_first_use.ensures.yes ∙ ap (range_with_len 0) c.if-used-below.true in
     let few : length below.parts.now ≤ most_parts = omega (arith, c.requires.few, c.if-used-below.true) in
     if_ok_both c.of_counts.result (λ table is leads. parts_lead_on _ _ _ _ _ _ below.list.1 in_order table is few leads) c.of_counts.ensures.values c.of_counts.ensures.new_indices
 
