@@ -5,6 +5,7 @@ from plain_stored import SPACINGS
 from plain_trees import Ident, Literal, Punct, Subtree
 
 NAMES = "abcde"
+UNSEEN = ("invisible", "opaque")
 
 
 class Rules(Values):
@@ -93,6 +94,12 @@ class Rules(Values):
         """The literal whose suffix is its last character, or none where it has one."""
         return literal._replace(suffix_len=0 if literal.suffix_len else len(literal.text[-1:].encode()))
 
+    def other_delimiter(self, kind):
+        """A kind of delimiter that is easily taken for that one, or any."""
+        if kind in UNSEEN:
+            return self.pick(UNSEEN)
+        return self.delimiter_kind()
+
     def instance(self, pattern):
         """Trees of which most are an instance of the pattern."""
         trees = []
@@ -104,7 +111,7 @@ class Rules(Values):
                 continue
             first, pattern = pattern[0], pattern[1:]
             if isinstance(first, Subtree):
-                kind = self.delimiter_kind() if self.happens(0.03) else first.kind
+                kind = self.other_delimiter(first.kind) if self.happens(0.04) else first.kind
                 trees.append(Subtree(kind, self.span(), self.span(), tuple(self.instance(first.children))))
             else:
                 trees.append(self.alike(first)._replace(span=self.span()))

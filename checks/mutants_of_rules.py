@@ -73,10 +73,7 @@ MATCHING = [
     ("literals of other kinds agree", ALIKE, f"({ALIKE} or {BOTH} and {ALIKE_BY_KIND})"),
     ("literals of other texts agree", ALIKE, f"({ALIKE} or {BOTH} and leaf.kind == other.kind)"),
     ("leaves of other spans differ", ALIKE, "leaf == other"),
-    (
-        "opaque and invisible subtrees agree", OTHER_KIND,
-        f'trees[0].kind[-1] + pattern[0].kind[0] not in "eoei" and {OTHER_KIND}',
-    ),
+    ("opaque and invisible subtrees agree", OTHER_KIND, 'shown(trees[0].kind) != shown(pattern[0].kind)'),
     ("subtrees of other kinds agree", f"or {OTHER_KIND}", ""),
     ("subtrees of other spans differ", OTHER_KIND, f"trees[0].open_span != pattern[0].open_span or {OTHER_KIND}"),
     ("what is left over is let go", "return None if trees else found", "return found"),
@@ -112,6 +109,10 @@ def made_alone(tree):
 
 def spanned(tree, span):
     return tree if isinstance(tree, Subtree) else tree._replace(span=span)
+
+
+def shown(kind):
+    return "invisible" if kind == "opaque" else kind
 
 
 def stripped(tree):
