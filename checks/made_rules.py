@@ -2,7 +2,7 @@
 from made_values import CHARS, LITERAL_KINDS, Values
 from plain_rules import FRAGMENTS, is_dollar, variable_at
 from plain_stored import SPACINGS
-from plain_trees import Ident, Literal, Punct, Subtree
+from plain_trees import Ident, Punct, Subtree
 
 NAMES = "abcde"
 UNSEEN = ("invisible", "opaque")

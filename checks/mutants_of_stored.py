@@ -83,7 +83,7 @@ HEADERS = [
     ("format 3 counts 4,094 bytes", FORMAT_3, FORMAT_3.replace("4095", "4094")),
     ("format 3 ends at a distance of 254", FORMAT_3, FORMAT_3.replace("<= 255", "<= 254")),
     ("format 3 ends at part 126", FORMAT_3, FORMAT_3.replace("127", "126")),
-    ("format 3 has low bits of a part of 2 digits", "32 * (close_part % 8)", "32 * (close_part % 4)"),
+    ("format 3 has two low bits of a part", "32 * (close_part % 8)", "32 * (close_part % 4)"),
     ("format 3 halves a part's high bits", "16 * byte_count + close_part // 8", "16 * byte_count + close_part // 16"),
     (
         "format 4 of what closes before it opens has one span", "+ self.span(closing, 0)",

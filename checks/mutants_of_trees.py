@@ -33,7 +33,7 @@ GLUING = [
     ("any second punct may have a third", 'if second.spacing == "joint" and', "if"),
     ("a two asks that the second be joint", "in TWO else 1", 'in TWO and second.spacing != "hidden" else 1'),
     (
-        "puncts stand as one whatever their spans", "first.char + second.char in TWO",
+        "any two puncts of which the first is < are a two", "first.char + second.char in TWO",
         "first.char == '<' or first.char + second.char in TWO",
     ),
 ]

@@ -11,7 +11,7 @@ COMMANDS = 400
 MOST_POINT = 2**64 - 1
 # So many different parts and symbols a large script has: an index of each needs the longest form of those below.
 LARGE_PARTS = 2048 * 16 + 8
-LARGE_SYMBOLS = 8192 + 8
+LARGE_SYMBOLS = 2 * 8192 + 8
 # One script among so many begins with a tree of that size.
 LARGE_EACH = 300
 # Different values in a builder that go by the hundreds.
