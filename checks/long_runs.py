@@ -15,11 +15,15 @@ DEBUG_DEPTH = 1_000
 LEAVES = 100
 REPLACEMENT = 1_000
 SLOTS = 16
-COUNTED_STEPS = 900
-# So many tokens the builder of that run holds at its end, or more. It has 62 parts and 53 symbols to find: more than are
-# compared one by one.
-COUNTED_TOKENS = 256
+COUNTED_STEPS = 1_500
+# The builder of that run uses more parts and more symbols at some time: room is made for 18 of each at first, and then for
+# so many.
+COUNTED_VALUES = 288
 LONG_TEXT = 70_000
+NAMES = 100_000
+BUILT_TOKENS = 600_000
+RULE_LEVELS = 200
+POINTS = 1_000
 # A span of zeros.
 ZERO = "0:0@0..0#0"
 
@@ -229,7 +233,7 @@ class Held:
         return "yes"
 
     def counts(self):
-        """The numbers of different parts and symbols."""
+        """How many different parts and symbols there are."""
         parts, symbols = set(), set()
         for token in self.tokens:
             if isinstance(token, tuple):
@@ -237,14 +241,14 @@ class Held:
                 symbols.add(token[1])
             else:
                 parts.update(part for part in token[:2] if part is not None)
-        return f"counts {len(parts)} {len(symbols)}"
+        return len(parts), len(symbols)
 
 
 def counts_of_many(program):
     """The counts of a builder that grows, goes back, and grows again."""
-    held, commands, expected = Held(), [f"new brace {ZERO} {ZERO}"], ["ok"]
+    held, commands, expected, most = Held(), [f"new brace {ZERO} {ZERO}"], ["ok"], (0, 0)
     for step in range(1, COUNTED_STEPS):
-        part, symbol = step * 7 % 31, step * 11 % 53
+        part, symbol = step * 7 % 163, step * 11 % 331
         span = f"{part}:{step % 2}@{step}..{step + 1}#0"
         part = (part, step % 2)
         if step % 19 == 0:
@@ -269,17 +273,87 @@ def counts_of_many(program):
             held.push(part, f"s{symbol}")
         if len(expected) < len(commands):
             expected.append("ok")
+        counts = held.counts()
+        most = tuple(map(max, zip(most, counts)))
         commands.append("counts")
-        expected.append(held.counts())
+        expected.append("counts {} {}".format(*counts))
     wants("answers", answers_of(program, commands), expected)
-    if len(held.tokens) < COUNTED_TOKENS:
-        raise Wrong(f"{len(held.tokens)} tokens are too few for this run")
+    if min(most) <= COUNTED_VALUES:
+        raise Wrong(f"{most} parts and symbols are too few for this run")
+
+
+def many_names(program):
+    """A builder of names that are all different."""
+    names = [f"a{number}" for number in range(NAMES)]
+    commands = [f"new brace {ZERO} {ZERO}"] + [f"push ident plain {ZERO} {name}" for name in names]
+    commands += ["counts", "build 0", "symbols 0"]
+    answers = iter(answers_of(program, commands))
+    wants("pushes", [next(answers) for _ in range(NAMES + 1)], ["ok"] * (NAMES + 1))
+    wants("counts to build", [next(answers) for _ in range(2)], [f"counts 1 {NAMES}", "ok"])
+    wants("symbols", until_end(answers), names)
+
+
+def large_tree(program):
+    """A tree that is built of many tokens."""
+    commands = [f"new brace {ZERO} {ZERO}"] + [f"push punct alone {ZERO} ,"] * BUILT_TOKENS + ["build 0", "split 0 ,"]
+    answers = answers_of(program, commands)
+    wants("answers", answers[:-1], ["ok"] * (BUILT_TOKENS + 2))
+    wants("pieces", answers[-1], "split" + " 0" * (BUILT_TOKENS + 1))
+
+
+def item_lines(tokens):
+    """The lines that put a tree over those tokens on the list."""
+    return [f"item sub invisible {ZERO} {ZERO} {len(tokens)}"] + ["item " + token for token in tokens]
+
+
+def deep_rule(program):
+    """A rule with a variable at each of many levels, each used in the template."""
+    dollar, colon = f"punct alone {ZERO} $", f"punct alone {ZERO} :"
+    names = [f"ident plain {ZERO} x{level}" for level in range(RULE_LEVELS)]
+    leaves = [f"ident plain {span_at(level)} y{level}" for level in range(RULE_LEVELS)]
+    pattern, trees = [], []
+    for name, leaf in zip(reversed(names), reversed(leaves)):
+        pattern = [dollar, name, colon, f"ident plain {ZERO} tt", f"sub paren {ZERO} {ZERO} {len(pattern)}", *pattern]
+        trees = [leaf, f"sub paren {ZERO} {ZERO} {len(trees)}", *trees]
+    template = [token for name in names for token in (dollar, name)]
+    commands = []
+    for slot, tokens in enumerate((pattern, template, trees)):
+        commands += item_lines(tokens) + [f"list {slot}"]
+    commands += ["expand 0 1 2 3", "siblings 3"]
+    answers = answers_of(program, commands)
+    wants("answers", answers[:len(commands) - 1], ["ok"] * (len(commands) - 1))
+    wants("siblings", answers[len(commands) - 1:], leaves + ["end"])
+
+
+def many_points(program):
+    """Points that stand until one before them is restored."""
+    commands, expected = [f"new brace {ZERO} {ZERO}"], ["ok"]
+    for number in range(POINTS):
+        commands += ["point", f"push ident plain {ZERO} a{number}"]
+        expected += [f"point {number}", "ok"]
+    half = POINTS // 2
+    # A point, whether it stands, and how many tokens are held then.
+    for number, stands, held in (
+        (POINTS - 1, "yes", POINTS - 1), (half, "yes", half), (half, "yes", half), (half + 1, "no", half),
+        (POINTS, "no", half), (half - 1, "yes", half - 1), (half, "no", half - 1),
+    ):
+        commands += [f"restore {number}", "counts"]
+        expected += [stands, f"counts 1 {held}"]
+    commands.append("point")
+    expected.append(f"point {POINTS}")
+    wants("answers", answers_of(program, commands), expected)
+
+
+RUNS = (
+    long_list, deep_nest, deepest_nest, debug_of_a_nest, replaced_leaves, long_line, all_slots, counts_of_many, many_names,
+    large_tree, deep_rule, many_points,
+)
 
 
 def main():
     """Makes the runs one after the other."""
     failed = False
-    for run in (long_list, deep_nest, deepest_nest, debug_of_a_nest, replaced_leaves, long_line, all_slots, counts_of_many):
+    for run in RUNS:
         try:
             run(sys.argv[1])
             print(f"ok {run.__name__}")

@@ -9,9 +9,10 @@ import argparse
 import subprocess
 import sys
 
-from plain_machine import Machine
+from made_values import FEW_SLOTS
+from plain_machine import Header, Machine
 from plain_trees import Ident, Literal, Punct, header_words, leaf_words, size
-from script_maker import FEW_SLOTS, Header, Script
+from script_maker import Script
 
 SCRIPTS = 300
 # Scripts to one line that is printed.
@@ -78,4 +79,5 @@ def main():
     sys.exit(failed > 0)
 
 
-main()
+if __name__ == "__main__":
+    main()

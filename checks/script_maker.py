@@ -1,184 +1,46 @@
 """Commands made by chance (docs/LANGUAGE.md): those that a user may send, and some that are refused."""
 import itertools
-import random
 
+from made_rules import NAMES, Rules
+from made_values import CUTS, FEW_SLOTS, MANY_PARTS, MANY_SYMBOLS, MOST, SLOTS
 from plain_machine import Header
-from plain_rules import FRAGMENTS, is_dollar, variable_at
-from plain_stored import DELIMITER_KINDS, SPACINGS
-from plain_trees import Ident, Literal, Punct, Span, Subtree, flat, size
+from plain_stored import SPACINGS
+from plain_trees import Ident, Punct, Subtree, flat, size
 
 COMMANDS = 400
-# Of the sixteen slots most commands use these.
-FEW_SLOTS = 4
-SLOTS = 16
-MOST = 2**32 - 1
 MOST_POINT = 2**64 - 1
-# Numbers at which the forms of a span end.
-STARTS = (0, 131071, 131072, 134217727, 134217728, MOST - 5)
-LENGTHS = (0, 1, 255, 256, 262143, 262144, 2**31)
-# Distances of a close from its open at which the formats of a header end.
-DISTANCES = (0, 1, 7, 8, 255, 256, 2047, 2048)
-CHARS = "$:;,=<>.&|-!+*/^%'#@~?→é"
-GLUED = "<>=.:&|-!"
-CUTS = ";,=é$ "
-TEXTS = ("_", "true", "false", "ident", "tt", "literal", "é", "", "a b", "x→y", "$", "v" * 300)
-NAMES = "abcde"
-LITERAL_KINDS = (
-    "byte", "char", "int", "float", "str", "rstr:0", "rstr:1", "rstr:2", "rstr:255", "bstr", "rbstr:0", "rbstr:3",
-    "cstr", "rcstr:1", "err",
-)
+# So many different parts and symbols a large script has: an index of each needs the longest form of those below.
+LARGE_PARTS = 2048 * 16 + 8
+LARGE_SYMBOLS = 2 * 8192 + 8
+# One script among so many begins with a tree of that size.
+LARGE_EACH = 300
+# Different values in a builder that go by the hundreds.
+COUNTED = (90, 130, 270, 300)
 SHOWN = "show pretty debug flat siblings walk glue bytes parts symbols".split()
-# How often each command, or a tree, a list that spells none, a rule with its input, comes among others.
+STORED = "bytes parts symbols".split()
+# How often each command, or some that belong together, come among others.
 WEIGHTS = {
-    "tree": 4, "spoiled_list": 1, "rule": 3, "new": 2, "open": 11, "push": 14, "close": 10, "append": 3, "alone": 3,
-    "unwrap": 4, "point": 4, "restore": 4, "expected": 1, "counts": 4, "build": 2, "skip": 2, "copy": 2, "kind": 2,
-    "spans": 2, "set": 3, "ids": 2, "rewrite": 4, "equal": 2, "split": 2, "shown": 10,
+    "tree": 4, "spoiled_list": 1, "mended_list": 1, "rule": 3, "spoiled_rule": 1, "edge": 1, "table": 0.5, "joined": 3,
+    "new": 2, "open": 11, "push": 14, "close": 10, "append": 3, "alone": 3, "ends_alone": 1, "unwrap": 4, "marked": 3,
+    "point": 4, "restore": 4, "points": 0.3, "many": 0.1, "expected": 1, "counts": 4, "build": 2, "skip": 2, "skipped": 1,
+    "copy": 2, "kind": 2, "spans": 2, "set": 3, "ids": 2, "rewrite": 4, "expand": 1, "equal": 2, "nearly_equal": 1,
+    "split": 2, "shown": 10,
 }
 
 
-class Chance:
-    """Values made by chance. What is drawn first tells how many different spans and texts there are, and how wide trees."""
-
-    def __init__(self, seed):
-        self.chance = random.Random(seed)
-        self.pick, self.below = self.chance.choice, self.chance.randrange
-        self.files, self.asts, self.contexts = self.pick((1, 2, 5)), self.pick((1, 2, 8)), self.pick((1, 2, 4))
-        self.starts, self.is_wide = self.pick((10, 300, 3000)), self.happens(0.3)
-        self.texts, self.width = self.pick((3, 20, 400)), self.pick((3, 8, 40, 200))
-
-    def happens(self, chance):
-        """Whether something of that chance happens."""
-        return self.chance.random() < chance
-
-    def slot(self):
-        """A slot, mostly one of few."""
-        return self.below(FEW_SLOTS if self.happens(0.9) else SLOTS)
-
-    def delimiter_kind(self):
-        """A kind of delimiter."""
-        return self.pick(DELIMITER_KINDS)
-
-    def span(self):
-        """A span; where they are wide, one near the end of a form at times."""
-        start, length = self.below(self.starts), self.pick((0, 1, 1, 1, 1, 2, 5))
-        if self.is_wide and self.happens(0.2):
-            start, length = self.pick((*STARTS, self.below(MOST))), self.pick((*LENGTHS, self.below(2**20)))
-        file, ast, context = self.below(self.files), self.below(self.asts), self.below(self.contexts)
-        return Span(file, ast, start, min(start + length, MOST), context)
-
-    def text(self):
-        """A text, mostly one of many alike."""
-        return self.pick(TEXTS) if self.happens(0.1) else f"s{self.below(self.texts)}"
-
-    def punct(self):
-        """A punct, mostly one that may stand with others as one."""
-        return Punct(self.pick((*SPACINGS, "joint")), self.span(), self.pick(CHARS if self.happens(0.4) else GLUED))
-
-    def literal(self):
-        """A literal. Its suffix is none, or cuts no character in two."""
-        text = self.text()
-        suffix = text[len(text) - self.below(len(text) + 1):] if self.happens(0.4) else ""
-        suffix_len = len(suffix.encode())
-        return Literal(self.pick(LITERAL_KINDS), suffix_len if suffix_len < 256 else 0, self.span(), text)
-
-    def ident(self):
-        """An ident."""
-        return Ident(self.pick(("plain", "plain", "plain", "raw")), self.span(), self.text())
-
-    def leaf(self):
-        """A leaf of any kind."""
-        return self.pick((self.punct, self.punct, self.ident, self.ident, self.literal))()
-
-    def close_of(self, open_span):
-        """A span, or one like the open span and not far behind it."""
-        distance = self.pick(DISTANCES)
-        if self.happens(0.5) or open_span.end + distance > MOST:
-            return self.span()
-        return open_span._replace(start=open_span.start + distance, end=open_span.end + distance)
-
-    def subtree(self, children):
-        """A subtree over trees."""
-        open_span = self.span()
-        return Subtree(self.delimiter_kind(), open_span, self.close_of(open_span), tuple(children))
-
-    def trees(self, depth, most):
-        """Some trees of at most so many levels, and not many more tokens than that."""
-        trees = []
-        while most > 0 and len(trees) < self.width and self.happens(0.9):
-            is_leaf = depth == 0 or self.happens(0.7)
-            trees.append(self.leaf() if is_leaf else self.subtree(self.trees(depth - 1, most // 2)))
-            most -= size(trees[-1:])
-        return trees
-
-    def name(self):
-        """A name of a variable, or what is none."""
-        return Ident(self.pick(("plain", "plain", "raw")), self.span(), "_" if self.happens(0.3) else self.pick(NAMES))
-
-    def variable(self, name):
-        """A variable of a pattern."""
-        fragment = Ident("plain", self.span(), self.pick(FRAGMENTS))
-        return [Punct("alone", self.span(), "$"), name, Punct("alone", self.span(), ":"), fragment]
-
-    def pattern(self, names, depth=3):
-        """The trees of a pattern, whose variables have names that are left, or mostly so; these then go."""
-        trees = []
-        for _ in range(self.below(6)):
-            if self.happens(0.5) and names:
-                trees += self.variable(names.pop() if self.happens(0.98) else self.name())
-            elif self.happens(0.5) and depth > 0:
-                trees.append(self.subtree(self.pattern(names, depth - 1)))
-            else:
-                trees.append(self.leaf() if self.happens(0.3) else Ident("plain", self.span(), "k"))
-        return trees
-
-    def template(self, names, depth=3):
-        """The trees of a template, whose uses have those names, or mostly so."""
-        trees = []
-        for _ in range(self.below(6)):
-            if self.happens(0.5) and names:
-                name = self.pick(names)._replace(span=self.span()) if self.happens(0.97) else self.name()
-                trees += [Punct("alone", self.span(), "$"), name]
-            elif self.happens(0.5) and depth > 0:
-                trees.append(self.subtree(self.template(names, depth - 1)))
-            else:
-                trees.append(Ident("plain", self.span(), "k"))
-        return trees
-
-    def taken(self, fragment):
-        """A tree that a variable of the fragment takes."""
-        if fragment == "ident":
-            return self.ident()
-        if fragment == "literal":
-            return self.literal() if self.happens(0.5) else Ident("plain", self.span(), self.pick(("true", "false")))
-        return self.leaf() if self.happens(0.5) else self.subtree(self.trees(1, 5))
-
-    def instance(self, pattern):
-        """Trees of which most are an instance of the pattern."""
-        trees = []
-        while pattern:
-            variable = variable_at(pattern) if is_dollar(pattern[0]) else None
-            if variable is not None:
-                trees.append(self.taken(variable[1]))
-                pattern = pattern[4:]
-                continue
-            first, pattern = pattern[0], pattern[1:]
-            if isinstance(first, Subtree):
-                trees.append(first._replace(close=self.span(), children=tuple(self.instance(first.children))))
-            else:
-                trees.append(first._replace(span=self.span()))
-        return trees + [self.leaf()] * self.happens(0.03)
-
-
-class Script(Chance):
+class Script(Rules):
     """Commands made by chance. A method `add_VERB` adds one of that verb; a verb that has none has no values."""
 
     def __init__(self, seed):
         super().__init__(seed)
-        self.commands = []
+        self.commands, self.points = [], 0
+        if seed % LARGE_EACH == LARGE_EACH - 1:
+            self.add_large()
+        most = len(self.commands) + COMMANDS
         self.add_tree(0)
         self.add_tree(1)
         self.add_new()
-        while len(self.commands) < COMMANDS:
+        while len(self.commands) < most:
             (name,) = self.chance.choices(list(WEIGHTS), list(WEIGHTS.values()))
             getattr(self, f"add_{name}", lambda verb=name: self.add(verb))()
         for slot, verb in itertools.product(range(FEW_SLOTS), ("bytes", "parts", "symbols", "flat")):
@@ -209,6 +71,34 @@ class Script(Chance):
         """A tree in a slot."""
         self.put(self.slot() if slot is None else slot, self.trees(self.pick((1, 3, 6)), self.pick((5, 40, 150, 300))))
 
+    def add_large(self):
+        """A tree of many parts and symbols, which is stored, and then is there no more."""
+        slot = SLOTS - 1
+        self.put(slot, self.ring(LARGE_PARTS) + self.many_leaves(1, LARGE_SYMBOLS))
+        for verb in STORED:
+            self.add(verb, slot)
+        self.put(slot, [])
+
+    def add_edge(self):
+        """A tree with a header that ends a format."""
+        slot = self.slot()
+        self.put(slot, [self.edge_subtree()])
+        self.add("bytes", slot)
+
+    def add_table(self):
+        """A tree whose tables are ordered by first use, or just not."""
+        slot = self.slot()
+        trees = self.many_leaves(self.pick(MANY_PARTS), self.pick(MANY_SYMBOLS))
+        self.put(slot, trees if self.happens(0.7) else self.ring(self.below(8) + 125))
+        for verb in STORED:
+            self.add(verb, slot)
+
+    def add_joined(self):
+        """A tree of puncts that stand as one."""
+        slot = self.slot()
+        self.put(slot, [punct for _ in range(8) for punct in self.run()])
+        self.add("glue", slot)
+
     def add_spoiled_list(self):
         """A list that mostly spells no subtree."""
         tokens = list(self.tokens_of([self.subtree(self.trees(2, 8))]))
@@ -220,26 +110,53 @@ class Script(Chance):
             tokens = self.pick((tokens[1:], tokens + tokens))
         self.add_list(tokens, self.slot())
 
-    def add_rule(self):
-        """A rule, an input for it, and what it makes."""
+    def add_mended_list(self):
+        """A list without its last token, then with it, and then a list of none."""
+        slot, (*tokens, last) = self.slot(), self.tokens_of([self.subtree([self.leaf(), *self.trees(1, 4)])])
+        self.add_list(tokens, slot)
+        self.add("item", last)
+        for verb in ("list", "flat", "list"):
+            self.add(verb, slot)
+
+    def rule(self):
+        """A pattern and a template."""
         names = [Ident(raw, self.span(), text) for raw in ("plain", "raw") for text in NAMES]
         self.chance.shuffle(names)
         left = list(names)
         pattern = self.pattern(left)
-        used = [name for name in names if name not in left]
-        pattern_slot, template_slot, input_slot = self.chance.sample(range(FEW_SLOTS), 3)
-        self.put(pattern_slot, pattern)
-        self.put(template_slot, self.template(used))
-        self.put(input_slot, self.instance(pattern))
+        return pattern, self.template([name for name in names if name not in left])
+
+    def expand_all(self, pattern, template, trees):
+        """What a rule makes of an input."""
+        slots = self.chance.sample(range(FEW_SLOTS), 3)
+        for slot, below in zip(slots, (pattern, template, trees)):
+            self.put(slot, below)
         to = self.slot()
-        self.add("expand", pattern_slot, template_slot, input_slot, to)
+        self.add("expand", *slots, to)
         self.add("flat", to)
 
+    def add_rule(self):
+        """A rule, an input for it, and what it makes."""
+        pattern, template = self.rule()
+        self.expand_all(pattern, template, self.instance(pattern))
+
+    def add_spoiled_rule(self):
+        """A rule whose pattern and template have faults, or one of them."""
+        pattern, template = self.rule()
+        which = self.below(3)
+        self.expand_all(
+            self.spoiled(pattern) if which != 0 else pattern, self.spoiled(template) if which != 1 else template, []
+        )
+
+    def add_expand(self):
+        self.add("expand", *(self.slot() for _ in range(4)))
+
     def add_new(self):
+        self.points = 0
         self.add("new", self.delimiter_kind(), self.span(), self.span())
 
-    def add_open(self):
-        self.add("open", self.delimiter_kind(), self.span())
+    def add_open(self, kind=None):
+        self.add("open", kind or self.delimiter_kind(), self.span())
 
     def add_push(self):
         self.add("push", self.leaf())
@@ -253,14 +170,92 @@ class Script(Chance):
     def add_alone(self):
         self.add("alone", self.slot())
 
+    def add_ends_alone(self):
+        """A tree that ends in a punct, some levels deep, which becomes alone."""
+        slot, trees = self.slot(), [self.leaf(), Punct(self.pick(SPACINGS), self.span(), ";")]
+        for _ in range(self.below(3)):
+            trees = [self.subtree(trees)]
+        self.put(slot, trees)
+        self.add_new()
+        self.add("alone", slot)
+        self.build_and_read(slot)
+
+    def build_and_read(self, slot, verb="build"):
+        """What the builder holds, as a tree."""
+        self.add(verb, slot)
+        self.add("flat", slot)
+
+    def add_invisible(self):
+        """An invisible or opaque subtree over a leaf or two, which is then marked."""
+        self.add_open(self.pick(("invisible", "invisible", "opaque", "paren")))
+        for _ in range(self.below(2) + 1):
+            self.add_push()
+        self.add_close()
+
+    def add_marked(self):
+        """Marks that are set, left and cleared, and a removal after that."""
+        self.add_new()
+        self.add_invisible()
+        self.add_point()
+        for _ in range(self.below(3)):
+            self.pick((self.add_open, self.add_push, self.add_point))()
+        self.add_invisible()
+        for _ in range(self.below(3)):
+            step = self.pick(("push", "append", "point", "restore", "restore", "open", "close", "unwrap", "counts"))
+            getattr(self, f"add_{step}", lambda verb=step: self.add(verb))()
+        self.add("unwrap")
+        self.add("expected")
+        for _ in range(4):
+            self.add_close()
+        self.build_and_read(self.slot())
+
+    def add_point(self):
+        self.points += 1
+        self.add("point")
+
     def add_restore(self):
-        self.add("restore", self.pick((0, 1, 2, 3, self.below(12), MOST_POINT)))
+        last = max(0, self.points - self.below(4))
+        self.add("restore", self.pick((0, last, last, last, self.below(12), MOST_POINT)))
+
+    def add_points(self):
+        """Many points, some of them of as many tokens, and restores of theirs."""
+        self.add_new()
+        for _ in range(self.below(60)):
+            self.add_point()
+            if self.happens(0.7):
+                self.add_push()
+        for _ in range(8):
+            self.add("restore", self.below(self.points + 1))
+            self.add("counts")
+            self.add_point()
+
+    def add_many(self):
+        """A builder whose different values go by the hundreds, and go back."""
+        parts, symbols = self.pick(COUNTED), self.pick(COUNTED)
+        slot = self.slot()
+        self.put(slot, self.many_leaves(parts, symbols))
+        self.add_new()
+        self.add_push()
+        self.add_point()
+        for command in (("append", slot), ("append", slot), ("restore", 0), ("append", slot)):
+            self.add(*command)
+            self.add("counts")
+        self.add_open()
+        self.add_push()
+        self.add("counts")
 
     def add_build(self):
         self.add("build", self.slot())
 
     def add_skip(self):
         self.add("skip", self.slot())
+
+    def add_skipped(self):
+        """A builder of one subtree, or two, without its top."""
+        self.add_new()
+        for _ in range(self.below(2) + 1):
+            self.add_invisible()
+        self.build_and_read(self.slot(), "skip")
 
     def add_copy(self):
         self.add("copy", self.slot(), self.slot())
@@ -278,11 +273,25 @@ class Script(Chance):
         self.add("ids", self.slot(), [self.pick((0, 1, 2, self.below(MOST))) for _ in range(self.below(6))])
 
     def add_rewrite(self):
-        actions = ("keep", "keep", "keep", "remove", f"put:{self.below(FEW_SLOTS)}")
-        self.add("rewrite", self.slot(), [self.pick(actions) for _ in range(self.below(8))])
+        slot = self.slot()
+        actions = ["keep", "keep", "keep", "remove", f"put:{self.below(FEW_SLOTS)}", f"put:{self.slot()}"]
+        if self.happens(0.2):
+            actions += [f"put:{slot}", f"put:{self.below(SLOTS)}"]
+        self.add("rewrite", slot, [self.pick(actions) for _ in range(self.below(8))])
 
     def add_equal(self):
         self.add("equal", self.slot(), self.slot())
+
+    def add_nearly_equal(self):
+        """Two trees that differ in their tops, or in a leaf, or in nothing."""
+        slot, other = self.chance.sample(range(FEW_SLOTS), 2)
+        self.add("copy", slot, other)
+        span = self.span()
+        self.add("spans", slot, span, span)
+        self.add("spans", other, self.pick((span, span, self.span())), self.pick((span, span, self.span())))
+        change = self.pick((("kind", slot, self.delimiter_kind()), ("set", slot, 1, self.leaf()), ("flat", slot)))
+        self.add(*change)
+        self.add("equal", slot, other)
 
     def add_split(self):
         self.add("split", self.slot(), self.pick(CUTS))

@@ -3,12 +3,13 @@ use Rattle.std.proofs.Common.{◌≡◌, ℕ, [], ◌∷◌, List, map, codes, r
 use Rattle.tt_base.specs.declared.delimiter.DelimiterKind.TheVariants.{Parenthesis, Brace, Bracket, Invisible}
 use Rattle.tt_base.specs.declared.punct.Punct.{Punct}
 use Rattle.tt_base.specs.declared.punct.Spacing.TheVariants.{Alone, Joint}
+use Rattle.tt_base.specs.declared.token_tree.TokenTree.TheVariants as token
 use Rattle.tt_base.specs.Expectations.{first_leaf_as, as_leaf, as_punct, as_ident_or_underscore, as_literal, unless_underscore, is_punct_of, is_at_node}
 use Rattle.tt_base.specs.Forest.{Forest, end, leaf, node}
 use Rattle.tt_base.specs.Gluing.{glued}
 use Rattle.tt_base.specs.OneRoot.{stripped}
 use Rattle.tt_base.specs.Siblings.{tip, branch, tree_span}
-use Rattle.tt_base.specs.Token.{delimiter}
+use Rattle.tt_base.specs.Token.{delimiter, first_span}
 use Rattle.tt_base.specs.Walk.{passes, opens, closes, subtree_of, two_leaves_at}
 use Rattle.tt_base.proofs.Samples.{span, punct, ident, subtree}
 
@@ -75,6 +76,12 @@ subtree_is_a_node = refl
 opens_first : tree_span (branch (delimiter Brace (span 3 1) (span 8 1)) end) ≡ span 3 1
 opens_first = refl
 
+subtree_token_opens_first : first_span (token.Subtree (subtree_of (delimiter Brace (span 3 1) (span 8 1)) 0)) ≡ span 3 1
+subtree_token_opens_first = refl
+
+leaf_token_span_first : first_span (token.Leaf (ident (codes "a"))) ≡ span 0 1
+leaf_token_span_first = refl
+
 leaf_span_first : tree_span (tip (ident (codes "a"))) ≡ span 0 1
 leaf_span_first = refl
 
@@ -87,6 +94,16 @@ parted_by_an_end = refl
 
 parted_by_an_opening : two_leaves_at (passes (ident (codes "a")) ∷ opens (subtree_of (delimiter Brace (span 0 1) (span 2 1)) 1) ∷ passes (ident (codes "b")) ∷ []) ≡ None
 parted_by_an_opening = refl
+
+-- one leaf alone is not two, nor is a subtree and what it holds
+one_leaf_at_the_end : two_leaves_at (passes (ident (codes "a")) ∷ []) ≡ None
+one_leaf_at_the_end = refl
+
+behind_an_opening : two_leaves_at (opens (subtree_of (delimiter Brace (span 0 1) (span 2 1)) 1) ∷ passes (ident (codes "a")) ∷ passes (ident (codes "b")) ∷ []) ≡ None
+behind_an_opening = refl
+
+behind_an_end : two_leaves_at (closes (subtree_of (delimiter Brace (span 0 1) (span 2 1)) 0) ∷ passes (ident (codes "a")) ∷ passes (ident (codes "b")) ∷ []) ≡ None
+behind_an_end = refl
 
 -- only an invisible root is taken off, and once
 strips_invisible : stripped (subtree Invisible (subtree Invisible (leaf (ident (codes "a")) end))) ≡ subtree Invisible (leaf (ident (codes "a")) end)

@@ -40,6 +40,55 @@ float = refl
 underscore : parts_told (codes "1_") (Some (scan.Int, 1)) ≡ record { kind = lit.Integer; value = codes "1"; suffix = [] }
 underscore = refl
 
+-- what is not terminated reaches up to the suffix
+open_character : parts_told (codes "'a") (Some (scan.Char false, 2)) ≡ record { kind = lit.Char; value = codes "a"; suffix = [] }
+open_character = refl
+
+open_byte : parts_told (codes "b'a") (Some (scan.Byte false, 3)) ≡ record { kind = lit.Byte; value = codes "a"; suffix = [] }
+open_byte = refl
+
+open_byte_string : parts_told (codes "b\"a") (Some (scan.ByteStr false, 3)) ≡ record { kind = lit.ByteStr; value = codes "a"; suffix = [] }
+open_byte_string = refl
+
+open_c_string : parts_told (codes "c\"a") (Some (scan.CStr false, 3)) ≡ record { kind = lit.CStr; value = codes "a"; suffix = [] }
+open_c_string = refl
+
+-- hashes that were not counted are none
+raw_string_of_no_count : parts_told (codes "r\"a\"") (Some (scan.RawStr None, 4)) ≡ record { kind = lit.StrRaw 0; value = codes "a"; suffix = [] }
+raw_string_of_no_count = refl
+
+raw_byte_string_of_no_count : parts_told (codes "br\"a\"") (Some (scan.RawByteStr None, 5)) ≡ record { kind = lit.ByteStrRaw 0; value = codes "a"; suffix = [] }
+raw_byte_string_of_no_count = refl
+
+raw_c_string_of_no_count : parts_told (codes "cr\"a\"") (Some (scan.RawCStr None, 5)) ≡ record { kind = lit.CStrRaw 0; value = codes "a"; suffix = [] }
+raw_c_string_of_no_count = refl
+
+-- a suffix on what is no number
+string_with_suffix : parts_told (codes "\"a\"x") (Some (scan.Str true, 3)) ≡ no_literal (codes "\"a\"x")
+string_with_suffix = refl
+
+byte_with_suffix : parts_told (codes "b'a'x") (Some (scan.Byte true, 4)) ≡ no_literal (codes "b'a'x")
+byte_with_suffix = refl
+
+byte_string_with_suffix : parts_told (codes "b\"a\"x") (Some (scan.ByteStr true, 4)) ≡ no_literal (codes "b\"a\"x")
+byte_string_with_suffix = refl
+
+c_string_with_suffix : parts_told (codes "c\"a\"x") (Some (scan.CStr true, 4)) ≡ no_literal (codes "c\"a\"x")
+c_string_with_suffix = refl
+
+raw_string_with_suffix : parts_told (codes "r\"a\"x") (Some (scan.RawStr (Some 0), 4)) ≡ no_literal (codes "r\"a\"x")
+raw_string_with_suffix = refl
+
+raw_byte_string_with_suffix : parts_told (codes "br\"a\"x") (Some (scan.RawByteStr (Some 0), 5)) ≡ no_literal (codes "br\"a\"x")
+raw_byte_string_with_suffix = refl
+
+raw_c_string_with_suffix : parts_told (codes "cr\"a\"x") (Some (scan.RawCStr (Some 0), 5)) ≡ no_literal (codes "cr\"a\"x")
+raw_c_string_with_suffix = refl
+
+-- an underscore counts as none there too
+string_with_underscore : parts_told (codes "\"a\"_") (Some (scan.Str true, 3)) ≡ record { kind = lit.Str; value = codes "a"; suffix = [] }
+string_with_underscore = refl
+
 no_scan : parts_told (codes "x") None ≡ no_literal (codes "x")
 no_scan = refl
 

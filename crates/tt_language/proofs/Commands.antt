@@ -163,15 +163,15 @@ no_verb line word tail e t lacks none c fits d =
     none v tt u.0
 
 -- what follows a verb is read as the command's values
-pub command_read : (v : Verb) (line word tail : List ℕ) (r : Option (part v).Values) (found : Option Command) → line ≡ word ++ tail → IsTail tail → word ≡ verb_word v
-    → ReadsPieces (part v).pieces (part v).Fits tail r → found ≡ option_map (make v) r → Reads spell CommandFits line found
-command_read v line word tail None found e t w unread is =
+pub command_read : (v : Verb) (tail : List ℕ) (r : Option (part v).Values) (found : Option Command) → IsTail tail
+    → ReadsPieces (part v).pieces (part v).Fits tail r → found ≡ option_map (make v) r → Reads spell CommandFits (verb_word v ++ tail) found
+command_read v tail None found t unread is =
     rw is
     (λ c fits d.
-    let (made, same) = told line tail v c t (e ∙ ap (λ x. x ++ tail) w) d fits in
+    let (made, same) = told (verb_word v ++ tail) tail v c t refl d fits in
     unread made.value made.fits same)
-command_read v line word tail (Some a) found e t w (spelled, fits) is =
-    rw is (e ∙ ap (λ x. x ++ tail) w ∙ ap (λ x. verb_word v ++ x) spelled ∙ sym (spells_right v a), fits_right v a fits)
+command_read v tail (Some a) found t (spelled, fits) is =
+    rw is (ap (λ x. verb_word v ++ x) spelled ∙ sym (spells_right v a), fits_right v a fits)
 
 -- an option is mapped, where what the closure gives is what the function gives
 pub mapped : {A B : Type 0} (f : A → B) (o : Option A) (r : Option B) {P : A → B → Type 0} → MatchOption o (r ≡ None) (λ x. IsSomeAnd r (P x)) → ((x : A) (y : B) → P x y → y ≡ f x)

@@ -1,7 +1,8 @@
 //! What a line may ask, and how it is read.
-ghost use Rattle.std.specs.Prelude.{◌≡◌, IfOk, IfErr, IfSome, MatchOption};
+ghost use Rattle.std.specs.Prelude.{◌≡◌, ◌++◌, IfOk, IfErr, IfSome, MatchOption};
 ghost use Rattle.tt_base.specs.declared.fault.TtFault.TheVariants.{Memory};
-ghost use Rattle.tt_language.specs.Reading.{IsOneLine, Reads};
+ghost use Rattle.tt_language.specs.Reading.{IsOneLine, IsTail, Reads};
+ghost use Rattle.tt_language.specs.Verb.{verb_word};
 
 mod action;
 mod front;
@@ -18,7 +19,7 @@ use crate::many::Many;
 use crate::slot::Slot;
 use crate::texts::Texts;
 pub use action::Action;
-use front::after_item;
+use front::after_word;
 use part::Part;
 use std::alloc::Global;
 use tokens::token;
@@ -119,7 +120,7 @@ impl Command {
         ensures reads { IfOk result (λ found. MatchOption found (IsNoCommand line.now) (StandsFor line.now)) }
         ensures err { IfErr result (λ fault. fault ≡ Memory) }
     {
-        if let Some(rest) = after_item(line) {
+        if let Some(rest) = after_word(line, b"item") {
             return Ok(token(texts, rest)?.map(Command::Item));
         }
         Command::read(texts, line)
@@ -134,6 +135,15 @@ impl Command {
         let Some(verb) = Verb::read(word) else {
             return Ok(None);
         };
+        Command::read_behind(texts, verb, rest)
+    }
+
+    // The command of the verb, and of what follows that.
+    fn read_behind(texts: &mut Texts, verb: Verb, rest: &[u8]) -> Result<Option<Command>, TtFault>
+        requires tail { IsTail rest.now }
+        ensures reads { IfOk result (Reads spell CommandFits (verb_word verb ++ rest.now)) }
+        ensures err { IfErr result (λ fault. fault ≡ Memory) }
+    {
         read!(texts, rest, verb;
             Verb::Item => Command::Item,
             Verb::Clear => |()| Command::Clear,

@@ -115,7 +115,7 @@ impl Machine {
         let list = mem::replace(&mut self.list, Vec::new(self.alloc));
         match TopSubtree::from_serialized(self.alloc, list) {
             Ok(tree) => {
-                self.slots[slot.index()] = Some(tree);
+                self.put(slot, tree);
                 Answer::ok()
             }
             Err(refused) => {
@@ -140,7 +140,7 @@ impl Machine {
         };
         match tree.clone(self.alloc) {
             Ok(copy) => {
-                self.slots[to.index()] = Some(copy);
+                self.put(to, copy);
                 Answer::ok()
             }
             Err(fault) => Answer::fault(fault),

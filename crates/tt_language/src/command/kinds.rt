@@ -3,9 +3,7 @@ ghost use Rattle.tt_base.specs.Fits.{KindFits};
 ghost use Rattle.tt_language.specs.Token.{kind_word, spacing_word, raw_word, literal_kind_word};
 ghost use Rattle.tt_language.specs.WordLaws.{spaceless_kind, spaceless_spacing, spaceless_rawness, spaceless_literal_kind};
 
-use crate::command::front::{
-    after_alone, after_hidden, after_int, after_joint, after_plain, after_raw, after_str,
-};
+use crate::command::front::after_word;
 use crate::command::word::{Word, cut, is, named};
 use tt_base::{DelimiterKind, IdentIsRaw, LitKind, Spacing};
 
@@ -42,13 +40,13 @@ impl Word for Spacing {
 
     #[inline(always)]
     fn read_before_space(text: &[u8]) -> Option<(Spacing, &[u8])> {
-        if let Some(rest) = after_alone(text) {
+        if let Some(rest) = after_word(text, b"alone") {
             return Some((Spacing::Alone, rest));
         }
-        if let Some(rest) = after_joint(text) {
+        if let Some(rest) = after_word(text, b"joint") {
             return Some((Spacing::Joint, rest));
         }
-        let rest = after_hidden(text)?;
+        let rest = after_word(text, b"hidden")?;
         Some((Spacing::JointHidden, rest))
     }
 
@@ -69,10 +67,10 @@ impl Word for IdentIsRaw {
 
     #[inline(always)]
     fn read_before_space(text: &[u8]) -> Option<(IdentIsRaw, &[u8])> {
-        if let Some(rest) = after_plain(text) {
+        if let Some(rest) = after_word(text, b"plain") {
             return Some((IdentIsRaw::No, rest));
         }
-        let rest = after_raw(text)?;
+        let rest = after_word(text, b"raw")?;
         Some((IdentIsRaw::Yes, rest))
     }
 
@@ -109,10 +107,10 @@ impl Word for LitKind {
     // The kinds of most literals are told at once.
     #[inline(always)]
     fn read_before_space(text: &[u8]) -> Option<(LitKind, &[u8])> {
-        if let Some(rest) = after_int(text) {
+        if let Some(rest) = after_word(text, b"int") {
             return Some((LitKind::Integer, rest));
         }
-        if let Some(rest) = after_str(text) {
+        if let Some(rest) = after_word(text, b"str") {
             return Some((LitKind::Str, rest));
         }
         let (word, rest) = cut(text, b' ')?;

@@ -1,5 +1,6 @@
 use Rattle.std.proofs.Common.{◌≡◌, [], Some, inl, inr, set, ◌∙◌, rules}
 use Rattle.tt.specs.Forest.{IsOneSubtree}
+use Rattle.tt_run.specs.State.{with_tree}
 use Rattle.tt_run.proofs.machine.Machine.list.Goals as goal
 
 pub returns-in-Ok : goal.returns-in-Ok
@@ -7,8 +8,10 @@ returns-in-Ok c =
     let list : c.self.inside.list.items ≡ c.replace-list.result.items = search rules in
     let empty : c.replace-list.new.dest.items ≡ [] = search rules in
     let one : IsOneSubtree c.self.inside.list.items = (c.in-Ok.tree, list ∙ c.in-Ok.ensures.ok, c.in-Ok.ensures.counts) in
-    rw (← c.self.view_is)
-    (inl (inl (one, c.in-Ok.ensures.limits, c.ok.ensures, λ i. record { slots = set c.self.inside.slots (c.index.ensures.value i) (Some c.in-Ok.tree); list = empty i; builder = c.self.inside.builder })))
+    let emptied : with_tree (record { slots = c.self.inside.slots; list = c.replace-list.new.dest.items; builder = c.self.inside.builder }) c.args.slot c.in-Ok.tree
+    ≡ record { slots = set c.self.inside.slots c.args.slot (Some c.in-Ok.tree); list = []; builder = c.self.inside.builder } =
+    λ i. record { slots = set c.self.inside.slots c.args.slot (Some c.in-Ok.tree); list = empty i; builder = c.self.inside.builder } in
+    rw (← c.self.view_is) (inl (inl (one, c.in-Ok.ensures.limits, c.ok.ensures, c.put.ensures ∙ emptied)))
 
 pub returns-in-Err : goal.returns-in-Err
 returns-in-Err c =
