@@ -16,8 +16,8 @@ LEAVES = 100
 REPLACEMENT = 1_000
 SLOTS = 16
 COUNTED_STEPS = 900
-# So many tokens the builder of that run holds at its end, or more. It has 62 parts and 53 symbols to find: more than are
-# compared one by one.
+# So many tokens the builder of that run holds at its end, or more. They use up to 62 parts and 53 symbols: more than there
+# is room for at first.
 COUNTED_TOKENS = 256
 LONG_TEXT = 70_000
 # A span of zeros.
