@@ -1,11 +1,11 @@
 //! Building a token tree by opening and closing subtrees.
-ghost use Rattle.std.specs.Prelude.{◌≡◌, ◌⊎◌, ◌^◌, ◌-◌, ◌+◌, ◌<◌, List, length, suc, IfOk, IfErr, OnOk, OnErr, MatchBool, Some, is_some, bytes_eq};
+ghost use Rattle.std.specs.Prelude.{◌≡◌, ◌⊎◌, ◌^◌, ◌-◌, ◌<◌, List, length, suc, IfOk, IfErr, OnOk, OnErr, MatchBool, Some, is_some, bytes_eq};
 ghost use Rattle.std.specs.Iterator.{Drains, IsFinite, YieldsThen};
-ghost use Rattle.tt_base.specs.Building.{empty_builder, opened, pushed, extended, alone, closed, removed, open_kinds, point_taken, noted, restored, built, built_skipping, tokens_held, most_held, HasRoom, IsOpen, IsGrowthFault};
+ghost use Rattle.tt_base.specs.Building.{empty_builder, opened, pushed, extended, alone, closed, removed, open_kinds, point_taken, noted, restored, built, built_skipping, HasRoom, IsOpen, IsGrowthFault};
 ghost use Rattle.tt_base.specs.Forest.{size};
 ghost use Rattle.tt_base.specs.Siblings.{leaves as leaf_trees};
 ghost use Rattle.tt_base.specs.Span.{part_of};
-ghost use Rattle.tt_base.specs.declared.fault.TtFault.TheVariants.{Memory, TooManyTokens, PointsSpent};
+ghost use Rattle.tt_base.specs.declared.fault.TtFault.TheVariants.{Memory, PointsSpent};
 ghost use Rattle.tt_base.specs.declared.leaf.Leaf.{Leaf};
 ghost use Rattle.tt_tables.specs.TableOrder.{uses_of};
 ghost use Rattle.tt_tables.specs.Uses.{same_part};
@@ -156,7 +156,7 @@ impl TopSubtreeBuilder {
         requires ends { IsFinite (I.remaining leaves) }
         ensures ok { OnOk result ((given : List Leaf) × Drains I.next_gives leaves given × HasRoom (length given) self.old × (self.new ≡ extended (leaf_trees given) self.old)) }
         ensures err { OnErr result (self.new ≡ self.old) }
-        ensures fault { IfErr result (λ fault. (fault ≡ Memory) ⊎ ((fault ≡ TooManyTokens) × ((given : List Leaf) × (next : Leaf) × (rest : I) × YieldsThen I.next_gives leaves given (Some next) rest × (most_held < tokens_held self.old.stack + suc (length given))))) }
+        ensures fault { IfErr result (λ fault. (given : List Leaf) × (next : Leaf) × (rest : I) × YieldsThen I.next_gives leaves given (Some next) rest × IsGrowthFault (suc (length given)) self.old fault) }
     {
         let len = self.held.len();
         match add_leaves(&mut self.held, leaves) {

@@ -201,6 +201,6 @@ most_held = 4294967295
 abbrev pub HasRoom : ℕ → BuilderState → Type 0
 HasRoom more s = tokens_held s.stack + more ≤ most_held
 
--- why so many tokens more are refused: they are too many, or memory is wanting
+-- why so many tokens more are refused: they are too many, or else memory is wanting
 abbrev pub IsGrowthFault : ℕ → BuilderState → TtFault → Type 0
-IsGrowthFault more s fault = (fault ≡ Memory) ⊎ ((fault ≡ TooManyTokens) × (most_held < tokens_held s.stack + more))
+IsGrowthFault more s fault = ((fault ≡ Memory) × HasRoom more s) ⊎ ((fault ≡ TooManyTokens) × (most_held < tokens_held s.stack + more))

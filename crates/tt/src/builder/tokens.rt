@@ -1,5 +1,5 @@
 //! What a builder does to the tokens that it holds.
-ghost use Rattle.std.specs.Prelude.{◌≡◌, ◌≤◌, ◌<◌, ◌+◌, ◌++◌, ◌⊎◌, IfErr, OnErr, OnOk, List, Some, if◌then◌else◌, length, map, take};
+ghost use Rattle.std.specs.Prelude.{◌≡◌, ◌≤◌, ◌<◌, ◌+◌, ◌++◌, ◌⊎◌, IfErr, OnErr, OnOk, List, Some, suc, if◌then◌else◌, length, map, take};
 ghost use Rattle.std.specs.Iterator.{Drains, IsFinite, YieldsThen};
 ghost use Rattle.tt_base.specs.Building.{alone};
 ghost use Rattle.tt_base.specs.Forest.{flat, size};
@@ -109,7 +109,7 @@ pub(crate) fn add_leaves<I: Iterator<Item = Leaf> + Drop>(
     requires few { length held.old ≤ 4294967295 }
     ensures ok { OnOk result ((given : List Leaf) × Drains I.next_gives leaves given × (held.new ≡ held.old ++ map whole (map token.Leaf given)) × (length held.new ≤ 4294967295)) }
     ensures err { OnErr result ((given : List Leaf) × (held.new ≡ held.old ++ map whole (map token.Leaf given))) }
-    ensures fault { IfErr result (λ fault. (fault ≡ Memory) ⊎ ((fault ≡ TooManyTokens) × ((given : List Leaf) × (next : Leaf) × (rest : I) × YieldsThen I.next_gives leaves given (Some next) rest × (4294967295 ≤ length held.old + length given)))) }
+    ensures fault { IfErr result (λ fault. (given : List Leaf) × (next : Leaf) × (rest : I) × YieldsThen I.next_gives leaves given (Some next) rest × (((fault ≡ Memory) × (length held.old + suc (length given) ≤ 4294967295)) ⊎ ((fault ≡ TooManyTokens) × (4294967295 < length held.old + suc (length given))))) }
 {
     for leaf in leaves {
         if held.len() >= u32::MAX as usize {

@@ -44,10 +44,17 @@ pub returns-in-Err-clause-fault : goal.returns-in-Err-clause-fault
 returns-in-Err-clause-fault g c =
     let is = keeps _ _ _ _ _ _ c.self.inside.state c.self.inside.open_headers _ c.self.view_is in
     let held = length-written c.args.self.now.top c.args.self.now.stack in
-    elim c.in-Err.ensures.fault [
-      | inl memory ↦ inl memory
-      | inr many ↦ inr (many.0, (many.1.0, many.1.1, many.1.2, many.1.3, omega (arith, ap length is.state.list, held, length-all c.self.inside.top c.self.inside.held, many.1.4)))
-    ]
+    let (given, next, rest, yields, why) = c.in-Err.ensures.fault in
+    let all = length-all c.self.inside.top c.self.inside.held in (
+      given,
+      next,
+      rest,
+      yields,
+      elim why [
+        | inl memory ↦ inl (memory.0, omega (arith, ap length is.state.list, held, all, memory.1))
+        | inr many ↦ inr (many.0, omega (arith, ap length is.state.list, held, all, many.1))
+      ],
+    )
 
 pub returns-in-Ok-clause-ok : goal.returns-in-Ok-clause-ok
 returns-in-Ok-clause-ok g c =

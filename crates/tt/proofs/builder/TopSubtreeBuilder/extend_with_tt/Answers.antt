@@ -1,4 +1,4 @@
-use Rattle.std.proofs.Common.{◌≡◌, ◌≤◌, ◌<◌, ◌+◌, inr, cond, length, refl, arith, rules, ap}
+use Rattle.std.proofs.Common.{◌≡◌, ◌≤◌, ◌<◌, ◌+◌, inl, inr, cond, length, refl, arith, rules, ap}
 use Rattle.tt_base.specs.Building.{extended, tokens_held}
 use Rattle.tt_base.specs.Forest.{size}
 use Rattle.tt_view.specs.Views.{trees_of}
@@ -62,3 +62,10 @@ returns-clause-room c =
     let sized : c.len-2.result ≡ size (trees_of c.args.trees) = search rules in
     let fits : length c.self.inside.held ≤ 4294967295 = omega (arith, is.state.few, length-all c.self.inside.top c.self.inside.held) in
     room _ _ _ _ _ _ (size (trees_of c.args.trees)) is.state (omega (arith, c.len.ensures, sized, c.if-len-room.false, c.saturating_sub-room.ensures, length-all c.self.inside.top c.self.inside.held, fits))
+
+pub returns-then-not-add_trees-clause-fault : goal.returns-then-not-add_trees-clause-fault
+returns-then-not-add_trees-clause-fault c =
+    let is = keeps _ _ _ _ _ _ c.self.inside.state c.self.inside.open_headers _ c.self.view_is in
+    let sized : c.len-2.result ≡ size (trees_of c.args.trees) = search rules in
+    let fits : length c.self.inside.held ≤ 4294967295 = omega (arith, is.state.few, length-all c.self.inside.top c.self.inside.held) in
+    inl (refl, room _ _ _ _ _ _ (size (trees_of c.args.trees)) is.state (omega (arith, c.len.ensures, sized, c.if-len-room.false, c.saturating_sub-room.ensures, length-all c.self.inside.top c.self.inside.held, fits)))

@@ -1,4 +1,4 @@
-use Rattle.std.proofs.Common.{◌≡◌, ◌+◌, ◌++◌, ◌∷◌, [], inr, refl, arith, rules}
+use Rattle.std.proofs.Common.{◌≡◌, ◌+◌, ◌++◌, ◌∷◌, [], inl, inr, refl, arith, rules}
 use Rattle.tt_base.specs.Building.{opened}
 use Rattle.tt_interned.specs.Held.{opened as open_header_held}
 use Rattle.tt.specs.OneState.{state_is}
@@ -60,3 +60,13 @@ pub returns-clause-room : goal.returns-clause-room
 returns-clause-room c =
     let is = keeps _ _ _ _ _ _ c.self.inside.state c.self.inside.open_headers _ c.self.view_is in
     room _ _ _ _ _ _ 1 is.state (omega (arith, c.if-place.false, c.len-place.ensures, length-all c.self.inside.top c.self.inside.held))
+
+pub returns-then-is_err-clause-fault : goal.returns-then-is_err-clause-fault
+returns-then-is_err-clause-fault c =
+    let is = keeps _ _ _ _ _ _ c.self.inside.state c.self.inside.open_headers _ c.self.view_is in
+    inl (refl, room _ _ _ _ _ _ 1 is.state (omega (arith, c.if-place.false, c.len-place.ensures, length-all c.self.inside.top c.self.inside.held)))
+
+pub returns-then-is_err-2-clause-fault : goal.returns-then-is_err-2-clause-fault
+returns-then-is_err-2-clause-fault c =
+    let is = keeps _ _ _ _ _ _ c.self.inside.state c.self.inside.open_headers _ c.self.view_is in
+    inl (refl, room _ _ _ _ _ _ 1 is.state (omega (arith, c.if-place.false, c.len-place.ensures, length-all c.self.inside.top c.self.inside.held)))

@@ -1,4 +1,4 @@
-use Rattle.std.proofs.Common.{◌≡◌, ◌++◌, ◌∷◌, [], inr, refl, arith, rules}
+use Rattle.std.proofs.Common.{◌≡◌, ◌++◌, ◌∷◌, [], inl, inr, refl, arith, rules}
 use Rattle.tt_base.specs.declared.token_tree.TokenTree.TheVariants as token
 use Rattle.tt_base.specs.Forest.{leaf, end}
 use Rattle.tt_interned.specs.Held.{whole}
@@ -38,3 +38,8 @@ pub returns-clause-room : goal.returns-clause-room
 returns-clause-room c =
     let is = keeps _ _ _ _ _ _ c.self.inside.state c.self.inside.open_headers _ c.self.view_is in
     room _ _ _ _ _ _ 1 is.state (omega (arith, c.if-len.false, c.len.ensures, length-all c.self.inside.top c.self.inside.held))
+
+pub returns-then-is_err-clause-fault : goal.returns-then-is_err-clause-fault
+returns-then-is_err-clause-fault c =
+    let is = keeps _ _ _ _ _ _ c.self.inside.state c.self.inside.open_headers _ c.self.view_is in
+    inl (refl, room _ _ _ _ _ _ 1 is.state (omega (arith, c.if-len.false, c.len.ensures, length-all c.self.inside.top c.self.inside.held)))
