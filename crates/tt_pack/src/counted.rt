@@ -6,6 +6,7 @@ ghost use Rattle.tt_base.specs.declared.token_tree.TokenTree.{TokenTree};
 ghost use Rattle.tt_base.specs.Forest.{IsWhole};
 ghost use Rattle.tt_tables.specs.Uses.{part_uses, symbol_uses};
 ghost use Rattle.tt_pack.specs.Counted.{count_use, counted, HasRoomFor};
+ghost use Rattle.tt_pack.specs.CountedValues.{HasCounted};
 ghost use Rattle.tt_pack.specs.Packed.{IsTableFault};
 ghost use Rattle.tt_pack.specs.TablesOf.{StandsAt, IsTableFor};
 
@@ -42,8 +43,8 @@ impl FirstRoom {
 /// Different parts and symbols with their numbers of uses. There is a place for each.
 #[derive(Drop)]
 pub(crate) struct CountedValues {
-    pub(crate) parts: IndexMap<SpanPart, usize>,
-    pub(crate) symbols: IndexMap<Symbol, usize>,
+    parts: IndexMap<SpanPart, usize>,
+    symbols: IndexMap<Symbol, usize>,
 }
 
 /// An index as it is kept for each use. One that does not fit stands for none: no table has so many entries.
@@ -148,13 +149,11 @@ fn counted_table<T: Eq + Hash + Clone + Drop>(
 }
 
 impl CountedValues {
-    ghost use Rattle.tt_pack.specs.CountedValues.{HasCounted};
     ghost use Rattle.tt_pack.specs.TablesOf.{AreTables};
 
     /// No value has been met.
     pub(crate) fn new(alloc: Global, room: FirstRoom) -> Result<CountedValues, AllocError>
-        ensures parts { IfOk result (λ values. values.parts.entries ≡ []) }
-        ensures symbols { IfOk result (λ values. values.symbols.entries ≡ []) }
+        ensures { IfOk result (λ values. HasCounted values [] []) }
     {
         Ok(CountedValues {
             parts: IndexMap::with_capacity(alloc, room.parts)?,
@@ -180,8 +179,6 @@ impl CountedValues {
 }
 
 impl Values for CountedValues {
-    ghost use Rattle.tt_pack.specs.CountedValues.{HasCounted};
-
     ghost has_met = { HasCounted };
 
     ghost may_lack = { ⊥ };

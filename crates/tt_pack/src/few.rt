@@ -5,6 +5,7 @@ ghost use Rattle.std.specs.List.{list_any};
 ghost use Rattle.tt_base.specs.Span.{part_of};
 ghost use Rattle.tt_tables.specs.Uses.{same_part};
 ghost use Rattle.tt_pack.specs.Counted.{note_value};
+ghost use Rattle.tt_pack.specs.Few.{HasNoted};
 ghost use Rattle.tt_pack.specs.TablesOf.{StandsAt};
 
 use crate::counted::kept_index;
@@ -138,8 +139,7 @@ fn note_elsewhere(symbols: &mut Vec<Symbol>, symbol: &Symbol) -> Result<Option<u
 impl FewValues {
     /// No value has been met, and there is room for those of so many tokens.
     pub(crate) fn new(alloc: Global, tokens: usize) -> Result<FewValues, AllocError>
-        ensures parts { IfOk result (λ values. values.parts.items ≡ []) }
-        ensures symbols { IfOk result (λ values. values.symbols.items ≡ []) }
+        ensures { IfOk result (λ values. HasNoted values [] []) }
     {
         Ok(FewValues {
             parts: Vec::with_capacity(alloc, tokens.min(SHORT_PARTS) + TOP_PARTS)?,
@@ -149,8 +149,6 @@ impl FewValues {
 }
 
 impl Values for FewValues {
-    ghost use Rattle.tt_pack.specs.Few.{HasNoted};
-
     ghost has_met = { HasNoted };
 
     ghost may_lack = { Unit {0} };
