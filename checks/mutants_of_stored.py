@@ -48,6 +48,8 @@ REFERENCES = [
     ("8,191 takes four bytes", "if index < 8192:", "if index < 8191:"),
     ("the second byte is not doubled", "number(2 * (index // 64), 1)", "number(index // 64, 1)"),
     ("two bytes have no tag", "first = 4 * (index % 64) + 2 + tag", "first = 4 * (index % 64) + 2"),
+    ("four bytes have six bits in the second", "index // 64 % 128", "index // 64 % 64"),
+    ("four bytes divide by 8,191", "number(index // 8192, 2)", "number(index // 8191, 2)"),
     ("four bytes have the high ones first", "number(index // 8192, 2)", "number(index // 8192, 2)[::-1]"),
 ]
 LEAVES = [
