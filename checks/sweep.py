@@ -1,9 +1,10 @@
 #!/usr/bin/env python3
-"""Each request for memory of each call refused in turn: sweep.py TT_SWEEP LIBRARY
+"""Each request for memory of each call refused in turn: sweep.py PROGRAM LIBRARY
 
-TT_SWEEP makes one call a run, and LIBRARY is checks/refuse.c. The first, second, .. request of the call is refused, until
-it makes no more of them. A line is printed for each call, `ok NAME` or `FAILED NAME: WHY`; the status is 1 where one failed.
-Calls that are wrong are made too, and it has to be noticed.
+PROGRAM is `tt_sweep_trees` or `tt_sweep_changes`, which make one call a run, and LIBRARY is checks/refuse.c. The first,
+second, .. request of the call is refused, until it makes no more of them. Behind each run as many blocks of memory live as
+in front of it. A line is printed for each call, `ok NAME` or `FAILED NAME: WHY`; the status is 1 where one failed. Calls that
+are wrong are made too, and it has to be noticed.
 """
 import os
 import shutil
@@ -11,43 +12,54 @@ import subprocess
 import sys
 import tempfile
 
-# The calls that take memory, by groups.
+# The calls of each program that take memory, by groups.
 TAKE_MEMORY = {
-    "made": (
-        # of tokens
-        "Symbol::new Ident::new Literal::new Literal::new_no_suffix token_to_literal",
-        # of what is stored
-        "symbol_bytes span_bytes token_bytes Packed::clone",
-        # of trees
-        "empty invisible_from_leaves from_token_trees from_subtree TopSubtree::clone display_text pretty debug_text",
-    ),
-    "lists": ("is_one_subtree pack of_list from_serialized from_tokens",),
-    "counted": ("pack_counted of_list_counted",),
-    "levels": ("take",),
-    "edits": ("set_token change_every_ast_id change_every_ast_id_joined transform_tt",),
-    # of a cursor
-    "walks": ("bump bump_or_end",),
-    # of a builder
-    "builders": (
-        "TopSubtreeBuilder::new open push close extend extend_by_names extend_with_tt extend_with_tt_alone restore_point",
-        "TopSubtreeBuilder::clone",
-    ),
-    "builds": ("build build_skip_top_subtree",),
-    # of a macro
-    "rules": ("Rule::new expand",),
+    "tt_sweep_trees": {
+        "made": (
+            # of tokens
+            "Symbol::new Ident::new Literal::new Literal::new_no_suffix token_to_literal",
+            # of what is stored
+            "symbol_bytes span_bytes token_bytes Packed::clone",
+            # of trees
+            "empty invisible_from_leaves from_token_trees from_subtree TopSubtree::clone display_text pretty debug_text",
+        ),
+        "lists": ("is_one_subtree pack of_list from_serialized from_tokens",),
+        "counted": ("pack_counted of_list_counted",),
+        "levels": ("take",),
+    },
+    "tt_sweep_changes": {
+        # of a tree
+        "edits": ("set_token change_every_ast_id change_every_ast_id_joined transform_tt",),
+        # of a cursor
+        "walks": ("bump bump_or_end",),
+        # of a builder
+        "builders": (
+            "TopSubtreeBuilder::new open push close extend extend_by_names extend_with_tt extend_with_tt_alone restore_point",
+            "TopSubtreeBuilder::clone",
+        ),
+        "builds": ("build build_skip_top_subtree",),
+        # of a macro
+        "rules": ("Rule::new expand",),
+    },
 }
 
 # Those that take none, some at a time.
 TAKE_NONE = {
-    "quiet": (
-        "ranges tokens literals numbers stored setters trees texts views siblings expectations cursors builders",
-    ),
+    "tt_sweep_trees": {
+        "quiet": (
+            "ranges tokens literals numbers stored setters trees texts views siblings expectations cursors",
+        ),
+    },
+    "tt_sweep_changes": {"quiet": ("builders",)},
 }
 
-# What is written before the call ends.
-BEGUN = "prepared\nanswered\n"
+# The lines that are written before the call ends: one before anything is made for it, and one on each side of the call.
+BEGUN = "begun\nprepared\nanswered\n"
 DONE = BEGUN + "done\n"
 DONE_AGAIN = BEGUN + "refused, and done again\n"
+
+# The line behind which the requests are the call's own.
+PREPARED = "2"
 
 # No call makes as many requests.
 MOST_REQUESTS = 10_000
@@ -58,23 +70,36 @@ class Wrong(Exception):
 
 
 class Sweep:
-    """The program and the library, and the file that has a byte for each refused request."""
+    """The program and the library, the file that has a byte for each refused request, and that of the blocks that live."""
 
-    def __init__(self, program, library, refused):
+    def __init__(self, program, library, room):
         self.program = program
         self.library = library
-        self.refused = refused
+        self.refused = os.path.join(room, "refused")
+        self.live = os.path.join(room, "live")
 
     def run(self, call, which):
         """What the program writes while these requests are refused, and how many were."""
-        if os.path.exists(self.refused):
-            os.remove(self.refused)
-        given = {"LD_PRELOAD": self.library, "REFUSE": which, "REFUSE_BETWEEN": "1", "REFUSED": self.refused}
+        for path in (self.refused, self.live):
+            if os.path.exists(path):
+                os.remove(path)
+        given = {"LD_PRELOAD": self.library, "REFUSE": which, "REFUSE_BEHIND": PREPARED}
+        given |= {"REFUSED": self.refused, "LIVE": self.live}
         asked = [self.program, *call.split()]
         done = subprocess.run(asked, env=given, capture_output=True, text=True, timeout=60, check=False)
         if done.returncode != 0:
             raise Wrong(f"request {which} refused: status {done.returncode}, {done.stdout + done.stderr!r}")
+        self.see_blocks(which)
         return done.stdout, os.path.getsize(self.refused) if os.path.exists(self.refused) else 0
+
+    def see_blocks(self, which):
+        """Sees that what the call was given took blocks, and that at the last line no more live than at the first."""
+        with open(self.live, encoding="utf-8") as lines:
+            first, prepared, *_, last = [int(line) for line in lines]
+        if prepared <= first:
+            raise Wrong(f"request {which} refused: no block was made for the call")
+        if last != first:
+            raise Wrong(f"request {which} refused: {last - first} blocks are left")
 
     def refuse_each(self, call):
         """Refuses the first, second, .. request, until no more is made: the call is refused each time, but for the last."""
@@ -101,17 +126,25 @@ class Sweep:
 
 
 # Calls that are wrong: whether each request is refused or all are, and what has to be said of it.
-FLAWS = (
-    ("faulty forgets_to_undo", "refuse_each", "what was left behind a refusal"),
-    ("faulty always_refused", "refuse_each", "refused again"),
-    ("faulty another_fault", "refuse_each", "another fault than Memory"),
-    ("faulty hides_refusal", "refuse_each", "request 1 refused"),
-    ("faulty changes_nothing", "refuse_each", "what was changed"),
-    ("faulty never_asks", "refuse_each", "it was never refused"),
-    ("faulty hides_refusal", "refuse_all", "requests"),
-    ("made no_such_call", "refuse_all", "what was given"),
-    ("no_such_group", "refuse_all", "status 1"),
-)
+FLAWS = {
+    "tt_sweep_trees": (
+        ("faulty forgets_to_undo", "refuse_each", "what was left behind a refusal"),
+        ("faulty always_refused", "refuse_each", "refused again"),
+        ("faulty another_fault", "refuse_each", "another fault than Memory"),
+        ("faulty hides_refusal", "refuse_each", "request 1 refused"),
+        ("faulty changes_nothing", "refuse_each", "what was changed"),
+        ("faulty never_asks", "refuse_each", "it was never refused"),
+        ("faulty hides_refusal", "refuse_all", "requests"),
+        ("faulty leaks", "refuse_each", "blocks are left"),
+        ("faulty leaks_where_refused", "refuse_each", "request 2 refused: 1 blocks are left"),
+        ("made no_such_call", "refuse_all", "what was given"),
+        ("no_such_group", "refuse_all", "status 1"),
+    ),
+    "tt_sweep_changes": (
+        ("builders no_such_call", "refuse_all", "what was given"),
+        ("no_such_group", "refuse_all", "status 1"),
+    ),
+}
 
 
 def is_noticed(sweep, call, how, wanted):
@@ -146,13 +179,14 @@ def judged(judge, call):
 def main():
     """Judges the calls one after the other."""
     program, library = sys.argv[1:]
+    name = os.path.basename(program)
     with tempfile.TemporaryDirectory() as room:
-        sweep = Sweep(program, library, os.path.join(room, "refused"))
-        fine = [judged(sweep.refuse_each, call) for call in calls(TAKE_MEMORY)]
-        fine += [judged(sweep.refuse_all, call) for call in calls(TAKE_NONE)]
-        fine += [is_noticed(sweep, *flaw) for flaw in FLAWS]
+        sweep = Sweep(program, library, room)
+        fine = [judged(sweep.refuse_each, call) for call in calls(TAKE_MEMORY[name])]
+        fine += [judged(sweep.refuse_all, call) for call in calls(TAKE_NONE[name])]
+        fine += [is_noticed(sweep, *flaw) for flaw in FLAWS[name]]
         # a program that dies at once
-        dead = Sweep(shutil.which("false"), library, sweep.refused)
+        dead = Sweep(shutil.which("false"), library, room)
         fine += [is_noticed(dead, "lists pack", how, "status 1") for how in ("refuse_each", "refuse_all")]
     sys.exit(not all(fine))
 

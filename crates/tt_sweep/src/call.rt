@@ -1,23 +1,24 @@
 //! Calls that are made where memory may be refused, and what is said of them.
+use crate::groups::say;
 use tt::TtFault;
+
+/// When something is looked at.
+#[derive(Clone, Copy)]
+pub enum When {
+    /// Behind a call that was refused, which has to leave all as it was in front of it.
+    Refused,
+    /// Behind a call that succeeded.
+    Done,
+}
 
 /// A call, with what it is given.
 pub trait Call {
     /// Makes the call. Whether what it gives is right; `Ok(false)` also where it hands back something else than it was given.
     fn make(&mut self) -> Result<bool, TtFault>;
 
-    /// Whether all is as it was in front of the call.
-    fn is_as_before(&self) -> Result<bool, TtFault>;
-
     /// Whether all is as the call has to leave it.
-    fn is_as_after(&self) -> Result<bool, TtFault>;
+    fn is_left(&self, when: When) -> Result<bool, TtFault>;
 }
-
-// What is said of a call that did what it has to.
-const DONE: &str = "done";
-
-// The same, where it was refused, left all as it was, and was made again.
-const DONE_AGAIN: &str = "refused, and done again";
 
 /// Makes the call between two lines that are printed, and once more behind them if it was refused. What is said of it: it
 /// did what it has to, or is `WRONG`.
@@ -30,17 +31,9 @@ pub fn judge<R: Print, C: Call>(rt: &R, call: &mut C) -> &'static str {
         return "WRONG: not printed";
     }
     match answer {
-        Ok(right) => done(call, right, DONE),
+        Ok(right) => done(call, right, "done"),
         Err(TtFault::Memory) => made_again(call),
         Err(_) => "WRONG: another fault than Memory",
-    }
-}
-
-/// Prints a line. Whether that succeeds.
-pub fn say<R: Print>(rt: &R, line: &str) -> bool {
-    match println!(rt; "{line}") {
-        Ok(()) => true,
-        Err(_) => false,
     }
 }
 
@@ -49,7 +42,7 @@ fn done<C: Call>(call: &C, right: bool, said: &'static str) -> &'static str {
     if !right {
         return "WRONG: what was given or handed back";
     }
-    match call.is_as_after() {
+    match call.is_left(When::Done) {
         Ok(true) => said,
         Ok(false) => "WRONG: what was changed",
         Err(_) => "WRONG: not compared",
@@ -58,13 +51,13 @@ fn done<C: Call>(call: &C, right: bool, said: &'static str) -> &'static str {
 
 // The call was refused.
 fn made_again<C: Call>(call: &mut C) -> &'static str {
-    match call.is_as_before() {
+    match call.is_left(When::Refused) {
         Ok(true) => {}
         Ok(false) => return "WRONG: what was left behind a refusal",
         Err(_) => return "WRONG: not compared",
     }
     match call.make() {
-        Ok(right) => done(call, right, DONE_AGAIN),
+        Ok(right) => done(call, right, "refused, and done again"),
         Err(_) => "WRONG: refused again",
     }
 }

@@ -1,117 +1,68 @@
-//! Calls that take a list, and hand it back where they are refused; and calls that are lent one.
-use crate::call::{Call, judge};
-use crate::tokens::plus_list;
+//! Flat lists that calls are given.
+use crate::leaves::{leaf, plus, span};
 use std::alloc::Global;
-use std::mem;
-use tt::{TokenTree, TopSubtree, TtFault, is_one_subtree};
-use tt_pack::{Packed, Reader};
+use tt::{Delimiter, DelimiterKind, Leaf, Subtree, TokenTree, TtFault};
 
-/// How that call of the group ended.
-pub fn judged<R: Print>(rt: &R, alloc: Global, call: &str) -> Result<&'static str, TtFault> {
-    let copy = plus_list(alloc)?;
-    let mut call = OfList {
-        call,
-        alloc,
-        copy: &copy,
-        list: plus_list(alloc)?,
-    };
-    Ok(judge(rt, &mut call))
-}
-
-// A call that takes a list or is lent one, of which there is a copy.
-#[derive(Drop)]
-struct OfList<'a> {
-    call: &'a str,
-    alloc: Global,
-    copy: &'a [TokenTree],
-    list: Vec<TokenTree>,
-}
-
-impl Call for OfList<'_> {
-    fn make(&mut self) -> Result<bool, TtFault> {
-        match self.call {
-            "from_serialized" => self.from_serialized(),
-            "pack" => self.pack(),
-            "of_list" => self.of_list(),
-            "from_tokens" => self.from_tokens(),
-            "is_one_subtree" => Ok(is_one_subtree(self.alloc, &self.list)?),
-            _ => Ok(false),
-        }
-    }
-
-    fn is_as_before(&self) -> Result<bool, TtFault> {
-        Ok(self.list.as_slice() == self.copy)
-    }
-
-    // What is lent stays.
-    fn is_as_after(&self) -> Result<bool, TtFault> {
-        match self.call {
-            "from_serialized" | "pack" => Ok(self.list.is_empty()),
-            _ => self.is_as_before(),
-        }
+/// A delimiter that opens and closes with these ids.
+pub fn delimiter(kind: DelimiterKind, open: u32, close: u32) -> Delimiter {
+    Delimiter {
+        open_span: span(open),
+        close: span(close),
+        kind,
     }
 }
 
-impl OfList<'_> {
-    fn of_list(&self) -> Result<bool, TtFault> {
-        let packed = Packed::of_list(self.alloc, &self.list)?;
-        Ok(is_stored(&packed, self.copy))
-    }
-
-    fn from_serialized(&mut self) -> Result<bool, TtFault> {
-        let list = mem::replace(&mut self.list, Vec::new(self.alloc));
-        match TopSubtree::from_serialized(self.alloc, list) {
-            Ok(tree) => Ok(is_of(&tree, self.copy)),
-            Err(refused) => {
-                self.list = refused.value;
-                Err(refused.fault)
-            }
-        }
-    }
-
-    fn from_tokens(&self) -> Result<bool, TtFault> {
-        let tree = TopSubtree::from_tokens(self.alloc, &self.list)?;
-        Ok(is_of(&tree, self.copy))
-    }
-
-    fn pack(&mut self) -> Result<bool, TtFault> {
-        let list = mem::replace(&mut self.list, Vec::new(self.alloc));
-        match Packed::pack(self.alloc, list) {
-            Ok(packed) => Ok(is_stored(&packed, self.copy)),
-            Err(refused) => {
-                self.list = refused.value;
-                Err(refused.fault)
-            }
-        }
-    }
+/// The header of a subtree with that delimiter, over so many tokens.
+pub fn header(delimiter: Delimiter, len: u32) -> TokenTree {
+    Subtree { delimiter, len }.into()
 }
 
-/// Whether that token was read.
-pub fn is_that(read: Option<TokenTree>, token: &TokenTree) -> bool {
-    match read {
-        Some(read) => read == *token,
-        None => false,
-    }
+/// The delimiter of the top of each long list.
+pub fn braces() -> Delimiter {
+    delimiter(DelimiterKind::Brace, 0, 0)
 }
 
-/// Whether flat reading gives that list.
-pub fn is_of(tree: &TopSubtree, list: &[TokenTree]) -> bool {
-    let mut tokens = tree.as_token_trees().iter_flat_tokens();
-    for token in list {
-        if !is_that(tokens.next(), token) {
-            return false;
-        }
-    }
-    tokens.next().is_none()
+/// The delimiter of an invisible top.
+pub fn invisible() -> Delimiter {
+    delimiter(DelimiterKind::Invisible, 0, 0)
 }
 
-/// Whether a reader gives that list.
-pub fn is_stored(packed: &Packed, list: &[TokenTree]) -> bool {
-    let mut reader = Reader::start(packed);
-    for token in list {
-        if !is_that(reader.advance(), token) {
-            return false;
-        }
+/// Appends leaves to a list.
+pub fn push_all(list: &mut Vec<TokenTree>, leaves: &[Leaf]) -> Result<(), TtFault> {
+    for leaf in leaves {
+        list.push(leaf.clone()?.into())?;
     }
-    reader.advance().is_none()
+    Ok(())
+}
+
+// Each of these has a bracket of its own in a long list, so that there are more span parts than the short form of a span
+// can name.
+const NAMES: [&str; 8] = ["a", "b", "c", "d", "e", "f", "g", "h"];
+
+// How many brackets a long list has.
+const GROUPS: u32 = 8;
+
+// How many ids one of them uses.
+const IDS: u32 = 3;
+
+/// A long list: braces over eight brackets, each over an ident and then these leaves. The first id is given, and each
+/// bracket has three of its own.
+pub fn long_list(alloc: Global, first: u32, ends: &[Leaf]) -> Result<Vec<TokenTree>, TtFault> {
+    let below = u32::try_from(ends.len()).unwrap_or(0).saturating_add(1);
+    let all = below.saturating_add(1).saturating_mul(GROUPS);
+    let mut list = vec![in alloc; header(braces(), all)]?;
+    let mut id = first;
+    for name in NAMES.iter() {
+        let brackets = delimiter(DelimiterKind::Bracket, id, id.saturating_add(1));
+        list.push(header(brackets, below))?;
+        list.push(leaf(alloc, name, id.saturating_add(2))?.into())?;
+        push_all(&mut list, ends)?;
+        id = id.saturating_add(IDS);
+    }
+    Ok(list)
+}
+
+/// The long list whose brackets end in a plus.
+pub fn plus_list(alloc: Global) -> Result<Vec<TokenTree>, TtFault> {
+    long_list(alloc, 1, &[plus(0)])
 }

@@ -4,8 +4,8 @@ use std::alloc::Global;
 use std::test::Fail;
 use tt::{Delimiter, DelimiterKind, Leaf, Punct, Spacing, Symbol, TopSubtreeBuilder, TtFault};
 
-// A builder of an invisible top.
-fn invisible(alloc: Global) -> Result<TopSubtreeBuilder, TtFault> {
+/// A builder of an invisible top.
+pub(crate) fn invisible(alloc: Global) -> Result<TopSubtreeBuilder, TtFault> {
     TopSubtreeBuilder::new(alloc, Delimiter::invisible_spanned(span(0)))
 }
 
@@ -14,8 +14,8 @@ fn push(builder: &mut TopSubtreeBuilder, leaf: Leaf) -> Result<(), TtFault> {
     Ok(builder.push(leaf)?)
 }
 
-// Pushes an ident at that offset.
-fn push_ident(
+/// Pushes an ident at that offset.
+pub(crate) fn push_ident(
     alloc: Global,
     builder: &mut TopSubtreeBuilder,
     text: &str,

@@ -10,6 +10,8 @@ mod edits;
 #[cfg(test)]
 mod elements;
 #[cfg(test)]
+mod points;
+#[cfg(test)]
 mod texts;
 #[cfg(test)]
 mod tokens;
