@@ -19,7 +19,7 @@ use crate::many::Many;
 use crate::slot::Slot;
 use crate::texts::Texts;
 pub use action::Action;
-use front::after_word;
+use front::after_item;
 use part::Part;
 use std::alloc::Global;
 use tokens::token;
@@ -120,7 +120,7 @@ impl Command {
         ensures reads { IfOk result (λ found. MatchOption found (IsNoCommand line.now) (StandsFor line.now)) }
         ensures err { IfErr result (λ fault. fault ≡ Memory) }
     {
-        if let Some(rest) = after_word(line, b"item") {
+        if let Some(rest) = after_item(line) {
             return Ok(token(texts, rest)?.map(Command::Item));
         }
         Command::read(texts, line)

@@ -3,7 +3,9 @@ ghost use Rattle.tt_base.specs.Fits.{KindFits};
 ghost use Rattle.tt_language.specs.Token.{kind_word, spacing_word, raw_word, literal_kind_word};
 ghost use Rattle.tt_language.specs.WordLaws.{spaceless_kind, spaceless_spacing, spaceless_rawness, spaceless_literal_kind};
 
-use crate::command::front::after_word;
+use crate::command::front::{
+    after_alone, after_hidden, after_int, after_joint, after_plain, after_raw, after_str,
+};
 use crate::command::word::{Word, cut, is, named};
 use tt_base::{DelimiterKind, IdentIsRaw, LitKind, Spacing};
 
@@ -40,13 +42,13 @@ impl Word for Spacing {
 
     #[inline(always)]
     fn read_before_space(text: &[u8]) -> Option<(Spacing, &[u8])> {
-        if let Some(rest) = after_word(text, b"alone") {
+        if let Some(rest) = after_alone(text) {
             return Some((Spacing::Alone, rest));
         }
-        if let Some(rest) = after_word(text, b"joint") {
+        if let Some(rest) = after_joint(text) {
             return Some((Spacing::Joint, rest));
         }
-        let rest = after_word(text, b"hidden")?;
+        let rest = after_hidden(text)?;
         Some((Spacing::JointHidden, rest))
     }
 
@@ -67,10 +69,10 @@ impl Word for IdentIsRaw {
 
     #[inline(always)]
     fn read_before_space(text: &[u8]) -> Option<(IdentIsRaw, &[u8])> {
-        if let Some(rest) = after_word(text, b"plain") {
+        if let Some(rest) = after_plain(text) {
             return Some((IdentIsRaw::No, rest));
         }
-        let rest = after_word(text, b"raw")?;
+        let rest = after_raw(text)?;
         Some((IdentIsRaw::Yes, rest))
     }
 
@@ -107,10 +109,10 @@ impl Word for LitKind {
     // The kinds of most literals are told at once.
     #[inline(always)]
     fn read_before_space(text: &[u8]) -> Option<(LitKind, &[u8])> {
-        if let Some(rest) = after_word(text, b"int") {
+        if let Some(rest) = after_int(text) {
             return Some((LitKind::Integer, rest));
         }
-        if let Some(rest) = after_word(text, b"str") {
+        if let Some(rest) = after_str(text) {
             return Some((LitKind::Str, rest));
         }
         let (word, rest) = cut(text, b' ')?;

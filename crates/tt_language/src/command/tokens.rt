@@ -8,7 +8,7 @@ ghost use Rattle.tt_base.specs.declared.token_tree.TokenTree.TheVariants as toke
 ghost use Rattle.tt_language.specs.Reading.{Reads};
 ghost use Rattle.tt_language.specs.Token.{placed_words, PlacedFits, punct_words, ident_words, literal_words, leaf_words, subtree_words, token_words};
 
-use crate::command::front::after_word;
+use crate::command::front::{after_ident, after_lit, after_punct, after_sub};
 use crate::command::numbers::number;
 use crate::command::word::Word;
 use crate::texts::Texts;
@@ -21,7 +21,7 @@ pub fn token(texts: &mut Texts, text: &[u8]) -> Result<Option<TokenTree>, TtFaul
     ensures reads { IfOk result (Reads token_words TokenFits text.now) }
     ensures err { IfErr result (λ fault. fault ≡ Memory) }
 {
-    if let Some(rest) = after_word(text, b"sub") {
+    if let Some(rest) = after_sub(text) {
         return Ok(subtree(rest).map(TokenTree::Subtree));
     }
     Ok(leaf(texts, text)?.map(TokenTree::Leaf))
@@ -33,13 +33,13 @@ pub fn leaf(texts: &mut Texts, text: &[u8]) -> Result<Option<Leaf>, TtFault>
     ensures reads { IfOk result (Reads leaf_words LeafFits text.now) }
     ensures err { IfErr result (λ fault. fault ≡ Memory) }
 {
-    if let Some(rest) = after_word(text, b"punct") {
+    if let Some(rest) = after_punct(text) {
         return Ok(punct(rest).map(Leaf::Punct));
     }
-    if let Some(rest) = after_word(text, b"ident") {
+    if let Some(rest) = after_ident(text) {
         return Ok(ident(texts, rest)?.map(Leaf::Ident));
     }
-    if let Some(rest) = after_word(text, b"lit") {
+    if let Some(rest) = after_lit(text) {
         return Ok(literal(texts, rest)?.map(Leaf::Literal));
     }
     Ok(None)
