@@ -75,19 +75,20 @@ module _ (tokens : List InternedToken) (parts : List SpanPart) (part_numbers : L
   as_many = ap length are.parts_counted ∙ length-map parts (uses_of same_part (part_uses list))
 
   -- The symbols stand in their table.
-  module _ (table : Table (List ℕ))
-      (is : (uses : List (List ℕ)) → symbols ≡ different bytes_eq uses → symbol_numbers ≡ map (uses_of bytes_eq uses) symbols → IsTable bytes_eq short_symbols uses table.values.items) where
+  module _ (values : List (List ℕ)) (numbers : List ℕ) (values_are : values ≡ symbols) (numbers_are : numbers ≡ symbol_numbers) (table : Table (List ℕ))
+      (is : (uses : List (List ℕ)) → values ≡ different bytes_eq uses → numbers ≡ map (uses_of bytes_eq uses) values → IsTable bytes_eq short_symbols uses table.values.items) where
     symbols_are : IsTable bytes_eq short_symbols (symbol_uses list) table.values.items
-    symbols_are = is (symbol_uses list) are.in_order are.symbols_counted
+    symbols_are = is (symbol_uses list) (values_are ∙ are.in_order) (numbers_are ∙ are.symbols_counted ∙ ap (map (uses_of bytes_eq (symbol_uses list))) (sym values_are))
 
     pub symbols_made : table.values.items ≡ symbol_table list
     symbols_made = symbol_table_only list table.values.items symbols_are
 
     -- Their new indices lead there.
-    pub symbols_lead : length symbols ≤ most_symbols → ((index : ℕ) → index < length symbols → LeadsTo symbols table.values.items table.new_indices.items index)
+    pub symbols_lead : length values ≤ most_symbols → ((index : ℕ) → index < length values → LeadsTo values table.values.items table.new_indices.items index)
         → (place : ℕ) (x : List ℕ) → StandsAt symbols place x → HasNewIndexAt bytes_eq table.values.items table.new_indices.items place x
-    symbols_lead few leads place x =
-        new_index_noted bytes_eq text_sound symbol_eq.lawful.laws short_symbols (symbol_uses list) symbols table.values.items table.new_indices.items place x symbols_are (omega (arith, few)) leads
+    symbols_lead few leads place x stands =
+        new_index_noted bytes_eq text_sound symbol_eq.lawful.laws short_symbols (symbol_uses list) values table.values.items table.new_indices.items place x symbols_are (omega (arith, few)) leads
+        (subst (λ l. StandsAt l place x) (sym values_are) stands)
 
   -- At the different places stand the parts by first use.
   module _ (order : List ℕ) (is : order ≡ different nat_eq (part_places tokens)) where
@@ -135,16 +136,17 @@ module _ (tokens : List InternedToken) (parts : List SpanPart) (part_numbers : L
     used_in_order = parts_found (range_with_len 0 (length parts)) (sym in_order) parts (all_in_order [] parts)
 
     -- Their table is made of them.
-    module _ (table : Table SpanPart)
-        (is : (uses : List SpanPart) → parts ≡ different same_part uses → part_numbers ≡ map (uses_of same_part uses) parts → IsTable same_part short_parts uses table.values.items) where
+    module _ (values : List SpanPart) (numbers : List ℕ) (values_are : values ≡ parts) (numbers_are : numbers ≡ part_numbers) (table : Table SpanPart)
+        (is : (uses : List SpanPart) → values ≡ different same_part uses → numbers ≡ map (uses_of same_part uses) values → IsTable same_part short_parts uses table.values.items) where
       parts_are : IsTable same_part short_parts (part_uses list) table.values.items
-      parts_are = is (part_uses list) used_in_order are.parts_counted
+      parts_are = is (part_uses list) (values_are ∙ used_in_order) (numbers_are ∙ are.parts_counted ∙ ap (map (uses_of same_part (part_uses list))) (sym values_are))
 
       pub parts_made : table.values.items ≡ part_table list
       parts_made = part_table_only list table.values.items parts_are
 
       -- Their new indices lead there.
-      pub parts_lead_on : length parts ≤ most_parts → ((index : ℕ) → index < length parts → LeadsTo parts table.values.items table.new_indices.items index)
+      pub parts_lead_on : length values ≤ most_parts → ((index : ℕ) → index < length values → LeadsTo values table.values.items table.new_indices.items index)
           → LeadsByPlace parts table.values.items table.new_indices.items
       parts_lead_on few leads place x here known =
-          new_index_noted same_part part_sound part_eq.lawful.laws short_parts (part_uses list) parts table.values.items table.new_indices.items place x parts_are (omega (arith, few)) leads (λ wide. here)
+          new_index_noted same_part part_sound part_eq.lawful.laws short_parts (part_uses list) values table.values.items table.new_indices.items place x parts_are (omega (arith, few)) leads
+          (λ wide. subst (λ l. IsAt l place x) (sym values_are) here)

@@ -11,7 +11,6 @@ pub mod Meeting
 pub mod MostBytes
 pub mod Moves
 pub mod Noting
-pub mod OneNode
 pub mod Paired
 pub mod PlacesNamed
 pub mod PutIds
