@@ -26,25 +26,6 @@ use Rattle.tt_pack.proofs.PlacesNamed.{values_alike, places_within, mapped_at, m
 use Rattle.tt_pack.proofs.TableFacts.{index_in-distinct, length-table_of, new_index_noted}
 use Rattle.tt_pack.proofs.UsedParts.{used_different, stands_by_first_use}
 
--- One more index is put.
-pub one_more_mapped : {X : Type 0} (f : X → X) (old now : List X) (i : ℕ) (x y : X) → i < length old → now ≡ map f (take i old) ++ drop i old → x ≡ get_or now i x → y ≡ f x
-    → set now i y ≡ map f (take (suc i) old) ++ drop (suc i) old
-one_more_mapped f [] now i x y within is read put = absurd (none within)
-  where
-    none : i < 0 → ⊥
-    none l = omega (arith, l)
-one_more_mapped f (z ∷ old) now zero x y within is read put =
-    ap (λ l. set l 0 y) is ∙ ap (λ w. w ∷ old) (put ∙ ap f (read ∙ ap (λ l. get_or l 0 x) is))
-one_more_mapped f (z ∷ old) [] (suc i) x y within is read put = absurd (cc is)
-one_more_mapped f (z ∷ old) (w ∷ now) (suc i) x y within is read put =
-    ap₂ ◌∷◌ first (one_more_mapped f old now i x y (omega (arith, within)) behind read put)
-  where
-    first : w ≡ f z
-    first = cc is
-
-    behind : now ≡ map f (take i old) ++ drop i old
-    behind = cc is
-
 module _ (tokens : List InternedToken) (parts : List SpanPart) (part_numbers : List ℕ) (symbols : List (List ℕ)) (symbol_numbers : List ℕ) (list : List TokenTree)
     (are : AreOf tokens parts part_numbers symbols symbol_numbers list) where
   places_at : AllZip (IsAt parts) (part_places tokens) (part_uses list)

@@ -1,7 +1,8 @@
 -- A token in numbers whose indices are put anew is the token that it means, in numbers under the new tables.
-use Rattle.std.proofs.Common.{◌≡◌, ℕ, zero, suc, Bool, true, false, cond, nat_lt, ◌+◌, ◌<◌, ◌≤◌, ◌^◌, List, [], ◌∷◌, map, drop, get_or, length, bytes_eq, slice_get, Some, refl, ap, sym, subst, ◌∙◌, arith}
+use Rattle.std.proofs.Common.{◌≡◌, ℕ, inl, inr, Bool, true, false, cond, nat_lt, ◌+◌, ◌<◌, ◌≤◌, ◌^◌, List, [], ◌∷◌, map, drop, get_or, length, bytes_eq, slice_get, Some, refl, ap, sym, subst, ◌∙◌, arith}
 use Rattle.std.specs.List.{AllByRecursion}
 use Rattle.std.proofs.lemmas.List.{length-drop}
+use Rattle.std.proofs.lemmas.Option.{slice_get_cases}
 use Rattle.tt_base.specs.declared.leaf.Leaf.{Leaf}
 use Rattle.tt_base.specs.declared.leaf.Leaf.TheVariants as leaf
 use Rattle.tt_base.specs.declared.span.Span.{Span}
@@ -58,12 +59,10 @@ meant_at below new index tokens d it within same is known all_whole =
     )
   where
     stands_there : {X : Type 0} (xs : List X) (i : ℕ) → i < length xs → (x : X) × (slice_get xs i ≡ Some x) × (x ≡ get_or xs i x)
-    stands_there [] i within = absurd (none within)
-      where
-        none : {i : ℕ} → i < 0 → ⊥
-        none l = omega (arith, l)
-    stands_there (x ∷ xs) zero within = (x, refl, refl)
-    stands_there (x ∷ xs) (suc i) within = stands_there xs i (omega (arith, within))
+    stands_there xs i within = elim (slice_get_cases xs i).1 [
+      | inl (x, _, at, read) ↦ (x, at, sym read)
+      | inr (past, _) ↦ absurd (omega (arith, past, within))
+    ]
 
 module _ (old new : Tables) (part_indices symbol_indices : List ℕ)
     (parts : (place : ℕ) (x : SpanPart) → IsAt old.parts place x → IsIn same_part new.parts x → HasNewIndexAt same_part new.parts part_indices place x)

@@ -39,10 +39,7 @@ unfolding bytes
 sum_behind tables [] zero h =
     let index : 0 - 0 ≡ 0 = omega arith in
     ap (λ i. get_or (0 ∷ []) i 0) index
-sum_behind tables [] (suc n) h = absurd (none h)
-  where
-    none : suc n ≤ 0 → ⊥
-    none h = omega arith
+sum_behind tables [] (suc n) h = absurd (omega arith)
 sum_behind tables (it ∷ others) zero h =
     let index : suc (length others) - 0 ≡ suc (length others) = omega arith in
     ap (λ i. get_or (byte_sums tables others ++ byte_count tables (it ∷ others) ∷ []) i 0) index

@@ -1,16 +1,16 @@
 use Rattle.std.proofs.Common.{◌≤◌, ◌<◌, ◌^◌, length, ap, sym, subst, arith, rules}
 use Rattle.tt_codec.specs.declared.entry.Entry.TheVariants.{Leaf as of_leaf, Header as of_header}
-use Rattle.tt_interned.specs.ListOf.{list_of, counted_are}
+use Rattle.tt_interned.specs.ListOf.{list_of}
+use Rattle.tt_interned.proofs.Packing.{as_many_tokens}
 use Rattle.tt_pack.specs.InternedTables.{tables_in}
 use Rattle.tt_pack.specs.Writing.{IsEntryAt}
-use Rattle.tt_pack.proofs.PlacesNamed.{as_many_named}
 use Rattle.tt_pack.proofs.Renumbered.{meant_at, leaf_entry_at, header_entry_at}
 use Rattle.tt_pack.proofs.interned.InternedTablesNumbered.entry.Goals as goal
 
 pub bounds-tokens-index : goal.bounds-tokens-index
 bounds-tokens-index c =
     let below = c.args.self.now.below in
-    omega (arith, c.requires.index, ap length c.tokens.ensures, as_many_named _ _ (list_of below) (counted_are below).named)
+    omega (arith, c.requires.index, ap length c.tokens.ensures, as_many_tokens below)
 
 pub unreachable-requires : goal.unreachable-requires
 unreachable-requires c =

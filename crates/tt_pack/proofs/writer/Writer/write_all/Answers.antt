@@ -1,4 +1,4 @@
-use Rattle.std.proofs.Common.{◌≡◌, ◌-◌, Err, drop, length, ap, sym, subst, arith, rules}
+use Rattle.std.proofs.Common.{◌≡◌, ◌-◌, Err, drop, ap, sym, subst, arith, rules}
 use Rattle.std.proofs.lemmas.List.{drop_all, take_all}
 use Rattle.tt_base.proofs.WholeLists.{end_piece}
 use Rattle.tt_pack.specs.Room.{most_list_bytes}
