@@ -1,5 +1,5 @@
 -- Tokens in numbers under their tables.
-use Rattle.std.proofs.Common.{◌≡◌, ℕ, zero, suc, ◌<◌, ◌≤◌, Some, All, List, [], ◌∷◌, ◌++◌, map, set, get_or, take, drop, length, count_by, nat_lt, nat_eq, bytes_eq, slice_get, ap, ap₂, sym, subst, ◌∙◌, arith}
+use Rattle.std.proofs.Common.{◌≡◌, ℕ, ◌<◌, ◌≤◌, Some, All, List, [], map, length, count_by, nat_lt, nat_eq, bytes_eq, slice_get, ap, sym, subst, ◌∙◌, arith}
 use Rattle.std.proofs.lemmas.List.{length-map}
 use Rattle.std.proofs.lemmas.Option.{slice_get-map, get_or_from_slice_get}
 use Rattle.std.specs.Option.{option_map}

@@ -21,6 +21,7 @@ pub mod SameStored
 pub mod Sorted
 pub mod Storing
 pub mod TableFacts
+mod TurnRows
 pub mod UsedParts
 pub mod UsesGrow
 pub mod Writing

@@ -1,5 +1,5 @@
 -- Places in the order of their first uses, and the rank of each.
-use Rattle.std.proofs.Common.{◌≡◌, ℕ, zero, suc, ◌+◌, ◌<◌, ◌≤◌, Bool, true, false, cond, ◌||◌, ◌⊎◌, inl, inr, Some, List, [], ◌∷◌, ◌++◌, fold, flat_map, get_or, set, take, drop, length, nat_eq, slice_get, refl, ap, sym, subst, ◌∙◌, append-nil, append_assoc, length-append, true≢false, arith}
+use Rattle.std.proofs.Common.{◌≡◌, ℕ, zero, suc, ◌+◌, ◌<◌, ◌≤◌, Bool, true, false, cond, ◌⊎◌, inl, inr, Some, List, [], ◌∷◌, ◌++◌, fold, flat_map, get_or, set, take, drop, length, nat_eq, slice_get, refl, ap, sym, subst, ◌∙◌, append-nil, append_assoc, length-append, true≢false, arith}
 use Rattle.std.proofs.lemmas.Bool.{eqb-true}
 use Rattle.std.proofs.lemmas.Cmp.{nat_eq_equiv}
 use Rattle.std.proofs.lemmas.Grind.{flat_map-append}

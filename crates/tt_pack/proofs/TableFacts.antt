@@ -1,15 +1,13 @@
 -- How long a table is, that its values differ, and where one stands in it.
-use Rattle.std.proofs.Common.{◌≡◌, ℕ, zero, suc, ◌<◌, ◌≤◌, ◌^◌, inl, inr, Bool, true, false, cond, Some, List, [], ◌∷◌, length, nat_le, slice_get, refl, ap, sym, subst, ◌∙◌, arith}
-use Rattle.std.proofs.lemmas.Bool.{leb-true, leb-false}
-use Rattle.std.proofs.lemmas.List.{length-map}
+use Rattle.std.proofs.Common.{◌≡◌, ℕ, zero, suc, ◌<◌, ◌≤◌, ◌^◌, Bool, true, false, cond, Some, List, [], ◌∷◌, length, nat_le, slice_get, refl, ap, sym, ◌∙◌}
 use Rattle.std.proofs.lemmas.Option.{slice_get_within}
 use Rattle.std.specs.Cmp.{IsEquivalence}
 use Rattle.std.specs.List.{IsDistinct}
-use Rattle.tt_tables.specs.TableOrder.{index_in, uses_of, IsEarlier, IsMoreUsed, Before, IsTable, different, falling, table}
+use Rattle.tt_tables.specs.TableOrder.{index_in, uses_of, IsEarlier, Before, IsTable, different, falling, table}
 use Rattle.tt_tables.proofs.Cheapest.{distinct_order, not_before}
 use Rattle.tt_tables.proofs.TableOrder.{length-falling}
 use Rattle.tt_tables.proofs.Used.{all_at_place}
-use Rattle.tt_pack.specs.Counted.{counted, new_index, LeadsTo}
+use Rattle.tt_pack.specs.Counted.{new_index, LeadsTo}
 use Rattle.tt_pack.specs.TablesOf.{StandsAt, HasNewIndexAt}
 
 -- `same` tells whether two values are equal

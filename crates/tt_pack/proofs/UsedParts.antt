@@ -1,10 +1,10 @@
 -- How many values are used, and where they stand by first use.
-use Rattle.std.proofs.Common.{◌≡◌, ℕ, suc, ◌+◌, ◌<◌, ◌⊎◌, inl, inr, Bool, true, false, not, cond, Some, List, [], ◌∷◌, map, filter, length, count_by, nat_lt, slice_get, refl, ap, sym, subst, ◌∙◌, arith}
+use Rattle.std.proofs.Common.{◌≡◌, ℕ, suc, ◌+◌, ◌<◌, ◌⊎◌, inl, inr, Bool, true, false, cond, Some, List, [], ◌∷◌, map, filter, length, count_by, nat_lt, slice_get, refl, ap, sym, subst, ◌∙◌, arith}
 use Rattle.std.proofs.lemmas.Bool.{lt-ltb, ltb-true}
 use Rattle.std.proofs.lemmas.List.Sums.{sum_by-cons}
 use Rattle.std.specs.Cmp.{IsEquivalence}
 use Rattle.std.specs.List.{AllByRecursion, IsDistinct}
-use Rattle.tt_tables.specs.TableOrder.{index_in, IsIn, IsEarlier, different, uses_of}
+use Rattle.tt_tables.specs.TableOrder.{index_in, IsIn, different, uses_of}
 use Rattle.tt_tables.proofs.Cheapest.{length-same}
 use Rattle.tt_tables.proofs.Members.{Member, member-different, member-filter}
 use Rattle.tt_tables.proofs.TableOrder.{all_filter}
