@@ -32,7 +32,7 @@ use Rattle.tt_pack.specs.Meeting.{AreListUses}
 use Rattle.tt_pack.specs.Room.{HasRoomForAll}
 use Rattle.tt_pack.specs.TablesOf.{IsTableFor, HasUses, AreTables, AreTablesOf, AreNumbers, LeadsList, tokens_in, tables_of}
 use Rattle.tt_pack.specs.Writing.{first_child_bytes, IsEntryAt}
-use Rattle.tt_pack.proofs.CountedValues.{beside_keys, beside_numbers}
+use Rattle.tt_pack.proofs.CountedValues.{counted_values, beside_numbers}
 use Rattle.tt_pack.proofs.Meeting.{uses_map}
 use Rattle.tt_pack.proofs.Paired.{paired_map}
 use Rattle.tt_pack.proofs.Sorted.{few_are_table}
@@ -62,7 +62,7 @@ module _ {X : Type 0} (same : X → X → Bool) (sound : (x y : X) → same x y 
       → counts ≡ counted same uses → (values ≡ different same uses → numbers ≡ map (uses_of same uses) values → IsTable same short uses table.values.items)
       → ((index : ℕ) → index < length values → LeadsTo values table.values.items table.new_indices.items index) → IsTableFor same short uses table
   counted_leads values numbers counts are_keys are_numbers few are is leads =
-      let by_use : values ≡ different same uses = are_keys ∙ ap keys_of are ∙ beside_keys (uses_of same uses) (different same uses) in
+      let by_use : values ≡ different same uses = are_keys ∙ ap keys_of are ∙ counted_values same uses in
       let right : numbers ≡ map (uses_of same uses) values = are_numbers ∙ ap values_of are ∙ beside_numbers (uses_of same uses) (different same uses) ∙ ap (map (uses_of same uses)) (sym by_use) in
       table_leads (omega (arith, few, ap length are_keys, ap length by_use)) (is by_use right) (subst (λ l. (index : ℕ) → index < length l → LeadsTo l table.values.items table.new_indices.items index) by_use leads)
 
@@ -80,11 +80,11 @@ module _ (tokens : List TokenTree) where
   module _ (values : CountedValues) (has : HasCounted values (part_uses tokens) (symbol_uses tokens)) where
     -- As many parts have been met as the table has.
     pub many_parts_met : length values.parts.entries ≡ length (part_table tokens)
-    many_parts_met = sym (length-keys_of values.parts.entries) ∙ ap (λ l. length (keys_of l)) has.all_parts ∙ ap length (beside_keys (uses_of same_part (part_uses tokens)) (different same_part (part_uses tokens))) ∙ sym many_parts
+    many_parts_met = sym (length-keys_of values.parts.entries) ∙ ap (λ l. length (keys_of l)) has.all_parts ∙ ap length (counted_values same_part (part_uses tokens)) ∙ sym many_parts
 
     -- As many symbols have.
     pub many_symbols_met : length values.symbols.entries ≡ length (symbol_table tokens)
-    many_symbols_met = sym (length-keys_of values.symbols.entries) ∙ ap (λ l. length (keys_of l)) has.all_symbols ∙ ap length (beside_keys (uses_of bytes_eq (symbol_uses tokens)) (different bytes_eq (symbol_uses tokens))) ∙ sym many_symbols
+    many_symbols_met = sym (length-keys_of values.symbols.entries) ∙ ap (λ l. length (keys_of l)) has.all_symbols ∙ ap length (counted_values bytes_eq (symbol_uses tokens)) ∙ sym many_symbols
 
   -- Few values that have been met are the tables.
   pub few_tables : (values : FewValues) (parts : Table SpanPart) (symbols : Table (List ℕ)) → HasNoted values (part_uses tokens) (symbol_uses tokens)

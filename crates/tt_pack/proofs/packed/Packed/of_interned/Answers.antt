@@ -5,18 +5,17 @@ use Rattle.tt_interned.specs.ListOf.{list_of}
 use Rattle.tt_tables.specs.PackFault.{IsPackFault}
 use Rattle.tt_tables.specs.Stored.{most_tokens, IsWithinLimits}
 use Rattle.tt_pack.specs.Packed.{IsTableFault}
-use Rattle.tt_pack.proofs.Storing.{Splits, refused_list}
+use Rattle.tt_pack.proofs.Storing.{refused_list}
 use Rattle.tt_pack.proofs.packed.Packed.of_interned.Goals as goal
 
 pub returns-in_err-tables-clause-err : goal.returns-in_err-tables-clause-err
 returns-in_err-tables-clause-err c =
     let list = list_of c.args.below in
     let top : Subtree = record { delimiter = c.args.top; len = c.len.result } in
-    let it : Splits (header c.args.top (length list) ∷ list) top list =
-    record { list = ap (λ n. header c.args.top n ∷ list) (sym c.len.ensures); counted = c.len.ensures; few = omega (arith, c.len.ensures, c.requires.few) } in
     let told : IsTableFault list c.in_err-tables.field-0.0 = search rules in
     let is : c.from_residual.result ≡ Err c.in_err-tables.field-0.0 = search rules in
-    rw is (refused_list _ _ _ _ it (inl told))
+    let refused = refused_list top list c.len.ensures (omega (arith, c.len.ensures, c.requires.few)) _ (inl told) in
+    rw is (subst (λ n. IsPackFault (header c.args.top n ∷ list) c.in_err-tables.field-0.0) c.len.ensures refused)
 
 pub of_numbered-requires-clause-counted : goal.of_numbered-requires-clause-counted
 of_numbered-requires-clause-counted c = c.len.ensures ∙ ap length (sym c.in_ok-tables.ensures.ok.same)

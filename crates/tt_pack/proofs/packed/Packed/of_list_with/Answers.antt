@@ -1,10 +1,10 @@
-use Rattle.std.proofs.Common.{◌≡◌, ◌<◌, ◌≤◌, ◌^◌, length, Err, IfOk, IfErr, inl, ◌∷◌, ap, sym, subst, ◌∙◌, arith, rules}
+use Rattle.std.proofs.Common.{◌≡◌, ◌<◌, ◌≤◌, ◌^◌, length, Err, IfOk, IfErr, inl, ◌∷◌, ap, sym, subst, ◌∙◌, rules}
 use Rattle.tt_base.specs.declared.token_tree.TokenTree.TheVariants as token
 use Rattle.tt_base.specs.Forest.{size, flat_root}
 use Rattle.tt_tables.specs.Stored.{most_tokens, IsWithinLimits}
 use Rattle.tt_tables.specs.PackFault.{IsPackFault}
 use Rattle.tt_pack.specs.Packed.{IsTableFault}
-use Rattle.tt_pack.proofs.Storing.{Splits, no_subtree, refused_list}
+use Rattle.tt_pack.proofs.Storing.{no_subtree, refused_list}
 use Rattle.tt_pack.proofs.packed.Packed.of_list_with.Goals as goal
 
 pub returns-then-top-below-clause-err : goal.returns-then-top-below-clause-err
@@ -21,10 +21,9 @@ returns-in_err-tables-clause-err c =
     let below = c.in-Some-Subtree-default.below.now in
     let fits : top.len < 2 ^ 32 = search rules in
     let list : c.args.tokens.now ≡ token.Subtree top ∷ below = c.in-Some-Subtree-default.ensures.cases.0 ∙ ap (λ t. t ∷ below) c.in-Some-Subtree-default.field-0-0-is in
-    let it : Splits c.args.tokens.now top below = record { list = list; counted = c.if-top-below.false; few = omega (arith, fits) } in
     let told : IsTableFault below c.in_err-tables.field-0.0 = search rules in
     let is : c.from_residual.result ≡ Err c.in_err-tables.field-0.0 = search rules in
-    rw is (refused_list _ _ _ _ it (inl told))
+    rw is rw list (refused_list top below c.if-top-below.false fits _ (inl told))
 
 pub of_numbered-requires-clause-counted : goal.of_numbered-requires-clause-counted
 of_numbered-requires-clause-counted c = c.if-top-below.false ∙ ap length (sym c.in_ok-tables.ensures.ok.same)
