@@ -9,7 +9,7 @@ use Rattle.tt_base.specs.contracts.span.SpanPartEq.TheImpl.Laws as part_eq
 use Rattle.tt_base.specs.contracts.symbol.SymbolEq.TheImpl.Laws as symbol_eq
 use Rattle.tt_base.specs.declared.span.SpanPart.{SpanPart}
 use Rattle.tt_interner.proofs.UseCounts.{entry_at, number_at}
-use Rattle.tt_tables.proofs.Used.{uses-append, uses-cons, member_used}
+use Rattle.tt_tables.proofs.Used.{uses-append, member_used}
 use Rattle.tt_interned.proofs.Naming.{KeepAll, keeps_front, all_stay, keep_all, named-push, named-set, named-take}
 use Rattle.tt_interned.proofs.Ordering.{keys_with, keys_cut, in_order_cut}
 use Rattle.tt_interned.proofs.Using.{uses_pushed, uses_cut, uses_set, same_uses_set, uses_removed, same_uses_removed}
@@ -18,7 +18,6 @@ use Rattle.tt_interner.specs.Entries.{with_entry, IsCut}
 use Rattle.tt_interned.specs.Held.{HeldToken, counted_parts, counted_symbols, parts_in, symbols_in}
 use Rattle.tt_interned.specs.Interned.{AreHeld, tables_of}
 use Rattle.tt_interned.specs.Names.{Names, AllName}
-use Rattle.tt_tables.proofs.Members.{Member}
 use Rattle.tt_tables.proofs.TokenTables.{part_sound, text_sound}
 use Rattle.tt_tables.specs.Counts.{number_in, CountsUses, CountsMore}
 use Rattle.tt_tables.specs.TableOrder.{different, uses_of}

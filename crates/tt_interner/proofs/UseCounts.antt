@@ -1,5 +1,5 @@
 -- Numbers of uses that change by one use, and how many values have uses.
-use Rattle.std.proofs.Common.{◌≡◌, ℕ, zero, suc, ◌+◌, ◌<◌, ◌≤◌, Bool, true, false, cond, ◌⊎◌, inl, inr, Some, None, List, [], ◌∷◌, ◌++◌, length, drop, take, filter, not, if◌then◌else◌, nat_lt, slice_get, refl, ap, ap₂, sym, ◌∙◌, subst, true≢false, arith}
+use Rattle.std.proofs.Common.{◌≡◌, ℕ, zero, suc, ◌+◌, ◌<◌, ◌≤◌, Bool, true, false, cond, inl, inr, Some, None, List, [], ◌∷◌, ◌++◌, length, drop, take, filter, if◌then◌else◌, nat_lt, slice_get, refl, ap, ap₂, sym, ◌∙◌, true≢false, arith}
 use Rattle.std.proofs.lemmas.Bool.{lt-ltb, ltb-true}
 use Rattle.std.proofs.lemmas.List.Sums.{sum_by-cons, sum_by-append, count_by-le-length}
 use Rattle.std.proofs.lemmas.Map.Entries.{lookup_from_place}
@@ -10,7 +10,7 @@ use Rattle.std.specs.List.{AllByRecursion, IsDistinct, list_any}
 use Rattle.std.specs.Map.{keys_of, values_of, lookup}
 use Rattle.std.specs.Option.{option_map, unwrap_or}
 use Rattle.indexmap.specs.IndexMap.{set_value_at}
-use Rattle.tt_tables.specs.TableOrder.{different, uses_of, IsEarlier}
+use Rattle.tt_tables.specs.TableOrder.{different, uses_of}
 use Rattle.tt_tables.specs.Counts.{number_in, used_count, CountsUses, CountsMore}
 use Rattle.tt_interner.specs.Entries.{with_entry}
 use Rattle.tt_tables.proofs.Cheapest.{length-same}
