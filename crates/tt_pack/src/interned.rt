@@ -209,7 +209,7 @@ impl Numbered for InternedTables<'_> {
 
     ghost leads = { LeadsFrom };
 
-    // So much as many headers take: no pass counts it.
+    // As much as so many headers take, so that no pass counts it.
     fn room(&self) -> usize {
         self.below.len().saturating_mul(MOST_HEADER_BYTES)
     }

@@ -12,7 +12,7 @@ use crate::writer::Writer;
 use tt_base::{SpanPart, Symbol};
 use tt_codec::Entry;
 
-/// Gives the tokens of a list in numbers, each before what it holds is read.
+/// Gives the tokens of a list in numbers, one at a time.
 pub(crate) trait Numbered {
     /// The flat list.
     ghost list: { Self → List TokenTree };
@@ -20,7 +20,7 @@ pub(crate) trait Numbered {
     /// The tables that the numbers name.
     ghost tables: { Self → Tables };
 
-    /// That it is told of each token where in the tables that stands which it uses.
+    /// That it leads to where in the tables each value stands that a token uses.
     ghost leads: { Self → Type 0 };
 
     /// A size in which all tokens have room, or more than any block has.
@@ -28,7 +28,7 @@ pub(crate) trait Numbered {
         requires { leads self.now }
         ensures { HasRoomForAll (list self.now) result };
 
-    /// The token at the index in numbers, where those behind it are written.
+    /// The token at the index in numbers, where those behind it are written: by them a header knows how many bytes it holds.
     fn entry(&self, index: usize, written: &Writer) -> Entry
         requires index { index < length (list self.now) }
         requires few { length (list self.now) < 2 ^ 32 }
