@@ -5,7 +5,7 @@ use Rattle.tt_base.specs.Forest.{Root, flat_root}
 use Rattle.tt_bytes.specs.declared.fault.BytesFault.{BytesFault}
 use Rattle.tt_bytes.specs.declared.fault.BytesFault.TheVariants.{Memory, TooShort, OtherFormat, NoText, NoTree, StoredOtherwise}
 use Rattle.tt_bytes.specs.Decoding.{Stand, StopsAt}
-use Rattle.tt_bytes.specs.Format.{tree_bytes, HasBytes}
+use Rattle.tt_bytes.specs.Format.{tree_bytes, AreBytesOfNone, HasBytes}
 use Rattle.tt_bytes.specs.Front.{Held, held}
 use Rattle.tt_tables.specs.Searches.{first_entries}
 use Rattle.tt_tables.specs.Tables.{Tables}
@@ -53,3 +53,7 @@ IsTreeFault bytes it _ = ⊥
 -- why the bytes are those of no tree: their front is wrong, or what they hold is; memory may be refused for any
 abbrev pub IsFaultOf : List ℕ → BytesFault → Type 0
 IsFaultOf bytes fault = (fault ≡ Memory) ⊎ ((held bytes ≡ Err fault) ⊎ ((it : Held) × (held bytes ≡ Ok it) × IsTreeFault bytes it fault))
+
+-- the bytes are those of no tree, for that reason, or memory was refused
+abbrev pub IsRefused : List ℕ → BytesFault → Type 0
+IsRefused bytes fault = IsFaultOf bytes fault × ((fault ≡ Memory) ⊎ AreBytesOfNone bytes)
