@@ -5,6 +5,7 @@ mod compare;
 mod decode;
 mod fault;
 mod front;
+pub mod laws;
 mod numbers;
 mod piece;
 mod read;
