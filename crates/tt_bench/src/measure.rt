@@ -17,6 +17,7 @@ use std::time::{CpuClock, Duration};
 use tt::{
     Delimiter, ErasedFileAstId, TokenTree, TopSubtree, TransformTtAction, TtFault, transform_tt,
 };
+use tt_bytes::{from_bytes, to_bytes};
 
 /// What was measured. Its text is one line: nanoseconds, sum, bytes, parts, symbols.
 #[derive(Clone, Copy)]
@@ -103,6 +104,7 @@ fn measure_rounds<R: CpuClock>(
         Mode::Rewrite => Ok(rewrite(watch, alloc, twins, rounds)?),
         Mode::Ids => Ok(ids(watch, alloc, twins, rounds)?),
         Mode::Expand => expand(watch, alloc, twins, rounds),
+        Mode::Load => load(watch, alloc, twins, rounds),
         Mode::Read(reading) => {
             let mut pairs = twins.pairs(alloc)?;
             read(
@@ -133,6 +135,7 @@ fn read<R: CpuClock>(
         Reading::Fold => Ok(hash(watch, turns, &mut FoldHasher::default(), rounds)?),
         Reading::Sip => Ok(hash(watch, turns, &mut DefaultHasher::default(), rounds)?),
         Reading::Clone => Ok(clone(watch, alloc, turns, rounds)?),
+        Reading::Save => Ok(save(watch, alloc, turns, rounds)?),
         Reading::Drop => Ok(let_go(watch, alloc, turns, rounds)?),
     }
 }
@@ -233,6 +236,39 @@ fn change_each<R: CpuClock>(
         tree.change_every_ast_id(alloc, |id| ErasedFileAstId(id.0.wrapping_add(1)))?;
     }
     watch.stop();
+    Ok(0)
+}
+
+// Reads the trees from their bytes.
+fn load<R: CpuClock>(
+    watch: &mut Stopwatch<R>,
+    alloc: Global,
+    twins: &Twins,
+    rounds: u32,
+) -> Result<u64, BenchError> {
+    let mut pieces = Vec::new(alloc);
+    for tree in twins.trees() {
+        pieces
+            .push(to_bytes(alloc, tree)?)
+            .map_err(|_refused| TtFault::Memory)?;
+    }
+    load_each(watch, alloc, Turns::new(&mut pieces), rounds)
+}
+
+// Each round reads the bytes of a tree. The tree is let go after the watch stopped.
+fn load_each<R: CpuClock>(
+    watch: &mut Stopwatch<R>,
+    alloc: Global,
+    mut turns: Turns<'_, Vec<u8>>,
+    rounds: u32,
+) -> Result<u64, BenchError> {
+    for _ in 0..rounds {
+        let bytes = turns.next()?;
+        watch.start();
+        let tree = from_bytes(alloc, bytes.as_slice())?;
+        watch.stop();
+        drop(tree);
+    }
     Ok(0)
 }
 
@@ -351,6 +387,23 @@ fn clone<R: CpuClock>(
         let copy = tree.clone(alloc)?;
         watch.stop();
         drop(copy);
+    }
+    Ok(0)
+}
+
+// Each piece of bytes is let go after the watch stopped.
+fn save<R: CpuClock>(
+    watch: &mut Stopwatch<R>,
+    alloc: Global,
+    turns: &mut Turns<'_, Pair<'_>>,
+    rounds: u32,
+) -> Result<u64, TtFault> {
+    for _ in 0..rounds {
+        let tree = turns.next()?.tree;
+        watch.start();
+        let bytes = to_bytes(alloc, tree)?;
+        watch.stop();
+        drop(bytes);
     }
     Ok(0)
 }
