@@ -5,6 +5,7 @@ use crate::expansion::{Expansion, Instance};
 use crate::items::items;
 use crate::job::Job;
 use crate::mode::{Mode, Reading};
+use crate::pieces::{load, save};
 use crate::stopwatch::Stopwatch;
 use crate::texts::Text;
 use crate::turns::{LapSum, Turns};
@@ -17,7 +18,6 @@ use std::time::{CpuClock, Duration};
 use tt::{
     Delimiter, ErasedFileAstId, TokenTree, TopSubtree, TransformTtAction, TtFault, transform_tt,
 };
-use tt_bytes::{from_bytes, to_bytes};
 
 /// What was measured. Its text is one line: nanoseconds, sum, bytes, parts, symbols.
 #[derive(Clone, Copy)]
@@ -239,39 +239,6 @@ fn change_each<R: CpuClock>(
     Ok(0)
 }
 
-// Reads the trees from their bytes.
-fn load<R: CpuClock>(
-    watch: &mut Stopwatch<R>,
-    alloc: Global,
-    twins: &Twins,
-    rounds: u32,
-) -> Result<u64, BenchError> {
-    let mut pieces = Vec::new(alloc);
-    for tree in twins.trees() {
-        pieces
-            .push(to_bytes(alloc, tree)?)
-            .map_err(|_refused| TtFault::Memory)?;
-    }
-    load_each(watch, alloc, Turns::new(&mut pieces), rounds)
-}
-
-// Each round reads the bytes of a tree. The tree is let go after the watch stopped.
-fn load_each<R: CpuClock>(
-    watch: &mut Stopwatch<R>,
-    alloc: Global,
-    mut turns: Turns<'_, Vec<u8>>,
-    rounds: u32,
-) -> Result<u64, BenchError> {
-    for _ in 0..rounds {
-        let bytes = turns.next()?;
-        watch.start();
-        let tree = from_bytes(alloc, bytes.as_slice())?;
-        watch.stop();
-        drop(tree);
-    }
-    Ok(0)
-}
-
 // Expands by a rule of each tree.
 fn expand<R: CpuClock>(
     watch: &mut Stopwatch<R>,
@@ -387,23 +354,6 @@ fn clone<R: CpuClock>(
         let copy = tree.clone(alloc)?;
         watch.stop();
         drop(copy);
-    }
-    Ok(0)
-}
-
-// Each piece of bytes is let go after the watch stopped.
-fn save<R: CpuClock>(
-    watch: &mut Stopwatch<R>,
-    alloc: Global,
-    turns: &mut Turns<'_, Pair<'_>>,
-    rounds: u32,
-) -> Result<u64, TtFault> {
-    for _ in 0..rounds {
-        let tree = turns.next()?.tree;
-        watch.start();
-        let bytes = to_bytes(alloc, tree)?;
-        watch.stop();
-        drop(bytes);
     }
     Ok(0)
 }
