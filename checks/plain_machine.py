@@ -3,6 +3,8 @@
 Each command is a method that gives its answer, a list of lines. Nothing is stored or packed: what the program holds in
 bytes and tables is here a tree, a list or a number.
 """
+from plain_lists import Header, NotOneSubtree, one_subtree, trees_of  # noqa: F401
+from plain_pieces import WrongBytes, piece, tree_of_piece
 from plain_rules import RuleFault, expanded
 from plain_stored import Stored, part_table, parts_used, symbol_table, symbols_used
 from plain_trees import (
@@ -10,37 +12,6 @@ from plain_trees import (
 )
 
 SLOTS = 16
-
-
-class NotOneSubtree(Exception):
-    """A list that spells no subtree, or more."""
-
-
-class Header(tuple):
-    """A header as a list has it: its kind, its spans, and how many tokens it holds."""
-
-
-def trees_of(items):
-    """The trees that leaves and headers spell."""
-    trees, place = [], 0
-    while place < len(items):
-        place += 1
-        if not isinstance(items[place - 1], Header):
-            trees.append(items[place - 1])
-            continue
-        kind, open_span, close, length = items[place - 1]
-        if place + length > len(items):
-            raise NotOneSubtree
-        trees.append(Subtree(kind, open_span, close, trees_of(items[place:place + length])))
-        place += length
-    return tuple(trees)
-
-
-def one_subtree(trees):
-    """The trees, where they are one subtree."""
-    if len(trees) != 1 or not isinstance(trees[0], Subtree):
-        raise NotOneSubtree
-    return trees[0]
 
 
 def alone(trees):
@@ -308,6 +279,15 @@ class Machine:
     def symbols(self, slot):
         return [*symbol_table(self.slots[slot]), "end"]
 
+    def save(self, slot):
+        return [piece(self.slots[slot]).hex()]
+
+    def load(self, slot, digits):
+        try:
+            self.slots[slot] = tree_of_piece(bytes.fromhex(digits))
+        except WrongBytes as wrong:
+            return ["bytes {} {}".format(*wrong.args)]
+
     def equal(self, left, right):
         return yes_or_no(self.slots[left] == self.slots[right])
 
@@ -317,4 +297,4 @@ BUILDER_VERBS = set("open push close append alone unwrap point restore expected 
 # Which values of a command are slots that have to hold a tree.
 READ = {"copy": (1,), "equal": (0, 1), "expand": (0, 1, 2)}
 READ.update((verb, (0,)) for verb in "kind spans set ids rewrite split".split())
-READ.update((verb, (0,)) for verb in "show pretty debug flat siblings walk glue bytes parts symbols".split())
+READ.update((verb, (0,)) for verb in "show pretty debug flat siblings walk glue bytes parts symbols save".split())

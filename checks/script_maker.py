@@ -4,6 +4,7 @@ import itertools
 from made_rules import NAMES, Rules
 from made_values import CUTS, FEW_SLOTS, MANY_PARTS, MANY_SYMBOLS, MOST, SLOTS
 from plain_machine import Header
+from plain_pieces import piece
 from plain_stored import SPACINGS
 from plain_trees import Ident, Punct, Subtree, flat, size
 
@@ -16,7 +17,7 @@ LARGE_SYMBOLS = 2 * 8192 + 8
 LARGE_EACH = 300
 # Different values in a builder that go by the hundreds.
 COUNTED = (90, 130, 270, 300)
-SHOWN = "show pretty debug flat siblings walk glue bytes parts symbols".split()
+SHOWN = "show pretty debug flat siblings walk glue bytes parts symbols save".split()
 STORED = "bytes parts symbols".split()
 # How often each command, or some that belong together, come among others.
 WEIGHTS = {
@@ -24,7 +25,7 @@ WEIGHTS = {
     "new": 2, "open": 11, "push": 14, "close": 10, "append": 3, "alone": 3, "ends_alone": 1, "unwrap": 4, "marked": 3,
     "point": 4, "restore": 4, "points": 0.3, "many": 0.1, "expected": 1, "counts": 4, "build": 2, "skip": 2, "skipped": 1,
     "copy": 2, "kind": 2, "spans": 2, "set": 3, "ids": 2, "rewrite": 4, "expand": 1, "equal": 2, "nearly_equal": 1,
-    "split": 2, "shown": 10,
+    "split": 2, "shown": 10, "load": 5,
 }
 
 
@@ -292,6 +293,27 @@ class Script(Rules):
         change = self.pick((("kind", slot, self.delimiter_kind()), ("set", slot, 1, self.leaf()), ("flat", slot)))
         self.add(*change)
         self.add("equal", slot, other)
+
+    def add_load(self):
+        """The bytes of a tree, mostly with something wrong in them."""
+        slot, tree = self.slot(), self.subtree(self.trees(self.pick((0, 1, 3)), self.pick((3, 12, 40))))
+        self.add("load", slot, self.spoiled_bytes(piece(tree)).hex())
+        self.add("flat", slot)
+
+    def spoiled_bytes(self, data):
+        """The bytes with a change or two: a bit or a byte, the end left out, more behind it, some taken out or doubled."""
+        for _ in range(self.pick((0, 1, 1, 1, 2))):
+            place = self.below(len(data) + 1)
+            low = min(place, 16) if self.happens(0.2) else place
+            data = self.pick((
+                data[:place] + bytes([data[place] ^ 1 << self.below(8)]) + data[place + 1:] if place < len(data) else data,
+                data[:low] + bytes([self.below(256)]) + data[low + 1:],
+                data[:place],
+                data + bytes(self.below(3) + 1),
+                data[:place] + data[place + 1:],
+                data[:place] + data[max(0, place - 12):],
+            ))
+        return data
 
     def add_split(self):
         self.add("split", self.slot(), self.pick(CUTS))

@@ -25,6 +25,7 @@ TAKE_MEMORY = {
         ),
         "lists": ("is_one_subtree pack of_list from_serialized from_tokens",),
         "counted": ("pack_counted of_list_counted",),
+        "pieces": ("to_bytes from_bytes",),
         "levels": ("take",),
     },
     "tt_sweep_changes": {

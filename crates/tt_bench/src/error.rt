@@ -2,6 +2,7 @@
 use std::io;
 use thiserror::Error;
 use tt::TtFault;
+use tt_bytes::BytesFault;
 use tt_mbe::RuleFault;
 
 /// Why nothing was timed.
@@ -9,7 +10,7 @@ use tt_mbe::RuleFault;
 pub enum BenchError {
     /// The arguments ask for nothing that there is.
     #[error("usage: tt_bench MODE ROUNDS [apart] < ITEMS\n\
-        MODE: pack build rewrite ids expand flat flat_whole skip siblings siblings_whole walk show display pretty debug equal fold sip clone drop")]
+        MODE: pack build rewrite ids expand load flat flat_whole skip siblings siblings_whole walk show display pretty debug equal fold sip clone save drop")]
     Usage,
     /// That line, counted from 1, is no `item` line.
     #[error("line {0} is no item")]
@@ -23,6 +24,9 @@ pub enum BenchError {
     /// The input is no instance of the pattern.
     #[error("no match")]
     NoMatch,
+    /// The bytes are those of no tree.
+    #[error("no tree: {0}")]
+    NoTree(#[from] BytesFault),
     /// A walk by siblings would need too much stack.
     #[error("too deep to walk by siblings")]
     TooDeep,

@@ -17,6 +17,7 @@ mod lists;
 mod look;
 mod measure;
 mod mode;
+mod pieces;
 mod stopwatch;
 mod texts;
 mod turns;

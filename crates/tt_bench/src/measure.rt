@@ -5,6 +5,7 @@ use crate::expansion::{Expansion, Instance};
 use crate::items::items;
 use crate::job::Job;
 use crate::mode::{Mode, Reading};
+use crate::pieces::{load, save};
 use crate::stopwatch::Stopwatch;
 use crate::texts::Text;
 use crate::turns::{LapSum, Turns};
@@ -103,6 +104,7 @@ fn measure_rounds<R: CpuClock>(
         Mode::Rewrite => Ok(rewrite(watch, alloc, twins, rounds)?),
         Mode::Ids => Ok(ids(watch, alloc, twins, rounds)?),
         Mode::Expand => expand(watch, alloc, twins, rounds),
+        Mode::Load => load(watch, alloc, twins, rounds),
         Mode::Read(reading) => {
             let mut pairs = twins.pairs(alloc)?;
             read(
@@ -133,6 +135,7 @@ fn read<R: CpuClock>(
         Reading::Fold => Ok(hash(watch, turns, &mut FoldHasher::default(), rounds)?),
         Reading::Sip => Ok(hash(watch, turns, &mut DefaultHasher::default(), rounds)?),
         Reading::Clone => Ok(clone(watch, alloc, turns, rounds)?),
+        Reading::Save => Ok(save(watch, alloc, turns, rounds)?),
         Reading::Drop => Ok(let_go(watch, alloc, turns, rounds)?),
     }
 }

@@ -17,6 +17,8 @@ pub enum Mode {
     Ids,
     /// Expanding a rule of ten variables.
     Expand,
+    /// Reading a tree from one piece of bytes.
+    Load,
     /// Something that leaves a tree as it is.
     Read(Reading),
 }
@@ -36,6 +38,8 @@ pub enum Reading {
     Sip,
     /// Copying a tree.
     Clone,
+    /// Writing a tree as one piece of bytes.
+    Save,
     /// Letting a copy of a tree go.
     Drop,
 }
@@ -50,6 +54,7 @@ impl FromStr for Mode {
             "rewrite" => Ok(Mode::Rewrite),
             "ids" => Ok(Mode::Ids),
             "expand" => Ok(Mode::Expand),
+            "load" => Ok(Mode::Load),
             _ => Ok(Mode::Read(name.parse()?)),
         }
     }
@@ -74,6 +79,7 @@ impl FromStr for Reading {
             "fold" => Ok(Reading::Fold),
             "sip" => Ok(Reading::Sip),
             "clone" => Ok(Reading::Clone),
+            "save" => Ok(Reading::Save),
             "drop" => Ok(Reading::Drop),
             _ => Err(BenchError::Usage),
         }

@@ -1,4 +1,6 @@
 -- No two values are spelled alike.
+use Rattle.hex.proofs.HexLemmas.{decode_of-encode_lower, decode_of-same}
+use Rattle.hex.specs.Hex.{IsBytes, decode_of, encode_lower}
 use Rattle.std.proofs.Common.{◌≡◌, ◌++◌, ℕ, ◌^◌, ◌<◌, ◌≤◌, List, [], get_or, take, drop, refl, sym, ap, ◌∙◌, lit<, arith}
 use Rattle.std.specs.Prelude.{codes, encode_utf8, if◌then◌else◌}
 use Rattle.std.specs.Char.{IsScalar}
@@ -198,3 +200,6 @@ one_token (token.Leaf a) (token.Leaf b) p q e = ap token.Leaf (one_leaf a b p q 
 one_token (token.Leaf a) (token.Subtree b) p q e = absurd (no_head a _ e)
 one_token (token.Subtree a) (token.Leaf b) p q e = absurd (no_head b _ (sym e))
 one_token (token.Subtree a) (token.Subtree b) p q e = ap token.Subtree (one_subtree a b p q (ap (drop 4) e))
+
+pub one_digits : IsOneToOne encode_lower IsBytes
+one_digits a b p q e = decode_of-same (encode_lower b) a b (sym (ap decode_of e) ∙ decode_of-encode_lower a p) (decode_of-encode_lower b q)

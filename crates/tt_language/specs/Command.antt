@@ -1,4 +1,5 @@
 -- Which line stands for which command. A later command is one more case of each definition.
+use Rattle.hex.specs.Hex.{IsBytes, encode_lower}
 use Rattle.std.specs.Prelude.{◌≡◌, ℕ, ◌<◌, ◌^◌, List, [], ◌∷◌, codes, decimal, encode_utf8, All, map}
 use Rattle.std.specs.Char.{IsScalar}
 use Rattle.tt_base.specs.Fits.{LeafFits, SpanFits, TokenFits}
@@ -37,6 +38,8 @@ spell (command.Expand pattern template input to) = line_of (codes "expand") (dec
 spell (command.View view slot) = line_of (view_word view) (decimal slot ∷ [])
 spell (command.Split slot char) = line_of (codes "split") (decimal slot ∷ encode_utf8 char ∷ [])
 spell (command.Equal left right) = line_of (codes "equal") (decimal left ∷ decimal right ∷ [])
+spell (command.Save slot) = line_of (codes "save") (decimal slot ∷ [])
+spell (command.Load slot bytes) = line_of (codes "load") (decimal slot ∷ encode_lower bytes ∷ [])
 
 -- a slot is below 16, a character is one, a point's number has 64 bits, and other numbers and texts fit their types
 abbrev pub CommandFits : Command → Type 0
@@ -66,6 +69,8 @@ CommandFits (command.Expand pattern template input to) = (pattern < 16) × (temp
 CommandFits (command.View view slot) = slot < 16
 CommandFits (command.Split slot char) = (slot < 16) × IsScalar char
 CommandFits (command.Equal left right) = (left < 16) × (right < 16)
+CommandFits (command.Save slot) = slot < 16
+CommandFits (command.Load slot bytes) = (slot < 16) × IsBytes bytes
 
 -- the line stands for the command
 pub record StandsFor (line : List ℕ) (command : Command) : Type 0 where

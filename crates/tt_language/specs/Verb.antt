@@ -45,4 +45,6 @@ verb_word verb.Rewrite = codes "rewrite"
 verb_word verb.Expand = codes "expand"
 verb_word verb.Split = codes "split"
 verb_word verb.Equal = codes "equal"
+verb_word verb.Save = codes "save"
+verb_word verb.Load = codes "load"
 verb_word (verb.View view) = view_word view

@@ -15,6 +15,7 @@ mod verb;
 mod view;
 mod word;
 
+use crate::digits::Digits;
 use crate::many::Many;
 use crate::slot::Slot;
 use crate::texts::Texts;
@@ -84,6 +85,10 @@ pub enum Command {
     Split(Slot, char),
     /// Whether two slots hold the same tree.
     Equal(Slot, Slot),
+    /// A slot's tree as one piece of bytes.
+    Save(Slot),
+    /// Makes the tree of one piece of bytes, in the slot.
+    Load(Slot, Digits),
 }
 
 // For each verb, what follows it, read as the values of its command.
@@ -172,7 +177,9 @@ impl Command {
                 Command::Expand(pattern, template, input, to),
             Verb::View(view) => |(slot, ())| Command::View(view, slot),
             Verb::Split => |(slot, char)| Command::Split(slot, char),
-            Verb::Equal => |(left, (right, ()))| Command::Equal(left, right)
+            Verb::Equal => |(left, (right, ()))| Command::Equal(left, right),
+            Verb::Save => |(slot, ())| Command::Save(slot),
+            Verb::Load => |(slot, digits)| Command::Load(slot, digits)
         )
     }
 }

@@ -3,12 +3,14 @@
 #![tactic(auto)]
 
 mod command;
+mod digits;
 mod many;
 mod slot;
 mod spelling;
 mod texts;
 
 pub use command::{Action, Command, View};
+pub use digits::Digits;
 pub use many::Many;
 pub use slot::Slot;
 pub use spelling::{Spelled, kind_name};

@@ -8,6 +8,8 @@ mod laws;
 #[cfg(test)]
 mod lists;
 #[cfg(test)]
+mod pieces;
+#[cfg(test)]
 mod reading;
 #[cfg(test)]
 mod stored_headers;

@@ -3,6 +3,8 @@ use Rattle.std.specs.Prelude.{ℕ, List, [], ◌∷◌, ◌++◌, codes, decimal
 use Rattle.tt_base.specs.Fault.{number_of}
 use Rattle.tt_base.specs.declared.fault.TtFault.{TtFault}
 use Rattle.tt_base.specs.declared.fault.TtFault.TheVariants.{Memory}
+use Rattle.tt_bytes.specs.declared.fault.BytesFault.{BytesFault}
+use Rattle.tt_bytes.specs.declared.fault.BytesFault.TheVariants as bytes
 use Rattle.tt_mbe.specs.declared.fault.RuleFault.{RuleFault}
 use Rattle.tt_mbe.specs.declared.fault.RuleFault.TheVariants as rule
 
@@ -57,3 +59,12 @@ rule_line rule.BadTemplate = line (codes "rule 2")
 rule_line rule.DuplicateName = line (codes "rule 3")
 rule_line rule.UnknownName = line (codes "rule 4")
 rule_line rule.Memory = fault_line Memory
+
+-- the bytes are those of no tree, as is seen at that one; where memory was refused, the command was
+abbrev pub bytes_line : BytesFault → List ℕ
+bytes_line bytes.Memory = fault_line Memory
+bytes_line (bytes.TooShort at) = line (codes "bytes " ++ decimal at ++ codes " too short")
+bytes_line (bytes.OtherFormat at) = line (codes "bytes " ++ decimal at ++ codes " another format")
+bytes_line (bytes.NoText at) = line (codes "bytes " ++ decimal at ++ codes " no text")
+bytes_line (bytes.NoTree at) = line (codes "bytes " ++ decimal at ++ codes " no tree")
+bytes_line (bytes.StoredOtherwise at) = line (codes "bytes " ++ decimal at ++ codes " stored otherwise")

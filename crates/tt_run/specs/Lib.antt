@@ -11,6 +11,7 @@ pub mod Output
 pub mod Pieces
 pub mod Progress
 pub mod Run
+pub mod Saving
 pub mod Session
 pub mod Stage
 pub mod State

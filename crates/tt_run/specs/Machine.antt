@@ -15,6 +15,7 @@ use Rattle.tt_run.specs.Building.{OfBuilder, OfTree, Grows, Appends, Closes, Poi
 use Rattle.tt_run.specs.Expanding.{Expands}
 use Rattle.tt_run.specs.State.{State, tree_in, with_builder, with_tree}
 use Rattle.tt_run.specs.Editing.{Changes, SetsLeaf, ChangesIds, RewritesSlot}
+use Rattle.tt_run.specs.Saving.{Saves, Loads}
 use Rattle.tt_run.specs.ViewText.{split_text, view_text}
 
 -- the list becomes a tree in the slot, and is then empty; a list that is not packed stays
@@ -67,6 +68,8 @@ Does old (command.Expand pattern template input to) answer new = Expands old (tr
 Does old (command.View view slot) answer new = (answer ≡ text_or_empty (view_text view) (tree_in old slot)) × (new ≡ old)
 Does old (command.Split slot char) answer new = (answer ≡ text_or_empty (split_text char) (tree_in old slot)) × (new ≡ old)
 Does old (command.Equal left right) answer new = Compares (tree_in old left) (tree_in old right) answer × (new ≡ old)
+Does old (command.Save slot) answer new = Saves (tree_in old slot) answer × (new ≡ old)
+Does old (command.Load slot bytes) answer new = Loads old slot bytes answer new
 
 -- the command may run out of memory
 abbrev pub TakesMemory : Command → Type 0
@@ -96,6 +99,8 @@ TakesMemory (command.Expand pattern template input to) = Unit {0}
 TakesMemory (command.View view slot) = Unit {0}
 TakesMemory (command.Split slot char) = Unit {0}
 TakesMemory (command.Equal left right) = ⊥
+TakesMemory (command.Save slot) = Unit {0}
+TakesMemory (command.Load slot bytes) = Unit {0}
 
 -- a step of the machine: a command that runs out of memory answers fault 1 and changes nothing
 abbrev pub Step : State → Command → List ℕ → State → Type 0

@@ -1,5 +1,5 @@
 //! What the machine answers, in bytes.
-ghost use Rattle.std.specs.Prelude.{◌≡◌, ◌++◌, ◌∷◌, [], MatchResult, string_bytes, if◌then◌else◌};
+ghost use Rattle.std.specs.Prelude.{◌≡◌, ◌≤◌, ◌++◌, ◌∷◌, [], length, codes, decimal, MatchResult, string_bytes, if◌then◌else◌};
 ghost use Rattle.tt_base.specs.declared.fault.TtFault.TheVariants.{Memory};
 
 use arrayvec::ArrayString;
@@ -7,6 +7,7 @@ use itoa::Buffer;
 use std::alloc::AllocError;
 use std::marker::Model;
 use tt_base::TtFault;
+use tt_bytes::BytesFault;
 use tt_mbe::RuleFault;
 
 // The most bytes of a line that is made without memory: a word, and two numbers of at most 20 digits.
@@ -36,7 +37,7 @@ impl Model for Answer {
 }
 
 impl Answer {
-    ghost use Rattle.tt_run.specs.Answer.{ok_line, empty_line, same_line, no_builder_line, none_open_line, still_open_line, yes_line, no_line, fault_line, no_match_line, rule_line};
+    ghost use Rattle.tt_run.specs.Answer.{ok_line, empty_line, same_line, no_builder_line, none_open_line, still_open_line, yes_line, no_line, fault_line, no_match_line, rule_line, bytes_line};
     ghost use Rattle.tt_run.specs.Building.{point_line, counts_line};
 
     /// The text of the answer, with the line feed at its end.
@@ -198,5 +199,34 @@ impl Answer {
             RuleFault::UnknownName => b"rule 4\n",
             RuleFault::Memory => b"fault 1\n",
         })
+    }
+
+    /// Why bytes are those of no tree, and at which of them that is seen; `fault 1` where memory was refused. Made without
+    /// memory.
+    pub(crate) fn wrong_bytes(fault: BytesFault) -> Answer
+        ensures { result ≡ bytes_line fault }
+    {
+        match fault {
+            BytesFault::Memory => Answer::fault(TtFault::Memory),
+            BytesFault::TooShort(at) => Answer::bytes(at, " too short\n"),
+            BytesFault::OtherFormat(at) => Answer::bytes(at, " another format\n"),
+            BytesFault::NoText(at) => Answer::bytes(at, " no text\n"),
+            BytesFault::NoTree(at) => Answer::bytes(at, " no tree\n"),
+            BytesFault::StoredOtherwise(at) => Answer::bytes(at, " stored otherwise\n"),
+        }
+    }
+
+    // `bytes`, the number, and what follows it, which is short.
+    fn bytes(at: usize, what: &str) -> Answer
+        requires { length what.now ≤ 18 }
+        ensures { result ≡ codes "bytes " ++ decimal at ++ what.now }
+    {
+        let mut text = ArrayString::new();
+        text.push_str("bytes ");
+        text.push_str(Buffer::new().format(at));
+        text.push_str(what);
+        Answer {
+            held: Held::Short(text),
+        }
     }
 }

@@ -5,6 +5,7 @@ mod building;
 mod editing;
 mod expanding;
 mod rewriting;
+mod saving;
 
 use crate::answer::Answer;
 use crate::pieces::piece_sizes;
@@ -89,6 +90,8 @@ impl Machine {
             Command::View(view, slot) => self.view(view, slot),
             Command::Split(slot, char) => self.split(slot, char),
             Command::Equal(left, right) => self.equal(left, right),
+            Command::Save(slot) => self.save(slot),
+            Command::Load(slot, digits) => self.load(slot, digits),
         }
     }
 

@@ -1,4 +1,5 @@
 //! What is stored for a tree, in lines.
+ghost use Rattle.hex.specs.Hex.{encode_lower};
 ghost use Rattle.std.specs.Prelude.{◌≡◌, IfOk, string_bytes};
 ghost use Rattle.std.specs.List.{flat_map};
 ghost use Rattle.tt.specs.Stored.{packed};
@@ -16,6 +17,15 @@ pub(crate) fn stored_bytes(alloc: Global, tree: &TopSubtree) -> Result<String, A
     for byte in tree.packed_bytes() {
         write!(text, "{byte:02x}")?;
     }
+    text.push_str("\n")?;
+    Ok(text)
+}
+
+/// Bytes, two hexadecimal digits each, on one line.
+pub(crate) fn digits_line(alloc: Global, bytes: &[u8]) -> Result<String, AllocError>
+    ensures { IfOk result (λ text. string_bytes text ≡ line (encode_lower bytes.now)) }
+{
+    let mut text = hex::encode(alloc, bytes)?;
     text.push_str("\n")?;
     Ok(text)
 }

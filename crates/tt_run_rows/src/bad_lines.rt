@@ -7,7 +7,7 @@ use tt_language::Command;
 
 // Lines that are no command, each for one rule of `docs/LANGUAGE.md`: a text for each topic with the number of
 // its lines, a line feed between them.
-const BAD_LINES: [(u32, &[u8]); 11] = [
+const BAD_LINES: [(u32, &[u8]); 12] = [
     // No command.
     (
         13,
@@ -24,6 +24,21 @@ const BAD_LINES: [(u32, &[u8]); 11] = [
       clears\n\
       pretty 16\n\
       \x20list 0",
+    ),
+    // Trees as bytes.
+    (
+        11,
+        b"save\n\
+      save 16\n\
+      save 0 \n\
+      load\n\
+      load 0\n\
+      load 16 ff\n\
+      load 0 7\n\
+      load 0 7g\n\
+      load 0 FF\n\
+      load 0 ff \n\
+      load 0  ff",
     ),
     // Trees that are changed.
     (

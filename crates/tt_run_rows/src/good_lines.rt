@@ -9,7 +9,7 @@ use tt_language::Command;
 const LINES: [(u32, &[u8]); 7] = [
     // Slots, and what takes no more than a slot, a number or a character.
     (
-        30,
+        33,
         b"clear=Clear\n\
       list 0=List(Slot { number: 0 })\n\
       list 15=List(Slot { number: 15 })\n\
@@ -39,7 +39,10 @@ const LINES: [(u32, &[u8]); 7] = [
       split 15 \xe2\x86\x92=Split(Slot { number: 15 }, '\xe2\x86\x92')\n\
       expand 15 0 15 0=Expand(Slot { number: 15 }, Slot { number: 0 }, Slot { number: 15 }, Slot { number: 0 })\n\
       equal 0 15=Equal(Slot { number: 0 }, Slot { number: 15 })\n\
-      equal 15 0=Equal(Slot { number: 15 }, Slot { number: 0 })",
+      equal 15 0=Equal(Slot { number: 15 }, Slot { number: 0 })\n\
+      save 15=Save(Slot { number: 15 })\n\
+      load 0 =Load(Slot { number: 0 }, [])\n\
+      load 15 00ff7a=Load(Slot { number: 15 }, [0, 255, 122])",
     ),
     // The builder.
     (

@@ -12,6 +12,7 @@ mod faulty;
 mod levels;
 mod lists;
 mod made;
+mod pieces;
 mod prepared;
 mod quiet;
 mod quiet_stored;
@@ -39,6 +40,7 @@ impl Groups for TreeGroups {
             "made" | "quiet" => prepared::judged(rt, rt.alloc(), group, call),
             "lists" => lists::judged(rt, rt.alloc(), call),
             "counted" => counted::judged(rt, rt.alloc(), call),
+            "pieces" => pieces::judged(rt, rt.alloc(), call),
             "levels" => levels::judged(rt, rt.alloc()),
             "faulty" => faulty::judged(rt, rt.alloc(), call),
             _ => Err(TtFault::NoSuchPlace),

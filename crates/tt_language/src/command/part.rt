@@ -1,4 +1,5 @@
 //! What follows the first word of a line.
+ghost use Rattle.hex.specs.Hex.{IsBytes, encode_lower};
 ghost use Rattle.std.specs.Prelude.{◌≡◌, IfOk, IfErr, ℕ, List, [], ◌∷◌, All, map, encode_utf8};
 ghost use Rattle.std.specs.Char.{IsScalar};
 ghost use Rattle.tt_base.specs.Fits.{LeafFits, TokenFits};
@@ -8,6 +9,7 @@ ghost use Rattle.tt_language.specs.Token.{leaf_words, token_words};
 
 use crate::command::tokens::{character, leaf, token};
 use crate::command::word::{Word, next};
+use crate::digits::Digits;
 use crate::many::Many;
 use crate::texts::Texts;
 use tt_base::{Leaf, TokenTree, TtFault};
@@ -86,6 +88,20 @@ impl Part for char {
             return Ok(None);
         };
         Ok(character(text))
+    }
+}
+
+// Bytes take all the rest.
+impl Part for Digits {
+    ghost pieces = { λ bytes. encode_lower bytes ∷ [] };
+
+    ghost fits = { IsBytes };
+
+    fn read(texts: &mut Texts, text: &[u8]) -> Result<Option<Digits>, TtFault> {
+        let Some(text) = text.strip_prefix(b" ".as_slice()) else {
+            return Ok(None);
+        };
+        Digits::read(texts.alloc(), text)
     }
 }
 

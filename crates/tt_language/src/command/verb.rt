@@ -30,6 +30,8 @@ pub enum Verb {
     Expand,
     Split,
     Equal,
+    Save,
+    Load,
     View(View),
 }
 
@@ -70,7 +72,9 @@ impl Word for Verb {
             b"rewrite" => Verb::Rewrite,
             b"expand" => Verb::Expand,
             b"split" => Verb::Split,
-            b"equal" => Verb::Equal
+            b"equal" => Verb::Equal,
+            b"save" => Verb::Save,
+            b"load" => Verb::Load
         )
     }
 

@@ -134,3 +134,13 @@ pub returns-in_ok-read-in-Expand-clause-reads : goal.returns-in_ok-read-in-Expan
 returns-in_ok-read-in-Expand-clause-reads c =
     let made : c.map-in-Expand.result ≡ option_map (make verb.Expand) c.in_ok-read-in-Expand.field-0 = mapped (make verb.Expand) _ _ c.map-in-Expand.ensures.cases (λ x y learnt. search) in
     rw c.in-Expand.is (command_read verb.Expand _ _ _ c.requires.tail c.in_ok-read-in-Expand.ensures.reads made)
+
+pub returns-in_ok-read-in-Save-clause-reads : goal.returns-in_ok-read-in-Save-clause-reads
+returns-in_ok-read-in-Save-clause-reads c =
+    let made : c.map-in-Save.result ≡ option_map (make verb.Save) c.in_ok-read-in-Save.field-0 = mapped (make verb.Save) _ _ c.map-in-Save.ensures.cases (λ x y learnt. search) in
+    rw c.in-Save.is (command_read verb.Save _ _ _ c.requires.tail c.in_ok-read-in-Save.ensures.reads made)
+
+pub returns-in_ok-read-in-Load-clause-reads : goal.returns-in_ok-read-in-Load-clause-reads
+returns-in_ok-read-in-Load-clause-reads c =
+    let made : c.map-in-Load.result ≡ option_map (make verb.Load) c.in_ok-read-in-Load.field-0 = mapped (make verb.Load) _ _ c.map-in-Load.ensures.cases (λ x y learnt. search) in
+    rw c.in-Load.is (command_read verb.Load _ _ _ c.requires.tail c.in_ok-read-in-Load.ensures.reads made)

@@ -1,0 +1,12 @@
+pub mod Again
+pub mod Alike
+pub mod Apart
+pub mod Decoding
+pub mod Faults
+pub mod Flat
+pub mod Growing
+pub mod Holding
+pub mod Marks
+pub mod Reading
+pub mod Refusing
+pub mod Standing

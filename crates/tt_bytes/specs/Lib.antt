@@ -1,0 +1,4 @@
+pub mod Decoding
+pub mod Faults
+pub mod Format
+pub mod Front

@@ -1,0 +1,65 @@
+//! The tokens of packed bytes, whatever these are.
+ghost use Rattle.std.specs.Prelude.{◌≡◌, ◌<◌, ◌≤◌, ◌+◌, ◌^◌, length, IfSome, MatchOption, MatchResult, Some};
+ghost use Rattle.tt_base.specs.Forest.{Forest, Root, end, only, flat_root};
+ghost use Rattle.tt_base.specs.Moves.{first_token, after_token};
+ghost use Rattle.tt_bytes.specs.Decoding.{GivesToken, Names, Stand, Stands, StandsNone, IsStop};
+ghost use Rattle.tt_bytes.specs.declared.fault.BytesFault.TheVariants.{Memory};
+ghost use Rattle.tt_tables.specs.Meaning.{IsAhead};
+ghost use Rattle.tt_tables.specs.TablesOf.{tables_of};
+
+use crate::fault::BytesFault;
+use std::alloc::Global;
+use tt::TokenTree;
+use tt_codec::Entry;
+use tt_tables::Tables;
+
+// The token that the numbers name.
+fn token_of(tables: Tables<'_>, entry: Entry) -> Option<TokenTree>
+    ensures gives { GivesToken (tables_of tables.entry) entry result }
+    ensures only { IfSome result (Names (tables_of tables.entry) entry) }
+{
+    match entry {
+        Entry::Leaf(leaf) => tables.leaf(leaf),
+        Entry::Header(header) => tables.subtree(header),
+    }
+}
+
+// The token that stands there, and where the next one does.
+fn token_at(tables: Tables<'_>, packed: &[u8], offset: usize) -> Option<(TokenTree, usize)>
+    ensures stands { MatchOption result (StandsNone (tables_of tables.entry) packed.now offset)
+        (λ found. Stands (tables_of tables.entry) packed.now offset found.0 found.1) }
+    ensures next { IfSome result (λ found. (offset < found.1) × (found.1 ≤ length packed.now)) }
+    ensures token { (trees : Forest) → IsAhead (tables_of tables.entry) packed.now offset trees
+        → MatchOption result (trees ≡ end) (λ found. (first_token trees ≡ Some found.0) × IsAhead (tables_of tables.entry) packed.now found.1 (after_token trees)) }
+{
+    let (_, from) = packed.split_at_checked(offset)?;
+    let (entry, rest) = Entry::read(from)?;
+    if rest.len() >= from.len() {
+        return None;
+    }
+    let token = token_of(tables, entry)?;
+    Some((token, packed.len() - rest.len()))
+}
+
+/// The tokens that stand in packed bytes one after the other. Before these bytes stand so many others.
+pub(crate) fn tokens_of(
+    alloc: Global,
+    tables: Tables<'_>,
+    before: usize,
+    packed: &[u8],
+) -> Result<Vec<TokenTree>, BytesFault>
+    requires { before + length packed.now < 2 ^ 64 }
+    ensures stand { MatchResult result (λ list. Stand (tables_of tables.entry) packed.now list.items (length packed.now)) (IsStop (tables_of tables.entry) packed.now before) }
+    ensures list { (root : Root) → IsAhead (tables_of tables.entry) packed.now 0 (only root) → MatchResult result (λ list. list.items ≡ flat_root root) (λ fault. fault ≡ Memory) }
+{
+    let mut tokens = Vec::new(alloc);
+    let mut offset = 0;
+    while offset < packed.len() {
+        let Some((token, next)) = token_at(tables, packed, offset) else {
+            return Err(BytesFault::NoTree(before + offset));
+        };
+        tokens.push(token)?;
+        offset = next;
+    }
+    Ok(tokens)
+}

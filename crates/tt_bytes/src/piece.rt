@@ -1,0 +1,44 @@
+//! What a piece of bytes holds.
+ghost use Rattle.std.specs.Prelude.{◌≡◌, ◌⊎◌, ◌+◌, ◌≤◌, length, Ok, Err, IfOk, MatchResult};
+ghost use Rattle.tt_bytes.specs.declared.fault.BytesFault.TheVariants.{Memory};
+ghost use Rattle.tt_bytes.specs.Front.{held, held_in};
+
+use crate::fault::BytesFault;
+use crate::front::{behind_mark, split_parts, split_symbols};
+use crate::numbers::split_counts;
+use std::alloc::Global;
+use tt::{SpanPart, Symbol};
+
+/// What a piece of bytes holds, and what stands behind its end.
+#[derive(Drop)]
+pub(crate) struct Piece<'a> {
+    pub(crate) parts: Vec<SpanPart>,
+    pub(crate) symbols: Vec<Symbol>,
+    pub(crate) packed: &'a [u8],
+    pub(crate) behind: &'a [u8],
+}
+
+impl<'a> Piece<'a> {
+    /// What the bytes hold.
+    pub(crate) fn read(alloc: Global, bytes: &'a [u8]) -> Result<Piece<'a>, BytesFault>
+        ensures value { MatchResult result (λ it. held bytes.now ≡ Ok (held_in it)) (λ fault. (fault ≡ Memory) ⊎ (held bytes.now ≡ Err fault)) }
+        ensures len { IfOk result (λ it. length it.packed.now + length it.behind.now ≤ length bytes.now) }
+    {
+        let all = bytes.len();
+        let marked = behind_mark(bytes)?;
+        let Some((counts, rest)) = split_counts(marked) else {
+            return Err(BytesFault::TooShort(all));
+        };
+        let (parts, rest) = split_parts(alloc, all, counts.parts, rest)?;
+        let (symbols, rest) = split_symbols(alloc, all, counts.symbols, rest)?;
+        let Some((packed, behind)) = rest.split_at_checked(counts.bytes as usize) else {
+            return Err(BytesFault::TooShort(all));
+        };
+        Ok(Piece {
+            parts,
+            symbols,
+            packed,
+            behind,
+        })
+    }
+}

@@ -1,0 +1,52 @@
+//! From bytes to their tree.
+ghost use Rattle.std.specs.Prelude.{◌≡◌, ◌⊎◌, IfOk, IfErr};
+ghost use Rattle.tt_base.specs.Forest.{Root};
+ghost use Rattle.tt_bytes.specs.declared.fault.BytesFault.TheVariants.{Memory, NoTree};
+ghost use Rattle.tt_bytes.specs.Faults.{IsFaultOf};
+ghost use Rattle.tt_bytes.specs.Format.{AreBytesOf, AreBytesOfNone};
+
+use crate::compare::common_length;
+use crate::decode::tokens_of;
+use crate::fault::BytesFault;
+use crate::piece::Piece;
+use crate::write::to_bytes;
+use std::alloc::Global;
+use tt::{TopSubtree, TtFault};
+use tt_tables::Tables;
+
+// Why tokens that were read up to the end are those of no tree that has bytes.
+fn fault_of(fault: TtFault, end: usize) -> BytesFault
+    ensures memory { fault ≡ TtFault.Memory → result ≡ Memory }
+    ensures other { (fault ≡ TtFault.Memory → ⊥) → result ≡ NoTree end }
+{
+    match fault {
+        TtFault::Memory => BytesFault::Memory,
+        _ => BytesFault::NoTree(end),
+    }
+}
+
+/// The tree of these bytes: the one whose bytes they are.
+pub fn from_bytes(alloc: Global, bytes: &[u8]) -> Result<TopSubtree, BytesFault>
+    ensures ok { IfOk result (λ tree. AreBytesOf tree bytes.now) }
+    ensures only { IfOk result (λ tree. (other : Root) → AreBytesOf other bytes.now → other ≡ tree) }
+    ensures err { IfErr result (IsFaultOf bytes.now) }
+    ensures none { IfErr result (λ fault. (fault ≡ Memory) ⊎ AreBytesOfNone bytes.now) }
+{
+    let piece = Piece::read(alloc, bytes)?;
+    let end = bytes.len() - piece.behind.len();
+    let tables = Tables::new(piece.parts.as_slice(), piece.symbols.as_slice());
+    let tokens = tokens_of(alloc, tables, end - piece.packed.len(), piece.packed)?;
+    let tree = match TopSubtree::from_serialized(alloc, tokens) {
+        Ok(tree) => tree,
+        Err(refused) => return Err(fault_of(refused.fault, end)),
+    };
+    let again = match to_bytes(alloc, &tree) {
+        Ok(again) => again,
+        Err(fault) => return Err(fault_of(fault, end)),
+    };
+    if again.as_slice() != bytes {
+        let at = common_length(bytes, again.as_slice());
+        return Err(BytesFault::StoredOtherwise(at));
+    }
+    Ok(tree)
+}
