@@ -1,0 +1,12 @@
+pub mod ByteFacts
+pub mod ClassFacts
+pub mod ClosingFacts
+pub mod CommentFacts
+pub mod EndFacts
+pub mod FrontFacts
+pub mod GrammarFacts
+pub mod OpeningFacts
+pub mod Rows
+pub mod RunFacts
+pub mod StopFacts
+pub mod TokenFacts
