@@ -11,7 +11,6 @@ MOST = (17, 63, 100, 255, 288)
 ONE_CHILD = "len(tree.children) == 1 and isinstance(tree.children[0], Subtree)"
 REWRITTEN = "one_subtree(self.rewritten(self.slots[slot], iter(actions)))"
 SAME = 'if action == f"put:{slot}":'
-ONE_TREE = "len(trees) != 1 or not isinstance(trees[0], Subtree)"
 EQUAL = "self.slots[left] == self.slots[right]"
 LISTS = [
     (
@@ -19,16 +18,6 @@ LISTS = [
         'except NotOneSubtree:\n            self.items = []\n            return ["fault 2"]\n        self.items',
     ),
     ("a list keeps its tokens", 'return ["fault 2"]\n        self.items = []', 'return ["fault 2"]'),
-    ("the first of two tops is taken", ONE_TREE, "not trees or not isinstance(trees[0], Subtree)"),
-    ("a leaf is a top", f"if {ONE_TREE}:", "if len(trees) != 1:"),
-    (
-        "a header may count past its parent", "if place + length > len(items):\n            raise NotOneSubtree",
-        "length = min(length, len(items) - place)",
-    ),
-    (
-        "no tokens are a top", f"if {ONE_TREE}:",
-        "if not trees:\n        return Subtree('invisible', None, None, ())\n    if len(trees) > 1:",
-    ),
 ]
 BUILDING = [
     ("open leaves the mark", OPENED, "self.levels.append([])"),

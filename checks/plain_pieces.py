@@ -131,7 +131,7 @@ class Tokens(Reader):
             if kind in RAW_KINDS:
                 kind += f":{self.number(1)}"
             return self.literal(kind, self.number(1), numbers)
-        return self.literal(LITERAL_FORMS.get(control % 16), control // 16, numbers)
+        return self.literal(LITERAL_FORMS[control % 16], control // 16, numbers)
 
     def at(self, values, index):
         """The value of that number."""
@@ -141,8 +141,6 @@ class Tokens(Reader):
 
     def literal(self, kind, suffix_len, numbers):
         """A literal, whose suffix begins at a character."""
-        if kind is None:
-            raise NoToken
         text, _ = self.reference()
         data = text.encode()
         if suffix_len > len(data) or suffix_len > 0 and data[-suffix_len] & 0xC0 == 0x80:

@@ -6,9 +6,9 @@ from made_values import CUTS, FEW_SLOTS, MANY_PARTS, MANY_SYMBOLS, MOST, SLOTS
 from plain_machine import Header
 from plain_pieces import piece
 from plain_stored import SPACINGS
-from plain_trees import Ident, Punct, Subtree, flat, size
+from plain_trees import Ident, Literal, Punct, Span, Subtree, flat, size
 
-COMMANDS = 400
+COMMANDS = 480
 MOST_POINT = 2**64 - 1
 # So many different parts and symbols a large script has: an index of each needs the longest form of those below.
 LARGE_PARTS = 2048 * 16 + 8
@@ -21,11 +21,11 @@ SHOWN = "show pretty debug flat siblings walk glue bytes parts symbols save".spl
 STORED = "bytes parts symbols".split()
 # How often each command, or some that belong together, come among others.
 WEIGHTS = {
-    "tree": 4, "spoiled_list": 1, "mended_list": 1, "rule": 3, "spoiled_rule": 1, "edge": 1, "table": 0.5, "joined": 3,
+    "tree": 4, "spoiled_list": 1, "mended_list": 1, "rule": 4, "spoiled_rule": 1, "edge": 1, "table": 0.5, "joined": 3,
     "new": 2, "open": 11, "push": 14, "close": 10, "append": 3, "alone": 3, "ends_alone": 1, "unwrap": 4, "marked": 3,
     "point": 4, "restore": 4, "points": 0.3, "many": 0.1, "expected": 1, "counts": 4, "build": 2, "skip": 2, "skipped": 1,
     "copy": 2, "kind": 2, "spans": 2, "set": 3, "ids": 2, "rewrite": 4, "expand": 1, "equal": 2, "nearly_equal": 1,
-    "split": 2, "shown": 10, "load": 5,
+    "split": 4, "shown": 10, "load": 8,
 }
 
 
@@ -296,24 +296,30 @@ class Script(Rules):
 
     def add_load(self):
         """The bytes of a tree, mostly with something wrong in them."""
-        slot, tree = self.slot(), self.subtree(self.trees(self.pick((0, 1, 3)), self.pick((3, 12, 40))))
-        self.add("load", slot, self.spoiled_bytes(piece(tree)).hex())
+        slot, trees = self.slot(), [self.edge_subtree()] if self.happens(0.1) else self.trees(1, self.pick((1, 1, 2, 12)))
+        last = Literal(self.pick(("float", "err")), 0, Span(0, 0, MOST - 1, MOST, 0), self.pick(("é", "1é")))
+        data = piece(self.subtree(self.pick(([self.leaf()], [last], trees))))
+        for _ in range(self.pick((0, 1, 1, 1, 2))):
+            data = self.spoiled_bytes(data)
+        self.add("load", slot, data.hex())
         self.add("flat", slot)
 
     def spoiled_bytes(self, data):
-        """The bytes with a change or two: a bit or a byte, the end left out, more behind it, some taken out or doubled."""
-        for _ in range(self.pick((0, 1, 1, 1, 2))):
-            place = self.below(len(data) + 1)
-            low = min(place, 16) if self.happens(0.2) else place
-            data = self.pick((
-                data[:place] + bytes([data[place] ^ 1 << self.below(8)]) + data[place + 1:] if place < len(data) else data,
-                data[:low] + bytes([self.below(256)]) + data[low + 1:],
-                data[:place],
-                data + bytes(self.below(3) + 1),
-                data[:place] + data[place + 1:],
-                data[:place] + data[max(0, place - 12):],
-            ))
-        return data
+        """The bytes with a change, mostly to one of the last: another value there, the end left out, more behind it, some taken
+        out or doubled, a symbol that is not used."""
+        place = max(0, len(data) - 1 - self.below(self.pick((3, 16)))) if self.happens(0.7) else self.below(len(data) + 1)
+        byte = data[place] if place < len(data) else 0
+        byte = self.pick((byte ^ 1 << self.below(8), (byte + 64) % 256, self.pick((0, 1, 2, 255)), self.below(256)))
+        packed = len(data) - int.from_bytes(data[12:16], "little")
+        symbols = int.from_bytes(data[8:12], "little") + 1
+        return self.pick((
+            *[data[:place] + bytes([byte]) + data[place + 1:]] * 6,
+            data[:place],
+            data + bytes(self.below(3) + 1),
+            data[:place] + data[place + 1:],
+            data[:place] + data[max(0, place - 12):],
+            data[:8] + symbols.to_bytes(4, "little") + data[12:packed] + b"\1\0\0\0z" + data[packed:],
+        ))
 
     def add_split(self):
         self.add("split", self.slot(), self.pick(CUTS))
