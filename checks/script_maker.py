@@ -297,7 +297,11 @@ class Script(Rules):
     def add_load(self):
         """The bytes of a tree, mostly with something wrong in them."""
         slot, trees = self.slot(), [self.edge_subtree()] if self.happens(0.1) else self.trees(1, self.pick((1, 1, 2, 12)))
-        last = Literal(self.pick(("float", "err")), 0, Span(0, 0, MOST - 1, MOST, 0), self.pick(("é", "1é")))
+        end = Span(0, 0, MOST - 1, MOST, 0)
+        last = self.pick((
+            Literal(self.pick(("float", "err")), 0, end, self.pick(("é", "1é"))), Punct("joint", end, "→"),
+            Subtree("opaque", self.span(), self.span(), ()),
+        ))
         data = piece(self.subtree(self.pick(([self.leaf()], [last], trees))))
         for _ in range(self.pick((0, 1, 1, 1, 2))):
             data = self.spoiled_bytes(data)

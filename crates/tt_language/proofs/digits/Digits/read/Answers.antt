@@ -18,9 +18,9 @@ returns-then-ne-clause-reads c value fits e =
 none_read : (text : List ℕ) (error : FromHexError) (result : Result (Option (List ℕ)) TtFault) → (error ≡ OutOfMemory → result ≡ Err Memory)
     → ((error ≡ OutOfMemory → ⊥) → result ≡ Ok None) → (error ≡ OutOfMemory) ⊎ (decode_of text ≡ Err error) → IfOk result (Reads encode_lower IsBytes text)
 none_read text OutOfMemory result memory other why = rw (memory refl) tt
-none_read text (InvalidHexCharacter char index) result memory other why = rw (other (λ e. cc e)) (λ value fits e. elim why [ | inl memory ↦ cc memory | inr wrong ↦ cc (sym wrong ∙ ap decode_of e ∙ decode_of-encode_lower value fits) ])
-none_read text OddLength result memory other why = rw (other (λ e. cc e)) (λ value fits e. elim why [ | inl memory ↦ cc memory | inr wrong ↦ cc (sym wrong ∙ ap decode_of e ∙ decode_of-encode_lower value fits) ])
-none_read text InvalidStringLength result memory other why = rw (other (λ e. cc e)) (λ value fits e. elim why [ | inl memory ↦ cc memory | inr wrong ↦ cc (sym wrong ∙ ap decode_of e ∙ decode_of-encode_lower value fits) ])
+none_read text (InvalidHexCharacter char index) result memory other why = rw (other (λ e. cc e)) (λ value fits e. elim why [ inl memory ↦ cc memory | inr wrong ↦ cc (sym wrong ∙ ap decode_of e ∙ decode_of-encode_lower value fits) ])
+none_read text OddLength result memory other why = rw (other (λ e. cc e)) (λ value fits e. elim why [ inl memory ↦ cc memory | inr wrong ↦ cc (sym wrong ∙ ap decode_of e ∙ decode_of-encode_lower value fits) ])
+none_read text InvalidStringLength result memory other why = rw (other (λ e. cc e)) (λ value fits e. elim why [ inl memory ↦ cc memory | inr wrong ↦ cc (sym wrong ∙ ap decode_of e ∙ decode_of-encode_lower value fits) ])
 
 pub returns-in-Err-clause-reads : goal.returns-in-Err-clause-reads
 returns-in-Err-clause-reads c = none_read c.args.text.now c.in-Err.error c.no_digits.result c.no_digits.ensures.memory c.no_digits.ensures.other c.in-Err.ensures.err
