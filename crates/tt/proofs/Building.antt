@@ -15,7 +15,7 @@ use Rattle.tt_interned.specs.Held.{HeldToken, whole, opened, as_token, open_plac
 use Rattle.tt_interned.specs.Interned.{AreNamed}
 use Rattle.tt_interned.specs.Names.{AllName}
 use Rattle.tt_interned.proofs.Naming.{length-named}
-use Rattle.tt_pack.specs.OneNode.{IsOneNode}
+use Rattle.tt_interned.specs.OneNode.{IsOneNode}
 use Rattle.tt_tables.specs.Tables.{Tables}
 use Rattle.tt.specs.declared.builder.standing.Standing.{Standing}
 use Rattle.tt.specs.BuilderFields.{written, places, is_one_node, IsStateOf}

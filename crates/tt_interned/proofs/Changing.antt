@@ -8,7 +8,8 @@ use Rattle.std.specs.Option.{unwrap_or}
 use Rattle.tt_base.specs.contracts.span.SpanPartEq.TheImpl.Laws as part_eq
 use Rattle.tt_base.specs.contracts.symbol.SymbolEq.TheImpl.Laws as symbol_eq
 use Rattle.tt_base.specs.declared.span.SpanPart.{SpanPart}
-use Rattle.tt_interner.proofs.UseCounts.{entry_at, number_at, uses-append, uses-cons, one_if}
+use Rattle.tt_interner.proofs.UseCounts.{entry_at, number_at}
+use Rattle.tt_tables.proofs.Used.{uses-append, member_used}
 use Rattle.tt_interned.proofs.Naming.{KeepAll, keeps_front, all_stay, keep_all, named-push, named-set, named-take}
 use Rattle.tt_interned.proofs.Ordering.{keys_with, keys_cut, in_order_cut}
 use Rattle.tt_interned.proofs.Using.{uses_pushed, uses_cut, uses_set, same_uses_set, uses_removed, same_uses_removed}
@@ -17,7 +18,6 @@ use Rattle.tt_interner.specs.Entries.{with_entry, IsCut}
 use Rattle.tt_interned.specs.Held.{HeldToken, counted_parts, counted_symbols, parts_in, symbols_in}
 use Rattle.tt_interned.specs.Interned.{AreHeld, tables_of}
 use Rattle.tt_interned.specs.Names.{Names, AllName}
-use Rattle.tt_tables.proofs.Members.{Member}
 use Rattle.tt_tables.proofs.TokenTables.{part_sound, text_sound}
 use Rattle.tt_tables.specs.Counts.{number_in, CountsUses, CountsMore}
 use Rattle.tt_tables.specs.TableOrder.{different, uses_of}
@@ -79,12 +79,6 @@ module _ {X : Type 0} (same : X → X → Bool) (laws : IsEquivalence same) (sou
     λ i y at. ap (λ l. slice_get l i) (keys ∙ ap keys_of e) ∙ grows_with old x i y at,
     λ y. omega (arith, more y, ap (λ entries. number_in same entries y) e, number_with old x y),
   )
-
-  -- One of a list has uses.
-  member_used : (uses : List X) (z : X) → Member z uses → 0 < uses_of same uses z
-  member_used [] z m = absurd m
-  member_used (x ∷ uses) z (inl is) = omega (arith, uses-cons same x uses z, ap one_if (ap (λ k. same k x) is ∙ laws.refl x))
-  member_used (x ∷ uses) z (inr m) = omega (arith, uses-cons same x uses z, member_used uses z m)
 
   -- A value of some uses stands in front of those that are cut off.
   pub kept_by_cut : (uses : List X) (entries cut : List (X × ℕ)) (i : ℕ) (x : X) → IsDistinct same (keys_of entries) → CountsUses same uses entries → IsCut entries cut

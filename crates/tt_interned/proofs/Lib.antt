@@ -3,6 +3,7 @@ pub mod Changing
 pub mod Growing
 mod MissingRows
 pub mod Naming
+pub mod OneNode
 pub mod Opening
 pub mod Ordering
 pub mod Packing

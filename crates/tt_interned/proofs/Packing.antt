@@ -1,5 +1,6 @@
 -- What is packed of what is held.
-use Rattle.std.proofs.Common.{◌≡◌, ℕ, suc, Bool, bytes_eq, List, [], ◌∷◌, ◌++◌, Some, map, slice_get, refl, ap, ap₂, sym, subst, ◌∙◌}
+use Rattle.std.proofs.Common.{◌≡◌, ℕ, suc, Bool, bytes_eq, List, [], ◌∷◌, ◌++◌, Some, map, length, slice_get, refl, ap, ap₂, sym, subst, ◌∙◌}
+use Rattle.std.proofs.lemmas.List.{length-map}
 use Rattle.std.specs.Cmp.{IsEquivalence}
 use Rattle.std.specs.List.{IsDistinct}
 use Rattle.std.specs.Map.{keys_of, values_of}
@@ -9,7 +10,10 @@ use Rattle.tt_base.specs.declared.span.SpanPart.{SpanPart}
 use Rattle.tt_base.specs.declared.token_tree.TokenTree.{TokenTree}
 use Rattle.tt_interner.proofs.UseCounts.{number_at}
 use Rattle.tt_interned.specs.declared.token.InternedToken.{InternedToken}
+use Rattle.tt_interned.specs.declared.counted.CountedTokens.{CountedTokens}
 use Rattle.tt_interned.specs.Counted.{AreOf}
+use Rattle.tt_interned.specs.ListOf.{list_of, tokens_of, counted_are}
+use Rattle.tt_interned.proofs.Naming.{length-named}
 use Rattle.tt_interned.specs.Held.{HeldToken, whole, as_token, counted_parts, counted_symbols, parts_in, symbols_in}
 use Rattle.tt_interned.specs.Interned.{tables_of}
 use Rattle.tt_interned.specs.Names.{AllName}
@@ -71,3 +75,7 @@ counted_from tokens tokens_now parts parts_now part_numbers part_numbers_now sym
     (subst (λ n. AreOf tokens parts n symbols_now symbol_numbers_now list) (sym e₃)
     (subst (λ s. AreOf tokens parts part_numbers s symbol_numbers_now list) (sym e₄)
     (subst (λ n. AreOf tokens parts part_numbers symbols n list) (sym e₅) are))))
+
+-- There is a token for each that is meant.
+pub as_many_tokens : (it : CountedTokens) → length (tokens_of it) ≡ length (list_of it)
+as_many_tokens it = length-named _ (tokens_of it) (map whole (list_of it)) (counted_are it).named ∙ length-map (list_of it) whole

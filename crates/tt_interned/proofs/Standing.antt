@@ -18,7 +18,7 @@ use Rattle.tt_interned.specs.declared.token.InternedToken.TheVariants as interne
 use Rattle.tt_interned.specs.Held.{HeldToken, whole, opened, counted_parts, counted_symbols, parts_in, symbols_in}
 use Rattle.tt_interned.specs.Interned.{AreHeld, CanTakeAll, tables_of}
 use Rattle.tt_interned.specs.Names.{Names, AllName}
-use Rattle.tt_interner.proofs.UseCounts.{uses-append}
+use Rattle.tt_tables.proofs.Used.{uses-append}
 use Rattle.tt_tables.specs.Counts.{number_in}
 use Rattle.tt_tables.specs.TableOrder.{uses_of}
 use Rattle.tt_tables.specs.Tables.{Tables}

@@ -17,7 +17,7 @@ use Rattle.tt_base.specs.declared.delimiter.DelimiterKind.{DelimiterKind}
 use Rattle.tt_base.specs.declared.ident.IdentIsRaw.{IdentIsRaw}
 use Rattle.tt_base.specs.declared.literal.LitKind.{LitKind}
 use Rattle.tt_base.specs.declared.punct.Spacing.{Spacing}
-use Rattle.tt_interner.proofs.UseCounts.{one_if, uses-append, uses-cons, uses-one}
+use Rattle.tt_tables.proofs.Used.{one_if, uses-append, uses-cons, uses-one}
 use Rattle.tt_interned.proofs.Naming.{length-named, named_at}
 use Rattle.tt_interned.proofs.Using.{uses_cut, uses_pushed}
 use Rattle.tt_interned.specs.declared.token.InternedToken.TheVariants as interned

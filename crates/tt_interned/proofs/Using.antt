@@ -3,7 +3,7 @@ use Rattle.std.proofs.Common.{◌≡◌, ℕ, zero, suc, ◌+◌, ◌*◌, ◌�
 use Rattle.std.specs.List.{flat_map, remove}
 use Rattle.tt_base.specs.declared.leaf.Leaf.TheVariants as leaf
 use Rattle.tt_base.specs.declared.token_tree.TokenTree.TheVariants as token
-use Rattle.tt_interner.proofs.UseCounts.{uses-append}
+use Rattle.tt_tables.proofs.Used.{uses-append}
 use Rattle.tt_interned.specs.Held.{HeldToken, whole, opened, parts_in, symbols_in}
 use Rattle.tt_tables.specs.TableOrder.{uses_of}
 

@@ -7,4 +7,5 @@ pub mod Interned
 pub mod ListOf
 pub mod Missing
 pub mod Names
+pub mod OneNode
 pub mod OneList

@@ -1,8 +1,35 @@
--- The flat list that a contract sees.
-use Rattle.std.specs.Prelude.{List}
+-- What tokens that name values hold, and the flat list that a contract sees.
+use Rattle.std.specs.Prelude.{ℕ, List}
+use Rattle.tt_base.specs.declared.span.SpanPart.{SpanPart}
 use Rattle.tt_base.specs.declared.token_tree.TokenTree.{TokenTree}
 use Rattle.tt_interned.specs.declared.counted.CountedTokens.{CountedTokens}
+use Rattle.tt_interned.specs.declared.token.InternedToken.{InternedToken}
+use Rattle.tt_interned.specs.Counted.{AreOf}
 
 -- the list that is meant
 abbrev pub list_of : CountedTokens → List TokenTree
 list_of counted = counted.list.0
+
+-- the tokens that mean it
+abbrev pub tokens_of : CountedTokens → List InternedToken
+tokens_of counted = counted.tokens.now
+
+-- the parts that they name
+abbrev pub parts_of : CountedTokens → List SpanPart
+parts_of counted = counted.parts.now
+
+-- how often each part is used
+abbrev pub part_uses_of : CountedTokens → List ℕ
+part_uses_of counted = counted.part_uses.now
+
+-- the symbols that they name
+abbrev pub symbols_of : CountedTokens → List (List ℕ)
+symbols_of counted = counted.symbols.now
+
+-- how often each symbol is used
+abbrev pub symbol_uses_of : CountedTokens → List ℕ
+symbol_uses_of counted = counted.symbol_uses.now
+
+-- they mean that list
+pub counted_are : (it : CountedTokens) → AreOf (tokens_of it) (parts_of it) (part_uses_of it) (symbols_of it) (symbol_uses_of it) (list_of it)
+counted_are it = it.list.1

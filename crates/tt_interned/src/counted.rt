@@ -1,4 +1,5 @@
 //! Whole tokens that name values, these values, and how often each is used.
+ghost use Rattle.std.specs.Prelude.{◌≡◌, length};
 ghost use Rattle.tt_interned.specs.Counted.{IsListOf};
 ghost use Rattle.tt_interned.specs.OneList.{IsListOf-prop};
 
@@ -10,10 +11,62 @@ use tt_base::{SpanPart, Symbol};
 /// stand in any order, and some may have no uses; symbols stand by first use. A contract sees the flat list that is meant.
 #[derive(Clone, Copy)]
 pub struct CountedTokens<'a> {
-    pub tokens: &'a [InternedToken],
-    pub parts: &'a [SpanPart],
-    pub part_uses: &'a [usize],
-    pub symbols: &'a [Symbol],
-    pub symbol_uses: &'a [usize],
+    pub(crate) tokens: &'a [InternedToken],
+    pub(crate) parts: &'a [SpanPart],
+    pub(crate) part_uses: &'a [usize],
+    pub(crate) symbols: &'a [Symbol],
+    pub(crate) symbol_uses: &'a [usize],
     pub ghost list: { IsListOf tokens.now parts.now part_uses.now symbols.now symbol_uses.now } by { IsListOf-prop tokens.now parts.now part_uses.now symbols.now symbol_uses.now },
+}
+
+impl<'a> CountedTokens<'a> {
+    ghost use Rattle.tt_interned.specs.ListOf.{list_of, tokens_of, parts_of, part_uses_of, symbols_of, symbol_uses_of};
+
+    /// How many tokens there are.
+    #[inline(always)]
+    pub fn len(&self) -> usize
+        ensures { result ≡ length (list_of self.now) }
+    {
+        self.tokens.len()
+    }
+
+    /// The tokens, which name values by their places.
+    #[inline(always)]
+    pub fn tokens(&self) -> &'a [InternedToken]
+        ensures { result.now ≡ tokens_of self.now }
+    {
+        self.tokens
+    }
+
+    /// The different parts, at their places.
+    #[inline(always)]
+    pub fn parts(&self) -> &'a [SpanPart]
+        ensures { result.now ≡ parts_of self.now }
+    {
+        self.parts
+    }
+
+    /// How often the part at each place is used.
+    #[inline(always)]
+    pub fn part_uses(&self) -> &'a [usize]
+        ensures { result.now ≡ part_uses_of self.now }
+    {
+        self.part_uses
+    }
+
+    /// The different symbols, at their places.
+    #[inline(always)]
+    pub fn symbols(&self) -> &'a [Symbol]
+        ensures { result.now ≡ symbols_of self.now }
+    {
+        self.symbols
+    }
+
+    /// How often the symbol at each place is used.
+    #[inline(always)]
+    pub fn symbol_uses(&self) -> &'a [usize]
+        ensures { result.now ≡ symbol_uses_of self.now }
+    {
+        self.symbol_uses
+    }
 }

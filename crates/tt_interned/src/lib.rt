@@ -4,6 +4,7 @@
 #![tactic(auto)]
 
 mod counted;
+mod node;
 mod numbers;
 mod token;
 mod tokens;

@@ -10,21 +10,9 @@ use Rattle.indexmap.specs.IndexMap.{set_value_at}
 use Rattle.tt_tables.specs.Entering.{entered}
 use Rattle.tt_tables.specs.Counts.{number_in, used_count, CountsMore}
 use Rattle.tt_interner.specs.Entries.{with_entry}
-use Rattle.tt_interner.proofs.UseCounts.{number_at, counts_one_more, counts_one_less, used_new, used_set, used-le, one_if}
+use Rattle.tt_interner.proofs.UseCounts.{number_at, counts_one_more, counts_one_less, used_new, used_set, used-le}
+use Rattle.tt_tables.proofs.Used.{one_if}
 use mir.Val.{bool_byte}
-
--- A value that stands in a list is found there.
-pub any_there : {X : Type 0} (same : X → X → Bool) → IsEquivalence same → (xs : List X) (i : ℕ) (x : X) → slice_get xs i ≡ Some x → list_any (same x) xs ≡ true
-any_there same laws [] i x at = absurd (cc at)
-any_there {X} same laws (y ∷ ys) zero x at = ap (λ t. t || list_any (same x) ys) (ap (same x) is ∙ laws.refl x)
-  where
-    is : y ≡ x
-    is = cc at
-any_there same laws (y ∷ ys) (suc i) x at = by_test (same x y) (any_there same laws ys i x at)
-  where
-    by_test : (t : Bool) → list_any (same x) ys ≡ true → (t || list_any (same x) ys) ≡ true
-    by_test true later = refl
-    by_test false later = later
 
 -- ---- a value gets an entry, unless it has one
 

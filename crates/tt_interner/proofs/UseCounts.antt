@@ -1,42 +1,21 @@
 -- Numbers of uses that change by one use, and how many values have uses.
-use Rattle.std.proofs.Common.{◌≡◌, ℕ, zero, suc, ◌+◌, ◌<◌, ◌≤◌, Bool, true, false, cond, ◌⊎◌, inl, inr, Some, None, List, [], ◌∷◌, ◌++◌, length, drop, take, filter, not, if◌then◌else◌, nat_lt, slice_get, refl, ap, ap₂, sym, ◌∙◌, subst, true≢false, arith}
+use Rattle.std.proofs.Common.{◌≡◌, ℕ, zero, suc, ◌+◌, ◌<◌, ◌≤◌, Bool, true, false, cond, inl, inr, Some, None, List, [], ◌∷◌, ◌++◌, length, drop, take, filter, if◌then◌else◌, nat_lt, slice_get, refl, ap, ap₂, sym, ◌∙◌, true≢false, arith}
 use Rattle.std.proofs.lemmas.Bool.{lt-ltb, ltb-true}
 use Rattle.std.proofs.lemmas.List.Sums.{sum_by-cons, sum_by-append, count_by-le-length}
 use Rattle.std.proofs.lemmas.Map.Entries.{lookup_from_place}
 use Rattle.std.proofs.lemmas.Map.Made.{IsDistinct-keys_filter}
+use Rattle.std.proofs.lemmas.Option.{slice_get-map}
 use Rattle.std.specs.Cmp.{IsEquivalence}
 use Rattle.std.specs.List.{AllByRecursion, IsDistinct, list_any}
 use Rattle.std.specs.Map.{keys_of, values_of, lookup}
-use Rattle.std.specs.Option.{unwrap_or}
+use Rattle.std.specs.Option.{option_map, unwrap_or}
 use Rattle.indexmap.specs.IndexMap.{set_value_at}
-use Rattle.tt_tables.specs.TableOrder.{different, uses_of, IsEarlier}
+use Rattle.tt_tables.specs.TableOrder.{different, uses_of}
 use Rattle.tt_tables.specs.Counts.{number_in, used_count, CountsUses, CountsMore}
 use Rattle.tt_interner.specs.Entries.{with_entry}
-use Rattle.tt_tables.proofs.Cheapest.{length-same, distinct_order}
+use Rattle.tt_tables.proofs.Cheapest.{length-same}
 use Rattle.tt_tables.proofs.Members.{Member, member-different}
-use Rattle.tt_tables.proofs.TableOrder.{by_first_use}
-
--- one where the test holds
-abbrev pub one_if : Bool → ℕ
-one_if t = cond t 1 0
-
--- ---- uses
-
-module _ {X : Type 0} (same : X → X → Bool) where
-  -- Uses of a value in lists behind each other.
-  pub uses-append : (xs ys : List X) (x : X) → uses_of same (xs ++ ys) x ≡ uses_of same xs x + uses_of same ys x
-  uses-append xs ys x = sum_by-append (λ y. one_if (same x y)) xs ys
-
-  -- In a list with one more item at its front.
-  pub uses-cons : (y : X) (ys : List X) (x : X) → uses_of same (y ∷ ys) x ≡ one_if (same x y) + uses_of same ys x
-  uses-cons y ys x = sum_by-cons (λ z. one_if (same x z)) y ys
-
-  -- In a list of one item.
-  pub uses-one : (y x : X) → uses_of same (y ∷ []) x ≡ one_if (same x y)
-  uses-one y x = omega (arith, uses-cons y [] x, none)
-    where
-      none : uses_of same [] x ≡ 0
-      none = refl
+use Rattle.tt_tables.proofs.Used.{one_if, all_at_place, uses-one, uses_member, member_used, different_member, distinct-different}
 
 -- ---- counts
 
@@ -60,18 +39,13 @@ module _ {X : Type 0} (same : X → X → Bool) (laws : IsEquivalence same) wher
       by_test false = refl
   number_set (entry ∷ counts) (suc i) x n m y distinct at = by_test (same y entry.0) refl (number_set counts i x n m y distinct.1 at)
     where
-      apart : (rest : List (X × ℕ)) (j : ℕ) → AllByRecursion (λ z. same entry.0 z ≡ false) (keys_of rest) → slice_get rest j ≡ Some (x, n) → same entry.0 x ≡ false
-      apart [] j all here = absurd (cc here)
-      apart (e ∷ rest) zero all here = subst (λ z. same entry.0 z ≡ false) (is here) all.0
-        where
-          is : Some e ≡ Some (x, n) → e.0 ≡ x
-          is f = cc f
-      apart (e ∷ rest) (suc j) all here = apart rest j all.1 here
+      apart : same entry.0 x ≡ false
+      apart = all_at_place (λ z. same entry.0 z ≡ false) (keys_of counts) i x distinct.0 (slice_get-map (λ e. e.0) counts i ∙ ap (option_map (λ e. e.0)) at)
 
       by_test : (t : Bool) → same y entry.0 ≡ t
           → unwrap_or (lookup (same y) (set_value_at counts i m)) 0 ≡ cond (same y x) m (unwrap_or (lookup (same y) counts) 0)
           → unwrap_or (cond t (Some entry.1) (lookup (same y) (set_value_at counts i m))) 0 ≡ cond (same y x) m (unwrap_or (cond t (Some entry.1) (lookup (same y) counts)) 0)
-      by_test true e later = ap (λ s. cond s m entry.1) (sym (laws.congr y entry.0 x e ∙ apart counts i distinct.0 at))
+      by_test true e later = ap (λ s. cond s m entry.1) (sym (laws.congr y entry.0 x e ∙ apart))
       by_test false e later = later
 
   module _ (sound : (x y : X) → same x y ≡ true → x ≡ y) where
@@ -191,54 +165,15 @@ module _ {X : Type 0} (same : X → X → Bool) (laws : IsEquivalence same) (sou
       by_test true e (inr m) later = behind (same z entry.0) refl m later
       by_test false e m later = behind (same z entry.0) refl m later
 
-  -- A value with uses is one of them.
-  uses_member : (uses : List X) (z : X) → 0 < uses_of same uses z → Member z uses
-  uses_member [] z some = absurd (none some)
-    where
-      none : 0 < 0 → ⊥
-      none l = omega (arith, l)
-  uses_member (x ∷ uses) z some = by_test (same z x) refl (omega (arith, some, uses-cons same x uses z)) (uses_member uses z)
-    where
-      by_test : (t : Bool) → same z x ≡ t → 0 < one_if t + uses_of same uses z → (0 < uses_of same uses z → Member z uses) → (z ≡ x) ⊎ Member z uses
-      by_test true e l later = inl (sound z x e)
-      by_test false e l later = inr (later (omega (arith, l)))
-
-  -- One of them has uses.
-  member_used : (uses : List X) (z : X) → Member z uses → 0 < uses_of same uses z
-  member_used [] z m = absurd m
-  member_used (x ∷ uses) z (inl is) = omega (arith, uses-cons same x uses z, ap one_if (ap (λ k. same k x) is ∙ laws.refl x))
-  member_used (x ∷ uses) z (inr m) = omega (arith, uses-cons same x uses z, member_used uses z m)
-
-  different_member : (z : X) (uses : List X) → Member z (different same uses) → Member z uses
-  different_member z [] m = m
-  different_member z (x ∷ uses) (inl is) = inl is
-  different_member z (x ∷ uses) (inr m) = inr (different_member z uses (unfiltered (different same uses) m))
-    where
-      unfiltered : (xs : List X) → Member z (filter (λ y. not (same x y)) xs) → Member z xs
-      unfiltered [] m = m
-      unfiltered (y ∷ xs) m = by_test (not (same x y)) m (unfiltered xs)
-        where
-          by_test : (t : Bool) → Member z (cond t (y ∷ filter (λ y. not (same x y)) xs) (filter (λ y. not (same x y)) xs))
-              → (Member z (filter (λ y. not (same x y)) xs) → Member z xs) → (z ≡ y) ⊎ Member z xs
-          by_test true (inl is) later = inl is
-          by_test true (inr m) later = inr (later m)
-          by_test false m later = inr (later m)
-
-  distinct-different : (uses : List X) → IsDistinct same (different same uses)
-  distinct-different uses = distinct_order same sound (λ x. laws.refl x) (IsEarlier same uses) never (different same uses) (by_first_use same sound (λ x. laws.refl x) uses)
-    where
-      never : (x : X) → IsEarlier same uses x x → ⊥
-      never x h = omega (arith, h)
-
   -- As many values have uses as are different among the uses.
   pub used_different : (uses : List X) (counts : List (X × ℕ)) → IsDistinct same (keys_of counts) → CountsUses same uses counts → used_count counts ≡ length (different same uses)
   unfolding used
   used_different uses counts distinct right =
       sym (length-used counts)
-      ∙ length-same same sound complete (keys_of (used counts)) (different same uses) (IsDistinct-keys_filter same (λ entry. nat_lt 0 entry.1) counts distinct) (distinct-different uses)
+      ∙ length-same same sound complete (keys_of (used counts)) (different same uses) (IsDistinct-keys_filter same (λ entry. nat_lt 0 entry.1) counts distinct) (distinct-different same laws sound uses)
       (record {
-        there = λ z m. member-different same sound complete z uses (uses_member uses z (omega (arith, right z, used_number counts z distinct m)));
-        back = λ z m. number_used counts z (omega (arith, right z, member_used uses z (different_member z uses m)));
+        there = λ z m. member-different same sound complete z uses (uses_member same laws sound uses z (omega (arith, right z, used_number counts z distinct m)));
+        back = λ z m. number_used counts z (omega (arith, right z, member_used same laws sound uses z (different_member same laws sound z uses m)));
       })
     where
       complete : (x : X) → same x x ≡ true

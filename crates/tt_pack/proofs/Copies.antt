@@ -1,5 +1,7 @@
 -- Copies of what is stored.
-use Rattle.std.proofs.Common.{◌≡◌, ℕ, List, [], ◌∷◌, refl, ap₂, sym, subst}
+use Rattle.std.proofs.Common.{◌≡◌, ℕ, List, ◌∙◌, sym, subst}
+use Rattle.std.proofs.lemmas.List.{map-id}
+use Rattle.std.proofs.lemmas.Slice.Zip.{AllZip-map}
 use Rattle.std.specs.List.{AllZip}
 use Rattle.tt_base.specs.declared.span.SpanPart.{SpanPart}
 use Rattle.tt_base.specs.Forest.{Root}
@@ -8,10 +10,7 @@ use Rattle.tt_pack.specs.Packed.{stored_of}
 
 -- Where each clone is the value itself, a list of clones is the list.
 pub clones_same : {X : Type 0} (xs ys : List X) → AllZip (λ x y. y ≡ x) xs ys → ys ≡ xs
-clones_same [] [] h = refl
-clones_same [] (y ∷ ys) h = absurd h
-clones_same (x ∷ xs) [] h = absurd h
-clones_same (x ∷ xs) (y ∷ ys) h = ap₂ ◌∷◌ h.0 (clones_same xs ys h.1)
+clones_same xs ys h = AllZip-map (λ x. x) xs ys h ∙ map-id xs
 
 -- Copies of all that is stored for a tree are stored for it.
 pub stored_again : (root : Root) (bytes bytes' : List ℕ) (parts parts' : List SpanPart) (symbols symbols' : List (List ℕ)) (len : ℕ)

@@ -1,5 +1,5 @@
 -- Places that are met from 0 on, each in its turn.
-use Rattle.std.proofs.Common.{◌≡◌, ℕ, zero, suc, ◌+◌, ◌<◌, ◌≤◌, Bool, true, false, ◌||◌, if◌then◌else◌, Some, List, [], ◌∷◌, ◌++◌, fold, flat_map, length, take, drop, nat_eq, slice_get, refl, ap, sym, subst, ◌∙◌, append_assoc, length-append, true≢false, arith}
+use Rattle.std.proofs.Common.{◌≡◌, ℕ, zero, suc, ◌+◌, ◌<◌, ◌≤◌, Bool, true, false, ◌||◌, if◌then◌else◌, Option, None, Some, List, [], ◌∷◌, ◌++◌, fold, flat_map, length, take, drop, nat_eq, slice_get, refl, ap, sym, subst, ◌∙◌, append_assoc, length-append, true≢false, arith}
 use Rattle.std.proofs.lemmas.Bool.{ne_eqb, eqb-true}
 use Rattle.std.proofs.lemmas.Cmp.{nat_eq_equiv}
 use Rattle.std.proofs.lemmas.Grind.{flat_map-append}
@@ -10,7 +10,7 @@ use Rattle.std.specs.List.{AllZip, list_any, range_with_len}
 use Rattle.tt_interned.specs.declared.token.InternedToken.{InternedToken}
 use Rattle.tt_tables.specs.TableOrder.{different}
 use Rattle.tt_pack.specs.Counted.{note_value}
-use Rattle.tt_pack.specs.Places.{token_places, part_places, IsAt, HasOutOfTurn}
+use Rattle.tt_pack.specs.Places.{token_places, places_from, part_places, IsAt, HasOutOfTurn}
 use Rattle.tt_pack.proofs.Noting.{different_more, stays_noted}
 use Rattle.tt_pack.proofs.Ranks.{all_met}
 use Rattle.tt_pack.proofs.RowOrder.{slice_get-snoc}
@@ -77,6 +77,11 @@ pub stays_early : (places more : List ℕ) → HasOutOfTurn places → HasOutOfT
 stays_early places [] early = early
 stays_early places (x ∷ more) early =
     stays_early (note_value nat_eq places x) more (record { index = early.index; place = early.place; at = stays_noted nat_eq places x early.index early.place early.at; other = early.other })
+
+-- It does so among what a token uses, where the first place does.
+pub early_places : (places : List ℕ) (first : ℕ) (second : Option ℕ) → HasOutOfTurn (note_value nat_eq places first) → HasOutOfTurn (fold (note_value nat_eq) places (places_from first second))
+early_places places first None early = early
+early_places places first (Some second) early = stays_early (note_value nat_eq places first) (second ∷ []) early
 
 -- It does so among all, where it does among those of the first tokens.
 pub all_early : (tokens : List InternedToken) (index : ℕ) → HasOutOfTurn (different nat_eq (part_places (take index tokens))) → HasOutOfTurn (different nat_eq (part_places tokens))

@@ -1,5 +1,5 @@
 -- Tokens in numbers under their tables.
-use Rattle.std.proofs.Common.{◌≡◌, ℕ, zero, suc, ◌<◌, ◌≤◌, Some, All, List, [], ◌∷◌, ◌++◌, map, set, get_or, take, drop, length, count_by, nat_lt, nat_eq, bytes_eq, slice_get, ap, ap₂, sym, subst, ◌∙◌, arith}
+use Rattle.std.proofs.Common.{◌≡◌, ℕ, ◌<◌, ◌≤◌, Some, All, List, [], map, length, count_by, nat_lt, nat_eq, bytes_eq, slice_get, ap, sym, subst, ◌∙◌, arith}
 use Rattle.std.proofs.lemmas.List.{length-map}
 use Rattle.std.proofs.lemmas.Option.{slice_get-map, get_or_from_slice_get}
 use Rattle.std.specs.Option.{option_map}
@@ -25,25 +25,6 @@ use Rattle.tt_pack.proofs.Paired.{length-paired}
 use Rattle.tt_pack.proofs.PlacesNamed.{values_alike, places_within, mapped_at, member_at_place, different_at, places_named, partner_at}
 use Rattle.tt_pack.proofs.TableFacts.{index_in-distinct, length-table_of, new_index_noted}
 use Rattle.tt_pack.proofs.UsedParts.{used_different, stands_by_first_use}
-
--- One more index is put.
-pub one_more_mapped : {X : Type 0} (f : X → X) (old now : List X) (i : ℕ) (x y : X) → i < length old → now ≡ map f (take i old) ++ drop i old → x ≡ get_or now i x → y ≡ f x
-    → set now i y ≡ map f (take (suc i) old) ++ drop (suc i) old
-one_more_mapped f [] now i x y within is read put = absurd (none within)
-  where
-    none : i < 0 → ⊥
-    none l = omega (arith, l)
-one_more_mapped f (z ∷ old) now zero x y within is read put =
-    ap (λ l. set l 0 y) is ∙ ap (λ w. w ∷ old) (put ∙ ap f (read ∙ ap (λ l. get_or l 0 x) is))
-one_more_mapped f (z ∷ old) [] (suc i) x y within is read put = absurd (cc is)
-one_more_mapped f (z ∷ old) (w ∷ now) (suc i) x y within is read put =
-    ap₂ ◌∷◌ first (one_more_mapped f old now i x y (omega (arith, within)) behind read put)
-  where
-    first : w ≡ f z
-    first = cc is
-
-    behind : now ≡ map f (take i old) ++ drop i old
-    behind = cc is
 
 module _ (tokens : List InternedToken) (parts : List SpanPart) (part_numbers : List ℕ) (symbols : List (List ℕ)) (symbol_numbers : List ℕ) (list : List TokenTree)
     (are : AreOf tokens parts part_numbers symbols symbol_numbers list) where
@@ -75,19 +56,20 @@ module _ (tokens : List InternedToken) (parts : List SpanPart) (part_numbers : L
   as_many = ap length are.parts_counted ∙ length-map parts (uses_of same_part (part_uses list))
 
   -- The symbols stand in their table.
-  module _ (table : Table (List ℕ))
-      (is : (uses : List (List ℕ)) → symbols ≡ different bytes_eq uses → symbol_numbers ≡ map (uses_of bytes_eq uses) symbols → IsTable bytes_eq short_symbols uses table.values.items) where
+  module _ (values : List (List ℕ)) (numbers : List ℕ) (values_are : values ≡ symbols) (numbers_are : numbers ≡ symbol_numbers) (table : Table (List ℕ))
+      (is : (uses : List (List ℕ)) → values ≡ different bytes_eq uses → numbers ≡ map (uses_of bytes_eq uses) values → IsTable bytes_eq short_symbols uses table.values.items) where
     symbols_are : IsTable bytes_eq short_symbols (symbol_uses list) table.values.items
-    symbols_are = is (symbol_uses list) are.in_order are.symbols_counted
+    symbols_are = is (symbol_uses list) (values_are ∙ are.in_order) (numbers_are ∙ are.symbols_counted ∙ ap (map (uses_of bytes_eq (symbol_uses list))) (sym values_are))
 
     pub symbols_made : table.values.items ≡ symbol_table list
     symbols_made = symbol_table_only list table.values.items symbols_are
 
     -- Their new indices lead there.
-    pub symbols_lead : length symbols ≤ most_symbols → ((index : ℕ) → index < length symbols → LeadsTo symbols table.values.items table.new_indices.items index)
+    pub symbols_lead : length values ≤ most_symbols → ((index : ℕ) → index < length values → LeadsTo values table.values.items table.new_indices.items index)
         → (place : ℕ) (x : List ℕ) → StandsAt symbols place x → HasNewIndexAt bytes_eq table.values.items table.new_indices.items place x
-    symbols_lead few leads place x =
-        new_index_noted bytes_eq text_sound symbol_eq.lawful.laws short_symbols (symbol_uses list) symbols table.values.items table.new_indices.items place x symbols_are (omega (arith, few)) leads
+    symbols_lead few leads place x stands =
+        new_index_noted bytes_eq text_sound symbol_eq.lawful.laws short_symbols (symbol_uses list) values table.values.items table.new_indices.items place x symbols_are (omega (arith, few)) leads
+        (subst (λ l. StandsAt l place x) (sym values_are) stands)
 
   -- At the different places stand the parts by first use.
   module _ (order : List ℕ) (is : order ≡ different nat_eq (part_places tokens)) where
@@ -135,16 +117,17 @@ module _ (tokens : List InternedToken) (parts : List SpanPart) (part_numbers : L
     used_in_order = parts_found (range_with_len 0 (length parts)) (sym in_order) parts (all_in_order [] parts)
 
     -- Their table is made of them.
-    module _ (table : Table SpanPart)
-        (is : (uses : List SpanPart) → parts ≡ different same_part uses → part_numbers ≡ map (uses_of same_part uses) parts → IsTable same_part short_parts uses table.values.items) where
+    module _ (values : List SpanPart) (numbers : List ℕ) (values_are : values ≡ parts) (numbers_are : numbers ≡ part_numbers) (table : Table SpanPart)
+        (is : (uses : List SpanPart) → values ≡ different same_part uses → numbers ≡ map (uses_of same_part uses) values → IsTable same_part short_parts uses table.values.items) where
       parts_are : IsTable same_part short_parts (part_uses list) table.values.items
-      parts_are = is (part_uses list) used_in_order are.parts_counted
+      parts_are = is (part_uses list) (values_are ∙ used_in_order) (numbers_are ∙ are.parts_counted ∙ ap (map (uses_of same_part (part_uses list))) (sym values_are))
 
       pub parts_made : table.values.items ≡ part_table list
       parts_made = part_table_only list table.values.items parts_are
 
       -- Their new indices lead there.
-      pub parts_lead_on : length parts ≤ most_parts → ((index : ℕ) → index < length parts → LeadsTo parts table.values.items table.new_indices.items index)
+      pub parts_lead_on : length values ≤ most_parts → ((index : ℕ) → index < length values → LeadsTo values table.values.items table.new_indices.items index)
           → LeadsByPlace parts table.values.items table.new_indices.items
       parts_lead_on few leads place x here known =
-          new_index_noted same_part part_sound part_eq.lawful.laws short_parts (part_uses list) parts table.values.items table.new_indices.items place x parts_are (omega (arith, few)) leads (λ wide. here)
+          new_index_noted same_part part_sound part_eq.lawful.laws short_parts (part_uses list) values table.values.items table.new_indices.items place x parts_are (omega (arith, few)) leads
+          (λ wide. subst (λ l. IsAt l place x) (sym values_are) here)

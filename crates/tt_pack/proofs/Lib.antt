@@ -11,7 +11,6 @@ pub mod Meeting
 pub mod MostBytes
 pub mod Moves
 pub mod Noting
-pub mod OneNode
 pub mod Paired
 pub mod PlacesNamed
 pub mod PutIds
@@ -22,6 +21,7 @@ pub mod SameStored
 pub mod Sorted
 pub mod Storing
 pub mod TableFacts
+mod TurnRows
 pub mod UsedParts
 pub mod UsesGrow
 pub mod Writing

@@ -1,16 +1,23 @@
 -- The tables of a list of tokens, from what has been met.
-use Rattle.std.proofs.Common.{◌≡◌, ℕ, ◌+◌, ◌<◌, ◌≤◌, ◌^◌, Bool, true, List, [], map, bytes_eq, length, ap, sym, subst, ◌∙◌, refl, arith}
+use Rattle.std.proofs.Common.{◌≡◌, ℕ, ◌+◌, ◌<◌, ◌≤◌, ◌^◌, Bool, true, List, [], map, bytes_eq, length, get_or, drop, ap, sym, subst, ◌∙◌, refl, arith}
 use Rattle.std.proofs.lemmas.Map.Entries.{length-keys_of}
 use Rattle.std.specs.Cmp.{IsEquivalence}
 use Rattle.std.specs.List.{AllZip}
 use Rattle.std.specs.Map.{keys_of, values_of}
 use Rattle.tt_base.specs.contracts.span.SpanPartEq.TheImpl.Laws as part_eq
 use Rattle.tt_base.specs.contracts.symbol.SymbolEq.TheImpl.Laws as symbol_eq
+use Rattle.tt_base.specs.declared.delimiter.Subtree.{Subtree}
+use Rattle.tt_base.specs.declared.leaf.Leaf.{Leaf}
 use Rattle.tt_base.specs.declared.span.SpanPart.{SpanPart}
 use Rattle.tt_base.specs.declared.token_tree.TokenTree.{TokenTree}
+use Rattle.tt_base.specs.declared.token_tree.TokenTree.TheVariants as token
+use Rattle.tt_codec.specs.declared.entry.Entry.TheVariants.{Leaf as of_leaf, Header as of_header}
+use Rattle.tt_codec.specs.declared.entry.HeaderEntry.{HeaderEntry}
+use Rattle.tt_codec.specs.declared.entry.LeafEntry.{LeafEntry}
+use Rattle.tt_tables.specs.Searches.{IsNamedLeaf, IsNamedHeader}
 use Rattle.tt_tables.specs.Stored.{most_parts, most_symbols}
 use Rattle.tt_tables.specs.TableOrder.{different, uses_of, IsTable}
-use Rattle.tt_tables.specs.Tables.{part_table, symbol_table}
+use Rattle.tt_tables.specs.Tables.{Tables, part_table, symbol_table, header_entry}
 use Rattle.tt_tables.specs.Uses.{same_part, part_uses, symbol_uses}
 use Rattle.tt_tables.proofs.TokenTables.{part_sound, text_sound, part_table_only, symbol_table_only}
 use Rattle.tt_pack.specs.declared.counted.CountedValues.{CountedValues}
@@ -23,11 +30,13 @@ use Rattle.tt_pack.specs.CountedValues.{HasCounted}
 use Rattle.tt_pack.specs.Few.{HasNoted}
 use Rattle.tt_pack.specs.Meeting.{AreListUses}
 use Rattle.tt_pack.specs.Room.{HasRoomForAll}
-use Rattle.tt_pack.specs.TablesOf.{IsTableFor, HasUses, AreTables, AreListTables}
-use Rattle.tt_pack.proofs.CountedValues.{beside_keys, beside_numbers}
+use Rattle.tt_pack.specs.TablesOf.{IsTableFor, HasUses, AreTables, AreTablesOf, AreNumbers, LeadsList, tokens_in, tables_of}
+use Rattle.tt_pack.specs.Writing.{first_child_bytes, IsEntryAt}
+use Rattle.tt_pack.proofs.CountedValues.{counted_values, beside_numbers}
 use Rattle.tt_pack.proofs.Meeting.{uses_map}
 use Rattle.tt_pack.proofs.Paired.{paired_map}
 use Rattle.tt_pack.proofs.Sorted.{few_are_table}
+use Rattle.tt_pack.proofs.Storing.{tables_made}
 use Rattle.tt_pack.proofs.TableFacts.{length-table_of, new_index_noted, stays_there}
 
 -- ---- one table
@@ -53,7 +62,7 @@ module _ {X : Type 0} (same : X → X → Bool) (sound : (x y : X) → same x y 
       → counts ≡ counted same uses → (values ≡ different same uses → numbers ≡ map (uses_of same uses) values → IsTable same short uses table.values.items)
       → ((index : ℕ) → index < length values → LeadsTo values table.values.items table.new_indices.items index) → IsTableFor same short uses table
   counted_leads values numbers counts are_keys are_numbers few are is leads =
-      let by_use : values ≡ different same uses = are_keys ∙ ap keys_of are ∙ beside_keys (uses_of same uses) (different same uses) in
+      let by_use : values ≡ different same uses = are_keys ∙ ap keys_of are ∙ counted_values same uses in
       let right : numbers ≡ map (uses_of same uses) values = are_numbers ∙ ap values_of are ∙ beside_numbers (uses_of same uses) (different same uses) ∙ ap (map (uses_of same uses)) (sym by_use) in
       table_leads (omega (arith, few, ap length are_keys, ap length by_use)) (is by_use right) (subst (λ l. (index : ℕ) → index < length l → LeadsTo l table.values.items table.new_indices.items index) by_use leads)
 
@@ -71,11 +80,11 @@ module _ (tokens : List TokenTree) where
   module _ (values : CountedValues) (has : HasCounted values (part_uses tokens) (symbol_uses tokens)) where
     -- As many parts have been met as the table has.
     pub many_parts_met : length values.parts.entries ≡ length (part_table tokens)
-    many_parts_met = sym (length-keys_of values.parts.entries) ∙ ap (λ l. length (keys_of l)) has.all_parts ∙ ap length (beside_keys (uses_of same_part (part_uses tokens)) (different same_part (part_uses tokens))) ∙ sym many_parts
+    many_parts_met = sym (length-keys_of values.parts.entries) ∙ ap (λ l. length (keys_of l)) has.all_parts ∙ ap length (counted_values same_part (part_uses tokens)) ∙ sym many_parts
 
     -- As many symbols have.
     pub many_symbols_met : length values.symbols.entries ≡ length (symbol_table tokens)
-    many_symbols_met = sym (length-keys_of values.symbols.entries) ∙ ap (λ l. length (keys_of l)) has.all_symbols ∙ ap length (beside_keys (uses_of bytes_eq (symbol_uses tokens)) (different bytes_eq (symbol_uses tokens))) ∙ sym many_symbols
+    many_symbols_met = sym (length-keys_of values.symbols.entries) ∙ ap (λ l. length (keys_of l)) has.all_symbols ∙ ap length (counted_values bytes_eq (symbol_uses tokens)) ∙ sym many_symbols
 
   -- Few values that have been met are the tables.
   pub few_tables : (values : FewValues) (parts : Table SpanPart) (symbols : Table (List ℕ)) → HasNoted values (part_uses tokens) (symbol_uses tokens)
@@ -99,16 +108,35 @@ module _ (tokens : List TokenTree) where
     )
 
   -- The tables tell where that went which each token uses.
-  pub list_tables : (tables : ListTables) (uses : ListUses) → AreTables tokens tables.parts tables.symbols → AreListUses tokens uses → tables.uses ≡ uses.tokens → tables.room ≡ uses.room
-      → AreListTables tokens tables
-  list_tables tables uses are is kept room = record {
-    whole = is.whole;
-    all_parts = part_table_only tokens tables.parts.values.items are.all_parts.is;
-    few_parts = are.few_parts;
-    all_symbols = symbol_table_only tokens tables.symbols.values.items are.all_symbols.is;
-    few_symbols = are.few_symbols;
-    uses =
-        subst (λ l. AllZip (HasUses tables) tokens l.items) (sym kept)
-        (paired_map _ _ tokens uses.tokens.items (λ it found. uses_map _ _ _ _ it found (λ i x. are.all_parts.leads i x) (λ i x. are.all_symbols.leads i x)) is.stand);
-    room = subst (HasRoomForAll tokens) (sym room) is.room;
+  pub list_tables : (tables : ListTables) (uses : ListUses) → tokens_in tables ≡ tokens → AreTables tokens tables.parts tables.symbols → AreListUses tokens uses → tables.uses ≡ uses.tokens
+      → tables.room ≡ uses.room → AreNumbers tokens_in tables_of LeadsList tokens tables
+  list_tables tables uses same are is kept room = record {
+    same = same;
+    are = subst (λ l. AreTablesOf l (tables_of tables)) (sym same) (record {
+      whole = is.whole;
+      are = tables_made _ _ tokens (part_table_only tokens tables.parts.values.items are.all_parts.is) (symbol_table_only tokens tables.symbols.values.items are.all_symbols.is);
+      few_parts = are.few_parts;
+      few_symbols = are.few_symbols;
+    });
+    led = record {
+      uses =
+          subst (λ l. AllZip (HasUses tables) l tables.uses.items) (sym same)
+          (subst (λ l. AllZip (HasUses tables) tokens l.items) (sym kept)
+          (paired_map _ _ tokens uses.tokens.items (λ it found. uses_map _ _ _ _ it found (λ i x. are.all_parts.leads i x) (λ i x. are.all_symbols.leads i x)) is.stand));
+      room = subst (λ l. HasRoomForAll l tables.room) (sym same) (subst (HasRoomForAll tokens) (sym room) is.room);
+    };
   }
+
+-- ---- a token in numbers
+
+module _ (tables : Tables) (tokens : List TokenTree) (index : ℕ) where
+  -- A leaf in numbers is the entry at its index.
+  pub leaf_named : (it : Leaf) (entry : LeafEntry) → token.Leaf it ≡ get_or tokens index (token.Leaf it) → IsNamedLeaf tables it entry → IsEntryAt tables tokens index (of_leaf entry)
+  leaf_named it entry read named =
+      record { it = token.Leaf it; read = read; named = record { known = named.known; is = ap of_leaf named.is; fits = named.fits; range = named.range } }
+
+  -- A header is, where what it holds takes the bytes that are counted.
+  pub header_named : (it : Subtree) (entry : HeaderEntry) (child_bytes : ℕ) → token.Subtree it ≡ get_or tokens index (token.Subtree it)
+      → child_bytes ≡ first_child_bytes tables (drop index tokens) → IsNamedHeader tables it child_bytes entry → IsEntryAt tables tokens index (of_header entry)
+  header_named it entry child_bytes read held named =
+      record { it = token.Subtree it; read = read; named = record { known = named.known; is = ap of_header (named.is ∙ ap (header_entry tables it) held); fits = named.fits; range = named.range } }

@@ -1,5 +1,6 @@
 -- How the values of a list are met, token by token.
 use Rattle.std.proofs.Common.{◌≡◌, ℕ, ◌+◌, ◌<◌, Bool, List, [], ◌∷◌, ◌++◌, get_or, take, length, length-append, length-take, ◌^◌, bytes_eq, refl, ap, sym, subst, ◌∙◌, append-nil, append_assoc, arith}
+use Rattle.indexmap.proofs.SetLemmas.{AllZip-push}
 use Rattle.std.proofs.lemmas.List.{take_more}
 use Rattle.std.specs.Cmp.{IsEquivalence}
 use Rattle.std.specs.List.{AllZip}
@@ -18,7 +19,7 @@ use Rattle.tt_pack.specs.Meeting.{IsPartAt, IsSymbolAt, CanMeet, MeetsPart, Meet
 use Rattle.tt_pack.specs.TablesOf.{StandsAt, AreUses}
 use Rattle.tt_pack.proofs.Counting.{few_parts, few_symbols}
 use Rattle.tt_pack.proofs.Noting.{different_more, stands_for_noted}
-use Rattle.tt_pack.proofs.Paired.{paired-snoc, paired_map}
+use Rattle.tt_pack.proofs.Paired.{paired_map}
 use Rattle.tt_pack.proofs.UsesGrow.{uses_grow}
 
 -- Where a value stands among the different ones of some uses, it stands when there are more.
@@ -96,7 +97,7 @@ module _ {V : Type 0} (has_met : V → List SpanPart → List (List ℕ) → Typ
         pub token_kept : (kept : List TokenUses) → AllZip (AreUses (IsPartAt (part_uses (take i tokens))) (IsSymbolAt (symbol_uses (take i tokens)))) (take i tokens) kept
             → AllZip (AreUses (IsPartAt (part_uses (take (i + 1) tokens))) (IsSymbolAt (symbol_uses (take (i + 1) tokens)))) (take (i + 1) tokens) (kept ++ uses ∷ [])
         token_kept kept before =
-            subst (λ front. AllZip IsKept front (kept ++ uses ∷ [])) (sym more) (paired-snoc IsKept (take i tokens) kept it uses (paired_map _ _ (take i tokens) kept each before) found)
+            subst (λ front. AllZip IsKept front (kept ++ uses ∷ [])) (sym more) (AllZip-push IsKept (take i tokens) kept it uses (paired_map _ _ (take i tokens) kept each before) found)
           where
             IsKept : TokenTree → TokenUses → Type 0
             IsKept = AreUses (IsPartAt (part_uses (take (i + 1) tokens))) (IsSymbolAt (symbol_uses (take (i + 1) tokens)))

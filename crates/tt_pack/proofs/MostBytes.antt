@@ -1,7 +1,7 @@
 -- How the most bytes that tokens can take grow by one more token.
-use Rattle.std.proofs.Common.{◌≡◌, ◌↔◌, ℕ, ◌+◌, ◌<◌, ◌≤◌, List, [], ◌∷◌, ◌++◌, length, get_or, take, drop, inl, inr, ap, sym, refl, ◌∙◌, arith}
+use Rattle.std.proofs.Common.{◌≡◌, ◌↔◌, ℕ, ◌+◌, ◌*◌, ◌<◌, ◌≤◌, Bool, true, false, cond, nat_lt, List, [], ◌∷◌, ◌++◌, length, get_or, take, drop, inl, inr, ap, sym, refl, ◌∙◌, arith}
 use Rattle.std.proofs.lemmas.List.{take_more}
-use Rattle.std.proofs.lemmas.List.Sums.{sum_by-append}
+use Rattle.std.proofs.lemmas.List.Sums.{sum_by-append, sum_by-cons}
 use Rattle.tt_base.specs.declared.fault.TtFault.{TtFault}
 use Rattle.tt_base.specs.declared.leaf.Leaf.TheVariants as leaf
 use Rattle.tt_base.specs.declared.token_tree.TokenTree.{TokenTree}
@@ -43,3 +43,18 @@ most_in_numbers tables (token.Leaf (leaf.Literal it)) child_bytes = refl
 most_in_numbers tables (token.Leaf (leaf.Punct it)) child_bytes = refl
 most_in_numbers tables (token.Leaf (leaf.Ident it)) child_bytes = refl
 most_in_numbers tables (token.Subtree it) child_bytes = refl
+
+-- No token takes more than a header can.
+pub most_headers : (tokens : List TokenTree) → most_list_bytes tokens ≤ 33 * length tokens
+most_headers [] = omega arith
+most_headers (it ∷ tokens) = omega (arith, sum_by-cons most_token_bytes it tokens, one it, most_headers tokens)
+  where
+    one : (it : TokenTree) → most_token_bytes it ≤ 33
+    one (token.Leaf (leaf.Literal it)) = omega arith
+    one (token.Leaf (leaf.Punct it)) = by_test (nat_lt it.char 128)
+      where
+        by_test : (t : Bool) → cond t 13 17 ≤ 33
+        by_test true = omega arith
+        by_test false = omega arith
+    one (token.Leaf (leaf.Ident it)) = omega arith
+    one (token.Subtree it) = omega arith

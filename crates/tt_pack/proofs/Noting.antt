@@ -1,5 +1,6 @@
 -- How values are noted in the order of their first uses.
-use Rattle.std.proofs.Common.{◌≡◌, ℕ, suc, zero, ◌+◌, ◌<◌, ◌≤◌, Bool, true, false, cond, ◌||◌, Some, List, [], ◌∷◌, ◌++◌, fold, flat_map, get_or, take, length, length-append, slice_get, refl, ap, sym, subst, ◌∙◌, append-nil, append_assoc, arith}
+use Rattle.std.proofs.Common.{◌≡◌, ℕ, ◌+◌, ◌<◌, ◌≤◌, Bool, true, false, cond, Some, List, [], ◌∷◌, ◌++◌, fold, flat_map, get_or, take, length, length-append, slice_get, refl, ap, sym, subst, ◌∙◌, append-nil, append_assoc, arith}
+use Rattle.std.proofs.lemmas.Map.Keys.{any_passes_from_place}
 use Rattle.std.specs.Cmp.{IsEquivalence}
 use Rattle.std.specs.List.{list_any}
 use Rattle.tt_tables.specs.TableOrder.{different}
@@ -12,25 +13,9 @@ use Rattle.tt_pack.proofs.UsesGrow.{uses_grow}
 -- ---- one value
 
 module _ {X : Type 0} (same : X → X → Bool) where
-  -- A value that is noted leaves the others as they are, and a new one goes last.
-  noted_by : (values : List X) (x : X) (there : Bool) → list_any (λ y. same y x) values ≡ there → note_value same values x ≡ cond there values (values ++ x ∷ [])
-  noted_by values x there e = ap (λ t. cond t values (values ++ x ∷ [])) e
-
-  -- Where a value stands, it is noted.
-  pub any_there : IsEquivalence same → (values : List X) (i : ℕ) (x : X) → slice_get values i ≡ Some x → list_any (λ y. same y x) values ≡ true
-  any_there laws [] i x at = absurd (cc at)
-  any_there laws (y ∷ values) zero x at = ap (λ t. t || list_any (λ z. same z x) values) (ap (λ z. same z x) is ∙ laws.refl x)
-    where
-      is : y ≡ x
-      is = cc at
-  any_there laws (y ∷ values) (suc i) x at = by_test (same y x) (any_there laws values i x at)
-    where
-      by_test : (t : Bool) → list_any (λ z. same z x) values ≡ true → (t || list_any (λ z. same z x) values) ≡ true
-      by_test true e = refl
-      by_test false e = e
-
+  -- A value that stands there is noted.
   pub noted_there : IsEquivalence same → (values : List X) (i : ℕ) (x : X) → slice_get values i ≡ Some x → values ≡ note_value same values x
-  noted_there laws values i x at = sym (noted_by values x true (any_there laws values i x at))
+  noted_there laws values i x at = sym (ap (λ t. cond t values (values ++ x ∷ [])) (any_passes_from_place (λ y. same y x) values i x at (laws.refl x)))
 
   -- Noting a value leaves each where it stands.
   pub stays_noted : (values : List X) (x : X) (i : ℕ) (y : X) → slice_get values i ≡ Some y → slice_get (note_value same values x) i ≡ Some y

@@ -1,31 +1,19 @@
 -- Two lists whose items are related in pairs.
-use Rattle.std.proofs.Common.{◌≡◌, ℕ, zero, suc, ◌<◌, List, [], ◌∷◌, ◌++◌, length, get_or, refl, ap, sym, subst, arith}
+use Rattle.std.proofs.Common.{◌≡◌, ℕ, zero, suc, ◌<◌, List, [], ◌∷◌, length, get_or, sym, subst, arith}
+use Rattle.std.proofs.lemmas.Slice.Zip.{AllZip-long}
 use Rattle.std.specs.List.{AllZip}
 
 module _ {X Y : Type 0} (R : X → Y → Type 0) where
   -- They are as long.
   pub length-paired : (xs : List X) (ys : List Y) → AllZip R xs ys → length xs ≡ length ys
-  length-paired [] [] h = refl
-  length-paired [] (y ∷ ys) h = absurd h
-  length-paired (x ∷ xs) [] h = absurd h
-  length-paired (x ∷ xs) (y ∷ ys) h = ap suc (length-paired xs ys h.1)
+  length-paired xs ys h = sym (AllZip-long R xs ys h)
 
   -- What stands at one index is related.
   pub paired_at : (xs : List X) (ys : List Y) (i : ℕ) (x : X) (y : Y) → AllZip R xs ys → i < length xs → x ≡ get_or xs i x → y ≡ get_or ys i y → R x y
-  paired_at [] ys i x y h within e f = absurd (none within)
-    where
-      none : i < 0 → ⊥
-      none l = omega (arith, l)
+  paired_at [] ys i x y h within e f = absurd (omega (arith, within))
   paired_at (a ∷ xs) [] i x y h within e f = absurd h
   paired_at (a ∷ xs) (b ∷ ys) zero x y h within e f = subst (λ z. R z y) (sym e) (subst (R a) (sym f) h.0)
   paired_at (a ∷ xs) (b ∷ ys) (suc i) x y h within e f = paired_at xs ys i x y h.1 (omega (arith, within)) e f
-
-  -- One more pair.
-  pub paired-snoc : (xs : List X) (ys : List Y) (x : X) (y : Y) → AllZip R xs ys → R x y → AllZip R (xs ++ x ∷ []) (ys ++ y ∷ [])
-  paired-snoc [] [] x y h r = (r, tt)
-  paired-snoc [] (b ∷ ys) x y h r = absurd h
-  paired-snoc (a ∷ xs) [] x y h r = absurd h
-  paired-snoc (a ∷ xs) (b ∷ ys) x y h r = (h.0, paired-snoc xs ys x y h.1 r)
 
 -- What follows from each relation follows for all pairs.
 pub paired_map : {X Y : Type 0} (R S : X → Y → Type 0) (xs : List X) (ys : List Y) → ((x : X) (y : Y) → R x y → S x y) → AllZip R xs ys → AllZip S xs ys

@@ -4,7 +4,9 @@ use Rattle.std.proofs.lemmas.Bool.{eqb-true}
 use Rattle.std.proofs.lemmas.Cmp.{nat_eq_equiv}
 use Rattle.std.proofs.lemmas.List.Elements.{All-nil, All-cons}
 use Rattle.std.proofs.lemmas.List.{take_more}
-use Rattle.std.proofs.lemmas.Option.{slice_get_within, slice_get_read}
+use Rattle.std.proofs.lemmas.Option.{slice_get_within, slice_get_read, slice_get-map}
+use Rattle.indexmap.proofs.SetLemmas.{AllZip-push}
+use Rattle.std.specs.Option.{option_map}
 use Rattle.std.specs.Cmp.{IsEquivalence}
 use Rattle.std.specs.List.{AllZip, AllByRecursion, IsDistinct}
 use Rattle.tt_base.specs.declared.leaf.Leaf.TheVariants as leaf
@@ -21,7 +23,6 @@ use Rattle.tt_tables.specs.Tables.{Tables}
 use Rattle.tt_tables.specs.Uses.{token_parts, part_uses}
 use Rattle.tt_tables.proofs.Members.{Member}
 use Rattle.tt_pack.specs.Places.{token_places, part_places, IsWithin, IsAt}
-use Rattle.tt_pack.proofs.Paired.{paired-snoc}
 use Rattle.tt_pack.proofs.TableFacts.{index_in-distinct}
 
 -- ---- lists in pairs
@@ -37,10 +38,7 @@ module _ {X Y : Type 0} (R : X → Y → Type 0) where
   pub partner_at : (xs : List X) (ys : List Y) (i : ℕ) (y : Y) → AllZip R xs ys → slice_get ys i ≡ Some y → (x : X) × (slice_get xs i ≡ Some x) × R x y
   partner_at xs [] i y h at = absurd (cc at)
   partner_at [] (b ∷ ys) i y h at = absurd h
-  partner_at (a ∷ xs) (b ∷ ys) zero y h at = (a, refl, subst (R a) (same b y at) h.0)
-    where
-      same : (b y : Y) → Some b ≡ Some y → b ≡ y
-      same b y e = cc e
+  partner_at (a ∷ xs) (b ∷ ys) zero y h at = let is : b ≡ y = cc at in (a, refl, subst (R a) is h.0)
   partner_at (a ∷ xs) (b ∷ ys) (suc i) y h at = partner_at xs ys i y h.1 at
 
 -- ---- values at places
@@ -72,7 +70,7 @@ module _ {X : Type 0} (values : List X) where
   one_more_at places index found more x within all read is before =
       subst (λ l. AllZip (IsAt values) (take (index + 1) places) l) (sym is)
       (subst (λ front. AllZip (IsAt values) front (found ++ x ∷ [])) (sym (take_more places index 0 within))
-      (paired-snoc (IsAt values) (take index places) found (get_or places index 0) x before
+      (AllZip-push (IsAt values) (take index places) found (get_or places index 0) x before
       (slice_get_read values (length values) (get_or places index 0) x refl (all index 0 within) read)))
 
   -- What is computed from each value stands where the value does.
@@ -80,15 +78,7 @@ module _ {X : Type 0} (values : List X) where
   mapped_at f [] [] h = h
   mapped_at f [] (x ∷ xs) h = absurd h
   mapped_at f (p ∷ places) [] h = absurd h
-  mapped_at f (p ∷ places) (x ∷ xs) h = (at values p x h.0, mapped_at f places xs h.1)
-    where
-      at : (values : List X) (p : ℕ) (x : X) → slice_get values p ≡ Some x → slice_get (map f values) p ≡ Some (f x)
-      at [] p x here = absurd (cc here)
-      at (v ∷ values) zero x here = ap Some (ap f (same v x here))
-        where
-          same : (v x : X) → Some v ≡ Some x → v ≡ x
-          same v x e = cc e
-      at (v ∷ values) (suc p) x here = at values p x here
+  mapped_at f (p ∷ places) (x ∷ xs) h = (slice_get-map f values p ∙ ap (option_map f) h.0, mapped_at f places xs h.1)
 
   -- Values at places are among the values.
   pub member_at_place : (places : List ℕ) (xs : List X) → AllZip (IsAt values) places xs → (z : X) → Member z xs → Member z values
@@ -186,20 +176,10 @@ module _ (tables : Tables) where
   all_within (t ∷ tokens) (it ∷ list) named =
       All-cons (IsWithin (length tables.parts)) t tokens (token_within t it named.0) (all_within tokens list named.1)
 
-  -- There is a token for each that is meant.
-  pub as_many_named : (tokens : List InternedToken) (list : List TokenTree) → AllName tables tokens (map whole list) → length tokens ≡ length list
-  as_many_named [] [] named = refl
-  as_many_named [] (it ∷ list) named = absurd named
-  as_many_named (t ∷ tokens) [] named = absurd named
-  as_many_named (t ∷ tokens) (it ∷ list) named = ap suc (as_many_named tokens list named.1)
-
   -- What stands at an index names what is meant there.
   pub named_at : (tokens : List InternedToken) (list : List TokenTree) (i : ℕ) (d : InternedToken) (it : TokenTree) → AllName tables tokens (map whole list)
       → slice_get list i ≡ Some it → Names tables (get_or tokens i d) (whole it)
   named_at tokens [] i d it named at = absurd (cc at)
   named_at [] (x ∷ list) i d it named at = absurd named
-  named_at (t ∷ tokens) (x ∷ list) zero d it named at = subst (λ meant. Names tables t (whole meant)) (same x it at) named.0
-    where
-      same : (x y : TokenTree) → Some x ≡ Some y → x ≡ y
-      same x y e = cc e
+  named_at (t ∷ tokens) (x ∷ list) zero d it named at = let is : x ≡ it = cc at in subst (λ meant. Names tables t (whole meant)) is named.0
   named_at (t ∷ tokens) (x ∷ list) (suc i) d it named at = named_at tokens list i d it named.1 at

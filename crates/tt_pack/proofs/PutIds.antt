@@ -1,10 +1,11 @@
 -- New ids put one after another, and values that come twice.
 use Rattle.std.proofs.Common.{◌≡◌, ℕ, zero, suc, ◌+◌, ◌<◌, Bool, true, false, ◌||◌, List, [], ◌∷◌, length, take, set, get_or, refl, ap, sym, ◌∙◌, arith}
 use Rattle.std.proofs.lemmas.Bool.{true≢false}
-use Rattle.std.specs.List.{AllByRecursion, IsDistinct, list_any}
+use Rattle.std.specs.List.{IsDistinct, list_any}
 use Rattle.tt_base.specs.declared.span.ErasedFileAstId.{ErasedFileAstId}
 use Rattle.tt_base.specs.declared.span.SpanPart.{SpanPart}
 use Rattle.tt_tables.specs.AstIds.{part_with_id, parts_with_ids}
+use Rattle.tt_pack.proofs.Sorted.{all_at}
 
 -- Without ids all stay.
 pub no_ids : (parts : List SpanPart) → parts_with_ids [] parts ≡ parts
@@ -34,11 +35,6 @@ part_at (first ∷ ids) (entry ∷ parts) (suc i) id part other h k = part_at id
 
 -- `same` tells whether two values are equal
 module _ {X : Type 0} (same : X → X → Bool) (sound : (x y : X) → same x y ≡ true → x ≡ y) (complete : (x : X) → same x x ≡ true) where
-  holds_at : (P : X → Type 0) (xs : List X) (i : ℕ) (d : X) → i < length xs → AllByRecursion P xs → P (get_or xs i d)
-  holds_at P [] i d h all = absurd (omega (arith, h))
-  holds_at P (x ∷ xs) zero d h all = all.0
-  holds_at P (x ∷ xs) (suc i) d h all = holds_at P xs i d (omega (arith, h)) all.1
-
   -- A value that stands in front of itself stands twice.
   pub stands_twice : (xs : List X) (i : ℕ) (d : X) → i < length xs → list_any (same (get_or xs i d)) (take i xs) ≡ true → IsDistinct same xs → ⊥
   unfolding IsDistinct
@@ -51,5 +47,5 @@ module _ {X : Type 0} (same : X → X → Bool) (sound : (x y : X) → same x y 
           → (list_any (same (get_or xs i d)) (take i xs) ≡ true → ⊥) → ⊥
       by_test true e there later =
           true≢false
-          (sym (complete x) ∙ ap (same x) (sym (sound (get_or xs i d) x e)) ∙ holds_at (λ y. same x y ≡ false) xs i d (omega (arith, h)) once.0)
+          (sym (complete x) ∙ ap (same x) (sym (sound (get_or xs i d) x e)) ∙ all_at (λ y. same x y ≡ false) xs once.0 i d (omega (arith, h)))
       by_test false e there later = later there

@@ -1,27 +1,25 @@
 -- Places in the order of their first uses, and the rank of each.
-use Rattle.std.proofs.Common.{◌≡◌, ℕ, zero, suc, ◌+◌, ◌<◌, ◌≤◌, Bool, true, false, cond, ◌||◌, ◌⊎◌, inl, inr, Some, List, [], ◌∷◌, ◌++◌, fold, flat_map, get_or, set, take, drop, length, nat_eq, slice_get, refl, ap, sym, subst, ◌∙◌, append-nil, append_assoc, length-append, true≢false, arith}
+use Rattle.std.proofs.Common.{◌≡◌, ℕ, zero, suc, ◌+◌, ◌<◌, ◌≤◌, Bool, true, false, cond, ◌⊎◌, inl, inr, Some, List, [], ◌∷◌, ◌++◌, fold, flat_map, get_or, set, take, drop, length, nat_eq, slice_get, refl, ap, sym, subst, ◌∙◌, append-nil, append_assoc, length-append, true≢false, arith}
 use Rattle.std.proofs.lemmas.Bool.{eqb-true}
 use Rattle.std.proofs.lemmas.Cmp.{nat_eq_equiv}
 use Rattle.std.proofs.lemmas.Grind.{flat_map-append}
 use Rattle.std.proofs.lemmas.List.{take-append-drop, get_or_default}
-use Rattle.std.proofs.lemmas.Option.{slice_get_within}
+use Rattle.std.proofs.lemmas.List.Folds.{Any-from_list_any}
+use Rattle.std.proofs.lemmas.Option.{slice_get_within, slice_get_read}
+use Rattle.std.proofs.lemmas.Map.Keys.{any_passes_from_place}
 use Rattle.std.specs.Cmp.{IsEquivalence}
 use Rattle.std.specs.List.{list_any}
 use Rattle.tt_tables.specs.TableOrder.{different}
 use Rattle.tt_pack.specs.Counted.{note_value}
 use Rattle.tt_pack.specs.Places.{AreRanked}
-use Rattle.tt_pack.proofs.Noting.{any_there, different_more, noted_token}
+use Rattle.tt_pack.proofs.Noting.{different_more, noted_token}
 use Rattle.tt_pack.proofs.RowOrder.{slice_get-set, slice_get-set_other}
 
 -- What is there stands somewhere.
 pub any_stands : (values : List ℕ) (x : ℕ) → list_any (λ y. nat_eq y x) values ≡ true → (i : ℕ) × (slice_get values i ≡ Some x)
-any_stands [] x e = absurd (true≢false (sym e))
-any_stands (y ∷ values) x e = by_test (nat_eq y x) refl e (any_stands values x)
-  where
-    by_test : (t : Bool) → nat_eq y x ≡ t → (t || list_any (λ z. nat_eq z x) values) ≡ true
-        → (list_any (λ z. nat_eq z x) values ≡ true → (i : ℕ) × (slice_get values i ≡ Some x)) → (i : ℕ) × (slice_get (y ∷ values) i ≡ Some x)
-    by_test true is e later = (0, ap Some (eqb-true y x is))
-    by_test false is e later = let found = later e in (suc found.0, found.1)
+any_stands values x e =
+    let (i, y, within, at, is) = Any-from_list_any (λ y. nat_eq y x) values e in
+    (i, slice_get_read values (length values) i x refl within (sym (eqb-true y x is) ∙ sym at ∙ get_or_default values i y x within))
 
 -- What stands in a list with one more value stood there before, or is that value.
 snoc_stands : (values : List ℕ) (x : ℕ) (i : ℕ) (y : ℕ) → slice_get (values ++ x ∷ []) i ≡ Some y → (slice_get values i ≡ Some y) ⊎ ((i ≡ length values) × (y ≡ x))
@@ -50,7 +48,7 @@ module _ (order ranks : List ℕ) (place : ℕ) where
       by_test false e = apart (nat_eq read place) refl
         where
           apart : (s : Bool) → nat_eq read place ≡ s → nat_eq read place ≡ false
-          apart true is = absurd (true≢false (sym (any_there nat_eq nat_eq_equiv order rank place (here ∙ ap Some (eqb-true read place is))) ∙ e))
+          apart true is = absurd (true≢false (sym (any_passes_from_place (λ other. nat_eq other place) order rank place (here ∙ ap Some (eqb-true read place is)) (nat_eq_equiv.refl place)) ∙ e))
           apart false is = is
 
   -- It is not there where its rank leads past all.
@@ -72,7 +70,7 @@ module _ (order ranks : List ℕ) (place : ℕ) where
   -- A place that goes last has the next rank.
   pub ranked_next : AreRanked order ranks → list_any (λ other. nat_eq other place) order ≡ false → place < length ranks → AreRanked (order ++ place ∷ []) (set ranks place (length order))
   ranked_next ranked new within rank other at = elim (snoc_stands order place rank other at) [
-    | inl before ↦ slice_get-set_other ranks place other (length order) (λ is. absurd (true≢false (sym (any_there nat_eq nat_eq_equiv order rank place (before ∙ ap Some (sym is))) ∙ new))) ∙ ranked rank other before
+    | inl before ↦ slice_get-set_other ranks place other (length order) (λ is. absurd (true≢false (sym (any_passes_from_place (λ other. nat_eq other place) order rank place (before ∙ ap Some (sym is)) (nat_eq_equiv.refl place)) ∙ new))) ∙ ranked rank other before
     | inr (last, is) ↦ ap (slice_get (set ranks place (length order))) is ∙ slice_get-set ranks place (length order) within ∙ ap Some (sym last)
   ]
 
@@ -104,10 +102,7 @@ module _ {X : Type 0} (same : X → X → Bool) where
       where
         empty : (l : List X) → length l ≤ 0 → l ≡ []
         empty [] h = refl
-        empty (x ∷ l) h = absurd (some h)
-          where
-            some : suc (length l) ≤ 0 → ⊥
-            some h = omega (arith, h)
+        empty (x ∷ l) h = absurd (omega (arith, h))
 
     -- One more token notes its own uses.
     pub noted_at : {A : Type 0} (f : A → List X) (tokens : List A) (i : ℕ) (d : A) (before after : List X) → i < length tokens → before ≡ different same (flat_map f (take i tokens))

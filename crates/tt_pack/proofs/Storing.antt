@@ -108,38 +108,32 @@ module _ (top : Subtree) (below : List TokenTree) (w : IsWhole below) (counted :
   many_bytes : HasFewParts below → HasFewSymbols below → 4294967295 < byte_count (tables_for below) below → HasManyBytes (root_of top below)
   many_bytes few_parts few_symbols over = (few_parts_is few_parts, few_symbols_is few_symbols, subst (λ t. 4294967295 < byte_count t below) (sym same_tables) over)
 
--- A list is that of a header, which counts them, and of the tokens below it.
-pub record Splits (tokens : List TokenTree) (top : Subtree) (below : List TokenTree) : Type 0 where
-  pub list : tokens ≡ token.Subtree top ∷ below
-  pub counted : top.len ≡ length below
-  pub few : top.len ≤ 4294967295
-
--- If what is below is whole, its tree is the one that is stored.
-pub stored_list : (tokens : List TokenTree) (top : Subtree) (below : List TokenTree) (root : Root) → Splits tokens top below → IsWhole below → root ≡ root_of top below
-    → (tokens ≡ flat_root root) × (size root.children ≤ 4294967295)
-stored_list tokens top below root it whole e =
-    subst (λ r. (tokens ≡ flat_root r) × (size r.children ≤ 4294967295)) (sym e)
-    (it.list ∙ list_is top below whole it.counted, omega (arith, sized top below whole it.counted, it.few))
-
 -- A header makes no list one subtree that counts other tokens than those below it, or tokens that are no whole list.
 pub no_subtree : (top : Subtree) (below : List TokenTree) → top.len < 2 ^ 32 → ((top.len ≡ length below) × IsWhole below → ⊥) → IsOneSubtree (token.Subtree top ∷ below) → ⊥
 no_subtree top below fits neither one = neither ((one_subtree_iff top below fits).0 one)
 
--- What cannot be stored is refused for that reason.
-pub refused_list : (tokens : List TokenTree) (top : Subtree) (below : List TokenTree) (fault : TtFault) → Splits tokens top below → IsStoreFault below fault
-    → IsPackFault tokens fault
-refused_list tokens top below fault it h = rw it.list (refused h)
-  where
-    tree_with : (P : Root → Type 0) → IsWhole below → (IsWhole below → P (root_of top below)) → IsTreeWith P (token.Subtree top ∷ below)
-    tree_with P whole has = (root_of top below, list_is top below whole it.counted, omega (arith, sized top below whole it.counted, it.few), has whole)
+-- A header counts the tokens below it.
+module _ (top : Subtree) (below : List TokenTree) (counted : top.len ≡ length below) (few : top.len < 2 ^ 32) where
+  -- If they are whole, its tree is the one that is stored.
+  pub stored_list : (root : Root) → IsWhole below → root ≡ root_of top below → (token.Subtree top ∷ below ≡ flat_root root) × (size root.children ≤ 4294967295)
+  stored_list root whole e =
+      subst (λ r. (token.Subtree top ∷ below ≡ flat_root r) × (size r.children ≤ 4294967295)) (sym e)
+      (list_is top below whole counted, omega (arith, sized top below whole counted, few))
 
-    is : (cause : TtFault) → fault ≡ cause → IsPackFault (token.Subtree top ∷ below) cause → IsPackFault (token.Subtree top ∷ below) fault
-    is cause e holds = subst (IsPackFault (token.Subtree top ∷ below)) (sym e) holds
+  -- What cannot be stored is refused for that reason.
+  pub refused_list : (fault : TtFault) → IsStoreFault below fault → IsPackFault (token.Subtree top ∷ below) fault
+  refused_list fault = refused
+    where
+      tree_with : (P : Root → Type 0) → IsWhole below → (IsWhole below → P (root_of top below)) → IsTreeWith P (token.Subtree top ∷ below)
+      tree_with P whole has = (root_of top below, list_is top below whole counted, omega (arith, sized top below whole counted, few), has whole)
 
-    refused : IsStoreFault below fault → IsPackFault (token.Subtree top ∷ below) fault
-    refused (inl (inl (inl e))) = is Memory e tt
-    refused (inl (inl (inr (e, broken)))) = is NotOneSubtree e (no_subtree top below (omega (arith, it.few)) (λ parts. broken parts.1))
-    refused (inl (inr (inl (e, whole, over)))) = is TooManySpanParts e (tree_with HasManyParts whole (λ w. many_parts top below w it.counted over))
-    refused (inl (inr (inr (e, whole, few, over)))) = is TooManySymbols e (tree_with HasManySymbols whole (λ w. many_symbols top below w it.counted few over))
-    refused (inr (e, whole, few_parts, few_symbols, over)) =
-        is TooManyBytes e (tree_with HasManyBytes whole (λ w. many_bytes top below w it.counted few_parts few_symbols over))
+      is : (cause : TtFault) → fault ≡ cause → IsPackFault (token.Subtree top ∷ below) cause → IsPackFault (token.Subtree top ∷ below) fault
+      is cause e holds = subst (IsPackFault (token.Subtree top ∷ below)) (sym e) holds
+
+      refused : IsStoreFault below fault → IsPackFault (token.Subtree top ∷ below) fault
+      refused (inl (inl (inl e))) = is Memory e tt
+      refused (inl (inl (inr (e, broken)))) = is NotOneSubtree e (no_subtree top below few (λ parts. broken parts.1))
+      refused (inl (inr (inl (e, whole, over)))) = is TooManySpanParts e (tree_with HasManyParts whole (λ w. many_parts top below w counted over))
+      refused (inl (inr (inr (e, whole, fits, over)))) = is TooManySymbols e (tree_with HasManySymbols whole (λ w. many_symbols top below w counted fits over))
+      refused (inr (e, whole, few_parts, few_symbols, over)) =
+          is TooManyBytes e (tree_with HasManyBytes whole (λ w. many_bytes top below w counted few_parts few_symbols over))

@@ -1,14 +1,13 @@
 -- How long a table is, that its values differ, and where one stands in it.
-use Rattle.std.proofs.Common.{◌≡◌, ℕ, zero, suc, ◌<◌, ◌≤◌, ◌^◌, inl, inr, Bool, true, false, cond, Some, List, [], ◌∷◌, length, nat_le, slice_get, refl, ap, sym, subst, ◌∙◌, arith}
-use Rattle.std.proofs.lemmas.Bool.{leb-true, leb-false}
-use Rattle.std.proofs.lemmas.List.{length-map}
+use Rattle.std.proofs.Common.{◌≡◌, ℕ, zero, suc, ◌<◌, ◌≤◌, ◌^◌, Bool, true, false, cond, Some, List, [], ◌∷◌, length, nat_le, slice_get, refl, ap, sym, ◌∙◌}
 use Rattle.std.proofs.lemmas.Option.{slice_get_within}
 use Rattle.std.specs.Cmp.{IsEquivalence}
-use Rattle.std.specs.List.{AllByRecursion, IsDistinct}
-use Rattle.tt_tables.specs.TableOrder.{index_in, uses_of, IsEarlier, IsMoreUsed, Before, IsTable, different, falling, table}
-use Rattle.tt_tables.proofs.Cheapest.{distinct_order}
+use Rattle.std.specs.List.{IsDistinct}
+use Rattle.tt_tables.specs.TableOrder.{index_in, uses_of, IsEarlier, Before, IsTable, different, falling, table}
+use Rattle.tt_tables.proofs.Cheapest.{distinct_order, not_before}
 use Rattle.tt_tables.proofs.TableOrder.{length-falling}
-use Rattle.tt_pack.specs.Counted.{counted, new_index, LeadsTo}
+use Rattle.tt_tables.proofs.Used.{all_at_place}
+use Rattle.tt_pack.specs.Counted.{new_index, LeadsTo}
 use Rattle.tt_pack.specs.TablesOf.{StandsAt, HasNewIndexAt}
 
 -- `same` tells whether two values are equal
@@ -22,47 +21,22 @@ module _ {X : Type 0} (same : X → X → Bool) where
       is : y ≡ x
       is = cc at
   index_in-distinct laws (y ∷ values) (suc i) x distinct at =
-      ap (λ t. cond t 0 (suc (index_in (same x) values))) (laws.symm x y ∙ apart values i distinct.0 at) ∙ ap suc (index_in-distinct laws values i x distinct.1 at)
-    where
-      apart : (others : List X) (j : ℕ) → AllByRecursion (λ z. same y z ≡ false) others → slice_get others j ≡ Some x → same y x ≡ false
-      apart [] j all here = absurd (cc here)
-      apart (z ∷ others) zero all here = subst (λ v. same y v ≡ false) (is here) all.0
-        where
-          is : Some z ≡ Some x → z ≡ x
-          is e = cc e
-      apart (z ∷ others) (suc j) all here = apart others j all.1 here
+      ap (λ t. cond t 0 (suc (index_in (same x) values))) (laws.symm x y ∙ all_at_place (λ z. same y z ≡ false) values i x distinct.0 at) ∙ ap suc (index_in-distinct laws values i x distinct.1 at)
 
   module _ (sound : (x y : X) → same x y ≡ true → x ≡ y) (laws : IsEquivalence same) where
-    -- A table has as many values as are counted.
-    pub length-table : (short : ℕ) (uses : List X) → length (table same short uses) ≡ length (counted same uses)
+    -- A table has as many values as there are different ones.
+    pub length-table_of : (short : ℕ) (uses : List X) → length (table same short uses) ≡ length (different same uses)
     unfolding table
-    length-table short uses = by_length (nat_le (length (different same uses)) short) ∙ sym (length-map (different same uses) (λ x. (x, uses_of same uses x)))
+    length-table_of short uses = by_length (nat_le (length (different same uses)) short)
       where
         by_length : (t : Bool) → length (cond t (different same uses) (falling same (uses_of same uses) (different same uses))) ≡ length (different same uses)
         by_length true = refl
         by_length false = length-falling same sound laws.refl (uses_of same uses) (IsEarlier same uses) (different same uses)
 
-    -- A table has as many values as there are different ones.
-    pub length-table_of : (short : ℕ) (uses : List X) → length (table same short uses) ≡ length (different same uses)
-    length-table_of short uses = length-table short uses ∙ length-map (different same uses) (λ y. (y, uses_of same uses y))
-
     -- The values of a table differ.
     distinct_table : (short : ℕ) (uses values : List X) → IsTable same short uses values → IsDistinct same values
-    distinct_table short uses values is = distinct_order same sound laws.refl (Before same short (length values) uses) never values is.in_order
-      where
-        never : (x : X) → Before same short (length values) uses x x → ⊥
-        never x h = by_length (nat_le (length values) short) refl
-          where
-            more : IsMoreUsed same uses x x → ⊥
-            more (inl l) = omega (arith, l)
-            more (inr p) = omega (arith, p.1)
-
-            by_length : (t : Bool) → nat_le (length values) short ≡ t → ⊥
-            by_length true e = none (h.0 (leb-true _ _ e))
-              where
-                none : IsEarlier same uses x x → ⊥
-                none l = omega (arith, l)
-            by_length false e = more (h.1 (leb-false _ _ e))
+    distinct_table short uses values is =
+        distinct_order same sound laws.refl (Before same short (length values) uses) (not_before same sound laws.refl short (length values) uses) values is.in_order
 
     -- The new index of a value that stood by first use is its index in the table.
     pub new_index_noted : (short : ℕ) (uses values table : List X) (new_indices : List ℕ) (i : ℕ) (x : X) → IsTable same short uses table → length values ≤ 2 ^ 32

@@ -1,30 +1,16 @@
 -- How many values are used, and where they stand by first use.
-use Rattle.std.proofs.Common.{◌≡◌, ℕ, suc, ◌+◌, ◌<◌, ◌⊎◌, inl, inr, Bool, true, false, not, cond, Some, List, [], ◌∷◌, map, filter, length, count_by, nat_lt, slice_get, refl, ap, sym, subst, ◌∙◌, arith}
+use Rattle.std.proofs.Common.{◌≡◌, ℕ, suc, ◌+◌, ◌<◌, ◌⊎◌, inl, inr, Bool, true, false, cond, Some, List, [], ◌∷◌, map, filter, length, count_by, nat_lt, slice_get, refl, ap, sym, subst, ◌∙◌, arith}
 use Rattle.std.proofs.lemmas.Bool.{lt-ltb, ltb-true}
 use Rattle.std.proofs.lemmas.List.Sums.{sum_by-cons}
 use Rattle.std.specs.Cmp.{IsEquivalence}
 use Rattle.std.specs.List.{AllByRecursion, IsDistinct}
-use Rattle.tt_tables.specs.TableOrder.{index_in, IsIn, IsEarlier, different, uses_of}
-use Rattle.tt_tables.proofs.Cheapest.{length-same, distinct_order}
+use Rattle.tt_tables.specs.TableOrder.{index_in, IsIn, different, uses_of}
+use Rattle.tt_tables.proofs.Cheapest.{length-same}
 use Rattle.tt_tables.proofs.Members.{Member, member-different, member-filter}
-use Rattle.tt_tables.proofs.TableOrder.{all_filter, by_first_use}
-
--- one where the test holds
-abbrev one_if : Bool → ℕ
-one_if t = cond t 1 0
+use Rattle.tt_tables.proofs.TableOrder.{all_filter}
+use Rattle.tt_tables.proofs.Used.{one_if, unfiltered, uses_member, member_used, different_member, distinct-different}
 
 module _ {X : Type 0} where
-  -- What a test lets through is in the list and passes.
-  unfiltered : (test : X → Bool) (z : X) (xs : List X) → Member z (filter test xs) → Member z xs × (test z ≡ true)
-  unfiltered test z [] m = absurd m
-  unfiltered test z (x ∷ xs) m = by_test (test x) refl m (unfiltered test z xs)
-    where
-      by_test : (t : Bool) → test x ≡ t → Member z (cond t (x ∷ filter test xs) (filter test xs)) → (Member z (filter test xs) → Member z xs × (test z ≡ true))
-          → ((z ≡ x) ⊎ Member z xs) × (test z ≡ true)
-      by_test true e (inl is) later = (inl is, ap test is ∙ e)
-      by_test true e (inr m) later = let found = later m in (inr found.0, found.1)
-      by_test false e m later = let found = later m in (inr found.0, found.1)
-
   -- What is in a list stands somewhere.
   pub member_stands : (z : X) (xs : List X) → Member z xs → (i : ℕ) × (slice_get xs i ≡ Some z)
   member_stands z [] m = absurd m
@@ -52,45 +38,15 @@ module _ {X : Type 0} (same : X → X → Bool) (laws : IsEquivalence same) (sou
       by_test true later = (all_filter (λ y. same x y ≡ false) (λ y. same x y ≡ false) test xs (λ y p q. q) h.0, later)
       by_test false later = later
 
-  -- The different values differ.
-  pub distinct-different : (uses : List X) → IsDistinct same (different same uses)
-  distinct-different uses = distinct_order same sound (λ x. laws.refl x) (IsEarlier same uses) never (different same uses) (by_first_use same sound (λ x. laws.refl x) uses)
-    where
-      never : (x : X) → IsEarlier same uses x x → ⊥
-      never x h = omega (arith, h)
-
-  -- They are used.
-  different_member : (z : X) (uses : List X) → Member z (different same uses) → Member z uses
-  different_member z [] m = m
-  different_member z (x ∷ uses) (inl is) = inl is
-  different_member z (x ∷ uses) (inr m) = inr (different_member z uses (unfiltered (λ y. not (same x y)) z (different same uses) m).0)
-
-  -- A value with uses is used, and a value that is used has some.
-  uses_member : (uses : List X) (z : X) → 0 < uses_of same uses z → Member z uses
-  uses_member [] z some = absurd (none some)
-    where
-      none : 0 < 0 → ⊥
-      none l = omega (arith, l)
-  uses_member (x ∷ uses) z some = by_test (same z x) refl (omega (arith, some, sum_by-cons (λ y. one_if (same z y)) x uses)) (uses_member uses z)
-    where
-      by_test : (t : Bool) → same z x ≡ t → 0 < one_if t + uses_of same uses z → (0 < uses_of same uses z → Member z uses) → (z ≡ x) ⊎ Member z uses
-      by_test true e l later = inl (sound z x e)
-      by_test false e l later = inr (later (omega (arith, l)))
-
-  member_used : (uses : List X) (z : X) → Member z uses → 0 < uses_of same uses z
-  member_used [] z m = absurd m
-  member_used (x ∷ uses) z (inl is) = omega (arith, sum_by-cons (λ y. one_if (same z y)) x uses, ap one_if (ap (λ k. same k x) is ∙ laws.refl x))
-  member_used (x ∷ uses) z (inr m) = omega (arith, sum_by-cons (λ y. one_if (same z y)) x uses, member_used uses z m)
-
   -- As many values have uses as are different among the uses.
   pub used_different : (uses values : List X) → IsDistinct same values → ((z : X) → Member z uses → Member z values)
       → count_by (nat_lt 0) (map (uses_of same uses) values) ≡ length (different same uses)
   used_different uses values distinct all =
       sym (length-passed (uses_of same uses) values)
-      ∙ length-same same sound complete (filter is_used values) (different same uses) (distinct-filter is_used values distinct) (distinct-different uses)
+      ∙ length-same same sound complete (filter is_used values) (different same uses) (distinct-filter is_used values distinct) (distinct-different same laws sound uses)
       (record {
-        there = λ z m. member-different same sound complete z uses (uses_member uses z (ltb-true 0 (uses_of same uses z) (unfiltered is_used z values m).1));
-        back = λ z m. let used = different_member z uses m in member-filter same sound complete z is_used values (lt-ltb 0 (uses_of same uses z) (member_used uses z used)) (all z used);
+        there = λ z m. member-different same sound complete z uses (uses_member same laws sound uses z (ltb-true 0 (uses_of same uses z) (unfiltered is_used z values m).1));
+        back = λ z m. let used = different_member same laws sound z uses m in member-filter same sound complete z is_used values (lt-ltb 0 (uses_of same uses z) (member_used same laws sound uses z used)) (all z used);
       })
     where
       is_used : X → Bool
@@ -101,10 +57,7 @@ module _ {X : Type 0} (same : X → X → Bool) (laws : IsEquivalence same) (sou
 
   -- A value that is found is in the list.
   found_member : (x : X) (xs : List X) → IsIn same xs x → Member x xs
-  found_member x [] found = absurd (none found)
-    where
-      none : 0 < 0 → ⊥
-      none l = omega (arith, l)
+  found_member x [] found = absurd (omega (arith, found))
   found_member x (y ∷ xs) found = by_test (same x y) refl found (found_member x xs)
     where
       by_test : (t : Bool) → same x y ≡ t → cond t 0 (suc (index_in (same x) xs)) < suc (length xs) → (IsIn same xs x → Member x xs) → (x ≡ y) ⊎ Member x xs

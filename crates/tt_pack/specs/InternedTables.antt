@@ -1,14 +1,11 @@
 -- What the tables of tokens in numbers say: where a value went that is named by its place, and a token in the new numbers.
-use Rattle.std.specs.Prelude.{◌≡◌, ℕ, List, bytes_eq}
-use Rattle.tt_codec.specs.declared.entry.Entry.{Entry}
-use Rattle.tt_codec.specs.declared.entry.Entry.TheVariants.{Leaf as of_leaf, Header as of_header}
+use Rattle.std.specs.Prelude.{ℕ, List, bytes_eq}
 use Rattle.tt_codec.specs.declared.entry.HeaderEntry.{HeaderEntry}
 use Rattle.tt_codec.specs.declared.entry.LeafEntry.{LeafEntry}
 use Rattle.tt_codec.specs.declared.entry.LeafEntry.TheVariants.{Punct as punct, Ident as ident, Literal as literal}
 use Rattle.tt_codec.specs.declared.span.SpanNumbers.{SpanNumbers}
-use Rattle.tt_interned.specs.declared.counted.CountedTokens.{CountedTokens}
-use Rattle.tt_interned.specs.declared.token.InternedToken.{InternedToken}
-use Rattle.tt_interned.specs.declared.token.InternedToken.TheVariants as interned
+use Rattle.tt_base.specs.declared.token_tree.TokenTree.{TokenTree}
+use Rattle.tt_interned.specs.ListOf.{list_of, parts_of, symbols_of}
 use Rattle.tt_tables.specs.Tables.{Tables, tables_from}
 use Rattle.tt_pack.specs.declared.interned.InternedTables.{InternedTables}
 use Rattle.tt_pack.specs.Counted.{new_index}
@@ -19,16 +16,14 @@ use Rattle.tt_pack.specs.TablesOf.{StandsAt, HasNewIndexAt}
 abbrev pub tables_in : InternedTables → Tables
 tables_in tables = tables_from tables.parts.items tables.symbols.values.items
 
--- the new indices at the places of parts and symbols lead to where they stand in the tables
-pub record LeadsFrom (below : CountedTokens) (tables : InternedTables) : Type 0 where
-  pub parts : LeadsByPlace below.parts.now tables.parts.items tables.part_indices.items
-  pub symbols : (place : ℕ) (x : List ℕ) → StandsAt below.symbols.now place x → HasNewIndexAt bytes_eq tables.symbols.values.items tables.symbols.new_indices.items place x
+-- the flat list that the tokens mean
+abbrev pub list_in : InternedTables → List TokenTree
+list_in tables = list_of tables.below
 
--- no header is open
-abbrev pub IsClosed : InternedToken → Type 0
-IsClosed (interned.Leaf entry) = Unit {0}
-IsClosed (interned.Open kind opening) = ⊥
-IsClosed (interned.Header entry) = Unit {0}
+-- the new indices at the places of parts and symbols lead to where they stand in the tables
+pub record LeadsFrom (tables : InternedTables) : Type 0 where
+  pub parts : LeadsByPlace (parts_of tables.below) tables.parts.items tables.part_indices.items
+  pub symbols : (place : ℕ) (x : List ℕ) → StandsAt (symbols_of tables.below) place x → HasNewIndexAt bytes_eq tables.symbols.values.items tables.symbols.new_indices.items place x
 
 -- the numbers of a span, with the new index of its part
 abbrev pub new_span : (part_indices : List ℕ) → SpanNumbers → SpanNumbers
@@ -51,9 +46,3 @@ new_header part_indices entry child_bytes =
       len = entry.len;
       child_bytes = child_bytes;
     }
-
--- the token with the new indices; an open header has none
-abbrev pub IsRenumbered : (part_indices symbol_indices : List ℕ) → InternedToken → (child_bytes : ℕ) → Entry → Type 0
-IsRenumbered part_indices symbol_indices (interned.Leaf entry) child_bytes result = result ≡ of_leaf (new_leaf part_indices symbol_indices entry)
-IsRenumbered part_indices symbol_indices (interned.Open kind opening) child_bytes result = ⊥
-IsRenumbered part_indices symbol_indices (interned.Header entry) child_bytes result = result ≡ of_header (new_header part_indices entry child_bytes)

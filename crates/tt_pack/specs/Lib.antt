@@ -5,7 +5,6 @@ pub mod Few
 pub mod InternedTables
 pub mod Leading
 pub mod Meeting
-pub mod OneNode
 pub mod Packed
 pub mod Places
 pub mod ReaderOf

@@ -15,7 +15,7 @@ use Rattle.tt_pack.specs.TablesOf.{StandsAt, AreUses}
 abbrev pub IsPartAt : (parts : List SpanPart) → ℕ → SpanPart → Type 0
 IsPartAt parts = StandsAt (different same_part parts)
 
--- the symbol does
+-- the symbol stands at the index among the different ones of these uses
 abbrev pub IsSymbolAt : (symbols : List (List ℕ)) → ℕ → List ℕ → Type 0
 IsSymbolAt symbols = StandsAt (different bytes_eq symbols)
 

@@ -1,5 +1,5 @@
 -- Which parts tokens in numbers name, by their places.
-use Rattle.std.specs.Prelude.{◌≡◌, ℕ, ◌<◌, Some, List, [], ◌∷◌, flat_map, slice_get}
+use Rattle.std.specs.Prelude.{◌≡◌, ℕ, ◌<◌, Option, None, Some, List, [], ◌∷◌, flat_map, slice_get}
 use Rattle.std.specs.List.{AllByRecursion}
 use Rattle.tt_codec.specs.declared.entry.LeafEntry.{LeafEntry}
 use Rattle.tt_codec.specs.declared.entry.LeafEntry.TheVariants.{Punct as punct, Ident as ident, Literal as literal}
@@ -17,6 +17,11 @@ abbrev pub token_places : InternedToken → List ℕ
 token_places (interned.Leaf entry) = leaf_place entry ∷ []
 token_places (interned.Open kind opening) = opening.part ∷ []
 token_places (interned.Header entry) = entry.opening.part ∷ entry.closing.part ∷ []
+
+-- one place, or two
+abbrev pub places_from : ℕ → Option ℕ → List ℕ
+places_from first None = first ∷ []
+places_from first (Some second) = first ∷ second ∷ []
 
 -- the places of the parts that tokens use
 abbrev pub part_places : List InternedToken → List ℕ

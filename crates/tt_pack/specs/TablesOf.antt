@@ -10,7 +10,7 @@ use Rattle.tt_pack.specs.declared.table.Table.{Table}
 use Rattle.tt_pack.specs.Packed.{HasFewParts, HasFewSymbols}
 use Rattle.tt_pack.specs.Room.{HasRoomForAll}
 use Rattle.std.specs.List.{AllZip}
-use Rattle.tt_tables.specs.Tables.{Tables, tables_from, part_table, symbol_table, short_parts, short_symbols}
+use Rattle.tt_tables.specs.Tables.{Tables, tables_from, tables_for, short_parts, short_symbols}
 use Rattle.tt_tables.specs.Uses.{same_part, part_uses, symbol_uses}
 use Rattle.tt_base.specs.Forest.{IsWhole}
 use Rattle.tt_pack.specs.Counted.{new_index}
@@ -56,16 +56,24 @@ HasUses tables =
     AreUses (HasNewIndexAt same_part tables.parts.values.items tables.parts.new_indices.items)
     (HasNewIndexAt bytes_eq tables.symbols.values.items tables.symbols.new_indices.items)
 
--- the uses of each of the tokens are kept
-abbrev pub UsesTables : ListTables → List TokenTree → Type 0
-UsesTables tables tokens = AllZip (HasUses tables) tokens tables.uses.items
-
--- the tables of a whole list of tokens, which can be written, where what each of these uses went, and room for all
-pub record AreListTables (tokens : List TokenTree) (tables : ListTables) : Type 0 where
+-- the tables of a whole list of tokens, which can be written
+pub record AreTablesOf (tokens : List TokenTree) (tables : Tables) : Type 0 where
   pub whole : IsWhole tokens
-  pub all_parts : tables.parts.values.items ≡ part_table tokens
+  pub are : tables ≡ tables_for tokens
   pub few_parts : HasFewParts tokens
-  pub all_symbols : tables.symbols.values.items ≡ symbol_table tokens
   pub few_symbols : HasFewSymbols tokens
-  pub uses : UsesTables tables tokens
-  pub room : HasRoomForAll tokens tables.room
+
+-- the tokens
+abbrev pub tokens_in : ListTables → List TokenTree
+tokens_in tables = tables.tokens.now
+
+-- the uses of each of the tokens are kept, and there is room for all
+pub record LeadsList (tables : ListTables) : Type 0 where
+  pub uses : AllZip (HasUses tables) (tokens_in tables) tables.uses.items
+  pub room : HasRoomForAll (tokens_in tables) tables.room
+
+-- what gives these tokens in numbers has their two tables, and leads to where in these each value went
+pub record AreNumbers {N : Type 0} (list : N → List TokenTree) (tables : N → Tables) (leads : N → Type 0) (tokens : List TokenTree) (numbers : N) : Type 0 where
+  pub same : list numbers ≡ tokens
+  pub are : AreTablesOf (list numbers) (tables numbers)
+  pub led : leads numbers

@@ -4,8 +4,8 @@ use Rattle.std.specs.List.{AllByRecursion}
 use Rattle.tt_base.specs.declared.token_tree.TokenTree.{TokenTree}
 use Rattle.tt_base.specs.declared.token_tree.TokenTree.TheVariants as token
 use Rattle.tt_base.specs.Fits.{TokenInRange}
-use Rattle.tt_interned.specs.declared.token.InternedToken.{InternedToken}
-use Rattle.tt_interned.specs.declared.token.InternedToken.TheVariants as interned
+use Rattle.tt_codec.specs.declared.entry.Entry.{Entry}
+use Rattle.tt_tables.specs.Searches.{IsNamed}
 use Rattle.tt_tables.specs.Stored.{most_bytes, bytes}
 use Rattle.tt_tables.specs.Tables.{Tables}
 use Rattle.tt_base.specs.Unflat.{unflat}
@@ -37,27 +37,11 @@ held_bytes counts len = slice_index_or counts (length counts - 1) 0 - slice_inde
 abbrev pub CanHold : (counts : List ℕ) (len : ℕ) → Type 0
 CanHold counts len = (len < length counts) × (slice_index_or counts (length counts - 1 - len) 0 ≤ slice_index_or counts (length counts - 1) 0)
 
--- what a token holds, whose tokens are the last that are written
-abbrev pub token_holds : (counts : List ℕ) → TokenTree → ℕ
-token_holds counts (token.Leaf it) = 0
-token_holds counts (token.Subtree it) = held_bytes counts it.len
-
--- all that it holds is written
-abbrev pub TokenCanHold : (counts : List ℕ) → TokenTree → Type 0
-TokenCanHold counts (token.Leaf it) = Unit {0}
-TokenCanHold counts (token.Subtree it) = CanHold counts it.len
-
--- what a token in numbers holds, whose tokens are the last that are written
-abbrev pub numbers_hold : (counts : List ℕ) → InternedToken → ℕ
-numbers_hold counts (interned.Leaf entry) = 0
-numbers_hold counts (interned.Open kind opening) = 0
-numbers_hold counts (interned.Header entry) = held_bytes counts entry.len
-
--- all that it holds is written
-abbrev pub NumbersCanHold : (counts : List ℕ) → InternedToken → Type 0
-NumbersCanHold counts (interned.Leaf entry) = Unit {0}
-NumbersCanHold counts (interned.Open kind opening) = Unit {0}
-NumbersCanHold counts (interned.Header entry) = CanHold counts entry.len
+-- the token at an index is that entry, where all that it holds is written
+pub record IsEntryAt (tables : Tables) (tokens : List TokenTree) (index : ℕ) (entry : Entry) : Type 0 where
+  pub it : TokenTree
+  pub read : it ≡ slice_index_or tokens index it
+  pub named : IsNamed tables it (first_child_bytes tables (drop index tokens)) entry
 
 -- the bytes are those of the tokens, and their end pieces are counted
 pub record IsWritten (tables : Tables) (tokens : List TokenTree) (written counts : List ℕ) : Type 0 where

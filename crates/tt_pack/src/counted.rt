@@ -23,7 +23,7 @@ const FEW_PARTS: usize = 4;
 // The room that is made for symbols at first is for so many at most.
 const MOST_SYMBOLS_AT_FIRST: usize = 1 << 12;
 
-/// For how many parts and symbols room is made at first. No contract speaks of it.
+/// For how many parts and symbols room is made at first.
 #[derive(Clone, Copy)]
 pub(crate) struct FirstRoom {
     pub(crate) parts: usize,
@@ -32,7 +32,10 @@ pub(crate) struct FirstRoom {
 
 impl FirstRoom {
     /// The room for so many tokens of which nothing is known: about a third of the tokens of source are its different symbols.
-    pub(crate) fn for_tokens(tokens: usize) -> FirstRoom {
+    pub(crate) fn for_tokens(tokens: usize) -> FirstRoom
+        ensures parts { result.parts ≤ tokens }
+        ensures symbols { result.symbols ≤ tokens }
+    {
         FirstRoom {
             parts: tokens.min(FEW_PARTS),
             symbols: (tokens / 3).min(MOST_SYMBOLS_AT_FIRST),

@@ -4,7 +4,7 @@ ghost use Rattle.std.specs.Bool.{OnTrue};
 ghost use Rattle.std.specs.List.{list_any, range_with_len};
 ghost use Rattle.tt_tables.specs.TableOrder.{different};
 ghost use Rattle.tt_pack.specs.Counted.{note_value};
-ghost use Rattle.tt_pack.specs.Places.{leaf_place, token_places, part_places, IsWithin, AreRanked, HasOutOfTurn};
+ghost use Rattle.tt_pack.specs.Places.{leaf_place, token_places, places_from, part_places, IsWithin, AreRanked, HasOutOfTurn};
 
 use std::alloc::{AllocError, Global};
 use tt_codec::LeafEntry;
@@ -44,6 +44,18 @@ fn leaf_place(entry: &LeafEntry) -> u32
     }
 }
 
+// The places of a token's parts: of a header its open part and then its close part.
+#[inline(always)]
+fn token_places(token: &InternedToken) -> (u32, Option<u32>)
+    ensures { token_places token.now ≡ places_from result.0 result.1 }
+{
+    match token {
+        InternedToken::Leaf(entry) => (leaf_place(entry), None),
+        InternedToken::Open(_, opening) => (opening.part, None),
+        InternedToken::Header(entry) => (entry.opening.part, Some(entry.closing.part)),
+    }
+}
+
 // How many of the first places have been met, with the next use of a place; none where it is met out of turn.
 #[inline(always)]
 fn met_with(met: usize, place: u32) -> Option<usize>
@@ -66,13 +78,11 @@ fn met_with_token(met: usize, token: &InternedToken) -> Option<usize>
     ensures turn { IfSome result (λ more. fold (note_value nat_eq) (range_with_len 0 met) (token_places token.now) ≡ range_with_len 0 more) }
     ensures none { IfNone result (HasOutOfTurn (fold (note_value nat_eq) (range_with_len 0 met) (token_places token.now))) }
 {
-    match token {
-        InternedToken::Leaf(entry) => met_with(met, leaf_place(entry)),
-        InternedToken::Open(_, opening) => met_with(met, opening.part),
-        InternedToken::Header(entry) => {
-            let met = met_with(met, entry.opening.part)?;
-            met_with(met, entry.closing.part)
-        }
+    let (first, second) = token_places(token);
+    let met = met_with(met, first)?;
+    match second {
+        Some(place) => met_with(met, place),
+        None => Some(met),
     }
 }
 
@@ -141,13 +151,11 @@ impl FirstUses {
         ensures ranked { OnOk result (AreRanked self.new.order.items self.new.ranks.items) }
         ensures places { length self.new.ranks.items ≡ length self.old.ranks.items }
     {
-        match token {
-            InternedToken::Leaf(entry) => self.meet(leaf_place(entry)),
-            InternedToken::Open(_, opening) => self.meet(opening.part),
-            InternedToken::Header(entry) => {
-                self.meet(entry.opening.part)?;
-                self.meet(entry.closing.part)
-            }
+        let (first, second) = token_places(token);
+        self.meet(first)?;
+        match second {
+            Some(place) => self.meet(place),
+            None => Ok(()),
         }
     }
 

@@ -2,19 +2,22 @@
 ghost use Rattle.std.specs.Prelude.{◌≡◌, ℕ, ◌+◌, ◌<◌, ◌≤◌, All, length, map, nat_eq, IfOk, IfErr};
 ghost use Rattle.std.specs.List.{AllZip};
 ghost use Rattle.tt_base.specs.Forest.{IsWhole};
-ghost use Rattle.tt_interned.specs.ListOf.{list_of};
+ghost use Rattle.tt_interned.specs.ListOf.{list_of, tokens_of, parts_of};
 ghost use Rattle.tt_tables.specs.Stored.{most_parts, most_symbols};
 ghost use Rattle.tt_tables.specs.TableOrder.{different};
-ghost use Rattle.tt_tables.specs.Tables.{part_table, symbol_table};
+ghost use Rattle.tt_tables.specs.Tables.{part_table};
 ghost use Rattle.tt_tables.specs.Uses.{same_part, part_uses};
 ghost use Rattle.tt_pack.specs.Counted.{new_index, LeadsTo};
 ghost use Rattle.tt_pack.specs.Leading.{LeadsByPlace};
-ghost use Rattle.tt_pack.specs.Packed.{HasFewParts, HasFewSymbols, IsTableFault};
+ghost use Rattle.tt_pack.specs.Packed.{IsTableFault};
 ghost use Rattle.tt_pack.specs.Places.{part_places, IsAt};
 
 use crate::first_uses::{FirstUses, count_used, stand_by_first_use};
+use crate::numbered::Numbered;
+use crate::room::MOST_HEADER_BYTES;
 use crate::table::{MOST_PARTS_BELOW, SHORT_PARTS, SHORT_SYMBOLS, TOP_PARTS, Table};
 use crate::tables::new_index_at;
+use crate::writer::Writer;
 use std::alloc::{AllocError, Global};
 use tt_base::{SpanPart, Symbol, TtFault};
 use tt_codec::{Entry, HeaderEntry, LeafEntry, MOST_SYMBOLS, SpanNumbers};
@@ -22,7 +25,8 @@ use tt_interned::{CountedTokens, InternedToken};
 
 /// The tables of tokens in numbers, and where in them each value went that is named by its place.
 #[derive(Drop)]
-pub(crate) struct InternedTables {
+pub(crate) struct InternedTables<'a> {
+    below: CountedTokens<'a>,
     pub(crate) parts: Vec<SpanPart>,
     /// By place: the index of the part. Of a part that is not used it says nothing. There are none where each has stayed.
     part_indices: Vec<u32>,
@@ -55,17 +59,17 @@ fn part_table(
     below: CountedTokens<'_>,
     order: &[u32],
 ) -> Result<Table<SpanPart>, AllocError>
-    requires order { order.now ≡ different nat_eq (part_places below.tokens.now) }
+    requires order { order.now ≡ different nat_eq (part_places (tokens_of below)) }
     requires few { length order.now ≤ most_parts }
     ensures values { IfOk result (λ table. table.values.items ≡ part_table (list_of below.entry)) }
     ensures new_indices { IfOk result (λ table. (index : ℕ) → index < length order.now → LeadsTo (different same_part (part_uses (list_of below.entry))) table.values.items table.new_indices.items index) }
 {
     if order.len() <= SHORT_PARTS {
-        let parts = values_at(alloc, below.parts, order, TOP_PARTS)?;
+        let parts = values_at(alloc, below.parts(), order, TOP_PARTS)?;
         return Ok(Table::by_first_use(alloc, parts));
     }
-    let parts = values_at(alloc, below.parts, order, 0)?;
-    let uses = values_at(alloc, below.part_uses, order, 0)?;
+    let parts = values_at(alloc, below.parts(), order, 0)?;
+    let uses = values_at(alloc, below.part_uses(), order, 0)?;
     Table::of_counts(alloc, &parts, &uses, SHORT_PARTS, TOP_PARTS)
 }
 
@@ -87,15 +91,24 @@ fn parts_by_place(
     below: CountedTokens<'_>,
     used: usize,
 ) -> Result<Table<SpanPart>, AllocError>
-    requires used { used ≡ length (different nat_eq (part_places below.tokens.now)) }
+    requires used { used ≡ length (different nat_eq (part_places (tokens_of below))) }
     requires few { used + 2 ≤ most_parts }
     ensures values { IfOk result (λ table. table.values.items ≡ part_table (list_of below.entry)) }
-    ensures new_indices { IfOk result (λ table. LeadsByPlace below.entry.parts.now table.values.items table.new_indices.items) }
+    ensures new_indices { IfOk result (λ table. LeadsByPlace (parts_of below.entry) table.values.items table.new_indices.items) }
 {
-    if used <= SHORT_PARTS && used == below.parts.len() && stand_by_first_use(below.tokens, used) {
-        return Table::of_counts(alloc, below.parts, below.part_uses, SHORT_PARTS, TOP_PARTS);
+    if used <= SHORT_PARTS
+        && used == below.parts().len()
+        && stand_by_first_use(below.tokens(), used)
+    {
+        return Table::of_counts(
+            alloc,
+            below.parts(),
+            below.part_uses(),
+            SHORT_PARTS,
+            TOP_PARTS,
+        );
     }
-    let uses = FirstUses::of_tokens(alloc, below.tokens, below.parts.len(), used)?;
+    let uses = FirstUses::of_tokens(alloc, below.tokens(), below.parts().len(), used)?;
     let table = part_table(alloc, below, &uses.order)?;
     Ok(Table {
         new_indices: renumbered(uses.ranks, &table.new_indices),
@@ -103,31 +116,37 @@ fn parts_by_place(
     })
 }
 
-impl InternedTables {
-    ghost use Rattle.tt_pack.specs.InternedTables.{LeadsFrom, IsClosed, IsRenumbered, new_span, new_leaf, new_header};
+impl<'a> InternedTables<'a> {
+    ghost use Rattle.tt_pack.specs.InternedTables.{list_in, tables_in, LeadsFrom, new_span, new_leaf, new_header};
+    ghost use Rattle.tt_pack.specs.TablesOf.{AreNumbers};
 
     /// The tables of the tokens, where their indices can be written and the parts leave room for the top's two
     /// (docs/FORMATS.md).
     pub(crate) fn of_tokens(
         alloc: Global,
-        below: CountedTokens<'_>,
-    ) -> Result<InternedTables, TtFault>
+        below: CountedTokens<'a>,
+    ) -> Result<InternedTables<'a>, TtFault>
         requires { IsWhole (list_of below) }
-        ensures parts { IfOk result (λ tables. (tables.parts.items ≡ part_table (list_of below.entry)) × HasFewParts (list_of below.entry)) }
-        ensures symbols { IfOk result (λ tables. (tables.symbols.values.items ≡ symbol_table (list_of below.entry)) × HasFewSymbols (list_of below.entry)) }
-        ensures leads { IfOk result (LeadsFrom below.entry) }
+        ensures ok { IfOk result (AreNumbers list_in tables_in LeadsFrom (list_of below.entry)) }
         ensures err { IfErr result (IsTableFault (list_of below.entry)) }
     {
-        let used = count_used(below.part_uses);
+        let used = count_used(below.part_uses());
         if used > MOST_PARTS_BELOW {
             return Err(TtFault::TooManySpanParts);
         }
-        if below.symbols.len() > MOST_SYMBOLS {
+        if below.symbols().len() > MOST_SYMBOLS {
             return Err(TtFault::TooManySymbols);
         }
         let parts = parts_by_place(alloc, below, used)?;
-        let symbols = Table::of_counts(alloc, below.symbols, below.symbol_uses, SHORT_SYMBOLS, 0)?;
+        let symbols = Table::of_counts(
+            alloc,
+            below.symbols(),
+            below.symbol_uses(),
+            SHORT_SYMBOLS,
+            0,
+        )?;
         Ok(InternedTables {
+            below,
             part_indices: parts.new_indices,
             parts: parts.values,
             symbols,
@@ -179,18 +198,37 @@ impl InternedTables {
             child_bytes,
         }
     }
+}
 
-    /// A token with the new indices, where what it holds takes so many bytes. In the place of the call, so that its kind is
-    /// asked once until its bytes are written.
+impl Numbered for InternedTables<'_> {
+    ghost use Rattle.tt_pack.specs.InternedTables.{list_in, tables_in, LeadsFrom};
+
+    ghost list = { list_in };
+
+    ghost tables = { tables_in };
+
+    ghost leads = { LeadsFrom };
+
+    // As much as so many headers take, so that no pass counts it.
+    fn room(&self) -> usize {
+        self.below.len().saturating_mul(MOST_HEADER_BYTES)
+    }
+
+    // In the place of the call, and the kind is asked once, until the bytes are written.
     #[inline(always)]
-    pub(crate) fn entry(&self, token: &InternedToken, child_bytes: u32) -> Entry
-        requires { IsClosed token.now }
-        ensures { IsRenumbered self.now.part_indices.items self.now.symbols.new_indices.items token.now child_bytes result }
-    {
-        match token {
+    fn entry(&self, index: usize, written: &Writer) -> Entry {
+        match &self.below.tokens()[index] {
             InternedToken::Leaf(entry) => Entry::Leaf(self.leaf(*entry)),
-            InternedToken::Open(_, _) => unreachable!(),
-            InternedToken::Header(entry) => Entry::Header(self.header(*entry, child_bytes)),
+            InternedToken::Open(..) => unreachable!(),
+            InternedToken::Header(entry) => {
+                let child_bytes = written.held_bytes(entry.len as usize);
+                Entry::Header(self.header(*entry, child_bytes))
+            }
         }
+    }
+
+    fn into_tables(self) -> (Vec<SpanPart>, Vec<Symbol>) {
+        let InternedTables { parts, symbols, .. } = self;
+        (parts, symbols.values)
     }
 }

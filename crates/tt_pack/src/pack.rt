@@ -1,28 +1,24 @@
 //! From a list to what is stored for it.
-ghost use Rattle.std.specs.Prelude.{◌≡◌, ◌+◌, ◌<◌, ◌≤◌, ◌^◌, ◌++◌, ◌∷◌, [], true, length, IfOk, IfErr};
+ghost use Rattle.std.specs.Prelude.{◌≡◌, ◌+◌, ◌≤◌, ◌++◌, ◌∷◌, [], true, length, IfOk, IfErr};
 ghost use Rattle.tt_back_buf.specs.Bytes.{bytes_of, room_of};
 ghost use Rattle.tt_base.specs.declared.fault.TtFault.TheVariants.{Memory};
 ghost use Rattle.tt_base.specs.declared.token_tree.TokenTree.TheVariants as token;
 ghost use Rattle.tt_base.specs.Fits.{TokenInRange};
-ghost use Rattle.tt_base.specs.Forest.{IsWhole};
 ghost use Rattle.tt_base.specs.Span.{part_of};
 ghost use Rattle.tt_codec.specs.Header.{format_4, top_entry};
-ghost use Rattle.tt_interned.specs.ListOf.{list_of};
 ghost use Rattle.tt_tables.specs.Meaning.{IsStored};
 ghost use Rattle.tt_tables.specs.Stored.{most_parts, most_bytes};
 ghost use Rattle.tt_pack.specs.Packed.{stored_of, root_of, IsStoreFault};
+ghost use Rattle.tt_pack.specs.TablesOf.{AreTablesOf};
 
-use crate::counted::FirstRoom;
-use crate::interned::InternedTables;
-use crate::tables::ListTables;
+use crate::numbered::Numbered;
 use crate::writer::Writer;
 use std::alloc::Global;
-use tt_base::{SpanPart, Subtree, Symbol, TokenTree, TtFault};
+use tt_base::{SpanPart, Subtree, Symbol, TtFault};
 use tt_codec::HeaderEntry;
-use tt_interned::CountedTokens;
 
-/// The bytes of a header and of all that is written below it, and the parts below with the header's two behind them.
-pub(crate) fn with_top(
+// The bytes of a header and of all that is written below it, and the parts below with the header's two behind them.
+fn with_top(
     top: Subtree,
     writer: Writer,
     parts: Vec<SpanPart>,
@@ -43,48 +39,21 @@ pub(crate) fn with_top(
     Ok((bytes, parts))
 }
 
-/// The bytes, the parts and the symbols that are stored for a header and the tokens below it. Where their uses are counted, there
-/// is this room at first.
-pub(crate) fn write_tree(
+/// The bytes, the parts and the symbols that are stored for a header and the tokens below it.
+pub(crate) fn write_tree<N: Numbered + Drop>(
     alloc: Global,
     top: Subtree,
-    below: &[TokenTree],
-    room: FirstRoom,
+    numbers: N,
 ) -> Result<(Vec<u8>, Vec<SpanPart>, Vec<Symbol>), TtFault>
-    requires { top.len ≡ length below.now }
-    ensures whole { IfOk result (λ found. IsWhole below.now) }
-    ensures ok { IfOk result (λ found. IsStored (stored_of found.0.items found.1.items found.2.items (length below.now + 1)) (root_of top below.now)) }
-    ensures err { IfErr result (IsStoreFault below.now) }
+    requires counted { top.len ≡ length (N.list numbers) }
+    requires tables { AreTablesOf (N.list numbers) (N.tables numbers) }
+    requires leads { N.leads numbers }
+    ensures ok { IfOk result (λ found. IsStored (stored_of found.0.items found.1.items found.2.items (top.len + 1)) (root_of top (N.list numbers))) }
+    ensures err { IfErr result (IsStoreFault (N.list numbers)) }
 {
-    let tables = ListTables::of_tokens(alloc, below, room)?;
-    let writer = Writer::write_all(alloc, &tables, below)?;
+    let writer = Writer::write_all(alloc, &numbers, top.len as usize)?;
     // What stands for each token is let go before the bytes are copied, so that the two never take memory at once.
-    let ListTables {
-        parts,
-        symbols,
-        uses,
-        ..
-    } = tables;
-    drop(uses);
-    let (bytes, parts) = with_top(top, writer, parts.values)?;
-    Ok((bytes, parts, symbols.values))
-}
-
-/// The same where the tokens below name values by places.
-pub(crate) fn write_interned_tree(
-    alloc: Global,
-    top: Subtree,
-    below: CountedTokens<'_>,
-) -> Result<(Vec<u8>, Vec<SpanPart>, Vec<Symbol>), TtFault>
-    requires whole { IsWhole (list_of below) }
-    requires few { length (list_of below) < 2 ^ 32 }
-    requires counted { top.len ≡ length (list_of below) }
-    ensures ok { IfOk result (λ found. IsStored (stored_of found.0.items found.1.items found.2.items (length (list_of below.entry) + 1)) (root_of top (list_of below.entry))) }
-    ensures err { IfErr result (IsStoreFault (list_of below.entry)) }
-{
-    let tables = InternedTables::of_tokens(alloc, below)?;
-    let writer = Writer::write_interned(alloc, &tables, below)?;
-    let InternedTables { parts, symbols, .. } = tables;
+    let (parts, symbols) = numbers.into_tables();
     let (bytes, parts) = with_top(top, writer, parts)?;
-    Ok((bytes, parts, symbols.values))
+    Ok((bytes, parts, symbols))
 }

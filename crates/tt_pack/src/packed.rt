@@ -1,6 +1,7 @@
 //! A tree as it is stored, and the calls that make it and show it.
-ghost use Rattle.std.specs.Prelude.{◌≡◌, ◌≤◌, ◌+◌, ◌*◌, ◌-◌, suc, length, drop, take, IfOk, IfErr, IsTrue, ◌↔◌, bytes_eq};
+ghost use Rattle.std.specs.Prelude.{◌≡◌, ◌≤◌, ◌+◌, ◌*◌, ◌-◌, ◌∷◌, suc, length, drop, take, IfOk, IfErr, IsTrue, ◌↔◌, bytes_eq};
 ghost use Rattle.tt_base.specs.declared.fault.TtFault.TheVariants.{Memory};
+ghost use Rattle.tt_base.specs.declared.token_tree.TokenTree.TheVariants as token;
 ghost use Rattle.tt_tables.specs.Cost.{IsCheapest};
 ghost use Rattle.tt_base.specs.Forest.{size, flat, flat_root};
 ghost use Rattle.tt_tables.specs.Stored.{most_tokens, packed, IsInRange, IsWithinLimits};
@@ -14,22 +15,24 @@ ghost use Rattle.tt_tables.specs.TableOrder.{IsTable};
 ghost use Rattle.tt_tables.specs.Tables.{tables_for, short_parts, short_symbols};
 ghost use Rattle.tt_tables.specs.Uses.{same_part, part_uses, symbol_uses};
 ghost use Rattle.tt_pack.specs.Packed.{fed_tree, stored_of};
+ghost use Rattle.tt_pack.specs.TablesOf.{AreTablesOf};
 ghost use Rattle.std.proofs.Common.{rules, ap};
 ghost use Rattle.std.specs.Cmp.Rules.{comparing};
 ghost use Rattle.tt_base.specs.Equality.{same_token-equivalence, same_root};
 
 mod ids;
 mod interned;
-mod interned_node;
 mod top;
 
 use crate::counted::FirstRoom;
+use crate::numbered::Numbered;
 use crate::pack::write_tree;
+use crate::tables::ListTables;
 use indexmap::IndexMap;
 use std::alloc::Global;
 use std::hash::{Hash, Hasher};
 use std::marker::Model;
-use tt_base::{Refused, SpanPart, Symbol, TokenTree, TtFault};
+use tt_base::{Refused, SpanPart, Subtree, Symbol, TokenTree, TtFault};
 use tt_tables::Tables;
 
 /// A token tree as bytes and two tables. A contract sees the tree; its bytes and tables are a function of it
@@ -140,12 +143,28 @@ impl Packed {
         if top.len as usize != below.len() {
             return Err(TtFault::NotOneSubtree);
         }
-        let (bytes, parts, symbols) = write_tree(alloc, *top, below, room)?;
+        let tables = ListTables::of_tokens(alloc, below, room)?;
+        Packed::of_numbered(alloc, *top, tables)
+    }
+
+    // The tree of a header and the tokens below it.
+    fn of_numbered<N: Numbered + Drop>(
+        alloc: Global,
+        top: Subtree,
+        numbers: N,
+    ) -> Result<Packed, TtFault>
+        requires counted { top.len ≡ length (N.list numbers) }
+        requires tables { AreTablesOf (N.list numbers) (N.tables numbers) }
+        requires leads { N.leads numbers }
+        ensures ok { IfOk result (λ stored. (token.Subtree top ∷ N.list numbers ≡ flat_root stored) × (size stored.children ≤ most_tokens) × IsWithinLimits stored) }
+        ensures err { IfErr result (IsPackFault (token.Subtree top ∷ N.list numbers)) }
+    {
+        let (bytes, parts, symbols) = write_tree(alloc, top, numbers)?;
         Ok(Packed {
             bytes,
             parts,
             symbols,
-            len: below.len() + 1,
+            len: top.len as usize + 1,
         })
     }
 

@@ -7,15 +7,18 @@ ghost use Rattle.tt_pack.specs.Packed.{IsTableFault};
 
 use crate::counted::{CountedValues, FirstRoom};
 use crate::few::{FEW_TOKENS, FewValues};
+use crate::numbered::Numbered;
 use crate::table::Table;
 use crate::uses::{ListUses, TokenUses};
+use crate::writer::Writer;
 use std::alloc::Global;
 use tt_base::{Leaf, SpanPart, Subtree, Symbol, TokenTree, TtFault};
 use tt_codec::{Entry, HeaderEntry, LeafEntry, SpanNumbers};
 
 /// The tables of a list of tokens, what each token uses, and how many bytes all can take.
 #[derive(Drop)]
-pub(crate) struct ListTables {
+pub(crate) struct ListTables<'a> {
+    tokens: &'a [TokenTree],
     pub(crate) parts: Table<SpanPart>,
     pub(crate) symbols: Table<Symbol>,
     pub(crate) uses: Vec<TokenUses>,
@@ -35,19 +38,19 @@ pub(crate) fn new_index_at(new_indices: &[u32], index: u32) -> u32
     }
 }
 
-impl ListTables {
+impl<'a> ListTables<'a> {
     ghost use Rattle.tt_base.specs.declared.token_tree.TokenTree.TheVariants as token;
-    ghost use Rattle.tt_tables.specs.Searches.{IsNamedLeaf, IsNamedHeader, IsNamed};
-    ghost use Rattle.tt_pack.specs.TablesOf.{tables_of, HasUses, AreListTables};
+    ghost use Rattle.tt_tables.specs.Searches.{IsNamedLeaf, IsNamedHeader};
+    ghost use Rattle.tt_pack.specs.TablesOf.{tokens_in, tables_of, HasUses, LeadsList, AreNumbers};
 
     /// The tables of the tokens, where these are a whole list, their indices can be written and the parts leave room for
     /// the top's two (docs/FORMATS.md). Where their uses are counted, there is this room at first.
     pub(crate) fn of_tokens(
         alloc: Global,
-        below: &[TokenTree],
+        below: &'a [TokenTree],
         room: FirstRoom,
-    ) -> Result<ListTables, TtFault>
-        ensures ok { IfOk result (AreListTables below.now) }
+    ) -> Result<ListTables<'a>, TtFault>
+        ensures ok { IfOk result (AreNumbers tokens_in tables_of LeadsList below.now) }
         ensures err { IfErr result (IsTableFault below.now) }
     {
         if below.len() <= FEW_TOKENS {
@@ -60,8 +63,8 @@ impl ListTables {
 
     // The same, where there are few parts and symbols. All stand by first use then, so nothing is counted. There are none where
     // there are more.
-    fn of_few(alloc: Global, below: &[TokenTree]) -> Result<Option<ListTables>, TtFault>
-        ensures ok { IfOk result (λ found. IfSome found (AreListTables below.now)) }
+    fn of_few(alloc: Global, below: &'a [TokenTree]) -> Result<Option<ListTables<'a>>, TtFault>
+        ensures ok { IfOk result (λ found. IfSome found (AreNumbers tokens_in tables_of LeadsList below.now)) }
         ensures err { IfErr result (IsTableFault below.now) }
     {
         let mut values = FewValues::new(alloc, below.len())?;
@@ -69,6 +72,7 @@ impl ListTables {
             return Ok(None);
         };
         Ok(Some(ListTables {
+            tokens: below,
             parts: Table::by_first_use(alloc, values.parts),
             symbols: Table::by_first_use(alloc, values.symbols),
             uses: uses.tokens,
@@ -79,10 +83,10 @@ impl ListTables {
     // The same, where the numbers of uses are counted.
     fn of_counted(
         alloc: Global,
-        below: &[TokenTree],
+        below: &'a [TokenTree],
         room: FirstRoom,
-    ) -> Result<ListTables, TtFault>
-        ensures ok { IfOk result (AreListTables below.now) }
+    ) -> Result<ListTables<'a>, TtFault>
+        ensures ok { IfOk result (AreNumbers tokens_in tables_of LeadsList below.now) }
         ensures err { IfErr result (IsTableFault below.now) }
     {
         let mut values = CountedValues::new(alloc, room)?;
@@ -91,6 +95,7 @@ impl ListTables {
         };
         let (parts, symbols) = values.tables(alloc)?;
         Ok(ListTables {
+            tokens: below,
             parts,
             symbols,
             uses: uses.tokens,
@@ -142,22 +147,36 @@ impl ListTables {
             child_bytes,
         }
     }
+}
 
-    /// A token in numbers, which has these uses. What it holds takes so many bytes; a leaf holds nothing. In the place of the
-    /// call, so that its kind is asked once until its bytes are written.
+impl Numbered for ListTables<'_> {
+    ghost use Rattle.tt_pack.specs.TablesOf.{tokens_in, tables_of, LeadsList};
+
+    ghost list = { tokens_in };
+
+    ghost tables = { tables_of };
+
+    ghost leads = { LeadsList };
+
+    fn room(&self) -> usize {
+        self.room
+    }
+
+    // In the place of the call, and the kind is asked once, until the bytes are written.
     #[inline(always)]
-    pub(crate) fn entry(&self, token: &TokenTree, uses: TokenUses, child_bytes: u32) -> Entry
-        requires known { Knows (tables_of self.now) token.now }
-        requires uses { HasUses self.now token.now uses }
-        ensures { IsNamed (tables_of self.now) token.now child_bytes result }
-    {
-        match token {
+    fn entry(&self, index: usize, written: &Writer) -> Entry {
+        let uses = self.uses[index];
+        match &self.tokens[index] {
             TokenTree::Leaf(leaf) => Entry::Leaf(self.leaf_entry(leaf, uses)),
-            TokenTree::Subtree(subtree) => Entry::Header(self.header_entry(
-                *subtree,
-                uses,
-                child_bytes,
-            )),
+            TokenTree::Subtree(header) => {
+                let child_bytes = written.held_bytes(header.usize_len());
+                Entry::Header(self.header_entry(*header, uses, child_bytes))
+            }
         }
+    }
+
+    fn into_tables(self) -> (Vec<SpanPart>, Vec<Symbol>) {
+        let ListTables { parts, symbols, .. } = self;
+        (parts.values, symbols.values)
     }
 }

@@ -8,15 +8,14 @@ ghost use Rattle.tt_codec.specs.Entry.{EntryFits, entry_bytes};
 ghost use Rattle.tt_codec.specs.Header.{HeaderFits, format_4};
 ghost use Rattle.tt_tables.specs.Stored.{most_bytes};
 ghost use Rattle.tt_tables.specs.Tables.{Tables, Knows};
-ghost use Rattle.tt_pack.specs.Room.{HasRoomForAll, most_list_bytes};
-ghost use Rattle.tt_pack.specs.TablesOf.{tables_of, UsesTables};
-ghost use Rattle.tt_pack.specs.Writing.{byte_count, CanHold, held_bytes, TokenCanHold, token_holds};
+ghost use Rattle.tt_pack.specs.Room.{most_list_bytes};
+ghost use Rattle.tt_pack.specs.Writing.{byte_count, CanHold, held_bytes};
 
+use crate::numbered::Numbered;
 use crate::room::MOST_HEADER_BYTES;
-use crate::tables::ListTables;
 use std::alloc::Global;
 use tt_back_buf::BackBuf;
-use tt_base::{TokenTree, TtFault};
+use tt_base::TtFault;
 use tt_codec::{Entry, HeaderEntry};
 
 // The most bytes below the top.
@@ -71,40 +70,20 @@ impl Writer {
         Ok(())
     }
 
-    // How many bytes the token holds that comes next.
-    #[inline(always)]
-    fn child_bytes(&self, token: &TokenTree) -> u32
-        requires { TokenCanHold self.now.sums.items token.now }
-        ensures { result ≡ token_holds self.now.sums.items token.now }
-    {
-        let TokenTree::Subtree(subtree) = token else {
-            return 0;
-        };
-        self.held_bytes(subtree.usize_len())
-    }
-
     // Writes the token before those that are written.
-    fn put_token(
-        &mut self,
-        tables: &ListTables,
-        tokens: &[TokenTree],
-        index: usize,
-    ) -> Result<(), TtFault>
-        requires index { index < length tokens.now }
-        requires whole { IsWhole (drop index tokens.now) }
-        requires known { AllByRecursion (Knows (tables_of tables.now)) (drop index tokens.now) }
-        requires uses { UsesTables tables.now tokens.now }
-        requires written { HasWritten (tables_of tables.now) (drop (index + 1) tokens.now) self.old }
-        requires room { most_list_bytes (take (index + 1) tokens.now) + 33 ≤ room_of self.old.bytes }
-        ensures ok { OnOk result (HasWritten (tables_of tables.now) (drop index tokens.now) self.new) }
-        ensures room { OnOk result (most_list_bytes (take index tokens.now) + 33 ≤ room_of self.new.bytes) }
-        ensures err { IfErr result (λ fault. (fault ≡ Memory) ⊎ ((fault ≡ TooManyBytes) × (most_bytes < byte_count (tables_of tables.now) (drop index tokens.now)))) }
+    fn put_next<N: Numbered>(&mut self, numbers: &N, index: usize) -> Result<(), TtFault>
+        requires index { index < length (N.list numbers.now) }
+        requires few { length (N.list numbers.now) < 2 ^ 32 }
+        requires whole { IsWhole (drop index (N.list numbers.now)) }
+        requires known { AllByRecursion (Knows (N.tables numbers.now)) (drop index (N.list numbers.now)) }
+        requires leads { N.leads numbers.now }
+        requires written { HasWritten (N.tables numbers.now) (drop (index + 1) (N.list numbers.now)) self.old }
+        requires room { most_list_bytes (take (index + 1) (N.list numbers.now)) + 33 ≤ room_of self.old.bytes }
+        ensures ok { OnOk result (HasWritten (N.tables numbers.now) (drop index (N.list numbers.now)) self.new) }
+        ensures room { OnOk result (most_list_bytes (take index (N.list numbers.now)) + 33 ≤ room_of self.new.bytes) }
+        ensures err { IfErr result (λ fault. (fault ≡ Memory) ⊎ ((fault ≡ TooManyBytes) × (most_bytes < byte_count (N.tables numbers.now) (drop index (N.list numbers.now))))) }
     {
-        // The uses are read first, so that nothing stands between the two questions for the token's kind, which become one.
-        let uses = tables.uses[index];
-        let token = &tokens[index];
-        let child_bytes = self.child_bytes(token);
-        let entry = tables.entry(token, uses, child_bytes);
+        let entry = numbers.entry(index, self);
         self.put(entry)
     }
 
@@ -126,27 +105,28 @@ impl Writer {
         self.bytes.len()
     }
 
-    /// Writes all tokens, whose tables these are, from the last to the first. As the passes before it this is a call, so that
-    /// each has the registers for itself.
+    /// Writes all tokens, of which there are so many, from the last to the first. As the passes before it this is a call, so
+    /// that each has the registers for itself.
     #[inline(never)]
-    pub(crate) fn write_all(
+    pub(crate) fn write_all<N: Numbered>(
         alloc: Global,
-        tables: &ListTables,
-        tokens: &[TokenTree],
+        numbers: &N,
+        len: usize,
     ) -> Result<Writer, TtFault>
-        requires whole { IsWhole tokens.now }
-        requires known { AllByRecursion (Knows (tables_of tables.now)) tokens.now }
-        requires uses { UsesTables tables.now tokens.now }
-        requires room { HasRoomForAll tokens.now tables.now.room }
-        ensures ok { IfOk result (HasWritten (tables_of tables.now) tokens.now) }
+        requires len { len ≡ length (N.list numbers.now) }
+        requires few { len < 2 ^ 32 }
+        requires whole { IsWhole (N.list numbers.now) }
+        requires known { AllByRecursion (Knows (N.tables numbers.now)) (N.list numbers.now) }
+        requires leads { N.leads numbers.now }
+        ensures ok { IfOk result (HasWritten (N.tables numbers.now) (N.list numbers.now)) }
         ensures room { IfOk result (λ writer. 33 ≤ room_of writer.bytes) }
-        ensures err { IfErr result (λ fault. (fault ≡ Memory) ⊎ ((fault ≡ TooManyBytes) × (most_bytes < byte_count (tables_of tables.now) tokens.now))) }
+        ensures err { IfErr result (λ fault. (fault ≡ Memory) ⊎ ((fault ≡ TooManyBytes) × (most_bytes < byte_count (N.tables numbers.now) (N.list numbers.now)))) }
     {
-        let mut writer = Writer::new(alloc, tables.room, tokens.len())?;
-        let mut index = tokens.len();
+        let mut writer = Writer::new(alloc, numbers.room(), len)?;
+        let mut index = len;
         while index > 0 {
             index -= 1;
-            writer.put_token(tables, tokens, index)?;
+            writer.put_next(numbers, index)?;
         }
         Ok(writer)
     }

@@ -8,7 +8,8 @@ use Rattle.tt_base.specs.declared.token_tree.TokenTree.{TokenTree}
 use Rattle.tt_tables.specs.Counts.{number_in, CountsMore}
 use Rattle.tt_tables.specs.TableOrder.{uses_of}
 use Rattle.tt_tables.specs.Uses.{same_part, part_uses, symbol_uses}
-use Rattle.tt_interner.proofs.UseCounts.{uses-append, uses-le}
+use Rattle.tt_interner.proofs.UseCounts.{uses-le}
+use Rattle.tt_tables.proofs.Used.{uses-append}
 use Rattle.tt_pack.proofs.Counting.{few_parts, few_symbols}
 
 -- The uses of one token more are added.

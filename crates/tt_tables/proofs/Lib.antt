@@ -29,3 +29,4 @@ pub mod TableUnique
 pub mod TokenTables
 pub mod TopSet
 pub mod TreesAlike
+pub mod Used

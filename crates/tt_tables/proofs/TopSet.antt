@@ -10,7 +10,7 @@ use Rattle.tt_base.specs.Span.{part_of}
 use Rattle.tt_codec.specs.declared.entry.HeaderEntry.{HeaderEntry}
 use Rattle.tt_codec.specs.Header.{format_4, top_entry}
 use Rattle.tt_tables.specs.Meaning.{IsStored}
-use Rattle.tt_tables.specs.Stored.{Stored, bytes_below, root_bytes, root_parts, packed, IsInRange, IsWithinLimits}
+use Rattle.tt_tables.specs.Stored.{Stored, bytes_below, root_bytes, root_parts, packed}
 use Rattle.tt_tables.specs.Tables.{part_table, tables_for}
 use Rattle.tt_tables.proofs.Lengths.{heavy_length}
 use Rattle.tt_tables.proofs.StoredAlike.{top_of, length-root_parts}

@@ -17,7 +17,7 @@ ghost use Rattle.tt_tables.specs.Stored.{most_tokens, packed, IsInRange, IsWithi
 ghost use Rattle.tt_tables.specs.TableOrder.{IsTable};
 ghost use Rattle.tt_tables.specs.Tables.{tables_for, short_parts, short_symbols};
 ghost use Rattle.tt_tables.specs.Uses.{same_part, part_uses, symbol_uses};
-ghost use Rattle.tt_pack.specs.OneNode.{IsOneNode};
+ghost use Rattle.tt_interned.specs.OneNode.{IsOneNode};
 ghost use Rattle.tt_pack.specs.Packed.{fed_tree};
 ghost use Rattle.tt_view.specs.TreeFault.{under, IsTreeFault};
 

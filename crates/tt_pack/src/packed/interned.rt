@@ -2,11 +2,12 @@
 ghost use Rattle.std.specs.Prelude.{◌≡◌, ◌<◌, ◌≤◌, ◌^◌, ◌∷◌, length, IfOk, IfErr};
 ghost use Rattle.tt_base.specs.Forest.{IsWhole, header, size, flat_root};
 ghost use Rattle.tt_interned.specs.ListOf.{list_of};
+ghost use Rattle.tt_interned.specs.OneNode.{IsOneNode};
 ghost use Rattle.tt_tables.specs.PackFault.{IsPackFault};
 ghost use Rattle.tt_tables.specs.Stored.{most_tokens, IsWithinLimits};
 
 use super::Packed;
-use crate::pack::write_interned_tree;
+use crate::interned::InternedTables;
 use std::alloc::Global;
 use tt_base::{Delimiter, Subtree, TtFault};
 use tt_interned::CountedTokens;
@@ -24,17 +25,25 @@ impl Packed {
         ensures ok { IfOk result (λ stored. (header top (length (list_of below.entry)) ∷ list_of below.entry ≡ flat_root stored) × (size stored.children ≤ most_tokens) × IsWithinLimits stored) }
         ensures err { IfErr result (IsPackFault (header top (length (list_of below.entry)) ∷ list_of below.entry)) }
     {
-        let len = below.tokens.len();
         let header = Subtree {
             delimiter: top,
-            len: len as u32,
+            len: below.len() as u32,
         };
-        let (bytes, parts, symbols) = write_interned_tree(alloc, header, below)?;
-        Ok(Packed {
-            bytes,
-            parts,
-            symbols,
-            len: len + 1,
-        })
+        let tables = InternedTables::of_tokens(alloc, below)?;
+        Packed::of_numbered(alloc, header, tables)
+    }
+
+    /// The tree of tokens that name values by places, which are those of one node: its header becomes the top. It is
+    /// refused where `pack` refuses the flat list. Beside what `of_interned` does, the numbers of uses of parts are copied.
+    pub fn of_interned_node(alloc: Global, tokens: CountedTokens<'_>) -> Result<Packed, TtFault>
+        requires whole { IsWhole (list_of tokens) }
+        requires few { length (list_of tokens) ≤ 2 ^ 32 }
+        requires one { IsOneNode (list_of tokens) }
+        ensures ok { IfOk result (λ stored. (list_of tokens.entry ≡ flat_root stored) × (size stored.children ≤ most_tokens) × IsWithinLimits stored) }
+        ensures err { IfErr result (IsPackFault (list_of tokens.entry)) }
+    {
+        let top = tokens.delimiter();
+        let part_uses = tokens.part_uses_behind(alloc)?;
+        Packed::of_interned(alloc, top, tokens.behind(&part_uses))
     }
 }

@@ -26,4 +26,4 @@ returns-clause-ok c =
     let met : HasCounted c.of_tokens.new.values (part_uses below) (symbol_uses below) = rw c.in-Some.is at c.in_ok-uses.ensures.met in
     let uses : AreListUses below c.in-Some.uses = rw c.in-Some.is at c.in_ok-uses.ensures.uses in
     let are : AreTables below c.in_ok-parts.parts c.in_ok-parts.symbols = c.in_ok-parts.ensures.tables below met in
-    list_tables below _ _ are uses refl refl
+    list_tables below _ _ refl are uses refl refl

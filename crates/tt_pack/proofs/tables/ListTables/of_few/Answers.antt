@@ -22,4 +22,4 @@ returns-clause-ok c =
     let uses : AreListUses below c.in-Some.uses = rw c.in-Some.is at c.in_ok-uses.ensures.uses in
     let are : AreTables below c.by_first_use.result c.by_first_use-2.result =
     few_tables below _ _ _ met c.by_first_use.ensures.values c.by_first_use.ensures.new_indices c.by_first_use-2.ensures.values c.by_first_use-2.ensures.new_indices in
-    list_tables below _ _ are uses refl refl
+    list_tables below _ _ refl are uses refl refl

@@ -1,8 +1,7 @@
 -- The header of tokens that are those of one node, and what stands behind it.
-use Rattle.std.proofs.Common.{◌≡◌, ℕ, zero, suc, ◌+◌, ◌-◌, ◌≤◌, Bool, false, cond, Some, List, [], ◌∷◌, map, set, get_or, take, drop, length, bytes_eq, slice_get, refl, ap, ap₂, sym, subst, ◌∙◌, arith}
+use Rattle.std.proofs.Common.{◌≡◌, ℕ, zero, suc, ◌-◌, ◌≤◌, false, Some, List, [], ◌∷◌, map, set, get_or, take, drop, length, bytes_eq, slice_get, refl, ap, ap₂, sym, subst, ◌∙◌, arith}
 use Rattle.std.specs.List.{AllByRecursion, IsDistinct}
 use Rattle.std.proofs.lemmas.List.{take_all}
-use Rattle.std.proofs.lemmas.List.Sums.{sum_by-cons}
 use Rattle.std.proofs.lemmas.Option.{get_or_from_slice_get}
 use Rattle.tt_base.specs.contracts.span.SpanPartEq.TheImpl.Laws as part_eq
 use Rattle.tt_base.specs.declared.delimiter.Subtree.{Subtree}
@@ -11,10 +10,9 @@ use Rattle.tt_base.specs.declared.span.SpanPart.{SpanPart}
 use Rattle.tt_base.specs.declared.token_tree.TokenTree.{TokenTree}
 use Rattle.tt_base.specs.declared.token_tree.TokenTree.TheVariants as token
 use Rattle.tt_base.specs.Fits.{TokenInRange}
-use Rattle.tt_base.specs.Forest.{IsWhole, header}
+use Rattle.tt_base.specs.Forest.{header}
 use Rattle.tt_base.specs.Span.{part_of}
 use Rattle.tt_base.specs.Token.{delimiter}
-use Rattle.tt_base.proofs.WholeLists.{end_piece}
 use Rattle.tt_codec.specs.declared.entry.HeaderEntry.{HeaderEntry}
 use Rattle.tt_interned.specs.declared.token.InternedToken.{InternedToken}
 use Rattle.tt_interned.specs.declared.token.InternedToken.TheVariants as interned
@@ -23,21 +21,14 @@ use Rattle.tt_interned.specs.Held.{whole}
 use Rattle.tt_interned.specs.declared.counted.CountedTokens.{CountedTokens}
 use Rattle.tt_interned.specs.ListOf.{list_of}
 use Rattle.tt_interned.specs.Names.{AllName}
+use Rattle.tt_tables.proofs.Used.{one_if, uses-cons, all_at_place}
 use Rattle.tt_tables.specs.Searches.{FindsSubtree}
 use Rattle.tt_tables.specs.TableOrder.{different, uses_of}
 use Rattle.tt_tables.specs.Tables.{Tables, tables_from}
 use Rattle.tt_tables.specs.Uses.{same_part, part_uses, symbol_uses}
-use Rattle.tt_pack.specs.OneNode.{IsOneNode, BeginsWith, IsSpanAt, HasUseAt}
+use Rattle.tt_interned.specs.OneNode.{IsOneNode, BeginsWith, IsSpanAt, HasUseAt}
 
 -- ---- one use less
-
--- one where the test holds
-abbrev one_if : Bool → ℕ
-one_if t = cond t 1 0
-
--- One more use, and the others.
-uses-cons : (y : SpanPart) (ys : List SpanPart) (x : SpanPart) → uses_of same_part (y ∷ ys) x ≡ one_if (same_part x y) + uses_of same_part ys x
-uses-cons y ys x = sum_by-cons (λ z. one_if (same_part x z)) y ys
 
 -- A part that differs from the one that stands first has no more uses by it.
 apart_uses : (part : SpanPart) (others parts : List SpanPart) → AllByRecursion (λ x. same_part part x ≡ false) parts
@@ -46,7 +37,7 @@ apart_uses part others [] apart = refl
 apart_uses part others (x ∷ parts) apart = ap₂ ◌∷◌ first (apart_uses part others parts apart.1)
   where
     first : uses_of same_part (part ∷ others) x ≡ uses_of same_part others x
-    first = omega (arith, uses-cons part others x, ap one_if (part_eq.lawful.laws.symm x part ∙ apart.0))
+    first = omega (arith, uses-cons same_part part others x, ap one_if (part_eq.lawful.laws.symm x part ∙ apart.0))
 
 -- The number at the place falls by one.
 taken : (parts : List SpanPart) (place : ℕ) (part : SpanPart) (others : List SpanPart) (n m : ℕ) → IsDistinct same_part parts → slice_get parts place ≡ Some part
@@ -63,19 +54,11 @@ taken (x ∷ parts) zero part others n m distinct there read less = ap₂ ◌∷
     number = cc read
 
     first : m ≡ uses_of same_part others x
-    first = omega (arith, less, number, uses-cons part others x, ap one_if (ap (λ z. same_part z part) is ∙ part_eq.lawful.laws.refl part))
+    first = omega (arith, less, number, uses-cons same_part part others x, ap one_if (ap (λ z. same_part z part) is ∙ part_eq.lawful.laws.refl part))
 taken (x ∷ parts) (suc place) part others n m distinct there read less = ap₂ ◌∷◌ first (taken parts place part others n m distinct.1 there read less)
   where
-    apart : (rest : List SpanPart) (j : ℕ) → AllByRecursion (λ z. same_part x z ≡ false) rest → slice_get rest j ≡ Some part → same_part x part ≡ false
-    apart [] j all here = absurd (cc here)
-    apart (y ∷ rest) zero all here = subst (λ z. same_part x z ≡ false) (is here) all.0
-      where
-        is : Some y ≡ Some part → y ≡ part
-        is e = cc e
-    apart (y ∷ rest) (suc j) all here = apart rest j all.1 here
-
     first : uses_of same_part (part ∷ others) x ≡ uses_of same_part others x
-    first = omega (arith, uses-cons part others x, ap one_if (apart parts place distinct.0 there))
+    first = omega (arith, uses-cons same_part part others x, ap one_if (all_at_place (λ z. same_part x z ≡ false) parts place part distinct.0 there))
 
 -- There is a number at the place, and it is above 0.
 use_there : (parts : List SpanPart) (place : ℕ) (part : SpanPart) (others : List SpanPart) → slice_get parts place ≡ Some part
@@ -87,7 +70,7 @@ use_there (x ∷ parts) zero part others there = (uses_of same_part others x, ap
     is = cc there
 
     number : uses_of same_part (part ∷ others) x ≡ suc (uses_of same_part others x)
-    number = omega (arith, uses-cons part others x, ap one_if (ap (λ z. same_part z part) is ∙ part_eq.lawful.laws.refl part))
+    number = omega (arith, uses-cons same_part part others x, ap one_if (ap (λ z. same_part z part) is ∙ part_eq.lawful.laws.refl part))
 use_there (x ∷ parts) (suc place) part others there = use_there parts place part others there
 
 -- So is the number of the uses that are noted.
@@ -157,10 +140,6 @@ module _ (it : CountedTokens) (one : IsOneNode (list_of it)) where
 
   list_is : list_of it ≡ token.Subtree one.top ∷ drop 1 (list_of it)
   list_is = one.list ∙ ap (λ l. token.Subtree one.top ∷ l) rest_is
-
-  -- What is behind the header is whole.
-  pub rest_whole : IsWhole (list_of it) → IsWhole (drop 1 (list_of it))
-  rest_whole all = end_piece 1 (list_of it) all
 
   -- The tokens behind the header mean what is behind it.
   pub rest_of : (below : List InternedToken) (numbers : List ℕ) → below ≡ drop 1 it.tokens.now

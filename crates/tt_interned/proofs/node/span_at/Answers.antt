@@ -2,7 +2,7 @@ use Rattle.std.proofs.Common.{◌∙◌, rules}
 use Rattle.std.proofs.lemmas.Option.{slice_get-get_or, slice_get_within}
 use Rattle.tt_tables.specs.Tables.{tables_from}
 use Rattle.tt_tables.proofs.Found.{span_made}
-use Rattle.tt_pack.proofs.packed.interned_node.span_at.Goals as goal
+use Rattle.tt_interned.proofs.node.span_at.Goals as goal
 
 pub returns : goal.returns
 returns c = λ span is.

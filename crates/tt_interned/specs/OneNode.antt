@@ -1,5 +1,5 @@
 -- Tokens that are those of one node, and what its header names.
-use Rattle.std.specs.Prelude.{◌≡◌, ℕ, List, ◌∷◌, Some, map, length, slice_get}
+use Rattle.std.specs.Prelude.{◌≡◌, ℕ, List, ◌∷◌, Some, map, drop, length, slice_get}
 use Rattle.std.specs.List.{IsDistinct}
 use Rattle.tt_base.specs.declared.delimiter.Subtree.{Subtree}
 use Rattle.tt_base.specs.declared.span.Span.{Span}
@@ -9,12 +9,14 @@ use Rattle.tt_base.specs.declared.token_tree.TokenTree.TheVariants as token
 use Rattle.tt_base.specs.Fits.{SpanInRange}
 use Rattle.tt_codec.specs.declared.entry.HeaderEntry.{HeaderEntry}
 use Rattle.tt_codec.specs.declared.span.SpanNumbers.{SpanNumbers}
+use Rattle.tt_interned.specs.declared.counted.CountedTokens.{CountedTokens}
 use Rattle.tt_interned.specs.declared.token.InternedToken.{InternedToken}
 use Rattle.tt_interned.specs.declared.token.InternedToken.TheVariants as interned
+use Rattle.tt_interned.specs.ListOf.{list_of, parts_of}
 use Rattle.tt_tables.specs.Searches.{FindsSpan}
 use Rattle.tt_tables.specs.TableOrder.{uses_of}
 use Rattle.tt_tables.specs.Tables.{tables_from}
-use Rattle.tt_tables.specs.Uses.{same_part}
+use Rattle.tt_tables.specs.Uses.{same_part, part_uses}
 
 -- a header, and behind it as many tokens as it counts
 pub record IsOneNode (tokens : List TokenTree) : Type 0 where
@@ -37,3 +39,7 @@ pub record HasUseAt (parts : List SpanPart) (place : ℕ) (others : List SpanPar
   pub there : slice_get parts place ≡ Some part
   pub distinct : IsDistinct same_part parts
   pub counted : numbers ≡ map (uses_of same_part (part ∷ others)) parts
+
+-- each part is used so often behind the first token
+abbrev pub AreUsedBehind : CountedTokens → List ℕ → Type 0
+AreUsedBehind it numbers = numbers ≡ map (uses_of same_part (part_uses (drop 1 (list_of it)))) (parts_of it)

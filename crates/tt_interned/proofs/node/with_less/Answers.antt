@@ -1,7 +1,7 @@
 use Rattle.std.proofs.Common.{suc, ◌<◌, length, rules}
 use Rattle.std.proofs.lemmas.Option.{slice_get_within}
-use Rattle.tt_pack.proofs.OneNode.{has_use, use_read, use_taken}
-use Rattle.tt_pack.proofs.packed.interned_node.with_less.Goals as goal
+use Rattle.tt_interned.proofs.OneNode.{has_use, use_read, use_taken}
+use Rattle.tt_interned.proofs.node.with_less.Goals as goal
 
 pub index_mut-requires : goal.index_mut-requires
 index_mut-requires c =
