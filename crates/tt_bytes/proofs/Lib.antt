@@ -1,6 +1,7 @@
 pub mod Again
 pub mod Alike
 pub mod Apart
+pub mod Behind
 pub mod Decoding
 pub mod Faults
 pub mod Flat

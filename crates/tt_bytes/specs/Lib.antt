@@ -1,3 +1,4 @@
+pub mod Behind
 pub mod Decoding
 pub mod Faults
 pub mod Format

@@ -5,7 +5,7 @@ ghost use Rattle.tt_bytes.specs.declared.fault.BytesFault.TheVariants.{Memory, N
 ghost use Rattle.tt_bytes.specs.Faults.{IsFaultOf};
 ghost use Rattle.tt_bytes.specs.Format.{AreBytesOf, AreBytesOfNone};
 
-use crate::compare::common_length;
+use crate::compare::{are_bytes_of, common_length};
 use crate::decode::tokens_of;
 use crate::fault::BytesFault;
 use crate::piece::Piece;
@@ -40,13 +40,13 @@ pub fn from_bytes(alloc: Global, bytes: &[u8]) -> Result<TopSubtree, BytesFault>
         Ok(tree) => tree,
         Err(refused) => return Err(fault_of(refused.fault, end)),
     };
-    let again = match to_bytes(alloc, &tree) {
-        Ok(again) => again,
+    if are_bytes_of(&tree, bytes) {
+        return Ok(tree);
+    }
+    let written = match to_bytes(alloc, &tree) {
+        Ok(written) => written,
         Err(fault) => return Err(fault_of(fault, end)),
     };
-    if again.as_slice() != bytes {
-        let at = common_length(bytes, again.as_slice());
-        return Err(BytesFault::StoredOtherwise(at));
-    }
-    Ok(tree)
+    let at = common_length(bytes, written.as_slice());
+    Err(BytesFault::StoredOtherwise(at))
 }

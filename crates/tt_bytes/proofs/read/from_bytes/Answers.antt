@@ -4,7 +4,7 @@ use Rattle.tt_base.specs.Unflat.{flat_root-injective}
 use Rattle.tt_bytes.specs.declared.fault.BytesFault.TheVariants.{Memory, NoTree, StoredOtherwise}
 use Rattle.tt_bytes.specs.Decoding.{Stand}
 use Rattle.tt_bytes.specs.Faults.{AreOfNone, IsFaultOf, IsStoredOtherwise, common_length, tables_in}
-use Rattle.tt_bytes.specs.Format.{AreBytesOfNone, PieceFits, tree_bytes}
+use Rattle.tt_bytes.specs.Format.{AreBytesOf, AreBytesOfNone, PieceFits, tree_bytes}
 use Rattle.tt_bytes.specs.Front.{held_in}
 use Rattle.tt_bytes.proofs.Faults.{is_memory, packs}
 use Rattle.tt_bytes.proofs.Holding.{ahead_of, none_held}
@@ -86,11 +86,11 @@ returns-in-Err-to_bytes-clause-none c =
           none_written c.in_ok-tokens.tokens.items c.in-Ok.tree c.in-Err-to_bytes.fault c.in-Ok.ensures.ok c.in-Err-to_bytes.ensures.err other root tokens are.has)
     ]
 
-pub returns-then-ne-clause-err : goal.returns-then-ne-clause-err
-returns-then-ne-clause-err c =
+pub returns-clause-err : goal.returns-clause-err
+returns-clause-err c =
     let same : tables_of c.new-tables.result ≡ tables_in (held_in c.in_ok-piece.piece) = search rules in
-    let apart : c.args.bytes.now ≢ c.in-Ok-to_bytes.again.items = λ e. search (rules, sym e) in
-    let compared : c.common_length-at.result ≡ common_length c.args.bytes.now c.in-Ok-to_bytes.again.items = search rules in
+    let apart : AreBytesOf c.in-Ok.tree c.args.bytes.now → ⊥ = λ are. search (rules, are) in
+    let compared : c.common_length-at.result ≡ common_length c.args.bytes.now c.in-Ok-to_bytes.written.items = search rules in
     let stored : IsStoredOtherwise c.args.bytes.now (held_in c.in_ok-piece.piece) c.common_length-at.result =
     record {
       root = c.in-Ok.tree;
@@ -98,21 +98,21 @@ returns-then-ne-clause-err c =
           (subst (λ t. Stand t c.in_ok-piece.piece.packed.now c.in_ok-tokens.tokens.items (length c.in_ok-piece.piece.packed.now)) same c.in_ok-tokens.ensures.stand);
       has = c.in-Ok-to_bytes.ensures.ok.has;
       place = compared ∙ ap (common_length c.args.bytes.now) c.in-Ok-to_bytes.ensures.ok.is;
-      other = λ e. apart (e ∙ sym c.in-Ok-to_bytes.ensures.ok.is);
+      other = λ e. apart (record { has = c.in-Ok-to_bytes.ensures.ok.has; is = e });
     } in
     inr (inr (held_in c.in_ok-piece.piece, c.in_ok-piece.ensures.value, stored))
 
-pub returns-then-ne-clause-none : goal.returns-then-ne-clause-none
-returns-then-ne-clause-none c =
+pub returns-clause-none : goal.returns-clause-none
+returns-clause-none c =
     let same : tables_of c.new-tables.result ≡ tables_in (held_in c.in_ok-piece.piece) = search rules in
+    let apart : AreBytesOf c.in-Ok.tree c.args.bytes.now → ⊥ = λ are. search (rules, are) in
     inr (λ root are.
     let tokens = c.in_ok-tokens.ensures.list root (ahead_of root c.args.bytes.now (held_in c.in_ok-piece.piece) _ are c.in_ok-piece.ensures.value same) in
     let one : root ≡ c.in-Ok.tree = flat_root-injective root c.in-Ok.tree (sym tokens ∙ c.in-Ok.ensures.ok) in
-    let equal : c.in-Ok-to_bytes.again.items ≡ c.args.bytes.now = c.in-Ok-to_bytes.ensures.ok.is ∙ sym (ap tree_bytes one) ∙ sym are.is in
-    search (rules, equal))
+    apart (subst (λ tree. AreBytesOf tree c.args.bytes.now) one are))
 
-pub returns-clause-only : goal.returns-clause-only
-returns-clause-only c other are =
+pub returns-then-are_bytes_of-clause-only : goal.returns-then-are_bytes_of-clause-only
+returns-then-are_bytes_of-clause-only c other are =
     let same : tables_of c.new-tables.result ≡ tables_in (held_in c.in_ok-piece.piece) = search rules in
     let tokens = c.in_ok-tokens.ensures.list other (ahead_of other c.args.bytes.now (held_in c.in_ok-piece.piece) _ are c.in_ok-piece.ensures.value same) in
     flat_root-injective other c.in-Ok.tree (sym tokens ∙ c.in-Ok.ensures.ok)

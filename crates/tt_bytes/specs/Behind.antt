@@ -1,0 +1,27 @@
+-- What stands behind a value at the front of some bytes.
+use Rattle.std.specs.Borrow.{Bor}
+use Rattle.std.specs.Prelude.{◌≡◌, ◌≢◌, ◌<◌, ◌^◌, ℕ, List, ◌++◌, length, Option, MatchOption}
+use Rattle.tt_bytes.specs.Format.{mark, number_bytes, parts_bytes, symbols_bytes, PieceFits}
+use Rattle.tt_tables.specs.Stored.{Stored}
+
+-- the bytes behind a value, given its own; none if others are at the front, or the value does not fit in bytes
+abbrev pub IsBehind : (Fits : Type 0) → (value from : List ℕ) → Option (Bor (List ℕ)) → Type 0
+IsBehind Fits value from result = MatchOption result (Fits → (rest : List ℕ) → from ≢ value ++ rest) (λ rest. Fits × (from ≡ value ++ rest.now))
+
+-- three counts
+abbrev pub counts_bytes : (parts symbols below : ℕ) → List ℕ
+counts_bytes parts symbols below = number_bytes parts ++ number_bytes symbols ++ number_bytes below
+
+-- four bytes have room for each of three counts
+pub record CountsFit (parts symbols below : ℕ) : Type 0 where
+  pub part_count : parts < 2 ^ 32
+  pub symbol_count : symbols < 2 ^ 32
+  pub byte_count : below < 2 ^ 32
+
+-- what a piece has before the packed bytes
+abbrev pub front_bytes : Stored → List ℕ
+front_bytes it = mark ++ counts_bytes (length it.parts) (length it.symbols) (length it.bytes) ++ parts_bytes it.parts ++ symbols_bytes it.symbols
+
+-- four bytes have room for each number of the piece
+abbrev pub Fits : Stored → Type 0
+Fits it = PieceFits it.parts it.symbols it.bytes
