@@ -8,7 +8,7 @@ from plain_pieces import piece
 from plain_stored import SPACINGS
 from plain_trees import Ident, Literal, Punct, Span, Subtree, flat, size
 
-COMMANDS = 480
+COMMANDS = 530
 MOST_POINT = 2**64 - 1
 # So many different parts and symbols a large script has: an index of each needs the longest form of those below.
 LARGE_PARTS = 2048 * 16 + 8
@@ -21,7 +21,7 @@ SHOWN = "show pretty debug flat siblings walk glue bytes parts symbols save".spl
 STORED = "bytes parts symbols".split()
 # How often each command, or some that belong together, come among others.
 WEIGHTS = {
-    "tree": 4, "spoiled_list": 1, "mended_list": 1, "rule": 4, "spoiled_rule": 1, "edge": 1, "table": 0.5, "joined": 3,
+    "tree": 4, "spoiled_list": 1, "mended_list": 1, "rule": 5, "spoiled_rule": 1, "edge": 1, "table": 0.5, "joined": 3,
     "new": 2, "open": 11, "push": 14, "close": 10, "append": 3, "alone": 3, "ends_alone": 1, "unwrap": 4, "marked": 3,
     "point": 4, "restore": 4, "points": 0.3, "many": 0.1, "expected": 1, "counts": 4, "build": 2, "skip": 2, "skipped": 1,
     "copy": 2, "kind": 2, "spans": 2, "set": 3, "ids": 2, "rewrite": 4, "expand": 1, "equal": 2, "nearly_equal": 1,
@@ -108,7 +108,7 @@ class Script(Rules):
             kind, open_span, close, length = tokens[place]
             tokens[place] = Header((kind, open_span, close, max(0, length + self.pick((1, -1, 5)))))
         if self.happens(0.3):
-            tokens = self.pick((tokens[1:], tokens + tokens))
+            tokens = self.pick((tokens[1:], tokens + tokens, tokens[-1:]))
         self.add_list(tokens, self.slot())
 
     def add_mended_list(self):
@@ -299,7 +299,7 @@ class Script(Rules):
         slot, trees = self.slot(), [self.edge_subtree()] if self.happens(0.1) else self.trees(1, self.pick((1, 1, 2, 12)))
         end = Span(0, 0, MOST - 1, MOST, 0)
         last = self.pick((
-            Literal(self.pick(("float", "err")), 0, end, self.pick(("é", "1é"))), Punct("joint", end, "→"),
+            Literal(self.pick(("float", "err")), self.pick((0, 0, 1)), end, self.pick(("é", "1é"))), Punct("joint", end, "→"),
             Subtree("opaque", self.span(), self.span(), ()),
         ))
         data = piece(self.subtree(self.pick(([self.leaf()], [last], trees))))
