@@ -1,13 +1,12 @@
 -- What was written at the front of a piece is read again.
-use Rattle.std.proofs.Common.{◌≡◌, ℕ, ◌<◌, ◌^◌, List, ◌++◌, length, append_assoc, refl, ap, sym, ◌∙◌, subst}
-use Rattle.std.specs.Int.{w32, to_le_bytes, from_le_bytes}
+use Rattle.std.proofs.Common.{◌≡◌, ℕ, ◌<◌, ◌^◌, List, ◌++◌, append_assoc, refl, ap, sym, ◌∙◌}
 use Rattle.std.specs.Prelude.{Some}
 use Rattle.tt_base.specs.declared.span.SpanPart.{SpanPart}
 use Rattle.tt_bytes.specs.declared.numbers.Counts.{Counts}
 use Rattle.tt_bytes.specs.Format.{number_bytes, part_bytes, PartFits}
 use Rattle.tt_bytes.specs.Front.{part_at, counts_at}
 use Rattle.tt_codec.proofs.Found.{same_parts}
-use Rattle.tt_codec.specs.Read.{Read, ◌>>=◌, word_at, word_again}
+use Rattle.tt_codec.specs.Read.{word_at, word_again}
 
 -- A number is read again.
 pub number_again : (n : ℕ) (rest : List ℕ) → n < 2 ^ 32 → word_at (number_bytes n ++ rest) ≡ Some (n, rest)

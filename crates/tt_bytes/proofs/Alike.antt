@@ -1,15 +1,15 @@
 -- The bytes of a tree tell the tree.
-use Rattle.std.proofs.Common.{◌≡◌, ℕ, ◌<◌, suc, List, [], ◌∷◌, ◌++◌, length, append_assoc, refl, ap, ap₂, sym, ◌∙◌, Some, arith}
+use Rattle.std.proofs.Common.{◌≡◌, ℕ, List, [], ◌∷◌, ◌++◌, length, append_assoc, refl, ap, ap₂, sym, ◌∙◌, Some, arith}
 use Rattle.std.specs.List.{AllByRecursion}
 use Rattle.tt_base.specs.declared.span.SpanPart.{SpanPart}
-use Rattle.tt_base.specs.Forest.{Root, size}
+use Rattle.tt_base.specs.Forest.{Root}
 use Rattle.tt_bytes.specs.Format.{number_bytes, part_bytes, parts_bytes, symbol_bytes, symbols_bytes, PartFits, TextFits, AreBytesOf}
 use Rattle.tt_bytes.specs.Front.{part_at, counts_at}
 use Rattle.tt_bytes.proofs.Again.{part_again, number_again}
 use Rattle.tt_bytes.proofs.Apart.{apart, marked, counts_of, behind_counts, counts_found}
 use Rattle.tt_codec.proofs.Found.{same_parts}
 use Rattle.tt_codec.specs.Read.{word_at}
-use Rattle.tt_tables.specs.Stored.{packed, root_bytes, root_parts}
+use Rattle.tt_tables.specs.Stored.{packed}
 use Rattle.tt_tables.proofs.StoredAlike.{roots_alike}
 use Rattle.tt_tables.proofs.TreesAlike.{seam}
 

@@ -6,7 +6,7 @@ use Rattle.std.specs.List.{AllByRecursion}
 use Rattle.std.specs.Prelude.{MatchOption}
 use Rattle.tt_base.specs.declared.span.SpanPart.{SpanPart}
 use Rattle.tt_base.specs.Forest.{Root}
-use Rattle.tt_bytes.specs.Behind.{IsBehind, Fits, front_bytes}
+use Rattle.tt_bytes.specs.Behind.{IsBehind, front_bytes, StoredFits}
 use Rattle.tt_bytes.specs.Format.{part_bytes, parts_bytes, symbol_bytes, symbols_bytes, piece, PartFits, TextFits, AreBytesOf}
 use Rattle.tt_tables.specs.Stored.{Stored, packed, IsInRange, IsWithinLimits}
 
@@ -100,12 +100,12 @@ front_and_packed it = simp (append_assoc) refl
 
 -- Behind the front of a tree's piece stand its packed bytes exactly where the whole is that piece.
 pub packed_behind : (root : Root) (all : List ℕ) (rest : Bor (List ℕ)) → IsInRange root → IsWithinLimits root
-    → IsBehind (Fits (packed root)) (front_bytes (packed root)) all (Some rest) → (rest.now ≡ (packed root).bytes) ↔ AreBytesOf root all
+    → IsBehind (StoredFits (packed root)) (front_bytes (packed root)) all (Some rest) → (rest.now ≡ (packed root).bytes) ↔ AreBytesOf root all
 packed_behind root all rest range limits front = (
   λ same. record { has = record { range = range; limits = limits; fits = front.0 }; is = front.1 ∙ ap (λ l. front_bytes (packed root) ++ l) same ∙ sym (front_and_packed (packed root)) },
   λ are. append_cancel_left (front_bytes (packed root)) rest.now (packed root).bytes (sym front.1 ∙ are.is ∙ front_and_packed (packed root)),
 )
 
 -- Where the front of a tree's piece is missing, the whole is not that piece.
-pub front_missing : (root : Root) (all : List ℕ) → IsBehind (Fits (packed root)) (front_bytes (packed root)) all None → AreBytesOf root all → ⊥
+pub front_missing : (root : Root) (all : List ℕ) → IsBehind (StoredFits (packed root)) (front_bytes (packed root)) all None → AreBytesOf root all → ⊥
 front_missing root all missing are = missing are.has.fits (packed root).bytes (are.is ∙ front_and_packed (packed root))

@@ -1,5 +1,5 @@
 -- What bytes hold, step by step, and that a piece holds what it was made of.
-use Rattle.std.proofs.Common.{◌≡◌, ℕ, ◌≤◌, ◌<◌, inl, inr, List, [], ◌∷◌, ◌++◌, length, take, drop, if◌then◌else◌, append-nil, Some, None, Ok, Err, Result, refl, ap, ap₂, sym, subst, ◌∙◌, arith}
+use Rattle.std.proofs.Common.{◌≡◌, ℕ, ◌≤◌, ◌<◌, inl, inr, List, [], ◌++◌, length, take, drop, if◌then◌else◌, Some, None, Ok, Err, refl, ap, ap₂, sym, subst, ◌∙◌, arith}
 use Rattle.std.proofs.lemmas.Bool.{le-leb}
 use Rattle.std.proofs.lemmas.Bool.Decides.{leb_tells}
 use Rattle.std.proofs.lemmas.List.{take_all, drop_all}
@@ -8,7 +8,7 @@ use Rattle.tt_base.specs.Forest.{Root, only}
 use Rattle.tt_bytes.specs.declared.fault.BytesFault.{BytesFault}
 use Rattle.tt_bytes.specs.declared.fault.BytesFault.TheVariants.{TooShort}
 use Rattle.tt_bytes.specs.declared.numbers.Counts.{Counts}
-use Rattle.tt_bytes.specs.Format.{mark, parts_bytes, symbols_bytes, piece, PieceFits, AreBytesOf, AreBytesOfNone}
+use Rattle.tt_bytes.specs.Format.{mark, symbols_bytes, piece, PieceFits, AreBytesOf, AreBytesOfNone}
 use Rattle.tt_bytes.specs.Front.{Held, ◌>>◌, or_short, behind_mark, behind_counts, behind_parts, counts_at, held, held_from, packed_from, parts_from, texts_from}
 use Rattle.tt_tables.specs.Meaning.{IsAhead}
 use Rattle.tt_tables.specs.Searches.{first_entries}

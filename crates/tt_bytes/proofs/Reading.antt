@@ -1,5 +1,5 @@
 -- How the front of a piece is read one value after the other, and that what was written is read again.
-use Rattle.std.proofs.Common.{◌≡◌, ℕ, zero, suc, ◌+◌, ◌-◌, ◌<◌, ◌≤◌, ◌^◌, true, false, nat_le, if◌then◌else◌, List, [], ◌∷◌, ◌++◌, length, length-append, take, drop, append_assoc, append-nil, Some, None, Ok, Err, Result, refl, ap, ap₂, sym, ◌∙◌, subst, arith}
+use Rattle.std.proofs.Common.{◌≡◌, ℕ, suc, ◌+◌, ◌-◌, ◌≤◌, true, false, if◌then◌else◌, List, [], ◌∷◌, ◌++◌, length, length-append, take, drop, append_assoc, append-nil, Some, None, Ok, Err, refl, ap, ap₂, sym, ◌∙◌, subst, arith}
 use Rattle.std.proofs.lemmas.Bool.{le-leb}
 use Rattle.std.proofs.lemmas.Str.{is_utf8-from_IsUtf8, IsUtf8-from_is_utf8}
 use Rattle.std.proofs.Math.Seq.{take-append_seam, drop-append_seam}
@@ -13,7 +13,6 @@ use Rattle.tt_bytes.specs.declared.fault.BytesFault.TheVariants.{TooShort, NoTex
 use Rattle.tt_bytes.specs.Format.{number_bytes, part_bytes, parts_bytes, symbol_bytes, symbols_bytes, PartFits, TextFits}
 use Rattle.tt_bytes.specs.Front.{Reads, ◌>>◌, or_short, part_at, parts_from, text_of, text_from, texts_from}
 use Rattle.tt_bytes.proofs.Again.{part_again, number_again}
-use Rattle.tt_codec.specs.Read.{Read, word_at}
 
 -- what was taken stands before what is read behind it
 abbrev pub before : {X : Type 0} → List X → Reads (List X) → Reads (List X)

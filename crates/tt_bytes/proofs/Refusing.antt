@@ -1,5 +1,5 @@
 -- Why bytes are those of no tree, from what was seen of them.
-use Rattle.std.proofs.Common.{◌≡◌, ◌≢◌, ◌⊎◌, inl, inr, ℕ, ◌+◌, List, [], ◌∷◌, length, Ok, refl, ap, sym, ◌∙◌, subst, arith}
+use Rattle.std.proofs.Common.{◌≡◌, ◌⊎◌, inl, inr, ℕ, ◌+◌, List, length, Ok, refl, sym, ◌∙◌, subst, arith}
 use Rattle.tt_base.specs.declared.fault.TtFault.{TtFault}
 use Rattle.tt_base.specs.declared.fault.TtFault.TheVariants as limit
 use Rattle.tt_base.specs.declared.token_tree.TokenTree.{TokenTree}

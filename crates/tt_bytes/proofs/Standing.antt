@@ -1,5 +1,5 @@
 -- Tokens that the numbers at an offset name.
-use Rattle.std.proofs.Common.{◌≡◌, ℕ, List, Option, None, Some, sym, ◌∙◌}
+use Rattle.std.proofs.Common.{◌≡◌, Option, Some}
 use Rattle.tt_base.specs.declared.token_tree.TokenTree.{TokenTree}
 use Rattle.tt_base.specs.declared.token_tree.TokenTree.TheVariants as token
 use Rattle.tt_base.specs.Fits.{TokenInRange}

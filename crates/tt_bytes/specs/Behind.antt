@@ -4,7 +4,7 @@ use Rattle.std.specs.Prelude.{◌≡◌, ◌≢◌, ◌<◌, ◌^◌, ℕ, List,
 use Rattle.tt_bytes.specs.Format.{mark, number_bytes, parts_bytes, symbols_bytes, PieceFits}
 use Rattle.tt_tables.specs.Stored.{Stored}
 
--- the bytes behind a value, given its own; none if others are at the front, or the value does not fit in bytes
+-- what stands behind the bytes of a value, if it fits and they stand at the front; else none
 abbrev pub IsBehind : (Fits : Type 0) → (value from : List ℕ) → Option (Bor (List ℕ)) → Type 0
 IsBehind Fits value from result = MatchOption result (Fits → (rest : List ℕ) → from ≢ value ++ rest) (λ rest. Fits × (from ≡ value ++ rest.now))
 
@@ -23,5 +23,5 @@ abbrev pub front_bytes : Stored → List ℕ
 front_bytes it = mark ++ counts_bytes (length it.parts) (length it.symbols) (length it.bytes) ++ parts_bytes it.parts ++ symbols_bytes it.symbols
 
 -- four bytes have room for each number of the piece
-abbrev pub Fits : Stored → Type 0
-Fits it = PieceFits it.parts it.symbols it.bytes
+abbrev pub StoredFits : Stored → Type 0
+StoredFits it = PieceFits it.parts it.symbols it.bytes

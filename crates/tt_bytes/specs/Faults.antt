@@ -3,7 +3,7 @@ use Rattle.std.specs.Prelude.{◌≡◌, ◌≢◌, ◌⊎◌, ◌+◌, ◌==◌
 use Rattle.tt_base.specs.declared.token_tree.TokenTree.{TokenTree}
 use Rattle.tt_base.specs.Forest.{Root, flat_root}
 use Rattle.tt_bytes.specs.declared.fault.BytesFault.{BytesFault}
-use Rattle.tt_bytes.specs.declared.fault.BytesFault.TheVariants.{Memory, TooShort, OtherFormat, NoText, NoTree, StoredOtherwise}
+use Rattle.tt_bytes.specs.declared.fault.BytesFault.TheVariants.{Memory, NoTree, StoredOtherwise}
 use Rattle.tt_bytes.specs.Decoding.{Stand, StopsAt}
 use Rattle.tt_bytes.specs.Format.{tree_bytes, AreBytesOfNone, HasBytes}
 use Rattle.tt_bytes.specs.Front.{Held, held}

@@ -1,7 +1,7 @@
 -- A tree as one piece of bytes.
 use Rattle.std.specs.Int.{w32, to_le_bytes}
 use Rattle.std.specs.List.{AllByRecursion}
-use Rattle.std.specs.Prelude.{◌≡◌, ◌⊎◌, ℕ, ◌<◌, ◌≤◌, ◌^◌, List, [], ◌∷◌, ◌++◌, length, IsUtf8}
+use Rattle.std.specs.Prelude.{◌≡◌, ◌⊎◌, ℕ, ◌<◌, ◌^◌, List, [], ◌∷◌, ◌++◌, length, IsUtf8}
 use Rattle.tt_base.specs.declared.fault.TtFault.{TtFault}
 use Rattle.tt_base.specs.declared.fault.TtFault.TheVariants.{Memory, TooManyBytes}
 use Rattle.tt_base.specs.declared.span.SpanPart.{SpanPart}

@@ -1,7 +1,7 @@
 //! Whether bytes are those of a tree, and up to where two lists of bytes are alike.
 ghost use Rattle.std.specs.List.{AllByRecursion};
 ghost use Rattle.std.specs.Prelude.{◌≡◌, ◌↔◌, ◌<◌, ◌^◌, length, IsTrue};
-ghost use Rattle.tt_bytes.specs.Behind.{IsBehind, CountsFit, counts_bytes, Fits, front_bytes};
+ghost use Rattle.tt_bytes.specs.Behind.{IsBehind, CountsFit, counts_bytes, front_bytes, StoredFits};
 ghost use Rattle.tt_bytes.specs.Faults.{common_length};
 ghost use Rattle.tt_bytes.specs.Format.{number_bytes, part_bytes, parts_bytes, symbol_bytes, symbols_bytes, PartFits, TextFits, AreBytesOf};
 ghost use Rattle.tt_tables.specs.Stored.{packed};
@@ -77,7 +77,7 @@ fn behind_counts(parts: usize, symbols: usize, bytes: usize, from: &[u8]) -> Opt
 
 // What stands behind all that a piece of the tree has before its packed bytes.
 fn behind_front<'a>(tree: &TopSubtree, from: &'a [u8]) -> Option<&'a [u8]>
-    ensures { IsBehind (Fits (packed tree.now)) (front_bytes (packed tree.now)) from.now result }
+    ensures { IsBehind (StoredFits (packed tree.now)) (front_bytes (packed tree.now)) from.now result }
 {
     let parts = tree.span_part_table();
     let symbols = tree.symbol_table();

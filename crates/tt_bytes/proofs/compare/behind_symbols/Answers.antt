@@ -1,4 +1,4 @@
-use Rattle.std.proofs.Common.{rules, ◌≡◌, None, Some}
+use Rattle.std.proofs.Common.{rules, None, Some}
 use Rattle.std.proofs.lemmas.List.{drop_all}
 use Rattle.std.specs.List.{AllByRecursion}
 use Rattle.tt_bytes.specs.Behind.{IsBehind}

@@ -1,6 +1,5 @@
-use Rattle.std.proofs.Common.{rules, ◌≡◌, ◌+◌, ◌<◌, ◌≤◌, ◌-◌, ℕ, List, Some, None, length, length-drop, drop, ap, sym, subst, ◌∙◌, arith}
+use Rattle.std.proofs.Common.{rules, ◌≡◌, Some, None, length, length-drop, drop, ap, sym, ◌∙◌, arith}
 use Rattle.tt_codec.specs.Entry.{entry_at}
-use Rattle.tt_tables.specs.TablesOf.{tables_of}
 use Rattle.tt_tables.proofs.Ahead.{none_read}
 use Rattle.tt_bytes.proofs.Decoding.{passes, first_at}
 use Rattle.tt_bytes.proofs.decode.token_at.Goals as goal

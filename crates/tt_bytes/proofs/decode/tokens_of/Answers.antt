@@ -1,6 +1,6 @@
-use Rattle.std.proofs.Common.{rules, ◌≡◌, ◌++◌, ◌∷◌, ℕ, List, [], Some, None, length, append-nil, ap, sym, subst, refl, ◌∙◌, arith}
-use Rattle.tt_base.specs.Forest.{Forest, end, only, flat}
-use Rattle.tt_base.specs.Moves.{first_token, after_token}
+use Rattle.std.proofs.Common.{rules, ◌≡◌, ◌++◌, ◌∷◌, [], ap, sym, subst, refl, ◌∙◌, arith}
+use Rattle.tt_base.specs.Forest.{end, only, flat}
+use Rattle.tt_base.specs.Moves.{after_token}
 use Rattle.tt_bytes.specs.Decoding.{Stand, none, more}
 use Rattle.tt_tables.specs.Meaning.{IsAhead}
 use Rattle.tt_tables.specs.TablesOf.{tables_of}
@@ -13,8 +13,8 @@ pub loop-offset-init : goal.loop-offset-init
 loop-offset-init c =
     record {
       inside = search (rules, arith);
-      stand = subst (λ l. Stand (tables_of c.args.tables) c.args.packed.now l 0) (sym c.new-tokens.ensures.items) none;
-      ahead = λ root ahead. (only root, ahead, ap (λ l. l ++ flat (only root)) c.new-tokens.ensures.items);
+      stand = subst (λ l. Stand (tables_of c.args.tables) c.args.packed.now l 0) (sym c.in_ok-tokens.ensures.items) none;
+      ahead = λ root ahead. (only root, ahead, ap (λ l. l ++ flat (only root)) c.in_ok-tokens.ensures.items);
     }
 
 pub returns-in_default-clause-list : goal.returns-in_default-clause-list

@@ -1,4 +1,4 @@
-use Rattle.std.proofs.Common.{rules, ◌≡◌, ◌++◌, ◌∷◌, [], inr, ◌+◌, ◌-◌, suc, Some, None, sym, ◌∙◌, arith}
+use Rattle.std.proofs.Common.{rules, ◌≡◌, ◌++◌, ◌∷◌, [], inr, ◌+◌, ◌-◌, Some, None, sym, ◌∙◌, arith}
 use Rattle.tt_bytes.specs.Front.{part_at}
 use Rattle.tt_bytes.proofs.Reading.{part_taken, part_missing}
 use Rattle.tt_bytes.proofs.front.split_parts.Goals as goal

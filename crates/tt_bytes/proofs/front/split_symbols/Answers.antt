@@ -1,6 +1,6 @@
-use Rattle.std.proofs.Common.{rules, ◌≡◌, ◌⊎◌, ◌++◌, ◌∷◌, [], inl, inr, ◌+◌, ◌-◌, suc, Ok, Err, sym, ◌∙◌, arith}
+use Rattle.std.proofs.Common.{rules, ◌≡◌, ◌⊎◌, ◌++◌, ◌∷◌, [], inl, inr, ◌+◌, ◌-◌, Err, sym, ◌∙◌, arith}
 use Rattle.tt_bytes.specs.declared.fault.BytesFault.TheVariants.{Memory}
-use Rattle.tt_bytes.specs.Front.{text_from, texts_from}
+use Rattle.tt_bytes.specs.Front.{texts_from}
 use Rattle.tt_bytes.proofs.Reading.{text_taken, text_missing}
 use Rattle.tt_bytes.proofs.front.split_symbols.Goals as goal
 

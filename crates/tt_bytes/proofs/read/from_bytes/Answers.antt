@@ -1,15 +1,13 @@
-use Rattle.std.proofs.Common.{rules, ◌≡◌, ◌≢◌, ◌⊎◌, inl, inr, ◌+◌, List, length, ap, sym, subst, ◌∙◌, arith}
-use Rattle.tt_base.specs.Forest.{Root, flat_root}
+use Rattle.std.proofs.Common.{rules, ◌≡◌, ◌⊎◌, inl, inr, length, ap, sym, subst, ◌∙◌, arith}
 use Rattle.tt_base.specs.Unflat.{flat_root-injective}
-use Rattle.tt_bytes.specs.declared.fault.BytesFault.TheVariants.{Memory, NoTree, StoredOtherwise}
+use Rattle.tt_bytes.specs.declared.fault.BytesFault.TheVariants.{Memory}
 use Rattle.tt_bytes.specs.Decoding.{Stand}
-use Rattle.tt_bytes.specs.Faults.{AreOfNone, IsFaultOf, IsStoredOtherwise, common_length, tables_in}
-use Rattle.tt_bytes.specs.Format.{AreBytesOf, AreBytesOfNone, PieceFits, tree_bytes}
+use Rattle.tt_bytes.specs.Faults.{IsFaultOf, IsStoredOtherwise, common_length, tables_in}
+use Rattle.tt_bytes.specs.Format.{AreBytesOf, AreBytesOfNone}
 use Rattle.tt_bytes.specs.Front.{held_in}
 use Rattle.tt_bytes.proofs.Faults.{is_memory, packs}
 use Rattle.tt_bytes.proofs.Holding.{ahead_of, none_held}
 use Rattle.tt_bytes.proofs.Refusing.{stopped, of_none, none_packed, none_written, is_want}
-use Rattle.tt_tables.specs.Stored.{packed}
 use Rattle.tt_tables.specs.TablesOf.{tables_of}
 use Rattle.tt_bytes.proofs.read.from_bytes.Goals as goal
 

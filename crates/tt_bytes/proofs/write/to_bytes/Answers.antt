@@ -1,8 +1,7 @@
-use Rattle.std.proofs.Common.{rules, ◌≡◌, ◌++◌, length, ℕ, List, ap, sym, ◌∙◌, append_assoc, arith, subst, refl}
-use Rattle.std.specs.List.{AllByRecursion}
+use Rattle.std.proofs.Common.{rules, ◌≡◌, ◌++◌, length, ℕ, List, append_assoc, refl}
 use Rattle.tt_base.specs.declared.span.SpanPart.{SpanPart}
 use Rattle.tt_base.specs.Forest.{Root}
-use Rattle.tt_bytes.specs.Format.{mark, number_bytes, parts_bytes, symbols_bytes, piece, PartFits, TextFits, PieceFits, AreBytesOf}
+use Rattle.tt_bytes.specs.Format.{mark, number_bytes, parts_bytes, symbols_bytes, piece, PieceFits}
 use Rattle.tt_tables.specs.Stored.{packed}
 use Rattle.tt_bytes.proofs.Alike.{trees_alike}
 use Rattle.tt_bytes.proofs.write.to_bytes.Goals as goal

@@ -1,6 +1,6 @@
-use Rattle.std.proofs.Common.{rules, ◌≡◌, ◌⊎◌, ◌≤◌, ◌<◌, inl, inr, length, take, drop, Some, None, Err, sym, ◌∙◌, arith}
+use Rattle.std.proofs.Common.{rules, ◌≡◌, ◌⊎◌, ◌≤◌, ◌<◌, inl, inr, length, take, drop, Some, None, Err, ◌∙◌, arith}
 use Rattle.tt_bytes.specs.declared.fault.BytesFault.TheVariants.{Memory}
-use Rattle.tt_bytes.specs.Front.{counts_at, held, held_from, behind_counts}
+use Rattle.tt_bytes.specs.Front.{counts_at, held}
 use Rattle.tt_bytes.proofs.Holding.{no_mark, marked_held, no_counts, counted, no_parts, parts_there, no_symbols, symbols_there, packed_short, packed_there}
 use Rattle.tt_bytes.proofs.piece.Piece.read.Goals as goal
 
