@@ -1,0 +1,79 @@
+use Rattle.std.proofs.Common.{arith, rules, ◌≡◌, reverse, length, ◌++◌, [], refl, sym, subst, ap, ◌∙◌}
+use Rattle.std.proofs.lemmas.Grind.{common_steps}
+use Rattle.std.specs.Str.{IsCharBoundary}
+use Rattle.tt_base.specs.Building.{built, open_kinds}
+use Rattle.tt_base.specs.declared.span.SpanPart.{SpanPart}
+use Rattle.tt_text.specs.Parsed.{IsTop}
+use Rattle.tt_text.specs.Pieces.{pieces_of}
+use Rattle.tt_text.specs.Spelled.{spelled_so_far}
+use Rattle.tt_text.proofs.AheadFacts.{ahead_step, ahead_fault, ahead_unclosed, ahead_end}
+use Rattle.tt_text.proofs.LimitFacts.{limit_of_tree}
+use Rattle.tt_text.proofs.TextFacts.{ahead_is, cut, is_empty}
+use Rattle.tt_text.proofs.parse.parse_to_token_tree.Goals as goal
+
+pub split_at-requires : goal.split_at-requires
+split_at-requires c =
+    let first = ahead_is c.in-Some.token c.loop-ahead.rest.now (sym c.in-Some.is ∙ c.loop-ahead.invariant.1.token) in
+    let k = cut c.loop-ahead.rest.now c.loop-ahead.invariant.0 first.0 in
+    subst (λ t. IsCharBoundary c.loop-ahead.rest.now t.len) (sym first.1) k.boundary
+
+pub take-requires-clause-some : goal.take-requires-clause-some
+take-requires-clause-some c =
+    let first = ahead_is c.in-Some.token c.loop-ahead.rest.now (sym c.in-Some.is ∙ c.loop-ahead.invariant.1.token) in
+    let k = cut c.loop-ahead.rest.now c.loop-ahead.invariant.0 first.0 in
+    omega (arith, k.some, ap (λ t. t.len) first.1, c.split_at.ensures.front_len)
+
+pub returns-in-Some-2-clause-err : goal.returns-in-Some-2-clause-err
+returns-in-Some-2-clause-err c =
+    let first = ahead_is c.in-Some.token c.loop-ahead.rest.now (sym c.in-Some.is ∙ c.loop-ahead.invariant.1.token) in
+    ahead_fault (record { anchor = c.args.anchor; ctx = c.args.ctx }) c.args.text.now c.loop-ahead.rest.now c.split_at.result.0.now (spelled_so_far c.loop-ahead.builder.stack) (reverse c.loop-ahead.open.items)
+    c.loop-ahead.at c.in-Some.token c.in-Some-2.fault c.loop-ahead.invariant.0 first.0 first.1 c.split_at.ensures.front
+    (rw c.in-Some-2.is at c.in_ok-fault.ensures.fault) c.loop-ahead.invariant.1.ahead
+
+pub loop-ahead-smaller : goal.loop-ahead-smaller
+loop-ahead-smaller c =
+    let first = ahead_is c.in-Some.token c.loop-ahead.rest.now (sym c.in-Some.is ∙ c.loop-ahead.invariant.1.token) in
+    let k = cut c.loop-ahead.rest.now c.loop-ahead.invariant.0 first.0 in
+    omega (arith, k.some, ap (λ t. t.len) first.1, c.split_at.ensures.back_len)
+
+pub loop-ahead-preserved : goal.loop-ahead-preserved
+loop-ahead-preserved c =
+    let first = ahead_is c.in-Some.token c.loop-ahead.rest.now (sym c.in-Some.is ∙ c.loop-ahead.invariant.1.token) in (
+      search rules,
+      record {
+        place = omega (arith, c.split_at.ensures.back_len, c.loop-ahead.invariant.1.place);
+        token = c.token_ahead-next.ensures;
+        same = rw c.in_default-2.is at c.in_ok-fault.ensures.same;
+        top = subst (λ d. IsTop (record { anchor = c.args.anchor; ctx = c.args.ctx }) (length c.args.text.now) d) (sym c.in_ok-fault.ensures.top) c.loop-ahead.invariant.1.top;
+        ahead =
+            ahead_step (record { anchor = c.args.anchor; ctx = c.args.ctx }) c.args.text.now c.loop-ahead.rest.now c.split_at.result.0.now c.split_at.result.1.now
+            (spelled_so_far c.loop-ahead.builder.stack) (spelled_so_far c.take.new.builder.stack) (reverse c.loop-ahead.open.items) (reverse c.take.new.opens.items)
+            c.loop-ahead.at c.in-Some.token c.token_ahead-next.result c.loop-ahead.invariant.0 first.0 first.1 c.token_ahead-next.ensures c.split_at.ensures.front c.split_at.ensures.back
+            (rw c.in_default-2.is at c.in_ok-fault.ensures.fault)
+            ((rw c.in_default-2.is at c.in_ok-fault.ensures.holds) ∙ ap (λ k. spelled_so_far c.loop-ahead.builder.stack ++ pieces_of (record { anchor = c.args.anchor; ctx = c.args.ctx }) c.in-Some.token.kind k c.loop-ahead.at c.split_at.result.0.now) c.kind_of.ensures)
+            c.loop-ahead.invariant.1.ahead;
+      },
+    )
+
+pub returns-in-Some-pop-clause-err : goal.returns-in-Some-pop-clause-err
+returns-in-Some-pop-clause-err c =
+    ahead_unclosed (record { anchor = c.args.anchor; ctx = c.args.ctx }) c.args.text.now c.loop-ahead.rest.now (spelled_so_far c.loop-ahead.builder.stack) (reverse c.loop-ahead.open.items) (reverse c.pop.new.self.items)
+    c.loop-ahead.at c.in-Some-pop.last (is_empty c.loop-ahead.rest.now c.loop-ahead.invariant.0 (sym c.in_default.is ∙ c.loop-ahead.invariant.1.token)) (grind (arith, common_steps, c.in-Some-pop.ensures)) c.loop-ahead.invariant.1.ahead
+
+pub returns-in-Ok-clause-ok : goal.returns-in-Ok-clause-ok
+returns-in-Ok-clause-ok c =
+    let none : reverse c.loop-ahead.open.items ≡ [] = grind (arith, common_steps, c.in_default-pop.ensures) in
+    let closed : open_kinds c.loop-ahead.builder.stack ≡ [] = grind (arith, common_steps, c.loop-ahead.invariant.1.same, none) in
+    ahead_end (record { anchor = c.args.anchor; ctx = c.args.ctx }) c.args.text.now c.loop-ahead.rest.now c.loop-ahead.builder c.in-Ok.tree (reverse c.loop-ahead.open.items)
+    c.loop-ahead.at (is_empty c.loop-ahead.rest.now c.loop-ahead.invariant.0 (sym c.in_default.is ∙ c.loop-ahead.invariant.1.token)) none closed c.in-Ok.ensures.ok c.loop-ahead.invariant.1.top c.loop-ahead.invariant.1.ahead
+
+pub returns-clause-err : goal.returns-clause-err
+returns-clause-err c =
+    let part : SpanPart = record { anchor = c.args.anchor; ctx = c.args.ctx } in
+    let none : reverse c.loop-ahead.open.items ≡ [] = grind (arith, common_steps, c.in_default-pop.ensures) in
+    let closed : open_kinds c.loop-ahead.builder.stack ≡ [] = grind (arith, common_steps, c.loop-ahead.invariant.1.same, none) in
+    let empty = is_empty c.loop-ahead.rest.now c.loop-ahead.invariant.0 (sym c.in_default.is ∙ c.loop-ahead.invariant.1.token) in
+    limit_of_tree part c.args.text.now (built c.loop-ahead.builder) c.in-Err.refused.fault
+    (ahead_end part c.args.text.now c.loop-ahead.rest.now c.loop-ahead.builder (built c.loop-ahead.builder) (reverse c.loop-ahead.open.items)
+    c.loop-ahead.at empty none closed refl c.loop-ahead.invariant.1.top c.loop-ahead.invariant.1.ahead)
+    c.in-Err.ensures.fault

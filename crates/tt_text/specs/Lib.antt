@@ -1,0 +1,10 @@
+-- What a text means as token trees, and why a text is refused.
+pub mod Doc
+pub mod Faults
+pub mod Inside
+pub mod Limits
+pub mod Refusal
+pub mod Parsed
+pub mod Pieces
+pub mod Role
+pub mod Spelled

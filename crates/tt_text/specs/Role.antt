@@ -1,0 +1,86 @@
+-- What a token is to a tree.
+use Rattle.std.specs.Prelude.{ℕ, List, Option, Some, Bool, true, false, not, is_none, is_some, if◌then◌else◌}
+use Rattle.tt_lex.specs.declared.token.Base.{Base}
+use Rattle.tt_lex.specs.declared.token.Base.TheVariants.{Decimal}
+use Rattle.tt_lex.specs.declared.token.LiteralKind.{LiteralKind}
+use Rattle.tt_lex.specs.declared.token.LiteralKind.TheVariants as literals
+use Rattle.tt_lex.specs.declared.token.TokenKind.{TokenKind}
+use Rattle.tt_lex.specs.declared.token.TokenKind.TheVariants as kinds
+use Rattle.tt_base.specs.declared.delimiter.DelimiterKind.{DelimiterKind}
+use Rattle.tt_base.specs.declared.delimiter.DelimiterKind.TheVariants as delimits
+use Rattle.tt_text.specs.declared.bracket.Bracket.{Bracket}
+use Rattle.tt_text.specs.declared.bracket.Bracket.TheVariants.{Parenthesis, Brace, Square}
+use Rattle.tt_text.specs.declared.fault.BadToken.{BadToken}
+use Rattle.tt_text.specs.declared.fault.BadToken.TheVariants as bad
+use Rattle.tt_text.specs.Inside.{before_suffix, inside_fault}
+use Rattle.tt_text.specs.declared.role.Role.{Role}
+use Rattle.tt_text.specs.declared.role.Role.TheVariants.{Bad, Nothing, Opens, Closes, Leaf}
+
+-- the kind of the delimiter of a subtree in these brackets
+abbrev pub kind_of : Bracket → DelimiterKind
+kind_of Parenthesis = delimits.Parenthesis
+kind_of Brace = delimits.Brace
+kind_of Square = delimits.Bracket
+
+-- whether two brackets are a pair
+abbrev pub same_bracket : Bracket → Bracket → Bool
+same_bracket Parenthesis Parenthesis = true
+same_bracket Brace Brace = true
+same_bracket Square Square = true
+same_bracket _ _ = false
+
+-- a leaf, or what is wrong with it
+abbrev pub or_leaf : (wrong : Bool) → BadToken → Role
+or_leaf wrong why = if wrong then Bad why else Leaf
+
+-- what a comment is, by whether it documents something
+abbrev pub comment_role : (documents : Bool) → Role
+comment_role documents = if documents then Leaf else Nothing
+
+-- what a float is: a leaf where a digit follows its `e`, and it is written in base ten
+abbrev pub float_role : Base → (empty_exponent : Bool) → Role
+float_role Decimal empty_exponent = or_leaf empty_exponent bad.EmptyExponent
+float_role _ empty_exponent = if empty_exponent then Bad bad.EmptyExponent else Bad bad.FloatOfAnotherBase
+
+-- what a literal is: a leaf where it is closed, and has digits where it should have some
+abbrev pub literal_role : LiteralKind → Role
+literal_role (literals.Int base empty_int) = or_leaf empty_int bad.NoDigits
+literal_role (literals.Float base empty_exponent) = float_role base empty_exponent
+literal_role (literals.Char terminated) = or_leaf (not terminated) bad.UnterminatedLiteral
+literal_role (literals.Byte terminated) = or_leaf (not terminated) bad.UnterminatedLiteral
+literal_role (literals.Str terminated) = or_leaf (not terminated) bad.UnterminatedLiteral
+literal_role (literals.ByteStr terminated) = or_leaf (not terminated) bad.UnterminatedLiteral
+literal_role (literals.CStr terminated) = or_leaf (not terminated) bad.UnterminatedLiteral
+literal_role (literals.RawStr n_hashes) = or_leaf (is_none n_hashes) bad.BadRawLiteral
+literal_role (literals.RawByteStr n_hashes) = or_leaf (is_none n_hashes) bad.BadRawLiteral
+literal_role (literals.RawCStr n_hashes) = or_leaf (is_none n_hashes) bad.BadRawLiteral
+
+-- what a token of a kind is to a tree, in edition 2024
+abbrev pub role_of : TokenKind → Role
+role_of (kinds.LineComment doc) = comment_role (is_some doc)
+role_of (kinds.BlockComment doc terminated) = if terminated then comment_role (is_some doc) else Bad bad.UnterminatedComment
+role_of kinds.Whitespace = Nothing
+role_of kinds.InvalidIdent = Bad bad.InvalidIdent
+role_of kinds.UnknownPrefix = Bad bad.UnknownPrefix
+role_of kinds.UnknownPrefixLifetime = Bad bad.UnknownPrefix
+role_of kinds.GuardedStrPrefix = Bad bad.GuardedPrefix
+role_of kinds.Unknown = Bad bad.UnknownCharacter
+role_of (kinds.Literal kind suffix_start) = literal_role kind
+role_of (kinds.Lifetime starts_with_number) = or_leaf starts_with_number bad.LifetimeBeginsWithDigit
+role_of kinds.OpenParen = Opens Parenthesis
+role_of kinds.CloseParen = Closes Parenthesis
+role_of kinds.OpenBrace = Opens Brace
+role_of kinds.CloseBrace = Closes Brace
+role_of kinds.OpenBracket = Opens Square
+role_of kinds.CloseBracket = Closes Square
+role_of _ = Leaf
+
+-- a leaf with nothing wrong inside of it
+abbrev pub with_inside : Role → (inside : Option BadToken) → Role
+with_inside Leaf (Some why) = Bad why
+with_inside role _ = role
+
+-- what a token with this text is to a tree
+abbrev pub role_in : TokenKind → (text : List ℕ) → Role
+role_in (kinds.Literal kind suffix_start) text = with_inside (literal_role kind) (inside_fault kind (before_suffix suffix_start text))
+role_in kind text = role_of kind

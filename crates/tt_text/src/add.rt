@@ -1,0 +1,153 @@
+//! Leaves of a text, put into a builder.
+ghost use Rattle.std.specs.Prelude.{◌≡◌, ◌+◌, ◌^◌, ◌<◌, ◌≤◌, [], ◌∷◌, length, Some, IfErr, OnOk};
+ghost use Rattle.tt_base.specs.Scan.{parts_told};
+ghost use Rattle.tt_text.specs.Limits.{IsAddFault};
+ghost use Rattle.tt_text.specs.Parsed.{Adds};
+ghost use Rattle.tt_text.specs.Pieces.{leaves_of, lifetime, literal_of, name_of, piece, scan_of};
+ghost use Rattle.tt_text.specs.Spelled.{at_span, piece_of, sign};
+
+use crate::doc::{add_doc, block_text, line_text};
+use crate::leaves::{behind_apostrophe, punct_char, scan_of, spacing_before, span_at};
+use std::alloc::Global;
+use tt::TopSubtreeBuilder;
+use tt_base::{Ident, Leaf, Punct, Spacing, Span, SpanPart, TtFault, token_to_literal};
+use tt_lex::{LiteralKind, TokenKind};
+
+// Puts a leaf at the end.
+#[tactic(auto, using(crate::proofs::StackFacts::adds_leaf, crate::proofs::LimitFacts::growth_fault))]
+pub fn add_leaf(builder: &mut TopSubtreeBuilder, leaf: Leaf) -> Result<(), TtFault>
+    ensures ok { OnOk result (Adds (piece_of leaf ∷ []) builder.old builder.new) }
+    ensures err { IfErr result IsAddFault }
+{
+    builder.push(leaf)?;
+    Ok(())
+}
+
+// Puts the name that a text spells at the end.
+fn add_name(
+    alloc: Global,
+    builder: &mut TopSubtreeBuilder,
+    text: &str,
+    span: Span,
+) -> Result<(), TtFault>
+    ensures err { IfErr result IsAddFault }
+    ensures ok { OnOk result (Adds (at_span (name_of text.now) span ∷ []) builder.old builder.new) }
+{
+    let ident = Ident::new(alloc, text, span)?;
+    add_leaf(builder, Leaf::Ident(ident))
+}
+
+// Puts a punct at the end.
+pub fn add_punct(
+    builder: &mut TopSubtreeBuilder,
+    char: char,
+    spacing: Spacing,
+    span: Span,
+) -> Result<(), TtFault>
+    ensures err { IfErr result IsAddFault }
+    ensures ok { OnOk result (Adds (at_span (sign char spacing) span ∷ []) builder.old builder.new) }
+{
+    add_leaf(
+        builder,
+        Leaf::Punct(Punct {
+            char,
+            spacing,
+            span,
+        }),
+    )
+}
+
+// Puts the literal that a text spells at the end.
+#[tactic(auto, using(crate::proofs::LimitFacts::scan_fault))]
+fn add_literal(
+    alloc: Global,
+    builder: &mut TopSubtreeBuilder,
+    kind: LiteralKind,
+    suffix_start: u32,
+    text: &str,
+    span: Span,
+) -> Result<(), TtFault>
+    ensures err { IfErr result IsAddFault }
+    ensures ok { OnOk result (Adds (at_span (literal_of (parts_told text.now (Some (scan_of kind, suffix_start)))) span ∷ []) builder.old builder.new) }
+{
+    let literal = token_to_literal(alloc, text, span, Some((scan_of(kind), suffix_start)))?;
+    add_leaf(builder, Leaf::Literal(literal))
+}
+
+// Puts the quote of a lifetime and its name at the end.
+fn add_lifetime(
+    alloc: Global,
+    builder: &mut TopSubtreeBuilder,
+    part: SpanPart,
+    start: u32,
+    text: &str,
+) -> Result<(), TtFault>
+    requires some { 0 < length text.now }
+    requires fits { start + length text.now < 2 ^ 32 }
+    ensures err { IfErr result IsAddFault }
+    ensures ok { OnOk result (Adds (lifetime part start text.now) builder.old builder.new) }
+{
+    let end = start + text.len() as u32;
+    add_punct(
+        builder,
+        '\'',
+        Spacing::Joint,
+        span_at(part, start, start + 1),
+    )?;
+    add_name(
+        alloc,
+        builder,
+        behind_apostrophe(text),
+        span_at(part, start + 1, end),
+    )
+}
+
+/// A token where it stands in a text.
+#[derive(Clone, Copy)]
+pub struct Placed<'a> {
+    /// What it is.
+    pub kind: TokenKind,
+    /// What the token behind it is.
+    pub next: Option<TokenKind>,
+    /// The byte where it begins.
+    pub at: u32,
+    /// Its text.
+    pub text: &'a str,
+}
+
+/// Puts the leaves of a token at the end.
+pub fn add_leaves(
+    alloc: Global,
+    builder: &mut TopSubtreeBuilder,
+    part: SpanPart,
+    token: Placed,
+) -> Result<(), TtFault>
+    requires some { 0 < length token.text.now }
+    requires fits { token.at + length token.text.now < 2 ^ 32 }
+    ensures err { IfErr result IsAddFault }
+    ensures ok { OnOk result (Adds (leaves_of part token.entry.kind token.entry.next token.entry.at token.entry.text.now) builder.old builder.new) }
+{
+    let text = token.text;
+    let at = token.at;
+    let span = span_at(part, at, at + text.len() as u32);
+    match token.kind {
+        TokenKind::Lifetime { .. } => add_lifetime(alloc, builder, part, at, text),
+        TokenKind::RawLifetime => add_lifetime(alloc, builder, part, at, text),
+        TokenKind::LineComment {
+            doc_style: Some(style),
+        } => add_doc(alloc, builder, style, line_text(style, text), span),
+        TokenKind::BlockComment {
+            doc_style: Some(style),
+            ..
+        } => add_doc(alloc, builder, style, block_text(style, text), span),
+        TokenKind::Ident => add_name(alloc, builder, text, span),
+        TokenKind::RawIdent => add_name(alloc, builder, text, span),
+        TokenKind::Literal { kind, suffix_start } => {
+            add_literal(alloc, builder, kind, suffix_start, text, span)
+        }
+        _ => match punct_char(token.kind) {
+            Some(char) => add_punct(builder, char, spacing_before(token.next), span),
+            None => Ok(()),
+        },
+    }
+}

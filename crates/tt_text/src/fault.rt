@@ -1,0 +1,124 @@
+//! Why a text is refused.
+ghost use Rattle.std.specs.Prelude.{◌≡◌};
+ghost use Rattle.tt_text.specs.declared.fault.TextFault.TheVariants.{Limit};
+
+use crate::bracket::Bracket;
+use thiserror::Error;
+use tt_base::TtFault;
+
+/// A bracket that is open, and the byte where it stands.
+#[derive(Debug, Clone, Copy, PartialEq, Eq)]
+pub struct Open {
+    /// Which bracket it is.
+    pub bracket: Bracket,
+    /// The byte where it stands.
+    pub at: u32,
+}
+
+/// What is wrong with a token.
+#[derive(Debug, Clone, Copy, PartialEq, Eq, Error)]
+pub enum BadToken {
+    /// `/*` with no `*/` that closes it.
+    #[error("unterminated comment")]
+    UnterminatedComment,
+    /// A literal with no quote that closes it.
+    #[error("unterminated literal")]
+    UnterminatedLiteral,
+    /// A raw literal that no quote with as many hashes closes, that has no quote, or that has more than 255 hashes.
+    #[error("raw literal that is not closed, or has more than 255 hashes")]
+    BadRawLiteral,
+    /// A character that begins no token.
+    #[error("unknown character")]
+    UnknownCharacter,
+    /// A name right before a quote or a `#`, which is no prefix of a literal.
+    #[error("unknown prefix")]
+    UnknownPrefix,
+    /// A name with emoji in it.
+    #[error("invalid identifier")]
+    InvalidIdent,
+    /// `##` or `#"`, which the edition 2024 keeps for later.
+    #[error("guarded prefix")]
+    GuardedPrefix,
+    /// The letter of a base with no digit behind it.
+    #[error("number with no digits")]
+    NoDigits,
+    /// The `e` of a float with no digit behind it.
+    #[error("exponent with no digits")]
+    EmptyExponent,
+    /// A float that is not written in base ten.
+    #[error("float of another base than ten")]
+    FloatOfAnotherBase,
+    /// A number with a digit that its base has not.
+    #[error("number with a digit that its base has not")]
+    ForeignDigit,
+    /// A byte or a byte string with a character beyond ASCII.
+    #[error("character beyond ASCII in bytes")]
+    BeyondAscii,
+    /// A literal with a carriage return that no line feed follows.
+    #[error("bare carriage return in a literal")]
+    BareReturn,
+    /// `'` and a digit.
+    #[error("lifetime that begins with a digit")]
+    LifetimeBeginsWithDigit,
+}
+
+/// Why tokens are no trees, and the byte where that shows.
+#[derive(Debug, Clone, Copy, PartialEq, Eq, Error)]
+pub enum SyntaxFault {
+    /// A token that is not valid.
+    #[error("{why} at {at}")]
+    BadToken {
+        /// What is wrong with it.
+        why: BadToken,
+        /// The byte where it begins.
+        at: u32,
+    },
+    /// A closing bracket where none is open.
+    #[error("unopened '{}' at {at}", .bracket.closing())]
+    Unopened {
+        /// Which bracket it is.
+        bracket: Bracket,
+        /// The byte where it stands.
+        at: u32,
+    },
+    /// A closing bracket that is no pair with the innermost that is open.
+    #[error("'{}' at {at} does not close the '{}' at {}", .bracket.closing(), .open.bracket.opening(), .open.at)]
+    Mismatched {
+        /// Which bracket it is.
+        bracket: Bracket,
+        /// The byte where it stands.
+        at: u32,
+        /// The innermost bracket that is open there.
+        open: Open,
+    },
+    /// The innermost bracket that is open at the end.
+    #[error("unclosed '{}' at {at}", .bracket.opening())]
+    Unclosed {
+        /// Which bracket it is.
+        bracket: Bracket,
+        /// The byte where it stands.
+        at: u32,
+    },
+}
+
+/// Why a text is refused.
+#[derive(Debug, Clone, Copy, PartialEq, Eq, Error)]
+pub enum TextFault {
+    /// It is no token trees. This is the first such fault.
+    #[error("{0}")]
+    Syntax(SyntaxFault),
+    /// It has more bytes than a span can tell: 4,294,967,296 or more.
+    #[error("more than 4294967295 bytes")]
+    TooLong,
+    /// Memory is wanting, or a limit of trees is passed.
+    #[error("{0}")]
+    Limit(TtFault),
+}
+
+impl From<TtFault> for TextFault {
+    ghost from_gives = { λ fault all. all ≡ Limit fault };
+
+    fn from(fault: TtFault) -> TextFault {
+        TextFault::Limit(fault)
+    }
+}

@@ -1,0 +1,106 @@
+//! What no literal may hold.
+ghost use Rattle.std.specs.Prelude.{◌≡◌, false};
+ghost use Rattle.tt_text.specs.Inside.{before_suffix, beyond_ascii, bytes_fault, bare_return, fault_if, foreign_digit, inside_fault, is_foreign_digit, return_fault};
+
+use crate::fault::BadToken;
+use tt_lex::{Base, LiteralKind};
+
+// Whether a byte is a decimal digit that a base has not.
+fn is_foreign_digit(base: Base, byte: u8) -> bool
+    ensures { result ≡ is_foreign_digit base byte }
+{
+    match base {
+        Base::Binary => (50 <= byte) & (byte <= 57),
+        Base::Octal => (56 <= byte) & (byte <= 57),
+        Base::Decimal => false,
+        Base::Hexadecimal => false,
+    }
+}
+
+// Whether a digit stands in a text that a base has not.
+fn foreign_digit(base: Base, text: &[u8]) -> bool
+    ensures { result ≡ foreign_digit base false text.now }
+{
+    let mut found = false;
+    for byte in text {
+        found = found | is_foreign_digit(base, *byte);
+    }
+    found
+}
+
+// Whether a character beyond ASCII stands in a text.
+fn beyond_ascii(text: &[u8]) -> bool
+    ensures { result ≡ beyond_ascii false text.now }
+{
+    let mut found = false;
+    for byte in text {
+        found = found | (128 <= *byte);
+    }
+    found
+}
+
+// Whether a carriage return stands in a text with no line feed right behind it.
+fn bare_return(text: &[u8]) -> bool
+    ensures { result ≡ bare_return false false text.now }
+{
+    let mut found = false;
+    let mut pending = false;
+    for byte in text {
+        found = found | (pending & (*byte != 10));
+        pending = *byte == 13;
+    }
+    found | pending
+}
+
+// What is wrong, if something is.
+fn fault_if(wrong: bool, why: BadToken) -> Option<BadToken>
+    ensures { result ≡ fault_if wrong why }
+{
+    if wrong { Some(why) } else { None }
+}
+
+// What is wrong with a text that holds a bare carriage return.
+fn return_fault(text: &[u8]) -> Option<BadToken>
+    ensures { result ≡ return_fault text.now }
+{
+    fault_if(bare_return(text), BadToken::BareReturn)
+}
+
+// What is wrong with the text of bytes.
+fn bytes_fault(text: &[u8]) -> Option<BadToken>
+    ensures { result ≡ bytes_fault text.now }
+{
+    if beyond_ascii(text) {
+        Some(BadToken::BeyondAscii)
+    } else {
+        return_fault(text)
+    }
+}
+
+/// A literal without its suffix, which begins at that byte.
+pub fn before_suffix(place: u32, text: &str) -> &[u8]
+    ensures { result.now ≡ before_suffix place text.now }
+{
+    let end = (place as usize).min(text.len());
+    &text.as_bytes()[..end]
+}
+
+/// What is wrong inside of a literal, of which this stands before its suffix.
+pub fn inside_fault(kind: LiteralKind, text: &[u8]) -> Option<BadToken>
+    ensures { result ≡ inside_fault kind text.now }
+{
+    match kind {
+        LiteralKind::Int { base, .. } => {
+            fault_if(foreign_digit(base, text), BadToken::ForeignDigit)
+        }
+        LiteralKind::Float { .. } => None,
+        LiteralKind::Byte { .. } => bytes_fault(text),
+        LiteralKind::ByteStr { .. } => bytes_fault(text),
+        LiteralKind::RawByteStr { .. } => bytes_fault(text),
+        LiteralKind::Char { .. } => return_fault(text),
+        LiteralKind::Str { .. } => return_fault(text),
+        LiteralKind::CStr { .. } => return_fault(text),
+        LiteralKind::RawStr { .. } => return_fault(text),
+        LiteralKind::RawCStr { .. } => return_fault(text),
+    }
+}

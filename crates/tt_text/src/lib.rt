@@ -1,0 +1,17 @@
+//! Rust source text as token trees.
+#![tactic(auto)]
+
+mod add;
+mod bracket;
+mod doc;
+mod fault;
+mod inside;
+pub mod laws;
+mod leaves;
+mod parse;
+mod role;
+mod step;
+
+pub use bracket::Bracket;
+pub use fault::{BadToken, Open, SyntaxFault, TextFault};
+pub use parse::parse_to_token_tree;

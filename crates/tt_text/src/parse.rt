@@ -1,0 +1,97 @@
+//! A text as token trees.
+ghost use Rattle.std.specs.Prelude.{◌≡◌, ◌^◌, ◌<◌, length, IfOk, IfErr};
+ghost use Rattle.std.specs.Str.{chars};
+ghost use Rattle.tt_text.specs.Parsed.{IsParse, IsTop, kind_ahead, token_ahead};
+ghost use Rattle.tt_text.specs.Refusal.{IsRefusal};
+
+use crate::add::Placed;
+use crate::fault::{Open, SyntaxFault, TextFault};
+use crate::leaves::span_at;
+use crate::step::take;
+use std::alloc::Global;
+use tt::{TopSubtree, TopSubtreeBuilder};
+use tt_base::{DelimSpan, Delimiter, SpanAnchor, SpanPart, SyntaxContext};
+use tt_lex::{MOST_TEXT_BYTES, Token, TokenKind, first_token};
+
+// The first token of a text, if it has one.
+fn token_ahead(text: &str) -> Option<Token>
+    requires { length text.now < 2 ^ 32 }
+    ensures { result ≡ token_ahead (chars text.now) }
+{
+    if text.is_empty() {
+        None
+    } else {
+        Some(first_token(text))
+    }
+}
+
+// The kind of a token, if there is one.
+fn kind_of(token: Option<Token>) -> Option<TokenKind>
+    ensures { result ≡ kind_ahead token }
+{
+    match token {
+        Some(it) => Some(it.kind),
+        None => None,
+    }
+}
+
+// The delimiter of a text: invisible, with the empty spans at its start and at its end.
+fn top_of(part: SpanPart, len: u32) -> Delimiter
+    ensures { IsTop part len result }
+{
+    Delimiter::invisible_delim_spanned(DelimSpan::from_pair(
+        span_at(part, 0, 0),
+        span_at(part, len, len),
+    ))
+}
+
+/// The token trees of a text, under an invisible top whose two spans are the empty ones at its start and at its end.
+///
+/// A text with a token that is not valid, or with brackets that do not match, is refused for the first of them. The text
+/// is of edition 2024. Escapes in literals are not judged (docs/PROVED.md).
+#[tactic(auto, using(crate::proofs::LimitFacts::limit_of_leaves))]
+pub fn parse_to_token_tree(
+    alloc: Global,
+    anchor: SpanAnchor,
+    ctx: SyntaxContext,
+    text: &str,
+) -> Result<TopSubtree, TextFault>
+    ensures ok { IfOk result (IsParse (record { anchor = anchor; ctx = ctx }) text.now) }
+    ensures err { IfErr result (IsRefusal (record { anchor = anchor; ctx = ctx }) text.now) }
+{
+    if text.len() > MOST_TEXT_BYTES {
+        return Err(TextFault::TooLong);
+    }
+    let part = SpanPart { anchor, ctx };
+    let mut builder = TopSubtreeBuilder::new(alloc, top_of(part, text.len() as u32))?;
+    let mut open: Vec<Open> = Vec::new(alloc);
+    let mut at = 0;
+    let mut rest = text;
+    let mut ahead = token_ahead(text);
+    while let Some(token) = ahead {
+        let (word, behind) = rest.split_at(token.len as usize);
+        let next = token_ahead(behind);
+        let placed = Placed {
+            kind: token.kind,
+            next: kind_of(next),
+            at,
+            text: word,
+        };
+        if let Some(fault) = take(alloc, &mut builder, &mut open, part, placed)? {
+            return Err(TextFault::Syntax(fault));
+        }
+        at += token.len;
+        rest = behind;
+        ahead = next;
+    }
+    if let Some(last) = open.pop() {
+        return Err(TextFault::Syntax(SyntaxFault::Unclosed {
+            bracket: last.bracket,
+            at: last.at,
+        }));
+    }
+    match builder.build() {
+        Ok(tree) => Ok(tree),
+        Err(refused) => Err(TextFault::Limit(refused.fault)),
+    }
+}

@@ -1,0 +1,130 @@
+//! Texts, each with the Debug of its tree or with why it is refused.
+use std::alloc::Global;
+use std::test::Fail;
+use tt::{ErasedFileAstId, FileId, SpanAnchor, SyntaxContext, TtFault, debug_text};
+use tt_text::{TextFault, parse_to_token_tree};
+
+// Texts that are read.
+const READ: [(&str, &str); 10] = [
+    ("// a\n/* b */ ", ""),
+    (
+        "0b1u8 \"a\r\n\"",
+        "LITERAL Integer 0b1u8 0:0@0..5#0\nLITERAL Str a\r\n 0:0@6..11#0",
+    ),
+    (
+        "日 r#fn _",
+        "IDENT   日 0:0@0..3#0\nIDENT   r#fn 0:0@4..8#0\nIDENT   _ 0:0@9..10#0",
+    ),
+    (
+        "é 'a 'r#b",
+        "IDENT   é 0:0@0..2#0\n\
+        PUNCH   ' [joint] 0:0@3..4#0\nIDENT   a 0:0@4..5#0\n\
+        PUNCH   ' [joint] 0:0@6..7#0\nIDENT   r#b 0:0@7..10#0",
+    ),
+    (
+        "é+=/**/->a",
+        "IDENT   é 0:0@0..2#0\nPUNCH   + [joint] 0:0@2..3#0\nPUNCH   = [alone] 0:0@3..4#0\n\
+        PUNCH   - [joint] 0:0@8..9#0\nPUNCH   > [alone] 0:0@9..10#0\nIDENT   a 0:0@10..11#0",
+    ),
+    (
+        "+'a +()+ +",
+        "PUNCH   + [joint] 0:0@0..1#0\nPUNCH   ' [joint] 0:0@1..2#0\nIDENT   a 0:0@2..3#0\n\
+        PUNCH   + [alone] 0:0@4..5#0\nSUBTREE () 0:0@5..6#0 0:0@6..7#0\n\
+        PUNCH   + [alone] 0:0@7..8#0\nPUNCH   + [alone] 0:0@9..10#0",
+    ),
+    (
+        "日(1u8 [2.5f32] {})",
+        "IDENT   日 0:0@0..3#0\nSUBTREE () 0:0@3..4#0 0:0@19..20#0\n  LITERAL Integer 1u8 0:0@4..7#0\n  \
+        SUBTREE [] 0:0@8..9#0 0:0@15..16#0\n    LITERAL Float 2.5f32 0:0@9..15#0\n  SUBTREE {} 0:0@17..18#0 0:0@18..19#0",
+    ),
+    (
+        "'é' b'a' \"a\" b\"a\" c\"a\" r#\"a\"# br\"a\" cr\"a\" \"a\"x",
+        "LITERAL Char é 0:0@0..4#0\nLITERAL Byte a 0:0@5..9#0\nLITERAL Str a 0:0@10..13#0\n\
+        LITERAL ByteStr a 0:0@14..18#0\nLITERAL CStr a 0:0@19..23#0\nLITERAL StrRaw(1) a 0:0@24..30#0\n\
+        LITERAL ByteStrRaw(0) a 0:0@31..36#0\nLITERAL CStrRaw(0) a 0:0@37..42#0\nLITERAL Err(()) \"a\"x 0:0@43..47#0",
+    ),
+    (
+        "é/// b\"#",
+        "IDENT   é 0:0@0..2#0\nPUNCH   # [alone] 0:0@2..9#0\nSUBTREE [] 0:0@2..9#0 0:0@2..9#0\n  \
+        IDENT   doc 0:0@2..9#0\n  PUNCH   = [alone] 0:0@2..9#0\n  LITERAL StrRaw(2)  b\"# 0:0@2..9#0",
+    ),
+    (
+        "/*!a*/",
+        "PUNCH   # [alone] 0:0@0..6#0\nPUNCH   ! [alone] 0:0@0..6#0\nSUBTREE [] 0:0@0..6#0 0:0@0..6#0\n  \
+        IDENT   doc 0:0@0..6#0\n  PUNCH   = [alone] 0:0@0..6#0\n  LITERAL StrRaw(0) a 0:0@0..6#0",
+    ),
+];
+
+// Texts that are refused, with their first fault.
+const REFUSED: [(&str, &str); 25] = [
+    ("é )", "unopened ')' at 3"),
+    ("日 [(]", "']' at 6 does not close the '(' at 5"),
+    ("é ([{}", "unclosed '[' at 4"),
+    ("é /* /* */", "unterminated comment at 3"),
+    ("é \"a", "unterminated literal at 3"),
+    ("日 b'", "unterminated literal at 4"),
+    (
+        "é r#\"a\"",
+        "raw literal that is not closed, or has more than 255 hashes at 3",
+    ),
+    ("é \\", "unknown character at 3"),
+    ("é a\"b\"", "unknown prefix at 3"),
+    ("日 'a#", "unknown prefix at 4"),
+    ("é 🦀", "invalid identifier at 3"),
+    ("é ##", "guarded prefix at 3"),
+    ("é 0x", "number with no digits at 3"),
+    ("日 1e+", "exponent with no digits at 4"),
+    ("é '1", "lifetime that begins with a digit at 3"),
+    ("é ) 0x", "unopened ')' at 3"),
+    ("日 (0x)", "number with no digits at 5"),
+    ("é 0x )", "number with no digits at 3"),
+    ("日 0x1.0", "float of another base than ten at 4"),
+    ("é 0b12", "number with a digit that its base has not at 3"),
+    ("日 0o8", "number with a digit that its base has not at 4"),
+    ("é b'é'", "character beyond ASCII in bytes at 3"),
+    ("é b\"日\"", "character beyond ASCII in bytes at 3"),
+    ("日 br\"é\"", "character beyond ASCII in bytes at 4"),
+    ("é \"a\rb\"", "bare carriage return in a literal at 3"),
+];
+
+// The Debug of the text's tree, or why it is refused.
+fn told(alloc: Global, text: &str) -> Result<String, TtFault> {
+    let anchor = SpanAnchor {
+        file_id: FileId(0),
+        ast_id: ErasedFileAstId(0),
+    };
+    match parse_to_token_tree(alloc, anchor, SyntaxContext(0), text) {
+        Ok(tree) => debug_text(alloc, tree.token_trees()),
+        Err(fault) => Ok(format!(in alloc; "{fault}")?),
+    }
+}
+
+// Whether each of the texts is told so.
+fn are_told(alloc: Global, rows: &[(&str, &str)]) -> Result<bool, TtFault> {
+    for (text, wanted) in rows {
+        let found = told(alloc, text)?;
+        if found.as_str() != *wanted {
+            return Ok(false);
+        }
+    }
+    Ok(true)
+}
+
+// A test passes where what it asks is so.
+fn holds(is_so: Result<bool, TtFault>) -> Result<(), Fail> {
+    match is_so {
+        Ok(true) => Ok(()),
+        Ok(false) => Err(Fail::new("a text is told otherwise")),
+        Err(fault) => Err(fault.into()),
+    }
+}
+
+#[test]
+fn texts_that_are_read(rt: HostRuntime) -> Result<(), Fail> {
+    holds(are_told(rt.alloc(), &READ))
+}
+
+#[test]
+fn texts_that_are_refused(rt: HostRuntime) -> Result<(), Fail> {
+    holds(are_told(rt.alloc(), &REFUSED))
+}
