@@ -9,14 +9,14 @@ ghost use Rattle.tt_tables.specs.Stored.{packed};
 use crate::write::MARK;
 use tt::{SpanPart, Symbol, TopSubtree};
 
-// What stands behind a number.
+// The bytes behind a number, if they begin with it.
 fn behind_number(number: u32, from: &[u8]) -> Option<&[u8]>
     ensures { IsBehind (number < 2 ^ 32) (number_bytes number) from.now result }
 {
     from.strip_prefix(&number.to_le_bytes())
 }
 
-// What stands behind a count.
+// The bytes behind a count, if it fits in four and they begin with it.
 fn behind_count(count: usize, from: &[u8]) -> Option<&[u8]>
     ensures { IsBehind (count < 2 ^ 32) (number_bytes count) from.now result }
 {
@@ -26,7 +26,7 @@ fn behind_count(count: usize, from: &[u8]) -> Option<&[u8]>
     behind_number(number, from)
 }
 
-// What stands behind a part.
+// The bytes behind a part, if they begin with it.
 fn behind_part<'a>(part: &SpanPart, from: &'a [u8]) -> Option<&'a [u8]>
     ensures { IsBehind (PartFits part.now) (part_bytes part.now) from.now result }
 {
@@ -35,7 +35,7 @@ fn behind_part<'a>(part: &SpanPart, from: &'a [u8]) -> Option<&'a [u8]>
     behind_number(part.ctx.0, rest)
 }
 
-// What stands behind parts.
+// The bytes behind parts, if they begin with them.
 fn behind_parts<'a>(parts: &[SpanPart], from: &'a [u8]) -> Option<&'a [u8]>
     ensures { IsBehind (AllByRecursion PartFits parts.now) (parts_bytes parts.now) from.now result }
 {
@@ -46,7 +46,7 @@ fn behind_parts<'a>(parts: &[SpanPart], from: &'a [u8]) -> Option<&'a [u8]>
     Some(rest)
 }
 
-// What stands behind a symbol.
+// The bytes behind a symbol, if they begin with it.
 fn behind_symbol<'a>(symbol: &Symbol, from: &'a [u8]) -> Option<&'a [u8]>
     ensures { IsBehind (TextFits symbol.now) (symbol_bytes symbol.now) from.now result }
 {
@@ -55,7 +55,7 @@ fn behind_symbol<'a>(symbol: &Symbol, from: &'a [u8]) -> Option<&'a [u8]>
     rest.strip_prefix(text)
 }
 
-// What stands behind symbols.
+// The bytes behind symbols, if they begin with them.
 fn behind_symbols<'a>(symbols: &[Symbol], from: &'a [u8]) -> Option<&'a [u8]>
     ensures { IsBehind (AllByRecursion TextFits symbols.now) (symbols_bytes symbols.now) from.now result }
 {
@@ -66,7 +66,7 @@ fn behind_symbols<'a>(symbols: &[Symbol], from: &'a [u8]) -> Option<&'a [u8]>
     Some(rest)
 }
 
-// What stands behind three counts.
+// The bytes behind three counts, if they begin with them.
 fn behind_counts(parts: usize, symbols: usize, bytes: usize, from: &[u8]) -> Option<&[u8]>
     ensures { IsBehind (CountsFit parts symbols bytes) (counts_bytes parts symbols bytes) from.now result }
 {
@@ -75,7 +75,7 @@ fn behind_counts(parts: usize, symbols: usize, bytes: usize, from: &[u8]) -> Opt
     behind_count(bytes, rest)
 }
 
-// What stands behind all that a piece of the tree has before its packed bytes.
+// The bytes behind all that a piece of the tree has before its packed bytes, if they begin with that.
 fn behind_front<'a>(tree: &TopSubtree, from: &'a [u8]) -> Option<&'a [u8]>
     ensures { IsBehind (StoredFits (packed tree.now)) (front_bytes (packed tree.now)) from.now result }
 {

@@ -41,9 +41,6 @@ fn token_at(tables: Tables<'_>, packed: &[u8], offset: usize) -> Option<(TokenTr
     Some((token, packed.len() - rest.len()))
 }
 
-// No token that is stored takes fewer bytes.
-const LEAST_BYTES: usize = 5;
-
 /// The tokens that stand in packed bytes one after the other. Before these bytes stand so many others.
 pub(crate) fn tokens_of(
     alloc: Global,
@@ -55,7 +52,7 @@ pub(crate) fn tokens_of(
     ensures stand { MatchResult result (λ list. Stand (tables_of tables.entry) packed.now list.items (length packed.now)) (IsStop (tables_of tables.entry) packed.now before) }
     ensures list { (root : Root) → IsAhead (tables_of tables.entry) packed.now 0 (only root) → MatchResult result (λ list. list.items ≡ flat_root root) (λ fault. fault ≡ Memory) }
 {
-    let mut tokens = Vec::with_capacity(alloc, packed.len() / LEAST_BYTES)?;
+    let mut tokens = Vec::new(alloc);
     let mut offset = 0;
     while offset < packed.len() {
         let Some((token, next)) = token_at(tables, packed, offset) else {

@@ -52,9 +52,6 @@ pub(crate) fn split_parts(
     Ok((parts, rest))
 }
 
-// No symbol takes fewer bytes: those that tell how long its text is.
-const LENGTH_BYTES: usize = 4;
-
 // A symbol, and the bytes behind it.
 fn split_symbol(alloc: Global, all: usize, from: &[u8]) -> Result<(Symbol, &[u8]), BytesFault>
     requires { length from.now ≤ all }
@@ -89,7 +86,7 @@ pub(crate) fn split_symbols(
         (λ fault. (fault ≡ Memory) ⊎ (texts_from all count from.now ≡ Err fault)) }
     ensures len { IfOk result (λ found. length found.1.now ≤ length from.now) }
 {
-    let mut symbols = Vec::with_capacity(alloc, (count as usize).min(from.len() / LENGTH_BYTES))?;
+    let mut symbols = Vec::new(alloc);
     let mut rest = from;
     for _ in 0..count {
         let (symbol, behind) = split_symbol(alloc, all, rest)?;

@@ -13,8 +13,8 @@ pub loop-offset-init : goal.loop-offset-init
 loop-offset-init c =
     record {
       inside = search (rules, arith);
-      stand = subst (λ l. Stand (tables_of c.args.tables) c.args.packed.now l 0) (sym c.in_ok-tokens.ensures.items) none;
-      ahead = λ root ahead. (only root, ahead, ap (λ l. l ++ flat (only root)) c.in_ok-tokens.ensures.items);
+      stand = subst (λ l. Stand (tables_of c.args.tables) c.args.packed.now l 0) (sym c.new-tokens.ensures.items) none;
+      ahead = λ root ahead. (only root, ahead, ap (λ l. l ++ flat (only root)) c.new-tokens.ensures.items);
     }
 
 pub returns-in_default-clause-list : goal.returns-in_default-clause-list
