@@ -1,10 +1,10 @@
 -- What a loop over the tokens of a text keeps: any tokens of what is left complete those of the text.
-use Rattle.std.proofs.Common.{◌≡◌, ℕ, ◌+◌, ◌<◌, List, [], ◌∷◌, ◌++◌, length, take, drop, Option, None, Some, Ok, Err, refl, sym, ap, ◌∙◌, subst, arith, append_assoc, append-nil}
+use Rattle.std.proofs.Common.{◌≡◌, ℕ, ◌+◌, ◌<◌, List, [], ◌∷◌, ◌++◌, length, take, drop, Option, Ok, Err, refl, sym, ap, ◌∙◌, subst, arith, append_assoc, append-nil}
 use Rattle.std.specs.Str.{chars, IsUtf8}
-use Rattle.tt_base.specs.Building.{BuilderState, Stack, built, bottom, open_kinds}
+use Rattle.tt_base.specs.Building.{BuilderState, built, open_kinds}
 use Rattle.tt_base.specs.Forest.{Root}
 use Rattle.tt_base.specs.declared.span.SpanPart.{SpanPart}
-use Rattle.tt_lex.specs.Reading.{AreTokensOf, first_token_of, reading}
+use Rattle.tt_lex.specs.Reading.{AreTokensOf, first_token_of}
 use Rattle.tt_lex.specs.declared.token.Token.{Token}
 use Rattle.tt_lex.proofs.FrontFacts.{chars-empty, empty_from_chars}
 use Rattle.tt_text.specs.Faults.{fault_from, or_behind, step}
@@ -16,7 +16,7 @@ use Rattle.tt_text.specs.declared.fault.SyntaxFault.{SyntaxFault}
 use Rattle.tt_text.specs.declared.fault.SyntaxFault.TheVariants.{Unclosed}
 use Rattle.tt_text.specs.declared.fault.Open.{Open}
 use Rattle.tt_text.proofs.StackFacts.{spelled-bottom}
-use Rattle.tt_text.proofs.TextFacts.{Cut, cut, next_is, tokens_exist}
+use Rattle.tt_text.proofs.TextFacts.{cut, next_is, tokens_exist}
 
 -- these tokens complete those of the text
 pub record Completes (part : SpanPart) (text rest : List ℕ) (held : List Piece) (opens : List Open) (at : ℕ) (more : List Token) : Type 0 where

@@ -1,12 +1,12 @@
 -- Of what parts a closed literal is made.
-use Rattle.std.proofs.Common.{◌≡◌, ℕ, zero, suc, ◌+◌, ◌<◌, ◌-◌, ◌≤◌, Bool, true, false, ◌==◌, ◌||◌, ◌&&◌, not, List, [], ◌∷◌, ◌++◌, length, drop, replicate, Option, None, Some, refl, sym, ap, ◌∙◌, ⊎_elim, arith, cond, subst, nat_le, length-append, append_assoc}
-use Rattle.std.proofs.lemmas.Bool.{false≢true, cases_eq, cases_Bool, cond_both, ne_eqb, eq-eqb, eqb-true, and_parts}
+use Rattle.std.proofs.Common.{◌≡◌, ℕ, zero, suc, ◌+◌, ◌<◌, ◌-◌, Bool, true, false, ◌==◌, ◌&&◌, not, List, [], ◌∷◌, ◌++◌, length, drop, replicate, Option, None, Some, refl, sym, ap, ◌∙◌, ⊎_elim, arith, cond, subst, length-append, append_assoc}
+use Rattle.std.proofs.lemmas.Bool.{false≢true, cases_eq, cases_Bool, ne_eqb, eq-eqb, eqb-true, and_parts}
 use Rattle.std.proofs.lemmas.Str.{encode_ascii, encodes-append}
-use Rattle.std.specs.Prelude.{encode_utf8, encode_utf8_all, unwrap_or, is_some, nat_lt}
+use Rattle.std.specs.Prelude.{encode_utf8_all, unwrap_or, is_some, nat_lt}
 use Rattle.tt_lex.specs.Class.{is_decimal, is_decimal_part, passes, is_emoji_mark, is_id_continue, is_id_start, is_whitespace}
 use Rattle.tt_lex.specs.Closing.{behind_quote, behind_raw, counted, hashes_of, raw_body, raw_text}
 use Rattle.tt_lex.specs.Ends.{IsEnd, whole, later}
-use Rattle.tt_lex.specs.Front.{byte_length, first, second, skip, behind, behind_name}
+use Rattle.tt_lex.specs.Front.{byte_length, first, second, skip, behind}
 use Rattle.tt_lex.specs.Quoted.{apostrophe, begins_lifetime, begins_raw_lifetime, behind_apostrophe, gives_up, literal, quoted_char}
 use Rattle.tt_lex.specs.Number.{base_of, begins_exponent, begins_fraction, class_of, has_digit, has_letter, number, with_exponent, with_fraction}
 use Rattle.tt_lex.specs.Opening.{begins_raw, opening, symbol}

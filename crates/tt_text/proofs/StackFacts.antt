@@ -1,5 +1,5 @@
 -- What the calls of a builder add to the pieces that it holds.
-use Rattle.std.proofs.Common.{◌≡◌, ℕ, List, [], ◌∷◌, ◌++◌, refl, sym, ap, ◌∙◌, append_assoc, Bool, true, false, reverse}
+use Rattle.std.proofs.Common.{◌≡◌, ℕ, List, [], ◌∷◌, ◌++◌, refl, sym, ap, ◌∙◌, append_assoc, true, reverse}
 use Rattle.tt_base.specs.Building.{BuilderState, Stack, lowest, above, append, close_innermost, open_kinds, opened, pushed, closed, bottom, IsAbove, IsOpen}
 use Rattle.tt_base.specs.Forest.{Forest, end, leaf, node, join}
 use Rattle.tt_base.specs.Token.{delimiter}

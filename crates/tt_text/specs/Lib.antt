@@ -1,5 +1,6 @@
 -- What a text means as token trees, and why a text is refused.
 pub mod Doc
+pub mod Escapes
 pub mod Faults
 pub mod Inside
 pub mod Limits
@@ -7,4 +8,5 @@ pub mod Refusal
 pub mod Parsed
 pub mod Pieces
 pub mod Role
+pub mod Scanned
 pub mod Spelled

@@ -11,7 +11,7 @@ use Rattle.tt_view.specs.TreeFault.{IsTreeFault}
 abbrev pub IsAddFault : TtFault → Type 0
 IsAddFault Memory = Unit {0}
 IsAddFault SuffixTooLong = Unit {0}
-IsAddFault BadScan = Unit {0}
+IsAddFault BadScan = ⊥
 IsAddFault TooManyTokens = Unit {0}
 IsAddFault NotOneSubtree = ⊥
 IsAddFault NoSuchPlace = ⊥
@@ -29,7 +29,7 @@ IsRefusedTree part text fault = (root : Root) × IsParse part text root × IsTre
 abbrev pub IsLimit : SpanPart → (text : List ℕ) → TtFault → Type 0
 IsLimit part text Memory = Unit {0}
 IsLimit part text SuffixTooLong = Unit {0}
-IsLimit part text BadScan = Unit {0}
+IsLimit part text BadScan = ⊥
 IsLimit part text TooManyTokens = Unit {0}
 IsLimit part text TooManySpanParts = IsRefusedTree part text TooManySpanParts
 IsLimit part text TooManySymbols = IsRefusedTree part text TooManySymbols

@@ -1,5 +1,5 @@
 -- What a token means: leaves and brackets, with the bytes that they stand in.
-use Rattle.std.specs.Prelude.{ℕ, ◌+◌, Bool, true, false, List, [], ◌∷◌, ◌++◌, length, codes, Option, None, Some, is_some, if◌then◌else◌}
+use Rattle.std.specs.Prelude.{ℕ, ◌+◌, List, [], ◌∷◌, ◌++◌, length, codes, Option, None, Some, is_some, if◌then◌else◌}
 use Rattle.tt_base.specs.Scan.{LiteralParts, parts_told}
 use Rattle.tt_base.specs.Token.{rawness_of, without_raw_prefix}
 use Rattle.tt_base.specs.declared.delimiter.DelimiterKind.TheVariants.{Bracket}

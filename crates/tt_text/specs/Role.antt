@@ -12,7 +12,7 @@ use Rattle.tt_text.specs.declared.bracket.Bracket.{Bracket}
 use Rattle.tt_text.specs.declared.bracket.Bracket.TheVariants.{Parenthesis, Brace, Square}
 use Rattle.tt_text.specs.declared.fault.BadToken.{BadToken}
 use Rattle.tt_text.specs.declared.fault.BadToken.TheVariants as bad
-use Rattle.tt_text.specs.Inside.{before_suffix, inside_fault}
+use Rattle.tt_text.specs.Inside.{before_suffix, inside_fault, line_fault, return_fault}
 use Rattle.tt_text.specs.declared.role.Role.{Role}
 use Rattle.tt_text.specs.declared.role.Role.TheVariants.{Bad, Nothing, Opens, Closes, Leaf}
 
@@ -83,4 +83,6 @@ with_inside role _ = role
 -- what a token with this text is to a tree
 abbrev pub role_in : TokenKind → (text : List ℕ) → Role
 role_in (kinds.Literal kind suffix_start) text = with_inside (literal_role kind) (inside_fault kind (before_suffix suffix_start text))
+role_in (kinds.LineComment (Some style)) text = with_inside (role_of (kinds.LineComment (Some style))) (line_fault text)
+role_in (kinds.BlockComment (Some style) terminated) text = with_inside (role_of (kinds.BlockComment (Some style) terminated)) (return_fault text)
 role_in kind text = role_of kind

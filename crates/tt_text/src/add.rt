@@ -1,9 +1,10 @@
 //! Leaves of a text, put into a builder.
 ghost use Rattle.std.specs.Prelude.{◌≡◌, ◌+◌, ◌^◌, ◌<◌, ◌≤◌, [], ◌∷◌, length, Some, IfErr, OnOk};
-ghost use Rattle.tt_base.specs.Scan.{parts_told};
+ghost use Rattle.tt_base.specs.Scan.{FitsText, parts_told};
 ghost use Rattle.tt_text.specs.Limits.{IsAddFault};
 ghost use Rattle.tt_text.specs.Parsed.{Adds};
 ghost use Rattle.tt_text.specs.Pieces.{leaves_of, lifetime, literal_of, name_of, piece, scan_of};
+ghost use Rattle.tt_text.specs.Scanned.{IsScanned};
 ghost use Rattle.tt_text.specs.Spelled.{at_span, piece_of, sign};
 
 use crate::doc::{add_doc, block_text, line_text};
@@ -67,6 +68,7 @@ fn add_literal(
     text: &str,
     span: Span,
 ) -> Result<(), TtFault>
+    requires scan { FitsText text.now (scan_of kind) suffix_start }
     ensures err { IfErr result IsAddFault }
     ensures ok { OnOk result (Adds (at_span (literal_of (parts_told text.now (Some (scan_of kind, suffix_start)))) span ∷ []) builder.old builder.new) }
 {
@@ -124,6 +126,7 @@ pub fn add_leaves(
 ) -> Result<(), TtFault>
     requires some { 0 < length token.text.now }
     requires fits { token.at + length token.text.now < 2 ^ 32 }
+    requires scan { IsScanned token.kind token.text.now }
     ensures err { IfErr result IsAddFault }
     ensures ok { OnOk result (Adds (leaves_of part token.entry.kind token.entry.next token.entry.at token.entry.text.now) builder.old builder.new) }
 {

@@ -54,9 +54,33 @@ pub enum BadToken {
     /// A byte or a byte string with a character beyond ASCII.
     #[error("character beyond ASCII in bytes")]
     BeyondAscii,
-    /// A literal with a carriage return that no line feed follows.
-    #[error("bare carriage return in a literal")]
+    /// A literal, or a comment that documents something, with a carriage return that no line feed follows.
+    #[error("bare carriage return")]
     BareReturn,
+    /// A backslash with something behind it that is no escape of such a literal.
+    #[error("unknown escape")]
+    UnknownEscape,
+    /// `\x` without two digits of base 16.
+    #[error("escape of a byte without two digits")]
+    BadHexEscape,
+    /// `\x80` or more in a character or a string, where it would be no character.
+    #[error("escape of a byte beyond 7f")]
+    HexEscapeTooLarge,
+    /// `\u` without one to six digits of base 16 in braces, or with the number of no character.
+    #[error("escape of no character")]
+    BadUnicodeEscape,
+    /// A quote, a tab or an end of line in a literal of one character, which stands there behind a backslash alone.
+    #[error("character that wants an escape")]
+    WantsEscape,
+    /// A literal of one character with none in it.
+    #[error("empty character literal")]
+    EmptyChar,
+    /// A literal of one character with several in it.
+    #[error("several characters in a character literal")]
+    SeveralChars,
+    /// A null in a C string.
+    #[error("null in a C string")]
+    NullInCStr,
     /// `'` and a digit.
     #[error("lifetime that begins with a digit")]
     LifetimeBeginsWithDigit,

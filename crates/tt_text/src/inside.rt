@@ -1,7 +1,10 @@
 //! What no literal may hold.
 ghost use Rattle.std.specs.Prelude.{◌≡◌, false};
-ghost use Rattle.tt_text.specs.Inside.{before_suffix, beyond_ascii, bytes_fault, bare_return, fault_if, foreign_digit, inside_fault, is_foreign_digit, return_fault};
+ghost use Rattle.tt_text.specs.Escapes.{escape_fault};
+ghost use Rattle.tt_text.specs.declared.fault.BadToken.TheVariants.{NullInCStr};
+ghost use Rattle.tt_text.specs.Inside.{first_of, has_null, quoted_fault, inner_return, line_fault, before_suffix, beyond_ascii, bytes_fault, bare_return, fault_if, foreign_digit, inside_fault, is_foreign_digit, return_fault};
 
+use crate::escapes::escape_fault;
 use crate::fault::BadToken;
 use tt_lex::{Base, LiteralKind};
 
@@ -52,6 +55,19 @@ fn bare_return(text: &[u8]) -> bool
     found | pending
 }
 
+// The same of a text that a line feed may stand behind.
+fn inner_return(text: &[u8]) -> bool
+    ensures { result ≡ inner_return false false text.now }
+{
+    let mut found = false;
+    let mut pending = false;
+    for byte in text {
+        found = found | (pending & (*byte != 10));
+        pending = *byte == 13;
+    }
+    found
+}
+
 // What is wrong, if something is.
 fn fault_if(wrong: bool, why: BadToken) -> Option<BadToken>
     ensures { result ≡ fault_if wrong why }
@@ -77,6 +93,61 @@ fn bytes_fault(text: &[u8]) -> Option<BadToken>
     }
 }
 
+// What is wrong with a text in quotes, whose first quote ends so many bytes from its start.
+fn quoted_fault(kind: LiteralKind, opening: usize, text: &[u8]) -> Option<BadToken>
+    ensures { result ≡ quoted_fault kind opening text.now }
+{
+    match return_fault(text) {
+        None => escape_fault(kind, opening, text),
+        Some(why) => Some(why),
+    }
+}
+
+// What is wrong with bytes in quotes.
+fn quoted_bytes_fault(kind: LiteralKind, text: &[u8]) -> Option<BadToken>
+    ensures { result ≡ first_of (bytes_fault text.now) (escape_fault kind 2 text.now) }
+{
+    match bytes_fault(text) {
+        None => escape_fault(kind, 2, text),
+        Some(why) => Some(why),
+    }
+}
+
+// Whether a null stands in a text.
+fn has_null(text: &[u8]) -> bool
+    ensures { result ≡ has_null false text.now }
+{
+    let mut found = false;
+    for byte in text {
+        found = found | (*byte == 0);
+    }
+    found
+}
+
+// What is wrong with a raw C string.
+fn raw_c_fault(text: &[u8]) -> Option<BadToken>
+    ensures { result ≡ first_of (return_fault text.now) (fault_if (has_null false text.now) NullInCStr) }
+{
+    match return_fault(text) {
+        None => fault_if(has_null(text), BadToken::NullInCStr),
+        Some(why) => Some(why),
+    }
+}
+
+/// What is wrong inside of a comment of one line that documents something.
+pub fn line_fault(text: &str) -> Option<BadToken>
+    ensures { result ≡ line_fault text.now }
+{
+    fault_if(inner_return(text.as_bytes()), BadToken::BareReturn)
+}
+
+/// What is wrong inside of one between signs.
+pub fn block_fault(text: &str) -> Option<BadToken>
+    ensures { result ≡ return_fault text.now }
+{
+    return_fault(text.as_bytes())
+}
+
 /// A literal without its suffix, which begins at that byte.
 pub fn before_suffix(place: u32, text: &str) -> &[u8]
     ensures { result.now ≡ before_suffix place text.now }
@@ -94,13 +165,13 @@ pub fn inside_fault(kind: LiteralKind, text: &[u8]) -> Option<BadToken>
             fault_if(foreign_digit(base, text), BadToken::ForeignDigit)
         }
         LiteralKind::Float { .. } => None,
-        LiteralKind::Byte { .. } => bytes_fault(text),
-        LiteralKind::ByteStr { .. } => bytes_fault(text),
-        LiteralKind::RawByteStr { .. } => bytes_fault(text),
-        LiteralKind::Char { .. } => return_fault(text),
-        LiteralKind::Str { .. } => return_fault(text),
-        LiteralKind::CStr { .. } => return_fault(text),
+        LiteralKind::Char { .. } => quoted_fault(kind, 1, text),
+        LiteralKind::Byte { .. } => quoted_bytes_fault(kind, text),
+        LiteralKind::Str { .. } => quoted_fault(kind, 1, text),
+        LiteralKind::ByteStr { .. } => quoted_bytes_fault(kind, text),
+        LiteralKind::CStr { .. } => quoted_fault(kind, 2, text),
         LiteralKind::RawStr { .. } => return_fault(text),
-        LiteralKind::RawCStr { .. } => return_fault(text),
+        LiteralKind::RawByteStr { .. } => bytes_fault(text),
+        LiteralKind::RawCStr { .. } => raw_c_fault(text),
     }
 }

@@ -4,6 +4,7 @@
 mod add;
 mod bracket;
 mod doc;
+mod escapes;
 mod fault;
 mod inside;
 pub mod laws;

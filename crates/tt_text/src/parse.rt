@@ -48,7 +48,7 @@ fn top_of(part: SpanPart, len: u32) -> Delimiter
 /// The token trees of a text, under an invisible top whose two spans are the empty ones at its start and at its end.
 ///
 /// A text with a token that is not valid, or with brackets that do not match, is refused for the first of them. The text
-/// is of edition 2024. Escapes in literals are not judged (docs/PROVED.md).
+/// is of edition 2024.
 #[tactic(auto, using(crate::proofs::LimitFacts::limit_of_leaves))]
 pub fn parse_to_token_tree(
     alloc: Global,

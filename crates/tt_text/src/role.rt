@@ -4,7 +4,7 @@ ghost use Rattle.tt_text.specs.Role.{comment_role, float_role, literal_role, or_
 
 use crate::bracket::Bracket;
 use crate::fault::BadToken;
-use crate::inside::{before_suffix, inside_fault};
+use crate::inside::{before_suffix, block_fault, inside_fault, line_fault};
 use tt_lex::{Base, LiteralKind, TokenKind};
 
 /// What a token is to a tree.
@@ -128,6 +128,13 @@ pub fn role_in(kind: TokenKind, text: &str) -> Role
             literal_role(kind),
             inside_fault(kind, before_suffix(suffix_start, text)),
         ),
+        TokenKind::LineComment { doc_style: Some(_) } => {
+            with_inside(role_of(kind), line_fault(text))
+        }
+        TokenKind::BlockComment {
+            doc_style: Some(_),
+            ..
+        } => with_inside(role_of(kind), block_fault(text)),
         _ => role_of(kind),
     }
 }

@@ -4,6 +4,9 @@ ghost use Rattle.tt_base.specs.Building.{open_kinds};
 ghost use Rattle.tt_text.specs.Faults.{kinds_of, step};
 ghost use Rattle.tt_text.specs.Limits.{IsAddFault};
 ghost use Rattle.tt_text.specs.Pieces.{pieces_of};
+ghost use Rattle.tt_text.specs.Role.{role_in};
+ghost use Rattle.tt_text.specs.Scanned.{IsScanned};
+ghost use Rattle.tt_text.specs.declared.role.Role.TheVariants.{Leaf};
 ghost use Rattle.tt_text.specs.Spelled.{spelled_so_far};
 
 use crate::add::{Placed, add_leaves};
@@ -27,6 +30,7 @@ pub fn take(
     requires some { 0 < length token.text.now }
     requires fits { token.at + length token.text.now < 2 ^ 32 }
     requires same { kinds_of (reverse opens.old.items) ≡ open_kinds builder.old.stack }
+    requires scan { role_in token.kind token.text.now ≡ Leaf → IsScanned token.kind token.text.now }
     ensures fault { IfOk result (λ fault. MatchOption fault
         (step (reverse opens.old.items) token.entry.at token.entry.kind token.entry.text.now ≡ Ok (reverse opens.new.items))
         (λ it. step (reverse opens.old.items) token.entry.at token.entry.kind token.entry.text.now ≡ Err it)) }

@@ -5,7 +5,12 @@ use tt::{ErasedFileAstId, FileId, SpanAnchor, SyntaxContext, TtFault, debug_text
 use tt_text::{TextFault, parse_to_token_tree};
 
 // Texts that are read.
-const READ: [(&str, &str); 10] = [
+const READ: [(&str, &str); 11] = [
+    (
+        "//!a\r\n",
+        "PUNCH   # [alone] 0:0@0..5#0\nPUNCH   ! [alone] 0:0@0..5#0\nSUBTREE [] 0:0@0..5#0 0:0@0..5#0\n  \
+        IDENT   doc 0:0@0..5#0\n  PUNCH   = [alone] 0:0@0..5#0\n  LITERAL StrRaw(0) a\r 0:0@0..5#0",
+    ),
     ("// a\n/* b */ ", ""),
     (
         "0b1u8 \"a\r\n\"",
@@ -56,7 +61,7 @@ const READ: [(&str, &str); 10] = [
 ];
 
 // Texts that are refused, with their first fault.
-const REFUSED: [(&str, &str); 25] = [
+const REFUSED: [(&str, &str); 27] = [
     ("é )", "unopened ')' at 3"),
     ("日 [(]", "']' at 6 does not close the '(' at 5"),
     ("é ([{}", "unclosed '[' at 4"),
@@ -81,10 +86,64 @@ const REFUSED: [(&str, &str); 25] = [
     ("日 0x1.0", "float of another base than ten at 4"),
     ("é 0b12", "number with a digit that its base has not at 3"),
     ("日 0o8", "number with a digit that its base has not at 4"),
+    ("日 ///a\rb", "bare carriage return at 4"),
+    ("é /**a\r*/", "bare carriage return at 3"),
     ("é b'é'", "character beyond ASCII in bytes at 3"),
     ("é b\"日\"", "character beyond ASCII in bytes at 3"),
     ("日 br\"é\"", "character beyond ASCII in bytes at 4"),
-    ("é \"a\rb\"", "bare carriage return in a literal at 3"),
+    ("é \"a\rb\"", "bare carriage return at 3"),
+];
+
+// Literals with what no literal of their kind may hold.
+const NO_LITERALS: [(&str, &str); 26] = [
+    ("é '\\q'", "unknown escape at 3"),
+    ("日 \"\\q\"", "unknown escape at 4"),
+    ("é b'\\u{41}'", "unknown escape at 3"),
+    ("é b\"\\u{41}\"", "unknown escape at 3"),
+    ("é '\\\n'", "unknown escape at 3"),
+    ("日 \"\\x4\"", "escape of a byte without two digits at 4"),
+    ("é '\\xg0'", "escape of a byte without two digits at 3"),
+    ("é \"\\x80\"", "escape of a byte beyond 7f at 3"),
+    ("é '\\xff'", "escape of a byte beyond 7f at 3"),
+    ("é \"\\u41\"", "escape of no character at 3"),
+    ("é \"\\u{}\"", "escape of no character at 3"),
+    ("é \"\\u{_1}\"", "escape of no character at 3"),
+    ("é \"\\u{1234567}\"", "escape of no character at 3"),
+    ("é '\\u{d800}'", "escape of no character at 3"),
+    ("日 '\\u{110000}'", "escape of no character at 4"),
+    ("é \"\\u{41\"", "escape of no character at 3"),
+    ("é '\t'", "character that wants an escape at 3"),
+    ("日 '''", "character that wants an escape at 4"),
+    ("é b'\n'", "character that wants an escape at 3"),
+    ("é b''", "empty character literal at 3"),
+    ("é 'ab'", "several characters in a character literal at 3"),
+    ("日 b'ab'", "several characters in a character literal at 4"),
+    ("é c\"\\0\"", "null in a C string at 3"),
+    ("é c\"\\x00\"", "null in a C string at 3"),
+    ("é c\"\\u{0}\"", "null in a C string at 3"),
+    ("日 cr\"\0\"", "null in a C string at 4"),
+];
+
+// Literals with each escape that their kind has, and the Debug of their trees.
+const ESCAPES: [(&str, &str); 5] = [
+    (
+        "'日' '\\n' '\\u{1F_980}' '\\x7f' '\"'",
+        "LITERAL Char 日 0:0@0..5#0\nLITERAL Char \\n 0:0@6..10#0\nLITERAL Char \\u{1F_980} 0:0@11..23#0\n\
+        LITERAL Char \\x7f 0:0@24..30#0\nLITERAL Char \" 0:0@31..34#0",
+    ),
+    (
+        "b'\\xff' b'\\''",
+        "LITERAL Byte \\xff 0:0@0..7#0\nLITERAL Byte \\' 0:0@8..13#0",
+    ),
+    (
+        "\"'\\0\\\\\\\n \\u{10ffff}\"",
+        "LITERAL Str '\\0\\\\\\\n \\u{10ffff} 0:0@0..20#0",
+    ),
+    ("c\"\\xff日\\u{1}\"", "LITERAL CStr \\xff日\\u{1} 0:0@0..15#0"),
+    (
+        "b\"\\x00\\\r\n\"",
+        "LITERAL ByteStr \\x00\\\r\n 0:0@0..10#0",
+    ),
 ];
 
 // The Debug of the text's tree, or why it is refused.
@@ -127,4 +186,14 @@ fn texts_that_are_read(rt: HostRuntime) -> Result<(), Fail> {
 #[test]
 fn texts_that_are_refused(rt: HostRuntime) -> Result<(), Fail> {
     holds(are_told(rt.alloc(), &REFUSED))
+}
+
+#[test]
+fn texts_that_are_no_literals(rt: HostRuntime) -> Result<(), Fail> {
+    holds(are_told(rt.alloc(), &NO_LITERALS))
+}
+
+#[test]
+fn escapes(rt: HostRuntime) -> Result<(), Fail> {
+    holds(are_told(rt.alloc(), &ESCAPES))
 }

@@ -8,6 +8,7 @@ use Rattle.tt_text.specs.Pieces.{pieces_of}
 use Rattle.tt_text.specs.Spelled.{spelled_so_far}
 use Rattle.tt_text.proofs.AheadFacts.{ahead_step, ahead_fault, ahead_unclosed, ahead_end}
 use Rattle.tt_text.proofs.LimitFacts.{limit_of_tree}
+use Rattle.tt_text.proofs.ScanFacts.{word_scanned}
 use Rattle.tt_text.proofs.TextFacts.{ahead_is, cut, is_empty}
 use Rattle.tt_text.proofs.parse.parse_to_token_tree.Goals as goal
 
@@ -22,6 +23,11 @@ take-requires-clause-some c =
     let first = ahead_is c.in-Some.token c.loop-ahead.rest.now (sym c.in-Some.is ∙ c.loop-ahead.invariant.1.token) in
     let k = cut c.loop-ahead.rest.now c.loop-ahead.invariant.0 first.0 in
     omega (arith, k.some, ap (λ t. t.len) first.1, c.split_at.ensures.front_len)
+
+pub take-requires-clause-scan : goal.take-requires-clause-scan
+take-requires-clause-scan c =
+    let first = ahead_is c.in-Some.token c.loop-ahead.rest.now (sym c.in-Some.is ∙ c.loop-ahead.invariant.1.token) in
+    word_scanned c.loop-ahead.rest.now c.split_at.result.0.now c.in-Some.token c.loop-ahead.invariant.0 first.0 first.1 c.split_at.ensures.front
 
 pub returns-in-Some-2-clause-err : goal.returns-in-Some-2-clause-err
 returns-in-Some-2-clause-err c =

@@ -1,4 +1,4 @@
-use Rattle.std.proofs.Common.{arith, sym, ap, ◌∙◌, Some}
+use Rattle.std.proofs.Common.{sym, ap, ◌∙◌, Some}
 use Rattle.std.proofs.lemmas.Bool.{eqb-true}
 use Rattle.tt_text.proofs.TextFacts.{more_than_none, none_ahead, some_ahead}
 use Rattle.tt_text.proofs.parse.token_ahead.Goals as goal
