@@ -49,14 +49,16 @@ def difference(program, seed):
     """Where the program answers something else, or nothing."""
     expected = list(expected_answers(Script(seed).commands))
     script = "".join(line + "\n" for line, _ in expected)
-    done = subprocess.run([program], input=script, capture_output=True, text=True, timeout=120, check=False)
-    found, place = done.stdout.split("\n"), 0
+    # As bytes, since Python takes a carriage return before a line feed out of what it reads as text.
+    done = subprocess.run([program], input=script.encode(), capture_output=True, timeout=120, check=False)
+    found, place = done.stdout.decode(errors="backslashreplace"), 0
     for number, (line, answer) in enumerate(expected, 1):
-        if found[place:place + len(answer)] != answer:
-            return f"line {number}, {line[:80]}: {found[place:place + len(answer)]} in place of {answer}"[:400]
-        place += len(answer)
-    if found[place:] != [""] or done.returncode != 0:
-        return f"status {done.returncode}, and {found[place:]} behind the answers"[:400]
+        wanted = "".join(text + "\n" for text in answer)
+        if not found.startswith(wanted, place):
+            return f"line {number}, {line[:80]}: {found[place:place + len(wanted)]!r} in place of {wanted!r}"[:400]
+        place += len(wanted)
+    if place != len(found) or done.returncode != 0:
+        return f"status {done.returncode}, and {found[place:]!r} behind the answers"[:400]
     return None
 
 
