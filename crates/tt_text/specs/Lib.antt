@@ -1,4 +1,5 @@
 -- What a text means as token trees, and why a text is refused.
+pub mod Bracket
 pub mod Doc
 pub mod Escapes
 pub mod Faults

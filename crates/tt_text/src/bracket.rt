@@ -1,5 +1,6 @@
 //! Brackets of a text.
 ghost use Rattle.std.specs.Prelude.{◌≡◌};
+ghost use Rattle.tt_text.specs.Bracket.{closing_of, opening_of};
 ghost use Rattle.tt_text.specs.Role.{kind_of, same_bracket};
 
 use tt_base::DelimiterKind;
@@ -28,7 +29,9 @@ impl Bracket {
     }
 
     /// The character that opens it.
-    pub fn opening(&self) -> char {
+    pub fn opening(&self) -> char
+        ensures { result ≡ opening_of self.now }
+    {
         match self {
             Bracket::Parenthesis => '(',
             Bracket::Brace => '{',
@@ -37,7 +40,9 @@ impl Bracket {
     }
 
     /// The character that closes it.
-    pub fn closing(&self) -> char {
+    pub fn closing(&self) -> char
+        ensures { result ≡ closing_of self.now }
+    {
         match self {
             Bracket::Parenthesis => ')',
             Bracket::Brace => '}',

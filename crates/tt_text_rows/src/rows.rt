@@ -61,10 +61,12 @@ const READ: [(&str, &str); 11] = [
 ];
 
 // Texts that are refused, with their first fault.
-const REFUSED: [(&str, &str); 27] = [
+const REFUSED: [(&str, &str); 29] = [
     ("é )", "unopened ')' at 3"),
     ("日 [(]", "']' at 6 does not close the '(' at 5"),
     ("é ([{}", "unclosed '[' at 4"),
+    ("é }", "unopened '}' at 3"),
+    ("日 {", "unclosed '{' at 4"),
     ("é /* /* */", "unterminated comment at 3"),
     ("é \"a", "unterminated literal at 3"),
     ("日 b'", "unterminated literal at 4"),
