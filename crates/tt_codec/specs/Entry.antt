@@ -1,6 +1,6 @@
 -- How a token in numbers is written, and read.
 use Rattle.std.specs.Borrow.{Bor}
-use Rattle.std.specs.Prelude.{List, ℕ, ◌/◌, ◌%◌, ◌==◌, if◌then◌else◌, Bool, false, not, Option, None, Some, ◌≡◌, ◌++◌, IsSomeAnd}
+use Rattle.std.specs.Prelude.{List, ℕ, ◌/◌, ◌%◌, ◌==◌, if◌then◌else◌, Bool, false, not, ◌||◌, Option, None, Some, ◌≡◌, ◌++◌, IsSomeAnd}
 use Rattle.tt_codec.specs.Header.{HeaderFits, header_bytes, format_1_at, format_2_at, format_3_at, format_4_at}
 use Rattle.tt_codec.specs.Leaf.{LeafEntryFits, leaf_bytes, most_leaf_bytes, plain_at, marked_at}
 use Rattle.tt_codec.specs.Read.{Read, ◌>>=◌, byte_at}
@@ -47,14 +47,24 @@ entry_behind_span extra numbers bytes =
     if extra == 0 then (byte_at bytes >>= λ control. plain_entry_at control.0 numbers control.1)
     else as_entry (marked_at extra numbers bytes)
 
--- whether a span that was read has extra bits, as those of idents and ASCII puncts have
-abbrev pub is_marked : Read Spanned → Bool
-is_marked None = false
-is_marked (Some span) = not (span.0.extra == 0)
+-- whether the byte behind a span begins a header of the first or the fourth format, or a literal of the short form
+abbrev pub is_common_control : (control : ℕ) → Bool
+is_common_control control = control % 8 == 0 || control % 8 == 5 || control % 8 == 3 || control % 8 == 4
 
--- whether the bytes begin with the span of an ident or of an ASCII punct
-unfoldable pub is_marked_at : List ℕ → Bool
-is_marked_at bytes = is_marked (span_at bytes)
+-- whether a token has one of the forms that most have: its span has these extra bits, and this is read behind it
+abbrev pub is_common_behind : (extra : ℕ) → Read ℕ → Bool
+is_common_behind extra None = not (extra == 0)
+is_common_behind extra (Some control) = not (extra == 0) || is_common_control control.0
+
+-- the same, where this span is read
+abbrev pub is_common : Read Spanned → Bool
+is_common None = false
+is_common (Some span) = is_common_behind span.0.extra (byte_at span.1)
+
+-- whether the bytes begin with the span of an ident or an ASCII punct, or with the span and one byte of a header of the first or
+-- the fourth format or of a literal of the short form
+unfoldable pub is_common_at : List ℕ → Bool
+is_common_at bytes = is_common (span_at bytes)
 
 -- a token
 unfoldable pub entry_at : List ℕ → Read Entry

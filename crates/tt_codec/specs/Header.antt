@@ -1,6 +1,7 @@
 -- How a header below the top is written, given in numbers: in the first of four formats whose condition holds; and how it is read.
+use Rattle.std.specs.Borrow.{Bor}
 use Rattle.std.specs.Int.{w16, to_le_bytes}
-use Rattle.std.specs.Prelude.{ℕ, suc, ◌+◌, ◌-◌, ◌*◌, ◌/◌, ◌%◌, ◌^◌, ◌<◌, Bool, false, ◌&&◌, ◌==◌, nat_le, if◌then◌else◌, List, [], ◌∷◌, ◌++◌, nat_lt, Option, Some, None}
+use Rattle.std.specs.Prelude.{ℕ, suc, ◌+◌, ◌-◌, ◌*◌, ◌/◌, ◌%◌, ◌^◌, ◌<◌, Bool, false, ◌&&◌, ◌==◌, nat_le, if◌then◌else◌, List, [], ◌∷◌, ◌++◌, nat_lt, Option, Some, None, ◌≡◌, MatchOption}
 use Rattle.tt_base.specs.declared.delimiter.Delimiter.{Delimiter}
 use Rattle.tt_codec.specs.Kinds.{delimiter_number, delimiter_kind_from}
 use Rattle.tt_codec.specs.Read.{Read, ◌>>=◌, byte_at, half_at, word_at}
@@ -87,6 +88,10 @@ top_entry part delimiter len child_bytes =
     }
 
 -- ---- how it is read
+
+-- what the code read of a header: the same numbers, and the same bytes behind it
+abbrev pub IsHeaderRead : Read Entry → Option (HeaderEntry × Bor (List ℕ)) → Type 0
+IsHeaderRead read result = MatchOption result (read ≡ None) (λ found. read ≡ Some (of_header found.0, found.1.now))
 
 -- the offset so far behind a start, where four bytes can say it
 unfoldable pub start_behind : (start distance : ℕ) → Option ℕ

@@ -102,11 +102,13 @@ plain_at control numbers rest =
 abbrev pub ident_at : SpanNumbers → List ℕ → Read LeafEntry
 ident_at numbers bytes = reference_at bytes >>= λ found. Some (ident found.0.index (raw_from found.0.tag) numbers, found.1)
 
--- an ASCII punct, of which the span has been read; hidden tells whether it is joint hidden
+-- the spacing of an ASCII punct: hidden tells whether it is joint hidden, and else the lowest bit of the byte
+abbrev pub ascii_spacing : (hidden byte : ℕ) → Spacing
+ascii_spacing hidden byte = if hidden == 1 then JointHidden else if byte % 2 == 0 then Alone else Joint
+
+-- an ASCII punct, of which the span has been read
 abbrev pub ascii_at : (hidden : ℕ) → SpanNumbers → List ℕ → Read LeafEntry
-ascii_at hidden numbers bytes =
-    byte_at bytes >>= λ byte.
-    Some (punct (byte.0 / 2) (if hidden == 1 then JointHidden else if byte.0 % 2 == 0 then Alone else Joint) numbers, byte.1)
+ascii_at hidden numbers bytes = byte_at bytes >>= λ byte. Some (punct (byte.0 / 2) (ascii_spacing hidden byte.0) numbers, byte.1)
 
 -- an ident or an ASCII punct, of which the span has been read
 abbrev pub marked_at : (extra : ℕ) → SpanNumbers → List ℕ → Read LeafEntry

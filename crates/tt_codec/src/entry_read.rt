@@ -1,20 +1,24 @@
 //! Which leaf or header some bytes begin with (docs/FORMATS.md, "Bytes of a leaf" and "Bytes of a header").
 ghost use Rattle.std.specs.Prelude.{◌≡◌, Some, None, IsTrue, false};
-ghost use Rattle.tt_codec.specs.Entry.{as_entry, plain_entry_at, entry_behind_span, is_marked_at, entry_at, EntriesAgain};
-ghost use Rattle.tt_codec.specs.Leaf.{long_literal_at, other_punct_at, plain_at, marked_at};
-ghost use Rattle.tt_codec.specs.Read.{Read, IsRead, IsMade};
+ghost use Rattle.tt_codec.specs.Entry.{as_entry, plain_entry_at, entry_behind_span, is_common_behind, is_common_at, entry_at, EntriesAgain};
+ghost use Rattle.tt_codec.specs.Header.{IsHeaderRead};
+ghost use Rattle.tt_codec.specs.Leaf.{long_literal_at, other_punct_at, short_literal_at, literal_at, ident_at, ascii_at, marked_at};
+ghost use Rattle.tt_codec.specs.Read.{Read, IsRead, IsMade, byte_at};
 ghost use Rattle.tt_codec.specs.declared.entry.Entry.{Entry as StoredEntry};
-ghost use Rattle.tt_codec.specs.declared.entry.LeafEntry.{LeafEntry as StoredLeaf};
 ghost use Rattle.tt_codec.specs.declared.entry.Entry.TheVariants as stored;
 
 use crate::entry::{Entry, HeaderEntry, LeafEntry};
 use crate::form::{
     FORM_BITS, FORM_MASK, FORMAT_1, FORMAT_2, FORMAT_3, FORMAT_4, IDENT, LONG_LITERAL, OTHER_PUNCT,
-    PLAIN,
+    PLAIN, SHORT_KIND_BITS, SHORT_KIND_MASK,
 };
 use crate::header_read::{read_format_1, read_format_2, read_format_3, read_format_4};
+use crate::kinds::{raw_from, short_kind_from, spacing_from};
+use crate::leaf_read::{ascii_spacing, read_char, read_kind};
+use crate::reference::Reference;
 use crate::span::{SpanNumbers, Spanned};
 use crate::words::split_byte;
+use tt_base::{IdentIsRaw, LitKind, Spacing};
 
 /// What is done with a token's numbers, there where its form has just been read: so what is made of them goes through
 /// no value that all forms share, and is written once.
@@ -22,90 +26,157 @@ pub trait Visitor<'a> {
     ghost use Rattle.std.specs.Prelude.{List, ℕ};
     ghost use Rattle.tt_codec.specs.declared.entry.Entry.{Entry};
     ghost use Rattle.tt_codec.specs.declared.entry.Entry.TheVariants as stored;
+    ghost use Rattle.tt_codec.specs.declared.entry.LeafEntry.TheVariants as leaf;
 
     /// What becomes of the visitor at a token in numbers, with these bytes behind it.
     ghost makes: { Self → Entry → List ℕ → Self → Type 0 };
 
-    /// Visits a leaf.
-    fn visit_leaf(&mut self, leaf: LeafEntry, rest: &'a [u8])
-        ensures { makes self.old (stored.Leaf leaf) rest.now self.new };
+    /// Visits an ident: its symbol by its index, whether it is raw, and its span.
+    fn visit_ident(&mut self, symbol: u32, is_raw: IdentIsRaw, span: SpanNumbers, rest: &'a [u8])
+        ensures { makes self.old (stored.Leaf (leaf.Ident symbol is_raw span)) rest.now self.new };
+
+    /// Visits a punct.
+    fn visit_punct(&mut self, char: char, spacing: Spacing, span: SpanNumbers, rest: &'a [u8])
+        ensures { makes self.old (stored.Leaf (leaf.Punct char spacing span)) rest.now self.new };
+
+    /// Visits a literal: its symbol by its index, its kind, how many bytes of the symbol are the suffix, and its span.
+    fn visit_literal(
+        &mut self,
+        symbol: u32,
+        kind: LitKind,
+        suffix_len: u8,
+        span: SpanNumbers,
+        rest: &'a [u8],
+    )
+        ensures { makes self.old (stored.Leaf (leaf.Literal symbol kind suffix_len span)) rest.now self.new };
 
     /// Visits a header.
     fn visit_header(&mut self, header: HeaderEntry, rest: &'a [u8])
         ensures { makes self.old (stored.Header header) rest.now self.new };
 }
 
-// Visits a token that was read, if one was.
+// Visits a header that was read, if one was.
 #[inline(always)]
-fn visit<'a, V: Visitor<'a>>(visitor: &mut V, read: Option<(Entry, &'a [u8])>)
-    ensures { (it : Read StoredEntry) → IsRead it read.entry → IsMade V.makes visitor.old it visitor.new }
+fn visit_header<'a, V: Visitor<'a>>(visitor: &mut V, read: Option<(HeaderEntry, &'a [u8])>)
+    ensures { (it : Read StoredEntry) → IsHeaderRead it read.entry → IsMade V.makes visitor.old it visitor.new }
 {
     match read {
-        Some((Entry::Leaf(leaf), rest)) => visitor.visit_leaf(leaf, rest),
-        Some((Entry::Header(header), rest)) => visitor.visit_header(header, rest),
+        Some((header, rest)) => visitor.visit_header(header, rest),
         None => {}
     }
 }
 
-// The same of a leaf.
+// A literal, of which all but the reference has been read.
 #[inline(always)]
-fn visit_leaf<'a, V: Visitor<'a>>(visitor: &mut V, read: Option<(LeafEntry, &'a [u8])>)
-    ensures { (it : Read StoredLeaf) → IsRead it read.entry → IsMade V.makes visitor.old (as_entry it) visitor.new }
+fn visit_literal<'a, V: Visitor<'a>>(
+    visitor: &mut V,
+    kind: LitKind,
+    suffix_len: u8,
+    span: SpanNumbers,
+    from: &'a [u8],
+)
+    ensures { IsMade V.makes visitor.old (as_entry (literal_at kind suffix_len span from.now)) visitor.new }
 {
-    match read {
-        Some((leaf, rest)) => visitor.visit_leaf(leaf, rest),
+    match Reference::read(from) {
+        Some((symbol, rest)) => visitor.visit_literal(symbol.index, kind, suffix_len, span, rest),
         None => {}
     }
 }
 
-// A punct that is not ASCII, which is rare.
+// A punct that is not ASCII, of which the first byte has been read. It is rare.
 #[inline(never)]
 fn visit_other_punct<'a, V: Visitor<'a>>(
     visitor: &mut V,
-    numbers: SpanNumbers,
-    high: u8,
+    span: SpanNumbers,
+    number: u8,
     from: &'a [u8],
 )
-    ensures { IsMade V.makes visitor.old (as_entry (other_punct_at high numbers from.now)) visitor.new }
+    ensures { IsMade V.makes visitor.old (as_entry (other_punct_at number span from.now)) visitor.new }
 {
-    visit_leaf(visitor, LeafEntry::read_other_punct(numbers, high, from))
+    if let Some((char, rest)) = read_char(from) {
+        if let Some(spacing) = spacing_from(number) {
+            visitor.visit_punct(char, spacing, span, rest);
+        }
+    }
 }
 
-// A literal of the long form, which is rare.
+// A literal of the long form, of which the first byte has been read. It is rare.
 #[inline(never)]
 fn visit_long_literal<'a, V: Visitor<'a>>(
     visitor: &mut V,
-    numbers: SpanNumbers,
-    high: u8,
+    span: SpanNumbers,
+    number: u8,
     from: &'a [u8],
 )
-    ensures { IsMade V.makes visitor.old (as_entry (long_literal_at high numbers from.now)) visitor.new }
+    ensures { IsMade V.makes visitor.old (as_entry (long_literal_at number span from.now)) visitor.new }
 {
-    visit_leaf(visitor, LeafEntry::read_long_literal(numbers, high, from))
+    if let Some((kind, rest)) = read_kind(number, from) {
+        if let Some((suffix_len, rest)) = split_byte(rest) {
+            visit_literal(visitor, kind, suffix_len, span, rest);
+        }
+    }
+}
+
+// A literal of the short form, of which the first byte has been read.
+#[inline(always)]
+fn visit_short_literal<'a, V: Visitor<'a>>(
+    visitor: &mut V,
+    span: SpanNumbers,
+    control: u8,
+    from: &'a [u8],
+)
+    ensures { IsMade V.makes visitor.old (as_entry (short_literal_at control span from.now)) visitor.new }
+{
+    if let Some(kind) = short_kind_from(control & SHORT_KIND_MASK) {
+        visit_literal(visitor, kind, control >> SHORT_KIND_BITS, span, from);
+    }
+}
+
+// An ident, of which the span has been read.
+#[inline(always)]
+fn visit_ident<'a, V: Visitor<'a>>(visitor: &mut V, span: SpanNumbers, from: &'a [u8])
+    ensures { IsMade V.makes visitor.old (as_entry (ident_at span from.now)) visitor.new }
+{
+    match Reference::read(from) {
+        Some((symbol, rest)) => {
+            visitor.visit_ident(symbol.index, raw_from(symbol.tag), span, rest)
+        }
+        None => {}
+    }
+}
+
+// An ASCII punct, of which the span has been read. `hidden` is 1 where it is joint hidden.
+#[inline(always)]
+fn visit_ascii_punct<'a, V: Visitor<'a>>(
+    visitor: &mut V,
+    span: SpanNumbers,
+    hidden: u32,
+    from: &'a [u8],
+)
+    ensures { IsMade V.makes visitor.old (as_entry (ascii_at hidden span from.now)) visitor.new }
+{
+    match split_byte(from) {
+        Some((byte, rest)) => {
+            visitor.visit_punct((byte >> 1) as char, ascii_spacing(hidden, byte), span, rest)
+        }
+        None => {}
+    }
 }
 
 // A token whose span has no extra bits, of which the byte behind the span has been read.
 #[inline(always)]
-fn visit_plain<'a, V: Visitor<'a>>(
-    visitor: &mut V,
-    numbers: SpanNumbers,
-    control: u8,
-    from: &'a [u8],
-)
-    ensures { IsMade V.makes visitor.old (plain_entry_at control numbers from.now) visitor.new }
+fn visit_plain<'a, V: Visitor<'a>>(visitor: &mut V, span: SpanNumbers, control: u8, from: &'a [u8])
+    ensures { IsMade V.makes visitor.old (plain_entry_at control span from.now) visitor.new }
 {
     let high = control >> FORM_BITS;
     match control & FORM_MASK {
-        FORMAT_1 => visit(visitor, read_format_1(numbers, high, from)),
-        FORMAT_2 => visit(visitor, read_format_2(numbers, high, from)),
-        FORMAT_3 => visit(visitor, read_format_3(numbers, high, from)),
-        FORMAT_4 => visit(visitor, read_format_4(numbers, high, from)),
-        OTHER_PUNCT => visit_other_punct(visitor, numbers, high, from),
-        LONG_LITERAL => visit_long_literal(visitor, numbers, high, from),
-        _ => visit_leaf(
-            visitor,
-            LeafEntry::read_short_literal(numbers, control, from),
-        ),
+        FORMAT_1 => visit_header(visitor, read_format_1(span, high, from)),
+        FORMAT_2 => visit_header(visitor, read_format_2(span, high, from)),
+        FORMAT_3 => visit_header(visitor, read_format_3(span, high, from)),
+        FORMAT_4 => visit_header(visitor, read_format_4(span, high, from)),
+        OTHER_PUNCT => visit_other_punct(visitor, span, high, from),
+        LONG_LITERAL => visit_long_literal(visitor, span, high, from),
+        _ => visit_short_literal(visitor, span, control, from),
     }
 }
 
@@ -115,13 +186,10 @@ fn visit_marked<'a, V: Visitor<'a>>(visitor: &mut V, span: Spanned, from: &'a [u
     ensures { IsMade V.makes visitor.old (as_entry (marked_at span.extra span.numbers from.now)) visitor.new }
 {
     if span.extra == IDENT {
-        visit_leaf(visitor, LeafEntry::read_ident(span.numbers, from));
+        visit_ident(visitor, span.numbers, from);
         return;
     }
-    visit_leaf(
-        visitor,
-        LeafEntry::read_ascii_punct(span.numbers, span.extra >> 1, from),
-    )
+    visit_ascii_punct(visitor, span.numbers, span.extra >> 1, from)
 }
 
 // A token, of which the span has been read.
@@ -138,22 +206,48 @@ fn visit_behind<'a, V: Visitor<'a>>(visitor: &mut V, span: Spanned, from: &'a [u
     visit_marked(visitor, span, from);
 }
 
-/// Visits the token that the bytes begin with, if it is an ident or an ASCII punct, and tells whether they begin with the
-/// span of one. Most tokens are these, and they take little code, so it suits a caller that has no call for each token.
+// Visits a token whose span has no extra bits, if it is a header of the first or the fourth format or a literal of the short
+// form, and tells whether it is.
 #[inline(always)]
-#[tactic(auto, unfolding(crate::specs::Entry::entry_at, crate::specs::Entry::is_marked_at))]
-pub fn visit_marked_token<'a, V: Visitor<'a>>(visitor: &mut V, from: &'a [u8]) -> bool
-    ensures marked { result ≡ is_marked_at from.now }
+fn visit_common_plain<'a, V: Visitor<'a>>(
+    visitor: &mut V,
+    span: SpanNumbers,
+    from: &'a [u8],
+) -> bool
+    ensures common { result ≡ is_common_behind 0 (byte_at from.now) }
+    ensures visits { IsTrue result → IsMade V.makes visitor.old (entry_behind_span 0 span from.now) visitor.new }
+    ensures unchanged { result ≡ false → visitor.new ≡ visitor.old }
+{
+    let Some((control, rest)) = split_byte(from) else {
+        return false;
+    };
+    match control & FORM_MASK {
+        FORMAT_1 => visit_header(visitor, read_format_1(span, control >> FORM_BITS, rest)),
+        FORMAT_4 => visit_header(visitor, read_format_4(span, control >> FORM_BITS, rest)),
+        FORMAT_2 | FORMAT_3 | OTHER_PUNCT | LONG_LITERAL => return false,
+        _ => visit_short_literal(visitor, span, control, rest),
+    }
+    true
+}
+
+/// Visits the token that the bytes begin with, if it has one of the forms that most tokens have, and tells whether it has: an
+/// ident, an ASCII punct, a header of the first or the fourth format, or a literal of the short form. So it suits a caller that
+/// has no call for each token. It takes nearly as much code as the compiler puts in the place of a call.
+#[inline(always)]
+#[tactic(auto, unfolding(crate::specs::Entry::entry_at, crate::specs::Entry::is_common_at))]
+pub fn visit_common_token<'a, V: Visitor<'a>>(visitor: &mut V, from: &'a [u8]) -> bool
+    ensures common { result ≡ is_common_at from.now }
     ensures visits { IsTrue result → IsMade V.makes visitor.old (entry_at from.now) visitor.new }
     ensures unchanged { result ≡ false → visitor.new ≡ visitor.old }
 {
-    if let Some((span, rest)) = Spanned::read(from) {
-        if span.extra != PLAIN {
-            visit_marked(visitor, span, rest);
-            return true;
-        }
+    let Some((span, rest)) = Spanned::read(from) else {
+        return false;
+    };
+    if span.extra == PLAIN {
+        return visit_common_plain(visitor, span.numbers, rest);
     }
-    false
+    visit_marked(visitor, span, rest);
+    true
 }
 
 /// Visits the token that the bytes begin with, if they begin with one.
@@ -177,8 +271,25 @@ struct Numbers<'a> {
 impl<'a> Visitor<'a> for Numbers<'a> {
     ghost makes = { λ old entry rest new. (new.entry ≡ Some entry) × (new.rest.now ≡ rest) };
 
-    fn visit_leaf(&mut self, leaf: LeafEntry, rest: &'a [u8]) {
-        self.entry = Some(Entry::Leaf(leaf));
+    fn visit_ident(&mut self, symbol: u32, is_raw: IdentIsRaw, span: SpanNumbers, rest: &'a [u8]) {
+        self.entry = Some(Entry::Leaf(LeafEntry::Ident(symbol, is_raw, span)));
+        self.rest = rest;
+    }
+
+    fn visit_punct(&mut self, char: char, spacing: Spacing, span: SpanNumbers, rest: &'a [u8]) {
+        self.entry = Some(Entry::Leaf(LeafEntry::Punct(char, spacing, span)));
+        self.rest = rest;
+    }
+
+    fn visit_literal(
+        &mut self,
+        symbol: u32,
+        kind: LitKind,
+        suffix_len: u8,
+        span: SpanNumbers,
+        rest: &'a [u8],
+    ) {
+        self.entry = Some(Entry::Leaf(LeafEntry::Literal(symbol, kind, suffix_len, span)));
         self.rest = rest;
     }
 

@@ -1,16 +1,14 @@
 //! Headers below the top, read in each of their four formats (docs/FORMATS.md, "Bytes of a header").
 ghost use Rattle.std.specs.Prelude.{◌≡◌, ◌<◌, ◌^◌};
-ghost use Rattle.tt_codec.specs.Header.{start_behind, format_1_at, format_2_at, format_3_at, format_4_at};
-ghost use Rattle.tt_codec.specs.Read.{IsRead};
+ghost use Rattle.tt_codec.specs.Header.{IsHeaderRead, start_behind, format_1_at, format_2_at, format_3_at, format_4_at};
 
-use crate::entry::{Entry, HeaderEntry};
+use crate::entry::HeaderEntry;
 use crate::form::{HIGH_BITS, KIND_BITS, KIND_MASK, LOW_DISTANCE_BITS, PART_BITS, PART_MASK};
 use crate::kinds::delimiter_kind_from;
 use crate::span::{SpanNumbers, Spanned};
 use crate::words::{split_byte, split_half, split_word};
 
 // The offset so far behind a start, where four bytes can say it.
-#[inline(always)]
 #[tactic(auto, unfolding(crate::specs::Header::start_behind))]
 fn start_behind(start: u32, distance: u64) -> Option<u32>
     requires { distance < 2 ^ 63 }
@@ -21,8 +19,12 @@ fn start_behind(start: u32, distance: u64) -> Option<u32>
 
 /// A header of the first format, of which the span and one byte have been read: that byte's high bits are given.
 #[inline(always)]
-pub(crate) fn read_format_1(opening: SpanNumbers, high: u8, from: &[u8]) -> Option<(Entry, &[u8])>
-    ensures { IsRead (format_1_at high opening from.now) result }
+pub(crate) fn read_format_1(
+    opening: SpanNumbers,
+    high: u8,
+    from: &[u8],
+) -> Option<(HeaderEntry, &[u8])>
+    ensures { IsHeaderRead (format_1_at high opening from.now) result }
 {
     let kind = delimiter_kind_from(high & KIND_MASK)?;
     let high_distance = ((high >> KIND_BITS) as u64) << LOW_DISTANCE_BITS;
@@ -43,13 +45,17 @@ pub(crate) fn read_format_1(opening: SpanNumbers, high: u8, from: &[u8]) -> Opti
         len: len as u32,
         child_bytes: child_bytes as u32,
     };
-    Some((Entry::Header(header), rest))
+    Some((header, rest))
 }
 
 /// The same of the second format.
 #[inline(always)]
-pub(crate) fn read_format_2(opening: SpanNumbers, high: u8, from: &[u8]) -> Option<(Entry, &[u8])>
-    ensures { IsRead (format_2_at high opening from.now) result }
+pub(crate) fn read_format_2(
+    opening: SpanNumbers,
+    high: u8,
+    from: &[u8],
+) -> Option<(HeaderEntry, &[u8])>
+    ensures { IsHeaderRead (format_2_at high opening from.now) result }
 {
     let kind = delimiter_kind_from(high & KIND_MASK)?;
     let start = start_behind(opening.start, (high >> KIND_BITS) as u64)?;
@@ -62,13 +68,17 @@ pub(crate) fn read_format_2(opening: SpanNumbers, high: u8, from: &[u8]) -> Opti
         len: len as u32,
         child_bytes: child_bytes as u32,
     };
-    Some((Entry::Header(header), rest))
+    Some((header, rest))
 }
 
 /// The same of the third format.
 #[inline(always)]
-pub(crate) fn read_format_3(opening: SpanNumbers, high: u8, from: &[u8]) -> Option<(Entry, &[u8])>
-    ensures { IsRead (format_3_at high opening from.now) result }
+pub(crate) fn read_format_3(
+    opening: SpanNumbers,
+    high: u8,
+    from: &[u8],
+) -> Option<(HeaderEntry, &[u8])>
+    ensures { IsHeaderRead (format_3_at high opening from.now) result }
 {
     let kind = delimiter_kind_from(high & KIND_MASK)?;
     let (distance, rest) = split_byte(from)?;
@@ -86,13 +96,17 @@ pub(crate) fn read_format_3(opening: SpanNumbers, high: u8, from: &[u8]) -> Opti
         len: len as u32,
         child_bytes: (half >> PART_BITS) as u32,
     };
-    Some((Entry::Header(header), rest))
+    Some((header, rest))
 }
 
 /// The same of the fourth format.
 #[inline(always)]
-pub(crate) fn read_format_4(opening: SpanNumbers, high: u8, from: &[u8]) -> Option<(Entry, &[u8])>
-    ensures { IsRead (format_4_at high opening from.now) result }
+pub(crate) fn read_format_4(
+    opening: SpanNumbers,
+    high: u8,
+    from: &[u8],
+) -> Option<(HeaderEntry, &[u8])>
+    ensures { IsHeaderRead (format_4_at high opening from.now) result }
 {
     let kind = delimiter_kind_from(high)?;
     let (closing, rest) = Spanned::read(from)?;
@@ -105,5 +119,5 @@ pub(crate) fn read_format_4(opening: SpanNumbers, high: u8, from: &[u8]) -> Opti
         len,
         child_bytes,
     };
-    Some((Entry::Header(header), rest))
+    Some((header, rest))
 }

@@ -13,7 +13,6 @@ pub(crate) fn delimiter_number(kind: DelimiterKind) -> u8
 }
 
 /// The kind of delimiter of a number.
-#[inline(always)]
 pub(crate) fn delimiter_kind_from(number: u8) -> Option<DelimiterKind>
     ensures { result ≡ delimiter_kind_from number }
 {
@@ -56,7 +55,6 @@ pub(crate) fn raw_number(is_raw: IdentIsRaw) -> u32
 }
 
 /// The rawness of a number.
-#[inline(always)]
 pub(crate) fn raw_from(number: u32) -> IdentIsRaw
     ensures { result ≡ raw_from number }
 {
@@ -142,7 +140,6 @@ pub(crate) fn short_number(kind: LitKind) -> Option<u8>
 }
 
 /// The kind of literal of a number in the short form.
-#[inline(always)]
 pub(crate) fn short_kind_from(number: u8) -> Option<LitKind>
     ensures { result ≡ short_kind_from number }
 {

@@ -59,7 +59,6 @@ impl Reference {
     }
 
     // The reference, of which two bytes have been read.
-    #[inline(always)]
     fn after_two_bytes(first: u8, second: u8, rest: &[u8]) -> Option<(Reference, &[u8])>
         ensures { IsRead (after_two_bytes first second rest.now) result }
     {

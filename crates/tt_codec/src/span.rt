@@ -213,7 +213,6 @@ impl SpanNumbers {
 
 impl Spanned {
     // The span of a first word and the three rests.
-    #[inline(always)]
     fn from_rests(first: u32, part_rest: u32, length_rest: u32, start_rest: u32) -> Spanned
         requires part { part_rest < 2 ^ 24 }
         requires length { length_rest < 2 ^ 24 }
@@ -232,7 +231,6 @@ impl Spanned {
     }
 
     // The span of a first word and what is left of all three.
-    #[inline(always)]
     fn from_one_rest(first: u32, rests: u64) -> Spanned
         requires { rests < 2 ^ 63 }
         ensures { result ≡ from_rests first rests }
@@ -244,7 +242,6 @@ impl Spanned {
     }
 
     // The span, of which two words have been read.
-    #[inline(always)]
     fn after_two_words(first: u32, second: u32, rest: &[u8]) -> Option<(Spanned, &[u8])>
         ensures { IsRead (after_two_words first second rest.now) result }
     {

@@ -201,7 +201,6 @@ impl Packed {
     }
 
     /// The tables of its tokens.
-    #[inline(always)]
     pub(crate) fn tables(&self) -> Tables<'_>
         ensures { tables_of result ≡ tables_stored self.now }
     {

@@ -118,6 +118,7 @@ impl<'a> Reader<'a> {
 
     /// The next token with a reader that stands behind it, or `None` at the end of the bytes. This reader passes
     /// all that a header holds, which the other one stands before.
+    #[inline(always)]
     pub fn advance_skip(&mut self) -> Option<(TokenTree, Reader<'a>)>
         ensures token { MatchOption result (first_token (ahead_of self.old) ≡ None) (λ found. first_token (ahead_of self.old) ≡ Some found.0) }
         ensures end { (result ≡ None) ↔ (length (bytes_of self.old) ≤ offset_of self.old) }
@@ -126,7 +127,7 @@ impl<'a> Reader<'a> {
     {
         let tree = self.tree?;
         let mut tokens = TokenReader::new(tree);
-        tokens.decode(self.offset);
+        tokens.decode_here(self.offset);
         let token = tokens.token?;
         self.steps = self.steps.saturating_add(1);
         let below = Reader {

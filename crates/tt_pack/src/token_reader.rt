@@ -2,8 +2,8 @@
 ghost use Rattle.std.specs.Prelude.{◌≤◌, length};
 
 use crate::packed::Packed;
-use tt_base::TokenTree;
-use tt_codec::{HeaderEntry, LeafEntry, Visitor, visit_marked_token, visit_token};
+use tt_base::{IdentIsRaw, LitKind, Spacing, TokenTree};
+use tt_codec::{HeaderEntry, SpanNumbers, Visitor, visit_common_token, visit_token};
 
 /// Makes a token of its numbers as soon as they are read, by the tables of a tree.
 #[derive(Drop)]
@@ -23,10 +23,35 @@ impl<'a> Visitor<'a> for TokenReader<'a> {
     ghost makes = { MakesToken };
 
     #[inline(always)]
-    fn visit_leaf(&mut self, leaf: LeafEntry, rest: &'a [u8]) {
+    fn visit_ident(&mut self, symbol: u32, is_raw: IdentIsRaw, span: SpanNumbers, rest: &'a [u8]) {
         self.left = rest.len();
         self.child_bytes = 0;
-        if let Some(token) = self.tree.tables().leaf(leaf) {
+        if let Some(token) = self.tree.tables().ident(symbol, is_raw, span) {
+            self.keep(token);
+        }
+    }
+
+    #[inline(always)]
+    fn visit_punct(&mut self, char: char, spacing: Spacing, span: SpanNumbers, rest: &'a [u8]) {
+        self.left = rest.len();
+        self.child_bytes = 0;
+        if let Some(token) = self.tree.tables().punct(char, spacing, span) {
+            self.keep(token);
+        }
+    }
+
+    #[inline(always)]
+    fn visit_literal(
+        &mut self,
+        symbol: u32,
+        kind: LitKind,
+        suffix_len: u8,
+        span: SpanNumbers,
+        rest: &'a [u8],
+    ) {
+        self.left = rest.len();
+        self.child_bytes = 0;
+        if let Some(token) = self.tree.tables().literal(symbol, kind, suffix_len, span) {
             self.keep(token);
         }
     }
@@ -84,8 +109,9 @@ impl<'a> TokenReader<'a> {
         visit_token(self, &bytes[offset..]);
     }
 
-    /// The same, with idents and ASCII puncts decoded in the place of the call, so that they go from registers to where the
-    /// caller wants them. Any other token is decoded apart: a reader that is lent to a call has to lie in memory.
+    /// The same, with tokens of the common forms decoded in the place of the call, so that they go from registers to where the
+    /// caller wants them. Any other token is decoded apart, from its start: a reader that is lent to a call has to lie in
+    /// memory.
     #[inline(always)]
     pub(crate) fn decode_here(&mut self, offset: usize)
         requires inside { offset ≤ length (bytes_for self.old.tree.now) }
@@ -93,7 +119,7 @@ impl<'a> TokenReader<'a> {
         ensures { DecodesAt self.old offset self.new }
     {
         let bytes = self.tree.bytes();
-        if visit_marked_token(self, &bytes[offset..]) {
+        if visit_common_token(self, &bytes[offset..]) {
             return;
         }
         let mut apart = TokenReader::new(self.tree);

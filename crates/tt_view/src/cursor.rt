@@ -100,6 +100,7 @@ impl<'a> Cursor<'a> {
 
     /// Goes one place on, into a subtree where its header is here. The cursor is not at the end of a subtree: `is_root` is
     /// true, or `token_tree` gives a token. Else call `end` or `bump_or_end`.
+    #[inline(always)]
     pub fn bump(&mut self) -> Result<(), TtFault>
         requires { is_at_close (events_ahead self.old) ≡ false }
         ensures ok { OnOk result (self.new ≡ one_on self.old) }
@@ -107,19 +108,18 @@ impl<'a> Cursor<'a> {
         ensures opens { OnErr result (is_at_open (events_ahead self.old) ≡ true) }
         ensures fault { IfErr result (λ fault. fault ≡ Memory) }
     {
-        let Some(header) = self.ahead.header() else {
-            self.ahead.pass();
-            return Ok(());
-        };
-        self.stack.push(Frame {
-            header,
-            behind: self.ahead.len() - 1 - header.usize_len(),
-        })?;
+        if let Some(header) = self.ahead.header() {
+            self.stack.push(Frame {
+                header,
+                behind: self.ahead.len() - 1 - header.usize_len(),
+            })?;
+        }
         self.ahead.pass();
         Ok(())
     }
 
     /// Goes one place on, out of a subtree too.
+    #[inline(always)]
     pub fn bump_or_end(&mut self) -> Result<(), TtFault>
         ensures ok { OnOk result (self.new ≡ one_on self.old) }
         ensures err { OnErr result (self.new ≡ self.old) }

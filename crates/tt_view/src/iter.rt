@@ -39,6 +39,7 @@ impl<'a> Iterator for TtIter<'a> {
 
     ghost remaining = { item_count (λ iter. list_of (rest_of iter)) };
 
+    #[inline(always)]
     fn next(&mut self) -> Option<TtElement<'a>> {
         self.take_element()
     }
@@ -88,6 +89,7 @@ impl<'a> TtIter<'a> {
     }
 
     // `next`, with all that it promises as a clause.
+    #[inline(always)]
     pub(crate) fn take_element(&mut self) -> Option<TtElement<'a>>
         ensures { GivesSibling self.old result self.new }
     {

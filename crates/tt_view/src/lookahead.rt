@@ -108,6 +108,7 @@ impl<'a> Lookahead<'a> {
     }
 
     /// Passes the first token, if there is one.
+    #[inline(always)]
     pub(crate) fn pass(&mut self)
         ensures { self.new ≡ after_token self.old }
     {

@@ -239,6 +239,7 @@ impl<'a> TokenTreesView<'a> {
     }
 
     // Takes the first tree, and gives its token and the trees that this holds.
+    #[inline(always)]
     pub(crate) fn next_tree(&mut self) -> Option<(TokenTree, TokenTreesView<'a>)>
         ensures tree { MatchOption result (trees_of self.old ≡ end) (λ found. (first_token (trees_of self.old) ≡ Some found.0) × (trees_of found.1 ≡ children_of (trees_of self.old))) }
         ensures rest { trees_of self.new ≡ after_tree (trees_of self.old) }

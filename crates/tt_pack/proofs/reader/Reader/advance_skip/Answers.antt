@@ -24,8 +24,8 @@ pub returns-in_err-token-clause-end : goal.returns-in_err-token-clause-end
 returns-in_err-token-clause-end c =
     let self = c.args.self.now in
     let tree : self.tree ≡ Some c.in_ok-tree.tree = search rules in
-    let none : c.decode.new.self.token ≡ None = search rules in
-    let found = decoded_ahead self _ c.new-tokens.result c.decode.new.self tree c.new-tokens.ensures.tree c.decode.ensures in
+    let none : c.decode_here.new.self.token ≡ None = search rules in
+    let found = decoded_ahead self _ c.new-tokens.result c.decode_here.new.self tree c.new-tokens.ensures.tree c.decode_here.ensures in
     let past = ends _ _ _ _ self.ahead.1 in
     (λ _. past.0 (ap first_token (none_is_ahead self _ _ _ found none)), λ _. c.from_residual-in_err-token.ensures)
 
@@ -33,8 +33,8 @@ pub returns-in_err-token-clause-moved : goal.returns-in_err-token-clause-moved
 returns-in_err-token-clause-moved c =
     let self = c.args.self.now in
     let tree : self.tree ≡ Some c.in_ok-tree.tree = search rules in
-    let none : c.decode.new.self.token ≡ None = search rules in
-    let found = decoded_ahead self _ c.new-tokens.result c.decode.new.self tree c.new-tokens.ensures.tree c.decode.ensures in
+    let none : c.decode_here.new.self.token ≡ None = search rules in
+    let found = decoded_ahead self _ c.new-tokens.result c.decode_here.new.self tree c.new-tokens.ensures.tree c.decode_here.ensures in
     let nothing = none_is_ahead self _ _ _ found none in
     stays self (after_tree (ahead_of self)) nothing (ap after_tree nothing)
 
@@ -42,8 +42,8 @@ pub overflow_add-self : goal.overflow_add-self
 overflow_add-self c =
     let self = c.args.self.now in
     let tree : self.tree ≡ Some c.in_ok-tree.tree = search rules in
-    let is : c.decode.new.self.token ≡ Some c.in_ok-token.token = search rules in
-    let found = decoded_ahead self _ c.new-tokens.result c.decode.new.self tree c.new-tokens.ensures.tree c.decode.ensures in
+    let is : c.decode_here.new.self.token ≡ Some c.in_ok-token.token = search rules in
+    let found = decoded_ahead self _ c.new-tokens.result c.decode_here.new.self tree c.new-tokens.ensures.tree c.decode_here.ensures in
     let first = (some_is_first self _ _ _ found (λ none. cc (sym is ∙ none))).2 in
     let all : c.bytes.result.now ≡ bytes_of self = c.bytes.ensures.value ∙ sym (ap bytes_in tree) in
     let small : length c.bytes.result.now < 2 ^ 64 = search rules in
@@ -53,24 +53,24 @@ pub returns-clause-below : goal.returns-clause-below
 returns-clause-below c =
     let self = c.args.self.now in
     let tree : self.tree ≡ Some c.in_ok-tree.tree = search rules in
-    let is : c.decode.new.self.token ≡ Some c.in_ok-token.token = search rules in
-    let found = decoded_ahead self _ c.new-tokens.result c.decode.new.self tree c.new-tokens.ensures.tree c.decode.ensures in
+    let is : c.decode_here.new.self.token ≡ Some c.in_ok-token.token = search rules in
+    let found = decoded_ahead self _ c.new-tokens.result c.decode_here.new.self tree c.new-tokens.ensures.tree c.decode_here.ensures in
     let first = (some_is_first self _ _ _ found (λ none. cc (sym is ∙ none))).2 in
     let all : c.bytes.result.now ≡ bytes_of self = c.bytes.ensures.value ∙ sym (ap bytes_in tree) in
     let counted = one_step (steps_of self) (ahead_of self) _ first.token in
     steps_to _ _ _ (omega (arith, first.passed, ap length all))
-    (subst (λ most. IsAhead (tables_of self) (bytes_of self) (most - c.decode.new.self.left) (after_token (ahead_of self))) (sym (ap length all)) first.inside)
+    (subst (λ most. IsAhead (tables_of self) (bytes_of self) (most - c.decode_here.new.self.left) (after_token (ahead_of self))) (sym (ap length all)) first.inside)
     (refl, refl) (c.saturating_add-self.ensures ∙ sym counted)
 
 pub returns-clause-moved : goal.returns-clause-moved
 returns-clause-moved c =
     let self = c.args.self.now in
     let tree : self.tree ≡ Some c.in_ok-tree.tree = search rules in
-    let is : c.decode.new.self.token ≡ Some c.in_ok-token.token = search rules in
-    let found = decoded_ahead self _ c.new-tokens.result c.decode.new.self tree c.new-tokens.ensures.tree c.decode.ensures in
+    let is : c.decode_here.new.self.token ≡ Some c.in_ok-token.token = search rules in
+    let found = decoded_ahead self _ c.new-tokens.result c.decode_here.new.self tree c.new-tokens.ensures.tree c.decode_here.ensures in
     let first = (some_is_first self _ _ _ found (λ none. cc (sym is ∙ none))).2 in
     let all : c.bytes.result.now ≡ bytes_of self = c.bytes.ensures.value ∙ sym (ap bytes_in tree) in
     let counted = one_step (steps_of self) (ahead_of self) _ first.token in
     steps_to _ _ _ (omega (arith, first.passed, ap length all))
-    (subst (λ most. IsAhead (tables_of self) (bytes_of self) (most - c.decode.new.self.left + c.decode.new.self.child_bytes) (after_tree (ahead_of self))) (sym (ap length all)) first.after)
+    (subst (λ most. IsAhead (tables_of self) (bytes_of self) (most - c.decode_here.new.self.left + c.decode_here.new.self.child_bytes) (after_tree (ahead_of self))) (sym (ap length all)) first.after)
     (refl, refl) (c.saturating_add-self.ensures ∙ sym counted)
