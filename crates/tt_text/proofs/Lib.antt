@@ -1,7 +1,11 @@
+pub mod AheadFacts
 pub mod LimitFacts
+pub mod LiteralBytes
 pub mod OneSpelling
+pub mod Returns
 pub mod ScanFacts
 pub mod ShapeFacts
 pub mod StackFacts
 pub mod TextFacts
-pub mod AheadFacts
+pub mod TextUnits
+pub mod UnitFacts

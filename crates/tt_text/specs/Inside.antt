@@ -1,5 +1,6 @@
 -- What no literal may hold, and no comment that documents something.
 use Rattle.std.specs.Prelude.{ℕ, Bool, false, ◌&&◌, ◌||◌, ◌==◌, not, nat_le, List, [], ◌∷◌, length, take, min, Option, None, Some, if◌then◌else◌}
+use Rattle.std.specs.List.{list_any}
 use Rattle.tt_lex.specs.declared.token.Base.{Base}
 use Rattle.tt_lex.specs.declared.token.Base.TheVariants.{Binary, Octal, Decimal, Hexadecimal}
 use Rattle.tt_lex.specs.declared.token.LiteralKind.{LiteralKind}
@@ -15,25 +16,33 @@ is_foreign_digit Octal byte = nat_le 56 byte && nat_le byte 57
 is_foreign_digit Decimal byte = false
 is_foreign_digit Hexadecimal byte = false
 
--- whether one was found, or stands in a text
-abbrev pub foreign_digit : Base → (found : Bool) → (text : List ℕ) → Bool
-foreign_digit base found [] = found
-foreign_digit base found (byte ∷ bytes) = foreign_digit base (found || is_foreign_digit base byte) bytes
+-- whether a decimal digit that a base has not stands in a text
+abbrev pub foreign_digit : Base → (text : List ℕ) → Bool
+foreign_digit base text = list_any (is_foreign_digit base) text
 
--- whether a byte of a character beyond ASCII was found, or stands in a text
-abbrev pub beyond_ascii : (found : Bool) → (text : List ℕ) → Bool
-beyond_ascii found [] = found
-beyond_ascii found (byte ∷ bytes) = beyond_ascii (found || nat_le 128 byte) bytes
+-- whether a byte of a character beyond ASCII stands in a text
+abbrev pub beyond_ascii : (text : List ℕ) → Bool
+beyond_ascii text = list_any (nat_le 128) text
 
--- whether a carriage return with no line feed right behind it was found, or stands in a text; pending tells whether one stands right before
-abbrev pub bare_return : (found pending : Bool) → (text : List ℕ) → Bool
-bare_return found pending [] = found || pending
-bare_return found pending (byte ∷ bytes) = bare_return (found || (pending && not (byte == 10))) (byte == 13) bytes
+-- whether a null stands in a text
+abbrev pub has_null : (text : List ℕ) → Bool
+has_null text = list_any (λ byte. byte == 0) text
 
--- the same of a text that a line feed may stand behind
-abbrev pub inner_return : (found pending : Bool) → (text : List ℕ) → Bool
-inner_return found pending [] = found
-inner_return found pending (byte ∷ bytes) = inner_return (found || (pending && not (byte == 10))) (byte == 13) bytes
+-- whether a text begins with a line feed
+abbrev pub begins_with_feed : (text : List ℕ) → Bool
+begins_with_feed [] = false
+begins_with_feed (byte ∷ bytes) = byte == 10
+
+-- whether a carriage return stands in a text with no line feed right behind it
+abbrev pub bare_return : (text : List ℕ) → Bool
+bare_return [] = false
+bare_return (byte ∷ bytes) = ((byte == 13) && not (begins_with_feed bytes)) || bare_return bytes
+
+-- the same of a text that a line feed may stand behind: a carriage return at its end is none
+abbrev pub inner_return : (text : List ℕ) → Bool
+inner_return [] = false
+inner_return (byte ∷ []) = false
+inner_return (byte ∷ next ∷ bytes) = ((byte == 13) && not (next == 10)) || inner_return (next ∷ bytes)
 
 -- a literal without its suffix, which begins at a byte
 abbrev pub before_suffix : (place : ℕ) → (text : List ℕ) → List ℕ
@@ -45,16 +54,11 @@ fault_if wrong why = if wrong then Some why else None
 
 -- what is wrong with a text that holds a bare carriage return
 abbrev pub return_fault : (text : List ℕ) → Option BadToken
-return_fault text = fault_if (bare_return false false text) bad.BareReturn
+return_fault text = fault_if (bare_return text) bad.BareReturn
 
 -- what is wrong inside of a comment of one line that documents something
 abbrev pub line_fault : (text : List ℕ) → Option BadToken
-line_fault text = fault_if (inner_return false false text) bad.BareReturn
-
--- whether a null was found, or stands in a text
-abbrev pub has_null : (found : Bool) → (text : List ℕ) → Bool
-has_null found [] = found
-has_null found (byte ∷ bytes) = has_null (found || (byte == 0)) bytes
+line_fault text = fault_if (inner_return text) bad.BareReturn
 
 -- the first of two that is there
 abbrev pub first_of : Option BadToken → Option BadToken → Option BadToken
@@ -67,11 +71,11 @@ quoted_fault kind opening text = first_of (return_fault text) (escape_fault kind
 
 -- what is wrong with the text of bytes
 abbrev pub bytes_fault : (text : List ℕ) → Option BadToken
-bytes_fault text = if beyond_ascii false text then Some bad.BeyondAscii else return_fault text
+bytes_fault text = if beyond_ascii text then Some bad.BeyondAscii else return_fault text
 
 -- what is wrong inside of a literal, of which this stands before its suffix
 abbrev pub inside_fault : LiteralKind → (text : List ℕ) → Option BadToken
-inside_fault (literals.Int base empty_int) text = fault_if (foreign_digit base false text) bad.ForeignDigit
+inside_fault (literals.Int base empty_int) text = fault_if (foreign_digit base text) bad.ForeignDigit
 inside_fault (literals.Float base empty_exponent) text = None
 inside_fault (literals.Char terminated) text = quoted_fault (literals.Char terminated) 1 text
 inside_fault (literals.Byte terminated) text = first_of (bytes_fault text) (escape_fault (literals.Byte terminated) 2 text)
@@ -80,4 +84,4 @@ inside_fault (literals.ByteStr terminated) text = first_of (bytes_fault text) (e
 inside_fault (literals.CStr terminated) text = quoted_fault (literals.CStr terminated) 2 text
 inside_fault (literals.RawStr n_hashes) text = return_fault text
 inside_fault (literals.RawByteStr n_hashes) text = bytes_fault text
-inside_fault (literals.RawCStr n_hashes) text = first_of (return_fault text) (fault_if (has_null false text) bad.NullInCStr)
+inside_fault (literals.RawCStr n_hashes) text = first_of (return_fault text) (fault_if (has_null text) bad.NullInCStr)

@@ -5,6 +5,7 @@ pub mod Escapes
 pub mod Faults
 pub mod Inside
 pub mod Limits
+pub mod LiteralText
 pub mod Refusal
 pub mod Parsed
 pub mod Pieces

@@ -1,6 +1,6 @@
 //! Comments that document something.
 ghost use Rattle.std.specs.Prelude.{◌≡◌, ◌^◌, ◌-◌, ◌<◌, [], ◌∷◌, codes, IfErr, OnOk};
-ghost use Rattle.tt_text.specs.Doc.{before_closing, behind_opening, block_text, hashes_wanted, line_text, next_run};
+ghost use Rattle.tt_text.specs.Doc.{before_closing, behind_line_opening, behind_opening, block_text, hashes_wanted, line_text, next_run, without_return};
 ghost use Rattle.tt_text.specs.Limits.{IsAddFault};
 ghost use Rattle.tt_text.specs.Parsed.{Adds};
 ghost use Rattle.tt_text.specs.Pieces.{doc};
@@ -18,9 +18,9 @@ use tt_base::{
 };
 use tt_lex::DocStyle;
 
-/// The text of a comment of one line.
-pub fn line_text(style: DocStyle, text: &str) -> &str
-    ensures { result.now ≡ line_text style text.now }
+// The text behind the signs that open a comment of one line.
+fn behind_line_opening(style: DocStyle, text: &str) -> &str
+    ensures { result.now ≡ behind_line_opening style text.now }
 {
     match style {
         DocStyle::Outer => match text.strip_prefix("///") {
@@ -32,6 +32,23 @@ pub fn line_text(style: DocStyle, text: &str) -> &str
             None => text,
         },
     }
+}
+
+// The text without the carriage return at its end, which belongs to the end of the line.
+fn without_return(text: &str) -> &str
+    ensures { result.now ≡ without_return text.now }
+{
+    match text.strip_suffix("\r") {
+        Some(rest) => rest,
+        None => text,
+    }
+}
+
+/// The text of a comment of one line.
+pub fn line_text(style: DocStyle, text: &str) -> &str
+    ensures { result.now ≡ line_text style text.now }
+{
+    without_return(behind_line_opening(style, text))
 }
 
 // The text of a comment behind the sign that opens it.

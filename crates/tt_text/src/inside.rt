@@ -1,5 +1,5 @@
 //! What no literal may hold.
-ghost use Rattle.std.specs.Prelude.{◌≡◌, false};
+ghost use Rattle.std.specs.Prelude.{◌≡◌};
 ghost use Rattle.tt_text.specs.Escapes.{escape_fault};
 ghost use Rattle.tt_text.specs.declared.fault.BadToken.TheVariants.{NullInCStr};
 ghost use Rattle.tt_text.specs.Inside.{first_of, has_null, quoted_fault, inner_return, line_fault, before_suffix, beyond_ascii, bytes_fault, bare_return, fault_if, foreign_digit, inside_fault, is_foreign_digit, return_fault};
@@ -22,7 +22,7 @@ fn is_foreign_digit(base: Base, byte: u8) -> bool
 
 // Whether a digit stands in a text that a base has not.
 fn foreign_digit(base: Base, text: &[u8]) -> bool
-    ensures { result ≡ foreign_digit base false text.now }
+    ensures { result ≡ foreign_digit base text.now }
 {
     let mut found = false;
     for byte in text {
@@ -33,7 +33,7 @@ fn foreign_digit(base: Base, text: &[u8]) -> bool
 
 // Whether a character beyond ASCII stands in a text.
 fn beyond_ascii(text: &[u8]) -> bool
-    ensures { result ≡ beyond_ascii false text.now }
+    ensures { result ≡ beyond_ascii text.now }
 {
     let mut found = false;
     for byte in text {
@@ -44,7 +44,7 @@ fn beyond_ascii(text: &[u8]) -> bool
 
 // Whether a carriage return stands in a text with no line feed right behind it.
 fn bare_return(text: &[u8]) -> bool
-    ensures { result ≡ bare_return false false text.now }
+    ensures { result ≡ bare_return text.now }
 {
     let mut found = false;
     let mut pending = false;
@@ -57,7 +57,7 @@ fn bare_return(text: &[u8]) -> bool
 
 // The same of a text that a line feed may stand behind.
 fn inner_return(text: &[u8]) -> bool
-    ensures { result ≡ inner_return false false text.now }
+    ensures { result ≡ inner_return text.now }
 {
     let mut found = false;
     let mut pending = false;
@@ -115,7 +115,7 @@ fn quoted_bytes_fault(kind: LiteralKind, text: &[u8]) -> Option<BadToken>
 
 // Whether a null stands in a text.
 fn has_null(text: &[u8]) -> bool
-    ensures { result ≡ has_null false text.now }
+    ensures { result ≡ has_null text.now }
 {
     let mut found = false;
     for byte in text {
@@ -126,7 +126,7 @@ fn has_null(text: &[u8]) -> bool
 
 // What is wrong with a raw C string.
 fn raw_c_fault(text: &[u8]) -> Option<BadToken>
-    ensures { result ≡ first_of (return_fault text.now) (fault_if (has_null false text.now) NullInCStr) }
+    ensures { result ≡ first_of (return_fault text.now) (fault_if (has_null text.now) NullInCStr) }
 {
     match return_fault(text) {
         None => fault_if(has_null(text), BadToken::NullInCStr),

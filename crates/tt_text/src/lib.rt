@@ -15,4 +15,6 @@ mod step;
 
 pub use bracket::Bracket;
 pub use fault::{BadToken, Open, SyntaxFault, TextFault};
+pub use leaves::{punct_char, scan_of};
 pub use parse::parse_to_token_tree;
+pub use role::{Role, role_in};

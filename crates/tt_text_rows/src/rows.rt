@@ -9,7 +9,7 @@ const READ: [(&str, &str); 11] = [
     (
         "//!a\r\n",
         "PUNCH   # [alone] 0:0@0..5#0\nPUNCH   ! [alone] 0:0@0..5#0\nSUBTREE [] 0:0@0..5#0 0:0@0..5#0\n  \
-        IDENT   doc 0:0@0..5#0\n  PUNCH   = [alone] 0:0@0..5#0\n  LITERAL StrRaw(0) a\r 0:0@0..5#0",
+        IDENT   doc 0:0@0..5#0\n  PUNCH   = [alone] 0:0@0..5#0\n  LITERAL StrRaw(0) a 0:0@0..5#0",
     ),
     ("// a\n/* b */ ", ""),
     (
