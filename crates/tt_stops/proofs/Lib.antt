@@ -1,0 +1,5 @@
+pub mod KeepFacts
+pub mod NumberKeeps
+pub mod ReadKeeps
+pub mod WordKeeps
+pub mod SignFacts

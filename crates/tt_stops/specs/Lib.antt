@@ -1,0 +1,2 @@
+-- What a token may have behind it.
+pub mod Stops
