@@ -1,0 +1,12 @@
+pub mod MarksLeft
+pub mod ReadFacts
+pub mod ShownLeft
+pub mod WriteFacts
+pub mod Chunks
+pub mod DisplayFacts
+pub mod KindFacts
+pub mod WordFacts
+pub mod Written
+pub mod Back
+pub mod Fronts
+pub mod Readings

@@ -1,0 +1,5 @@
+//! Worked rows on trees as Rust texts, by the calls of `tt_unparse`.
+#![tactic(auto)]
+
+#[cfg(test)]
+mod rows;
