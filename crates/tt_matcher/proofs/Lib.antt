@@ -1,0 +1,20 @@
+pub mod Adding
+pub mod Compiling
+pub mod Decompiling
+pub mod Ending
+pub mod FirstTrees
+pub mod Leading
+pub mod LeafSteps
+pub mod LevelSteps
+pub mod Levelling
+pub mod Logs
+pub mod OneReading
+pub mod Reaching
+pub mod ReadingParts
+pub mod ReadingSteps
+pub mod Results
+pub mod Stepping
+pub mod Telling
+pub mod Told
+pub mod Via
+mod Rows

@@ -1,0 +1,228 @@
+-- Worked patterns with repetitions: each holds by computation.
+use Rattle.std.proofs.Common.{◌≡◌, ℕ, true, false, List, [], ◌∷◌, None, Some, codes, refl, sym, ◌∙◌}
+use Rattle.tt.specs.Forest.{Forest, end, leaf, join}
+use Rattle.tt.specs.Types.DelimiterKind.TheVariants.{Parenthesis, Brace}
+use Rattle.tt.specs.Types.IdentIsRaw.TheVariants.{Yes}
+use Rattle.tt.specs.Types.Leaf.TheVariants as leaf_of
+use Rattle.tt.specs.Types.Spacing.TheVariants.{Alone, Joint}
+use Rattle.tt_base.proofs.Samples.{span, punct, ident, subtree}
+use Rattle.tt_matcher.specs.declared.pattern.Fragment.TheVariants as fragment
+use Rattle.tt_matcher.specs.declared.pattern.RepeatKind.TheVariants as repeat
+use Rattle.tt_matcher.specs.Asks as ask
+use Rattle.tt_matcher.specs.Compiled.{starts_of, all_stops}
+use Rattle.tt_matcher.specs.Fragments.{takes, taken}
+use Rattle.tt_matcher.specs.Patterns.{Pattern, nothing, variable, token, subtree as held_by, repetition, may_be_empty}
+use Rattle.tt_matcher.specs.Readings.{Reading, done, took, held, round, over, IsInstance, IsNoInstance, IsReadBy, IsAmbiguous}
+use Rattle.tt_matcher.specs.Spelling.{pattern_of}
+use Rattle.tt_matcher.specs.Units.{unit_size, IsUnitLike}
+
+-- small trees: an ident, puncts that stand alone or joint, before others
+abbrev word : List ℕ → Forest → Forest
+word text rest = leaf (ident text) rest
+
+abbrev raw_word : List ℕ → Forest → Forest
+raw_word text rest = leaf (leaf_of.Ident (record { sym = text; span = span 0 1; is_raw = Yes })) rest
+
+abbrev alone : ℕ → Forest → Forest
+alone char rest = leaf (punct char Alone) rest
+
+abbrev joint : ℕ → Forest → Forest
+joint char rest = leaf (punct char Joint) rest
+
+-- `=>`, `'a`, `,` and `-`
+abbrev arrow : Forest → Forest
+arrow rest = joint 61 (alone 62 rest)
+
+abbrev life : Forest → Forest
+life rest = joint 39 (word (codes "a") rest)
+
+abbrev comma : Forest → Forest
+comma rest = alone 44 rest
+
+-- `$name:kind` and `$( .. )` before others
+abbrev var : (name kind : List ℕ) → Forest → Forest
+var name kind rest = alone 36 (word name (alone 58 (word kind rest)))
+
+abbrev rounds : Forest → Forest → Forest
+rounds inside rest = alone 36 (join (subtree Parenthesis inside) rest)
+
+-- Tokens of several puncts, and lifetimes, are one; so is what stands alone.
+arrow_is_one : unit_size (arrow end) ≡ 2
+arrow_is_one = refl
+
+arrow_apart : unit_size (alone 61 (alone 62 end)) ≡ 1
+arrow_apart = refl
+
+range_is_one : unit_size (joint 46 (joint 46 (alone 61 end))) ≡ 3
+range_is_one = refl
+
+lifetime_is_one : unit_size (life (comma end)) ≡ 2
+lifetime_is_one = refl
+
+quote_alone : unit_size (joint 39 (comma end)) ≡ 1
+quote_alone = refl
+
+subtree_is_one : unit_size (join (subtree Brace (comma end)) (comma end)) ≡ 1
+subtree_is_one = refl
+
+-- `==` is `==`, and neither `= =` nor `=`.
+equal_like : IsUnitLike (punct 61 Joint ∷ punct 61 Alone ∷ []) (joint 61 (joint 61 end))
+equal_like = (refl, (refl, (refl, tt)))
+
+equal_apart : IsUnitLike (punct 61 Joint ∷ punct 61 Alone ∷ []) (alone 61 (alone 61 end)) → ⊥
+equal_apart like = cc like.0
+
+equal_less : IsUnitLike (punct 61 Alone ∷ []) (joint 61 (alone 61 end)) → ⊥
+equal_less like = cc like.0
+
+-- An ident takes an ident, raw or not, but `_`, and no lifetime.
+ident_takes : takes fragment.Ident (word (codes "a") end) ≡ true
+ident_takes = refl
+
+raw_taken : takes fragment.Ident (raw_word (codes "a") end) ≡ true
+raw_taken = refl
+
+underscore_left : takes fragment.Ident (word (codes "_") end) ≡ false
+underscore_left = refl
+
+lifetime_no_ident : takes fragment.Ident (life end) ≡ false
+lifetime_no_ident = refl
+
+-- A literal takes a truth value, and a number behind `-`, which are two trees.
+truth_taken : takes fragment.Literal (word (codes "true") end) ≡ true
+truth_taken = refl
+
+minus_left : takes fragment.Literal (alone 45 (word (codes "a") end)) ≡ false
+minus_left = refl
+
+module _ (rest : Forest) where
+  -- A lifetime is a `'` and an ident.
+  lifetime_takes : takes fragment.Lifetime (life rest) ≡ true
+  lifetime_takes = refl
+
+  lifetime_taken : taken fragment.Lifetime (life rest) ≡ life end
+  lifetime_taken = refl
+
+quote_left : takes fragment.Lifetime (joint 39 (comma end)) ≡ false
+quote_left = refl
+
+-- A block is what stands in braces.
+block_takes : takes fragment.Block (subtree Brace end) ≡ true
+block_takes = refl
+
+parentheses_left : takes fragment.Block (subtree Parenthesis end) ≡ false
+parentheses_left = refl
+
+-- `tt` takes a token, or a subtree; and nothing where nothing is.
+arrow_taken : taken fragment.Tt (arrow (comma end)) ≡ arrow end
+arrow_taken = refl
+
+life_taken : taken fragment.Tt (life (comma end)) ≡ life end
+life_taken = refl
+
+nothing_left : takes fragment.Tt end ≡ false
+nothing_left = refl
+
+-- `$($x:ident),* $(,)?`
+abbrev listed : Forest
+listed = rounds (var (codes "x") (codes "ident") end) (joint 44 (alone 42 (rounds (comma end) (alone 63 end))))
+
+abbrev x_part : Pattern
+x_part = variable (record { name = Some (codes "x"); fragment = fragment.Ident }) nothing
+
+listed_spells : pattern_of listed
+    ≡ repetition x_part (punct 44 Joint ∷ []) repeat.ZeroOrMore (repetition (token (punct 44 Alone ∷ []) nothing) [] repeat.ZeroOrOne nothing)
+listed_spells = refl
+
+-- `a, b,` is an instance of it; the last comma is the second repetition's.
+abbrev a_b : Forest
+a_b = word (codes "a") (comma (word (codes "b") (comma end)))
+
+abbrev a_b_reading : Reading
+a_b_reading = round (took (word (codes "a") end) done) (round (took (word (codes "b") end) done) (over (round done (over done))))
+
+listed_instance : IsInstance (pattern_of listed) a_b a_b_reading
+listed_instance = (_, (done, refl, refl, (refl, refl)), (_, _, refl, ((refl, (refl, tt)), refl), (done, refl, refl, (refl, refl)), (_, ((refl, (refl, tt)), (refl, refl)), (refl, refl))))
+
+-- Its places: the variable, its comma, the other comma, the end. It begins with a name, with the other comma, or ends at once.
+listed_starts : starts_of (pattern_of listed) ≡ 0 ∷ 2 ∷ 3 ∷ []
+listed_starts = refl
+
+listed_stops : all_stops (pattern_of listed)
+    ≡ record { asked = ask.take fragment.Ident; edges = 1 ∷ 2 ∷ 3 ∷ [] }
+    ∷ record { asked = ask.same (punct 44 Joint ∷ []); edges = 0 ∷ [] }
+    ∷ record { asked = ask.same (punct 44 Alone ∷ []); edges = 3 ∷ [] }
+    ∷ record { asked = ask.leave; edges = [] }
+    ∷ []
+listed_stops = refl
+
+-- A separator is a token, `=>` too, and so is a lifetime.
+arrow_separates : pattern_of (rounds (word (codes "a") end) (arrow (alone 43 end)))
+    ≡ repetition (token (ident (codes "a") ∷ []) nothing) (punct 61 Joint ∷ punct 62 Alone ∷ []) repeat.OneOrMore nothing
+arrow_separates = refl
+
+life_separates : pattern_of (rounds (word (codes "b") end) (life (alone 42 end)))
+    ≡ repetition (token (ident (codes "b") ∷ []) nothing) (punct 39 Joint ∷ ident (codes "a") ∷ []) repeat.ZeroOrMore nothing
+life_separates = refl
+
+-- `$_:tt` has no name, and `$r#x:tt` that of `x`.
+underscore_spells : pattern_of (var (codes "_") (codes "tt") end) ≡ variable (record { name = None; fragment = fragment.Tt }) nothing
+underscore_spells = refl
+
+raw_spells : pattern_of (alone 36 (raw_word (codes "x") (alone 58 (word (codes "tt") end)))) ≡ variable (record { name = Some (codes "x"); fragment = fragment.Tt }) nothing
+raw_spells = refl
+
+-- `$crate` stays, and so does a `$` that begins nothing.
+crate_stays : pattern_of (alone 36 (word (codes "crate") (comma end)))
+    ≡ token (punct 36 Alone ∷ []) (token (ident (codes "crate") ∷ []) (token (punct 44 Alone ∷ []) nothing))
+crate_stays = refl
+
+no_operator : pattern_of (rounds (comma end) end) ≡ token (punct 36 Alone ∷ []) (held_by Parenthesis (token (punct 44 Alone ∷ []) nothing) nothing)
+no_operator = refl
+
+-- A token of a pattern is one part.
+arrow_spells : pattern_of (arrow (comma end)) ≡ token (punct 61 Joint ∷ punct 62 Alone ∷ []) (token (punct 44 Alone ∷ []) nothing)
+arrow_spells = refl
+
+-- What may be empty.
+listed_empty : may_be_empty (pattern_of listed) ≡ true
+listed_empty = refl
+
+one_full : may_be_empty (pattern_of (rounds (comma end) (alone 43 end))) ≡ false
+one_full = refl
+
+-- `+` wants a round.
+abbrev plus : Pattern
+plus = pattern_of (rounds (comma end) (alone 43 end))
+
+plus_of_none : IsNoInstance plus end
+plus_of_none (round this others) (rest, takes, more) = takes.0.1.0
+plus_of_none (over more) is = cc is.0
+plus_of_none done is = is
+plus_of_none (took trees more) is = is
+plus_of_none (held inside more) is = is
+
+-- `$(,)? $(,)?` takes one comma in two ways.
+abbrev maybe_twice : Pattern
+maybe_twice = pattern_of (rounds (comma end) (alone 63 (rounds (comma end) (alone 63 end))))
+
+twice_ambiguous : IsAmbiguous maybe_twice (comma end)
+twice_ambiguous =
+    record {
+      one = round done (over (over done));
+      other = over (round done (over done));
+      differ = λ e. cc e;
+      one_holds = (_, ((refl, (refl, tt)), (refl, refl)), (refl, (refl, refl)));
+      other_holds = (refl, (_, ((refl, (refl, tt)), (refl, refl)), (refl, refl)));
+    }
+
+-- No two of the three answers can hold of one input.
+module _ (pattern : Pattern) (input : Forest) where
+  none_or_one : IsNoInstance pattern input → (reading : Reading) → IsReadBy pattern input reading → ⊥
+  none_or_one none reading one = none reading one.holds
+
+  none_or_two : IsNoInstance pattern input → IsAmbiguous pattern input → ⊥
+  none_or_two none two = none two.one two.one_holds
+
+  one_or_two : (reading : Reading) → IsReadBy pattern input reading → IsAmbiguous pattern input → ⊥
+  one_or_two reading one two = two.differ (one.alone two.one two.one_holds ∙ sym (one.alone two.other two.other_holds))

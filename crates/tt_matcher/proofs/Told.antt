@@ -1,0 +1,109 @@
+-- What the places of a pattern tell of an input.
+use Rattle.std.proofs.Common.{◌≡◌, inl, inr, ℕ, true, List, [], ◌∷◌, refl, ap, sym, subst, ◌∙◌, arith}
+use Rattle.std.specs.Prelude.{◌⊎◌}
+use Rattle.tt.specs.Forest.{Forest, end}
+use Rattle.tt_matcher.specs.Asks as ask
+use Rattle.tt_matcher.specs.declared.places.Place.{Place}
+use Rattle.tt_matcher.specs.Compiled.{Stand, place_count, stops, all_stops, starts_of}
+use Rattle.tt_matcher.specs.declared.reading.Found.{Found}
+use Rattle.tt_matcher.specs.declared.reading.Found.TheVariants as found
+use Rattle.tt_matcher.specs.Levels.{AreTwo, IsOnly, Finds, Tells}
+use Rattle.tt_matcher.specs.Patterns.{Pattern, IsFull}
+use Rattle.tt_matcher.specs.Places.{ReadsAll, Reads, Passes, is_leave}
+use Rattle.tt_matcher.specs.Readings.{Reading, Takes, IsInstance, IsNoInstance, IsReadBy, IsAmbiguous}
+use Rattle.tt_matcher.specs.Threads.{path_to}
+use Rattle.tt_matcher.proofs.Compiling.{length-stops, path_of, from_reading}
+use Rattle.tt_matcher.proofs.Decompiling.{Read, to_reading}
+use Rattle.tt_matcher.proofs.OneReading.{same_reading}
+use Rattle.tt_matcher.proofs.Via.{Via, stand_left, stand_right, via_none, via_one, comes_by, ends_by}
+
+module _ (places : List Place) (pattern : Pattern) (full : IsFull pattern) (stand : Stand places 0 (all_stops pattern)) (input : Forest) where
+  -- the place where all ends
+  last : Stand places (place_count pattern) (record { asked = ask.leave; edges = [] } ∷ [])
+  last =
+      stand_right places 0 (place_count pattern) (stops 0 pattern (place_count pattern ∷ [])) (record { asked = ask.leave; edges = [] } ∷ [])
+      (omega (arith, length-stops 0 pattern (place_count pattern ∷ []))) stand
+
+  first : Stand places 0 (stops 0 pattern (place_count pattern ∷ []))
+  first = stand_left places 0 (stops 0 pattern (place_count pattern ∷ [])) (record { asked = ask.leave; edges = [] } ∷ []) stand
+
+  -- the paths that are wanted, in two spellings
+  to_via : (path : List ℕ) → ReadsAll places (starts_of pattern) input path → Via places (starts_of pattern) (input ∷ []) path
+  to_via [] w = w
+  to_via (turn ∷ more) w = w
+
+  of_via : (path : List ℕ) → Via places (starts_of pattern) (input ∷ []) path → ReadsAll places (starts_of pattern) input path
+  of_via [] w = w
+  of_via (turn ∷ more) w = w
+
+  -- An instance has its path.
+  pub instance_reads : (reading : Reading) → IsInstance pattern input reading → ReadsAll places (starts_of pattern) input (path_of 0 pattern reading (0 ∷ []))
+  instance_reads reading is =
+      of_via (path_of 0 pattern reading (0 ∷ []))
+      (from_reading places 0 pattern (place_count pattern ∷ []) input reading end [] (0 ∷ []) full first is ends)
+    where
+      ends : Reads places (place_count pattern) (end ∷ []) []
+      ends = ends_by places (end ∷ []) (place_count pattern) (record { asked = ask.leave; edges = [] }) last.0 refl refl
+
+  -- A path is that of an instance.
+  pub path_reads : (path : List ℕ) → ReadsAll places (starts_of pattern) input path
+      → (reading : Reading) × IsInstance pattern input reading × (path ≡ path_of 0 pattern reading (0 ∷ []))
+  path_reads path w = out (to_reading places 0 pattern (place_count pattern ∷ []) [] input path full first (to_via path w))
+    where
+      finish : (found : Read places 0 pattern (place_count pattern ∷ []) [] input path) → (more : List ℕ) → found.tail ≡ 0 ∷ more
+          → ((is_leave ask.leave ≡ true) × (found.rest ∷ [] ≡ end ∷ []) × (more ≡ [])) ⊎ (Passes ask.leave (found.rest ∷ []) × Via places [] [] more)
+          → (reading : Reading) × IsInstance pattern input reading × (path ≡ path_of 0 pattern reading (0 ∷ []))
+      finish found more tail (inl (leave, ended, none)) =
+          let over : found.rest ≡ end = cc ended in (
+            found.reading,
+            subst (λ r. Takes pattern input found.reading r) over found.takes,
+            found.is ∙ ap (path_of 0 pattern found.reading) (tail ∙ ap (λ p. 0 ∷ p) none),
+          )
+      finish found more tail (inr (ended, v)) = absurd (via_none places [] more v)
+
+      through : (found : Read places 0 pattern (place_count pattern ∷ []) [] input path)
+          → (more : List ℕ) × (found.tail ≡ 0 ∷ more) × Reads places (place_count pattern) (found.rest ∷ []) more
+          → (reading : Reading) × IsInstance pattern input reading × (path ≡ path_of 0 pattern reading (0 ∷ []))
+      through found (more, tail, reads) =
+          finish found more tail (comes_by places (found.rest ∷ []) (place_count pattern) (record { asked = ask.leave; edges = [] }) last.0 more reads)
+
+      out : Read places 0 pattern (place_count pattern ∷ []) [] input path → (reading : Reading) × IsInstance pattern input reading × (path ≡ path_of 0 pattern reading (0 ∷ []))
+      out found = through found (via_one places (found.rest ∷ []) (place_count pattern) found.tail found.via)
+
+  -- Where no path is, the input is no instance.
+  pub no_instance : ((path : List ℕ) → ReadsAll places (starts_of pattern) input path → ⊥) → IsNoInstance pattern input
+  no_instance none reading is = none (path_of 0 pattern reading (0 ∷ [])) (instance_reads reading is)
+
+  -- Where one is, it is an instance by one reading.
+  pub one_instance : (path : List ℕ) → IsOnly (ReadsAll places (starts_of pattern) input) path
+      → (reading : Reading) × IsReadBy pattern input reading × (path ≡ path_of 0 pattern reading (0 ∷ []))
+  one_instance path only =
+      let found = path_reads path only.holds in (
+        found.0,
+        record {
+          holds = found.1;
+          alone = λ other is.
+              (same_reading 0 pattern input other found.0 end end (0 ∷ []) (0 ∷ []) full is found.1
+              (only.alone (path_of 0 pattern other (0 ∷ [])) (instance_reads other is) ∙ found.2)).readings;
+        },
+        found.2,
+      )
+
+  -- Where two are, it is ambiguous.
+  pub two_instances : AreTwo (ReadsAll places (starts_of pattern) input) → IsAmbiguous pattern input
+  two_instances two =
+      let a = path_reads two.one two.one_is in
+      let b = path_reads two.other two.other_is in
+      record {
+        one = a.0;
+        other = b.0;
+        differ = λ e. two.differ (a.2 ∙ ap (λ r. path_of 0 pattern r (0 ∷ [])) e ∙ sym b.2);
+        one_holds = a.1;
+        other_holds = b.1;
+      }
+
+  -- What was found of the paths is so of the readings.
+  pub tells : (it : Found) → Finds (ReadsAll places (starts_of pattern) input) it → Tells pattern input it
+  tells found.Nothing finds = no_instance finds
+  tells (found.One log last) finds = let one = one_instance (path_to log.items last) finds in (one.0, one.1)
+  tells found.Many finds = two_instances finds

@@ -1,0 +1,73 @@
+use Rattle.std.proofs.Common.{rules, ◌≡◌, [], ◌∷◌, ◌++◌, false, reverse, ap, sym, subst, refl, ◌∙◌}
+use Rattle.tt.specs.Iters.{rest_of}
+use Rattle.tt_matcher.specs.declared.reading.Choice.TheVariants as choice
+use Rattle.tt_matcher.specs.declared.reading.Level.{Level}
+use Rattle.tt_matcher.specs.Levels.{level_view, level_views, AreLevelsWithin, Advances, IsEndedWith, Finds, choice_of, found_of}
+use Rattle.tt_matcher.specs.Places.{ReadsAll}
+use Rattle.tt_matcher.specs.Threads.{views_of, threads_spread}
+use Rattle.tt_matcher.proofs.Levelling.{within_rest, within_last}
+use Rattle.tt_matcher.proofs.Ending.{Says}
+use Rattle.tt_matcher.proofs.ReadingSteps.{told_init, within_init, told_on, says_ended, finds}
+use Rattle.tt_matcher.proofs.reading.read_all.Goals as goal
+
+pub loop-level-init : goal.loop-level-init
+loop-level-init c =
+    let log = c.new-log.result.items in
+    let its = c.spread_to.new.threads.items in
+    let level : Level = record { rest = c.args.input; threads = c.spread_to.new.threads } in
+    let before : c.new-threads.result.items ≡ [] = search rules in
+    let added : its ≡ threads_spread 0 false 0 0 c.args.starts.now c.new-threads.result.items = search rules in
+    let spreads : its ≡ threads_spread 0 false 0 0 c.args.starts.now [] = added ∙ ap (threads_spread 0 false 0 0 c.args.starts.now) before in
+    let is : c.push.new.self.items ≡ [] ++ level ∷ [] = search rules in
+    record {
+      told = told_init c.args.places.now c.args.starts.now c.args.input log its c.push.new.self.items level spreads is refl refl;
+      within = subst (AreLevelsWithin log) (sym is) (within_init log c.args.starts.now its spreads, tt);
+    }
+
+pub advance-requires-clause-own : goal.advance-requires-clause-own
+advance-requires-clause-own c =
+    let log = c.loop-level.log.items in
+    let level : Level = c.in-Some.level in
+    let was : c.loop-level.levels.items ≡ c.pop.new.self.items ++ level ∷ [] = search rules in
+    within_last log c.pop.new.self.items level (subst (AreLevelsWithin log) was c.loop-level.invariant.within)
+
+pub advance-requires-clause-outside : goal.advance-requires-clause-outside
+advance-requires-clause-outside c =
+    let log = c.loop-level.log.items in
+    let level : Level = c.in-Some.level in
+    let was : c.loop-level.levels.items ≡ c.pop.new.self.items ++ level ∷ [] = search rules in
+    within_rest log c.pop.new.self.items level (subst (AreLevelsWithin log) was c.loop-level.invariant.within)
+
+pub returns-in-Some-2 : goal.returns-in-Some-2
+returns-in-Some-2 c =
+    let places = c.args.places.now in
+    let log = c.loop-level.log.items in
+    let new = c.advance.new.log.items in
+    let level : Level = c.in-Some.level in
+    let popped = c.pop.new.self.items in
+    let its = c.in-Some-2.ended.items in
+    let was : c.loop-level.levels.items ≡ popped ++ level ∷ [] = search rules in
+    let ended : IsEndedWith (level_view log level) (level_views log (reverse popped)) (views_of new its) = search rules in
+    let here : c.deref.result.now ≡ its = search rules in
+    let choice_is : c.chosen-choice.result ≡ choice_of places choice.Nothing c.deref.result.now = search rules in
+    let found_is : c.find_by.result ≡ found_of c.chosen-choice.result c.advance.new.log = search rules in
+    subst (Finds (ReadsAll places c.args.starts.now (rest_of c.args.input))) (sym found_is)
+    (finds places (ReadsAll places c.args.starts.now (rest_of c.args.input)) c.advance.new.log c.chosen-choice.result
+    (subst (Says places (ReadsAll places c.args.starts.now (rest_of c.args.input)) new) (sym (choice_is ∙ ap (choice_of places choice.Nothing) here))
+    (says_ended places (ReadsAll places c.args.starts.now (rest_of c.args.input)) log new c.loop-level.levels.items popped [] level was c.loop-level.invariant.told its ended)))
+
+pub loop-level-preserved : goal.loop-level-preserved
+loop-level-preserved c =
+    let places = c.args.places.now in
+    let log = c.loop-level.log.items in
+    let new = c.advance.new.log.items in
+    let level : Level = c.in-Some.level in
+    let popped = c.pop.new.self.items in
+    let news = c.advance.new.levels.items in
+    let was : c.loop-level.levels.items ≡ popped ++ level ∷ [] = search rules in
+    let steps : Advances places (level_view log level) (level_views log (reverse popped)) (level_views new (reverse news)) = search rules in
+    let within : AreLevelsWithin new news = search rules in
+    record {
+      told = told_on places (ReadsAll places c.args.starts.now (rest_of c.args.input)) log new c.loop-level.levels.items popped news level was c.loop-level.invariant.told steps;
+      within = within;
+    }

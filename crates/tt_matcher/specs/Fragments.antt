@@ -1,0 +1,103 @@
+-- What a fragment takes.
+use Rattle.std.specs.Prelude.{ℕ, zero, suc, List, Bool, true, false, ◌&&◌, ◌||◌, not, codes, is_some, if◌then◌else◌}
+use Rattle.tt.specs.Expectations.{first_leaf_as, as_punct, as_literal, as_ident_or_underscore, unless_underscore, is_punct_of}
+use Rattle.tt.specs.Forest.{Forest, end, leaf, node}
+use Rattle.tt.specs.Gluing.{after_trees}
+use Rattle.tt.specs.Literal.{kind_of}
+use Rattle.tt.specs.Moves.{after_tree}
+use Rattle.tt.specs.Siblings.{is_end}
+use Rattle.tt.specs.Types.DelimiterKind.{DelimiterKind}
+use Rattle.tt.specs.Types.DelimiterKind.TheVariants as delimited
+use Rattle.tt.specs.Types.LitKind.{LitKind}
+use Rattle.tt.specs.Types.LitKind.TheVariants as literal
+use Rattle.tt.specs.Types.Leaf.{Leaf}
+use Rattle.tt.specs.Types.Leaf.TheVariants as leaf_of
+use Rattle.tt_matcher.specs.declared.pattern.Fragment.{Fragment}
+use Rattle.tt_matcher.specs.declared.pattern.Fragment.TheVariants as fragment
+use Rattle.tt_matcher.specs.Units.{is_at_ident, unit_size}
+
+-- a punct of that character stands first
+abbrev pub is_at_punct : (chars : List ℕ) → Forest → Bool
+is_at_punct chars trees = is_punct_of chars (first_leaf_as as_punct trees)
+
+-- a literal, or a truth value, stands first
+abbrev pub is_at_literal : Forest → Bool
+is_at_literal trees = is_some (first_leaf_as as_literal trees)
+
+-- a kind of numbers
+abbrev pub is_number_kind : LitKind → Bool
+is_number_kind literal.Byte = false
+is_number_kind literal.Char = false
+is_number_kind literal.Integer = true
+is_number_kind literal.Float = true
+is_number_kind literal.Str = false
+is_number_kind (literal.StrRaw hashes) = false
+is_number_kind literal.ByteStr = false
+is_number_kind (literal.ByteStrRaw hashes) = false
+is_number_kind literal.CStr = false
+is_number_kind (literal.CStrRaw hashes) = false
+is_number_kind (literal.Err fault) = false
+
+-- a number
+abbrev pub is_number : Leaf → Bool
+is_number (leaf_of.Literal it) = is_number_kind (kind_of it)
+is_number (leaf_of.Punct it) = false
+is_number (leaf_of.Ident it) = false
+
+-- a number stands first
+abbrev pub is_at_number : Forest → Bool
+is_at_number end = false
+is_at_number (leaf it rest) = is_number it
+is_at_number (node delimiter children rest) = false
+
+-- a `-` and a number stand first
+abbrev pub is_at_negative : Forest → Bool
+is_at_negative trees = is_at_punct (codes "-") trees && is_at_number (after_tree trees)
+
+-- a `'` and an ident stand first
+abbrev pub is_at_lifetime : Forest → Bool
+is_at_lifetime trees = is_at_punct (codes "'") trees && is_at_ident (after_tree trees)
+
+-- a subtree in braces stands first
+abbrev pub is_brace : DelimiterKind → Bool
+is_brace delimited.Parenthesis = false
+is_brace delimited.Brace = true
+is_brace delimited.Bracket = false
+is_brace delimited.Invisible = false
+is_brace delimited.InvisibleOpaque = false
+
+abbrev pub is_at_block : Forest → Bool
+is_at_block end = false
+is_at_block (leaf it rest) = false
+is_at_block (node delimiter children rest) = is_brace delimiter.kind
+
+-- the fragment takes what stands first: an ident other than `_`; a literal, a truth value, or a number behind `-`; a lifetime; a
+-- subtree in braces; or any token or subtree
+abbrev pub takes : Fragment → Forest → Bool
+takes fragment.Ident trees = is_some (unless_underscore (first_leaf_as as_ident_or_underscore trees))
+takes fragment.Literal trees = is_at_literal trees || is_at_negative trees
+takes fragment.Lifetime trees = is_at_lifetime trees
+takes fragment.Block trees = is_at_block trees
+takes fragment.Tt trees = not (is_end trees)
+
+-- how many trees that is
+abbrev pub reach : Fragment → Forest → ℕ
+reach fragment.Ident trees = 1
+reach fragment.Literal trees = if is_at_negative trees then 2 else 1
+reach fragment.Lifetime trees = 2
+reach fragment.Block trees = 1
+reach fragment.Tt trees = unit_size trees
+
+-- so many trees at the front, if there are as many
+abbrev pub front_trees : ℕ → Forest → Forest
+front_trees zero trees = end
+front_trees (suc n) end = end
+front_trees (suc n) (leaf it rest) = leaf it (front_trees n rest)
+front_trees (suc n) (node delimiter children rest) = node delimiter children (front_trees n rest)
+
+-- the trees that the fragment takes, and those behind them
+abbrev pub taken : Fragment → Forest → Forest
+taken which trees = front_trees (reach which trees) trees
+
+abbrev pub left_by : Fragment → Forest → Forest
+left_by which trees = after_trees (reach which trees) trees

@@ -1,0 +1,144 @@
+-- Levels of an input with the threads before them, and what a step makes of them.
+use Rattle.std.specs.Prelude.{◌≡◌, ◌⊎◌, ℕ, Bool, false, List, [], ◌∷◌, map, Option, None, Some, slice_get, if◌then◌else◌}
+use Rattle.std.specs.Global.{Global}
+use Rattle.std.specs.Prelude.{Vec}
+use Rattle.tt.specs.Forest.{Forest, end, leaf, node}
+use Rattle.tt.specs.Iters.{rest_of}
+use Rattle.tt.specs.Moves.{after_tree}
+use Rattle.tt.specs.Types.Delimiter.{Delimiter}
+use Rattle.tt.specs.Types.Leaf.{Leaf}
+use Rattle.tt.specs.Types.TtIter.{TtIter}
+use Rattle.tt_matcher.specs.declared.places.Place.{Place}
+use Rattle.tt_matcher.specs.declared.reading.Choice.{Choice}
+use Rattle.tt_matcher.specs.declared.reading.Choice.TheVariants as choice
+use Rattle.tt_matcher.specs.declared.reading.Found.{Found}
+use Rattle.tt_matcher.specs.declared.reading.Found.TheVariants as found
+use Rattle.tt_matcher.specs.declared.reading.Level.{Level}
+use Rattle.tt_matcher.specs.declared.threads.Move.TheVariants as move
+use Rattle.tt_matcher.specs.declared.threads.Thread.{Thread}
+use Rattle.tt_matcher.specs.declared.threads.Turn.{Turn}
+use Rattle.tt_matcher.specs.Asks.{ask_of}
+use Rattle.tt_matcher.specs.Patterns.{Pattern}
+use Rattle.tt_matcher.specs.Places.{is_leave}
+use Rattle.tt_matcher.specs.Readings.{Reading, IsNoInstance, IsReadBy, IsAmbiguous}
+use Rattle.tt_matcher.specs.Threads.{View, views_of, path_to, AreWithin, AllStep}
+
+-- what is left of a level, and what its threads stand for
+pub record LevelView : Type 0 where
+  pub trees : Forest
+  pub views : List View
+
+abbrev pub level_view : (log : List Turn) → Level → LevelView
+level_view log level = record { trees = rest_of level.rest; views = views_of log level.threads.items }
+
+abbrev pub level_views : (log : List Turn) → List Level → List LevelView
+level_views log levels = map (level_view log) levels
+
+-- each thread's turn is one of the log
+abbrev pub AreLevelsWithin : (log : List Turn) → List Level → Type 0
+AreLevelsWithin log [] = Unit {0}
+AreLevelsWithin log (level ∷ others) = AreWithin log level.threads.items × AreLevelsWithin log others
+
+-- a level that is at its end is left for the one outside
+pub record IsLeft (places : List Place) (level : LevelView) (outer news : List LevelView) : Type 0 where
+  pub next : LevelView
+  pub below : List LevelView
+  pub views : List View
+  pub is_ended : level.trees ≡ end
+  pub outer_is : outer ≡ next ∷ below
+  pub steps : AllStep places move.Ends level.views next.views views
+  pub news_are : news ≡ record { trees = next.trees; views = views } ∷ below
+
+-- a leaf is passed
+pub record IsPassed (places : List Place) (level : LevelView) (outer news : List LevelView) : Type 0 where
+  pub it : Leaf
+  pub before : TtIter
+  pub views : List View
+  pub first : level.trees ≡ leaf it (after_tree level.trees)
+  pub before_is : rest_of before ≡ level.trees
+  pub steps : AllStep places (move.Passes before) level.views [] views
+  pub news_are : news ≡ record { trees = after_tree level.trees; views = views } ∷ outer
+
+-- a subtree is passed by some, and entered by others
+pub record IsEntered (places : List Place) (level : LevelView) (outer news : List LevelView) : Type 0 where
+  pub delimiter : Delimiter
+  pub children : Forest
+  pub before : TtIter
+  pub views : List View
+  pub inside : List View
+  pub first : level.trees ≡ node delimiter children (after_tree level.trees)
+  pub before_is : rest_of before ≡ level.trees
+  pub steps : AllStep places (move.Passes before) level.views [] views
+  pub enters : AllStep places (move.Enters delimiter.kind) level.views [] inside
+  pub news_are : news ≡ record { trees = children; views = inside } ∷ record { trees = after_tree level.trees; views = views } ∷ outer
+
+-- a subtree that none enters is passed
+pub record IsSkipped (places : List Place) (level : LevelView) (outer news : List LevelView) : Type 0 where
+  pub delimiter : Delimiter
+  pub children : Forest
+  pub before : TtIter
+  pub views : List View
+  pub first : level.trees ≡ node delimiter children (after_tree level.trees)
+  pub before_is : rest_of before ≡ level.trees
+  pub steps : AllStep places (move.Passes before) level.views [] views
+  pub enters : AllStep places (move.Enters delimiter.kind) level.views [] []
+  pub news_are : news ≡ record { trees = after_tree level.trees; views = views } ∷ outer
+
+-- a step: one of these
+abbrev pub Advances : List Place → LevelView → (outer news : List LevelView) → Type 0
+Advances places level outer news =
+    IsLeft places level outer news ⊎ (IsPassed places level outer news ⊎ (IsEntered places level outer news ⊎ IsSkipped places level outer news))
+
+-- two different paths are wanted
+pub record AreTwo (Whole : List ℕ → Type 0) : Type 0 where
+  pub one : List ℕ
+  pub other : List ℕ
+  pub differ : one ≡ other → ⊥
+  pub one_is : Whole one
+  pub other_is : Whole other
+
+-- one path is wanted, and no other
+pub record IsOnly (Whole : List ℕ → Type 0) (path : List ℕ) : Type 0 where
+  pub holds : Whole path
+  pub alone : (other : List ℕ) → Whole other → other ≡ path
+
+-- what was found is so
+abbrev pub Finds : (Whole : List ℕ → Type 0) → Found → Type 0
+Finds Whole found.Nothing = (path : List ℕ) → Whole path → ⊥
+Finds Whole (found.One log last) = IsOnly Whole (path_to log.items last)
+Finds Whole found.Many = AreTwo Whole
+
+-- the outermost level is at its end, and its threads are these
+pub record IsEndedWith (level : LevelView) (outer : List LevelView) (views : List View) : Type 0 where
+  pub is_ended : level.trees ≡ end
+  pub is_outermost : outer ≡ []
+  pub views_are : views ≡ level.views
+
+-- whether the place is one that is left
+abbrev pub is_leave_at : Option Place → Bool
+is_leave_at None = false
+is_leave_at (Some place) = is_leave (ask_of place.atom)
+
+-- one thread more at the end: two, or one that stands for many, are many
+abbrev pub with_thread : Choice → Thread → Choice
+with_thread choice.Nothing thread = if thread.is_many then choice.Many else choice.One thread.last
+with_thread (choice.One last) thread = choice.Many
+with_thread choice.Many thread = choice.Many
+
+-- what threads come to, behind that choice
+abbrev pub choice_of : List Place → (so_far : Choice) → List Thread → Choice
+choice_of places so_far [] = so_far
+choice_of places so_far (thread ∷ others) =
+    choice_of places (if is_leave_at (slice_get places thread.at) then with_thread so_far thread else so_far) others
+
+-- what is found where the choice is made in that log
+abbrev pub found_of : Choice → Vec Turn Global → Found
+found_of choice.Nothing log = found.Nothing
+found_of (choice.One last) log = found.One log last
+found_of choice.Many log = found.Many
+
+-- what was found of an input: no reading, one and no other, or two
+abbrev pub Tells : Pattern → (input : Forest) → Found → Type 0
+Tells pattern input found.Nothing = IsNoInstance pattern input
+Tells pattern input (found.One log last) = (reading : Reading) × IsReadBy pattern input reading
+Tells pattern input found.Many = IsAmbiguous pattern input

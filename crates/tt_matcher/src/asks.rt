@@ -1,0 +1,143 @@
+//! What stands first among trees: the tokens of a pattern, and what its fragments take.
+ghost use Rattle.std.specs.Prelude.{◌≡◌, ◌↔◌, IsTrue};
+ghost use Rattle.tt.specs.Iters.{rest_of};
+ghost use Rattle.tt.specs.Moves.{after_tree};
+ghost use Rattle.tt_matcher.specs.Fragments.{is_at_number, is_at_negative, is_at_lifetime, is_at_block, takes, reach};
+ghost use Rattle.tt_matcher.specs.Units.{is_at_ident, unit_from, unit_size, IsSameLeaf, IsLeafLike, AreLeavesLike, IsUnitLike};
+
+use crate::pattern::Fragment;
+use tt::{DelimiterKind, Leaf, LitKind, TtElement, TtIter};
+
+// How many trees stand as one at the front: those of a token, or a subtree.
+fn unit_size(mut trees: TtIter<'_>) -> usize
+    ensures { result ≡ unit_size (rest_of trees.entry) }
+{
+    let mut behind = trees.remaining().iter();
+    match behind.expect_single_punct() {
+        Ok(punct) if punct.char == '\'' => {
+            if behind.expect_ident_or_underscore().is_ok() {
+                2
+            } else {
+                1
+            }
+        }
+        Ok(_) => match trees.expect_glued_punct() {
+            Ok(puncts) => puncts.len(),
+            Err(()) => 1,
+        },
+        Err(()) => 1,
+    }
+}
+
+// Whether the leaves are the same, spans and spacing put aside.
+fn is_same_leaf(leaf: &Leaf, other: &Leaf) -> bool
+    ensures { IsTrue result ↔ IsSameLeaf leaf.now other.now }
+{
+    match (leaf, other) {
+        (Leaf::Literal(left), Leaf::Literal(right)) => {
+            left.kind() == right.kind()
+                && left.text() == right.text()
+                && left.suffix() == right.suffix()
+        }
+        (Leaf::Punct(left), Leaf::Punct(right)) => left.char == right.char,
+        (Leaf::Ident(left), Leaf::Ident(right)) => {
+            left.sym == right.sym && left.is_raw == right.is_raw
+        }
+        _ => false,
+    }
+}
+
+// Takes the next tree: whether it is such a leaf.
+fn passes_leaf(leaf: &Leaf, trees: &mut TtIter<'_>) -> bool
+    ensures answer { IsTrue result ↔ IsLeafLike leaf.now (rest_of trees.old) }
+    ensures rest { rest_of trees.new ≡ after_tree (rest_of trees.old) }
+{
+    match trees.expect_leaf() {
+        Ok(other) => is_same_leaf(leaf, &other),
+        Err(()) => false,
+    }
+}
+
+// Whether the first trees are such leaves, one by one.
+fn are_leaves_like(leaves: &[Leaf], mut trees: TtIter<'_>) -> bool
+    ensures { IsTrue result ↔ AreLeavesLike leaves.now (rest_of trees.entry) }
+{
+    for leaf in leaves {
+        if !passes_leaf(leaf, &mut trees) {
+            return false;
+        }
+    }
+    true
+}
+
+/// Whether a token of just these leaves stands first.
+pub(crate) fn is_unit_like(leaves: &[Leaf], trees: TtIter<'_>) -> bool
+    ensures { IsTrue result ↔ IsUnitLike leaves.now (rest_of trees.entry) }
+{
+    are_leaves_like(leaves, trees.remaining().iter()) && unit_size(trees) == leaves.len()
+}
+
+// Whether a number stands first.
+fn is_at_number(mut trees: TtIter<'_>) -> bool
+    ensures { result ≡ is_at_number (rest_of trees.entry) }
+{
+    match trees.next() {
+        Some(TtElement::Leaf(Leaf::Literal(literal))) => matches!(
+            literal.kind(),
+            LitKind::Integer | LitKind::Float,
+        ),
+        _ => false,
+    }
+}
+
+// Whether a `-` and a number stand first.
+fn is_at_negative(mut trees: TtIter<'_>) -> bool
+    ensures { result ≡ is_at_negative (rest_of trees.entry) }
+{
+    trees.expect_char('-').is_ok() && is_at_number(trees)
+}
+
+// Whether a `'` and an ident stand first.
+fn is_at_lifetime(mut trees: TtIter<'_>) -> bool
+    ensures { result ≡ is_at_lifetime (rest_of trees.entry) }
+{
+    trees.expect_char('\'').is_ok() && trees.expect_ident_or_underscore().is_ok()
+}
+
+// Whether a subtree in braces stands first.
+fn is_at_block(mut trees: TtIter<'_>) -> bool
+    ensures { result ≡ is_at_block (rest_of trees.entry) }
+{
+    match trees.next() {
+        Some(TtElement::Subtree(header, _)) => header.delimiter.kind == DelimiterKind::Brace,
+        _ => false,
+    }
+}
+
+/// Whether the fragment takes what stands first.
+pub(crate) fn takes(fragment: Fragment, mut trees: TtIter<'_>) -> bool
+    ensures { result ≡ takes fragment (rest_of trees.entry) }
+{
+    match fragment {
+        Fragment::Ident => trees.expect_ident().is_ok(),
+        Fragment::Literal => {
+            let ahead = trees.remaining().iter();
+            trees.expect_literal().is_ok() || is_at_negative(ahead)
+        }
+        Fragment::Lifetime => is_at_lifetime(trees),
+        Fragment::Block => is_at_block(trees),
+        Fragment::Tt => !trees.is_empty(),
+    }
+}
+
+/// How many trees it takes.
+pub(crate) fn reach(fragment: Fragment, trees: TtIter<'_>) -> usize
+    ensures { result ≡ reach fragment (rest_of trees.entry) }
+{
+    match fragment {
+        Fragment::Ident | Fragment::Block => 1,
+        Fragment::Literal => { if is_at_negative(trees) { 2 } else { 1 } }
+        Fragment::Lifetime => 2,
+        Fragment::Tt => unit_size(trees),
+    }
+}

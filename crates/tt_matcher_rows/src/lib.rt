@@ -1,0 +1,5 @@
+//! Worked rows on patterns as places, by the calls of `tt_matcher`.
+#![tactic(auto)]
+
+#[cfg(test)]
+mod rows;
