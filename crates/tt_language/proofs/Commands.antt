@@ -1,7 +1,7 @@
 -- What a line's first word tells of its command. A later command is one more case of `part`, `make` and `taken_apart`.
 use Rattle.std.proofs.Common.{◌≡◌, ◌<◌, ◌^◌, ℕ, List, ◌++◌, Option, Some, None, Result, Ok, Err, IfOk, IfSome, MatchOption, refl, sym, ap, subst, ◌∙◌, rules}
 use Rattle.hex.specs.Hex.{IsBytes, encode_lower}
-use Rattle.std.specs.Prelude.{decimal, encode_utf8}
+use Rattle.std.specs.Prelude.{decimal, encode_utf8, IsUtf8}
 use Rattle.std.specs.Char.{IsScalar}
 use Rattle.std.specs.Option.{option_map, IsSomeAnd}
 use Rattle.tt_base.specs.declared.fault.TtFault.{TtFault}
@@ -18,7 +18,7 @@ use Rattle.tt_language.specs.Token.{action_word, ActionFits, kind_word, leaf_wor
 use Rattle.tt_language.specs.Verb.{verb_word}
 use Rattle.tt_language.specs.WordLaws.{spaceless_action, spaceless_kind, spaceless_long_number, spaceless_number, spaceless_slot, spaceless_span, spaceless_verb}
 use Rattle.tt_language.proofs.Cutting.{IsTail-spaced, word_unique}
-use Rattle.tt_language.proofs.OneToOne.{one_action, one_character, one_digits, one_kind, one_leaf, one_long_number, one_number, one_slot, one_span, one_token, one_verb}
+use Rattle.tt_language.proofs.OneToOne.{one_action, one_character, one_digits, one_kind, one_leaf, one_long_number, one_number, one_slot, one_span, one_text, one_token, one_verb}
 use Rattle.tt_language.proofs.Parts.{Part, nothing, word_then, rest_of_line, words_of}
 
 abbrev kind_then : Part → Part
@@ -62,6 +62,8 @@ part verb.Split = slot_then (rest_of_line encode_utf8 IsScalar one_character)
 part verb.Equal = slot_then (slot_then nothing)
 part verb.Save = slot_then nothing
 part verb.Load = slot_then (rest_of_line encode_lower IsBytes one_digits)
+part verb.Read = slot_then (rest_of_line (λ text. text) IsUtf8 one_text)
+part verb.Text = slot_then nothing
 part (verb.View view) = slot_then nothing
 
 -- the command of a verb and of what follows it
@@ -93,6 +95,8 @@ make verb.Split = λ (a, char). command.Split a char
 make verb.Equal = λ (a, (b, _)). command.Equal a b
 make verb.Save = λ (slot, _). command.Save slot
 make verb.Load = λ (a, digits). command.Load a digits
+make verb.Read = λ (a, text). command.Read a text
+make verb.Text = λ (slot, _). command.Text slot
 make (verb.View view) = λ (slot, _). command.View view slot
 
 -- it is spelled so
@@ -142,6 +146,8 @@ taken_apart (command.Split a char) fits = (verb.Split, record { value = (a, char
 taken_apart (command.Equal a b) fits = (verb.Equal, record { value = (a, (b, tt)); fits = (fits.0, (fits.1, tt)); made = refl })
 taken_apart (command.Save slot) fits = (verb.Save, record { value = (slot, tt); fits = (fits, tt); made = refl })
 taken_apart (command.Load a digits) fits = (verb.Load, record { value = (a, digits); fits = (fits.0, fits.1); made = refl })
+taken_apart (command.Read a text) fits = (verb.Read, record { value = (a, text); fits = (fits.0, fits.1); made = refl })
+taken_apart (command.Text slot) fits = (verb.Text, record { value = (slot, tt); fits = (fits, tt); made = refl })
 taken_apart (command.View view slot) fits = (verb.View view, record { value = (slot, tt); fits = (fits, tt); made = refl })
 
 spelled_as : (v : Verb) (c : Command) (is : IsMade v c) → spell c ≡ verb_word v ++ spaced ((part v).pieces is.value)

@@ -2,7 +2,7 @@
 use Rattle.hex.proofs.HexLemmas.{decode_of-encode_lower, decode_of-same}
 use Rattle.hex.specs.Hex.{IsBytes, decode_of, encode_lower}
 use Rattle.std.proofs.Common.{◌≡◌, ◌++◌, ℕ, ◌^◌, ◌<◌, ◌≤◌, List, [], get_or, take, drop, refl, sym, ap, ◌∙◌, lit<, arith}
-use Rattle.std.specs.Prelude.{codes, encode_utf8, if◌then◌else◌}
+use Rattle.std.specs.Prelude.{IsUtf8, codes, encode_utf8, if◌then◌else◌}
 use Rattle.std.specs.Char.{IsScalar}
 use Rattle.std.specs.Fmt.{decimal}
 use Rattle.std.specs.Str.{bytes_eq}
@@ -203,3 +203,6 @@ one_token (token.Subtree a) (token.Subtree b) p q e = ap token.Subtree (one_subt
 
 pub one_digits : IsOneToOne encode_lower IsBytes
 one_digits a b p q e = decode_of-same (encode_lower b) a b (sym (ap decode_of e) ∙ decode_of-encode_lower a p) (decode_of-encode_lower b q)
+
+pub one_text : IsOneToOne (λ (text : List ℕ). text) IsUtf8
+one_text a b p q e = e

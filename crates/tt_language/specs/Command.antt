@@ -1,6 +1,6 @@
 -- Which line stands for which command. A later command is one more case of each definition.
 use Rattle.hex.specs.Hex.{IsBytes, encode_lower}
-use Rattle.std.specs.Prelude.{◌≡◌, ℕ, ◌<◌, ◌^◌, List, [], ◌∷◌, codes, decimal, encode_utf8, All, map}
+use Rattle.std.specs.Prelude.{◌≡◌, ℕ, ◌<◌, ◌^◌, List, [], ◌∷◌, codes, decimal, encode_utf8, All, IsUtf8, map}
 use Rattle.std.specs.Char.{IsScalar}
 use Rattle.tt_base.specs.Fits.{LeafFits, SpanFits, TokenFits}
 use Rattle.tt_base.specs.Span.{span_text}
@@ -40,6 +40,8 @@ spell (command.Split slot char) = line_of (codes "split") (decimal slot ∷ enco
 spell (command.Equal left right) = line_of (codes "equal") (decimal left ∷ decimal right ∷ [])
 spell (command.Save slot) = line_of (codes "save") (decimal slot ∷ [])
 spell (command.Load slot bytes) = line_of (codes "load") (decimal slot ∷ encode_lower bytes ∷ [])
+spell (command.Read slot text) = line_of (codes "read") (decimal slot ∷ text ∷ [])
+spell (command.Text slot) = line_of (codes "text") (decimal slot ∷ [])
 
 -- a slot is below 16, a character is one, a point's number has 64 bits, and other numbers and texts fit their types
 abbrev pub CommandFits : Command → Type 0
@@ -71,6 +73,8 @@ CommandFits (command.Split slot char) = (slot < 16) × IsScalar char
 CommandFits (command.Equal left right) = (left < 16) × (right < 16)
 CommandFits (command.Save slot) = slot < 16
 CommandFits (command.Load slot bytes) = (slot < 16) × IsBytes bytes
+CommandFits (command.Read slot text) = (slot < 16) × IsUtf8 text
+CommandFits (command.Text slot) = slot < 16
 
 -- the line stands for the command
 pub record StandsFor (line : List ℕ) (command : Command) : Type 0 where

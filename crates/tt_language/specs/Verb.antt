@@ -47,4 +47,6 @@ verb_word verb.Split = codes "split"
 verb_word verb.Equal = codes "equal"
 verb_word verb.Save = codes "save"
 verb_word verb.Load = codes "load"
+verb_word verb.Read = codes "read"
+verb_word verb.Text = codes "text"
 verb_word (verb.View view) = view_word view

@@ -24,7 +24,7 @@ use front::after_item;
 use part::Part;
 use std::alloc::Global;
 use tokens::token;
-use tt_base::{Delimiter, DelimiterKind, Leaf, Span, TokenTree, TtFault};
+use tt_base::{Delimiter, DelimiterKind, Leaf, Span, Symbol, TokenTree, TtFault};
 use verb::Verb;
 pub use view::View;
 use word::{Word, cut, first_word};
@@ -89,6 +89,10 @@ pub enum Command {
     Save(Slot),
     /// Makes the tree of one piece of bytes, in the slot.
     Load(Slot, Digits),
+    /// Reads a Rust text into a tree, in the slot.
+    Read(Slot, Symbol),
+    /// A slot's tree as Rust text.
+    Text(Slot),
 }
 
 // For each verb, what follows it, read as the values of its command.
@@ -179,7 +183,9 @@ impl Command {
             Verb::Split => |(slot, char)| Command::Split(slot, char),
             Verb::Equal => |(left, (right, ()))| Command::Equal(left, right),
             Verb::Save => |(slot, ())| Command::Save(slot),
-            Verb::Load => |(slot, digits)| Command::Load(slot, digits)
+            Verb::Load => |(slot, digits)| Command::Load(slot, digits),
+            Verb::Read => |(slot, text)| Command::Read(slot, text),
+            Verb::Text => |(slot, ())| Command::Text(slot)
         )
     }
 }

@@ -78,9 +78,9 @@ fn places(alloc: Global) -> Result<Vec<Symbol>, TtFault> {
     Ok(known)
 }
 
-// The text as a symbol of its own, if it is UTF-8.
+/// The text as a symbol of its own, if it is UTF-8.
 #[inline(never)]
-fn new_symbol(alloc: Global, text: &[u8]) -> Result<Option<Symbol>, TtFault>
+pub(crate) fn new_symbol(alloc: Global, text: &[u8]) -> Result<Option<Symbol>, TtFault>
     ensures reads { IfOk result (λ found. MatchOption found (IsUtf8 text.now → ⊥) (λ symbol. (symbol ≡ text.now) × IsUtf8 text.now)) }
     ensures err { IfErr result (λ fault. fault ≡ Memory) }
 {

@@ -10,9 +10,11 @@ pub mod Noted
 pub mod Output
 pub mod Pieces
 pub mod Progress
+pub mod Reading
 pub mod Run
 pub mod Saving
 pub mod Session
 pub mod Stage
 pub mod State
 pub mod ViewText
+pub mod Writing

@@ -15,8 +15,10 @@ use Rattle.tt_run.specs.Building.{OfBuilder, OfTree, Grows, Appends, Closes, Poi
 use Rattle.tt_run.specs.Expanding.{Expands}
 use Rattle.tt_run.specs.State.{State, tree_in, with_builder, with_tree}
 use Rattle.tt_run.specs.Editing.{Changes, SetsLeaf, ChangesIds, RewritesSlot}
+use Rattle.tt_run.specs.Reading.{ReadsText}
 use Rattle.tt_run.specs.Saving.{Saves, Loads}
 use Rattle.tt_run.specs.ViewText.{split_text, view_text}
+use Rattle.tt_run.specs.Writing.{WritesText}
 
 -- the list becomes a tree in the slot, and is then empty; a list that is not packed stays
 abbrev pub MakesTree : State → ℕ → List ℕ → State → Type 0
@@ -70,6 +72,8 @@ Does old (command.Split slot char) answer new = (answer ≡ text_or_empty (split
 Does old (command.Equal left right) answer new = Compares (tree_in old left) (tree_in old right) answer × (new ≡ old)
 Does old (command.Save slot) answer new = Saves (tree_in old slot) answer × (new ≡ old)
 Does old (command.Load slot bytes) answer new = Loads old slot bytes answer new
+Does old (command.Read slot text) answer new = ReadsText old slot text answer new
+Does old (command.Text slot) answer new = WritesText (tree_in old slot) answer × (new ≡ old)
 
 -- the command may run out of memory
 abbrev pub TakesMemory : Command → Type 0
@@ -101,6 +105,8 @@ TakesMemory (command.Split slot char) = Unit {0}
 TakesMemory (command.Equal left right) = ⊥
 TakesMemory (command.Save slot) = Unit {0}
 TakesMemory (command.Load slot bytes) = Unit {0}
+TakesMemory (command.Read slot text) = Unit {0}
+TakesMemory (command.Text slot) = Unit {0}
 
 -- a step of the machine: a command that runs out of memory answers fault 1 and changes nothing
 abbrev pub Step : State → Command → List ℕ → State → Type 0

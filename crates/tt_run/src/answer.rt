@@ -9,6 +9,7 @@ use std::marker::Model;
 use tt_base::TtFault;
 use tt_bytes::BytesFault;
 use tt_mbe::RuleFault;
+use tt_unparse::WriteFault;
 
 // The most bytes of a line that is made without memory: a word, and two numbers of at most 20 digits.
 const MOST_SHORT_BYTES: usize = 49;
@@ -37,8 +38,9 @@ impl Model for Answer {
 }
 
 impl Answer {
-    ghost use Rattle.tt_run.specs.Answer.{ok_line, empty_line, same_line, no_builder_line, none_open_line, still_open_line, yes_line, no_line, fault_line, no_match_line, rule_line, bytes_line};
+    ghost use Rattle.tt_run.specs.Answer.{line, ok_line, empty_line, same_line, no_builder_line, none_open_line, still_open_line, yes_line, no_line, fault_line, no_match_line, rule_line, bytes_line};
     ghost use Rattle.tt_run.specs.Building.{point_line, counts_line};
+    ghost use Rattle.tt_run.specs.Writing.{unwritten_line};
 
     /// The text of the answer, with the line feed at its end.
     pub fn as_bytes(&self) -> &[u8]
@@ -213,6 +215,30 @@ impl Answer {
             BytesFault::NoText(at) => Answer::bytes(at, " no text\n"),
             BytesFault::NoTree(at) => Answer::bytes(at, " no tree\n"),
             BytesFault::StoredOtherwise(at) => Answer::bytes(at, " stored otherwise\n"),
+        }
+    }
+
+    /// Why a tree is not written as Rust text; `fault 1` where memory was refused. Made without memory.
+    pub(crate) fn unwritten(fault: WriteFault) -> Answer
+        ensures { result ≡ unwritten_line fault }
+    {
+        match fault {
+            WriteFault::NotWritable { at } => Answer::not_writable(at),
+            WriteFault::TooLong => Answer::fault(TtFault::TooManyBytes),
+            WriteFault::Memory => Answer::fault(TtFault::Memory),
+        }
+    }
+
+    // `not writable` and the flat place of the leaf.
+    fn not_writable(at: usize) -> Answer
+        ensures { result ≡ line (codes "not writable " ++ decimal at) }
+    {
+        let mut text = ArrayString::new();
+        text.push_str("not writable ");
+        text.push_str(Buffer::new().format(at));
+        text.push_str("\n");
+        Answer {
+            held: Held::Short(text),
         }
     }
 

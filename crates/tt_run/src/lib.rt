@@ -12,6 +12,7 @@ mod output;
 mod pieces;
 mod session;
 mod stored_lines;
+mod text_refusal;
 mod token_lines;
 mod tree_texts;
 mod view_text;

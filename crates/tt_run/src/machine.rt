@@ -4,8 +4,10 @@ ghost use Rattle.std.specs.Prelude.{◌≡◌};
 mod building;
 mod editing;
 mod expanding;
+mod reading;
 mod rewriting;
 mod saving;
+mod writing;
 
 use crate::answer::Answer;
 use crate::pieces::piece_sizes;
@@ -92,6 +94,8 @@ impl Machine {
             Command::Equal(left, right) => self.equal(left, right),
             Command::Save(slot) => self.save(slot),
             Command::Load(slot, digits) => self.load(slot, digits),
+            Command::Read(slot, text) => self.read(slot, text),
+            Command::Text(slot) => self.text(slot),
         }
     }
 

@@ -19,6 +19,15 @@ fn ended(text: Result<String, TtFault>, end: &str) -> Result<String, AllocError>
     Ok(text)
 }
 
+/// A text on one line.
+pub(crate) fn line_of(text: String) -> Result<String, AllocError>
+    ensures { IfOk result (λ whole. string_bytes whole ≡ line (string_bytes text)) }
+{
+    let mut whole = text;
+    whole.push_str("\n")?;
+    Ok(whole)
+}
+
 /// The Display text, on one line.
 pub(crate) fn display_line(alloc: Global, trees: TokenTreesView<'_>) -> Result<String, AllocError>
     ensures { IfOk result (λ whole. string_bytes whole ≡ line (text.display (trees_of trees.entry))) }

@@ -7,7 +7,7 @@ use tt_language::Command;
 
 // Lines that are no command, each for one rule of `docs/LANGUAGE.md`: a text for each topic with the number of
 // its lines, a line feed between them.
-const BAD_LINES: [(u32, &[u8]); 12] = [
+const BAD_LINES: [(u32, &[u8]); 13] = [
     // No command.
     (
         13,
@@ -24,6 +24,17 @@ const BAD_LINES: [(u32, &[u8]); 12] = [
       clears\n\
       pretty 16\n\
       \x20list 0",
+    ),
+    // Rust text.
+    (
+        7,
+        b"read\n\
+      read 0\n\
+      read 16 a\n\
+      read 0 \xff\n\
+      text\n\
+      text 16\n\
+      text 0 ",
     ),
     // Trees as bytes.
     (

@@ -9,7 +9,7 @@ use tt_language::Command;
 const LINES: [(u32, &[u8]); 7] = [
     // Slots, and what takes no more than a slot, a number or a character.
     (
-        33,
+        36,
         b"clear=Clear\n\
       list 0=List(Slot { number: 0 })\n\
       list 15=List(Slot { number: 15 })\n\
@@ -42,7 +42,10 @@ const LINES: [(u32, &[u8]); 7] = [
       equal 15 0=Equal(Slot { number: 15 }, Slot { number: 0 })\n\
       save 15=Save(Slot { number: 15 })\n\
       load 0 =Load(Slot { number: 0 }, [])\n\
-      load 15 00ff7a=Load(Slot { number: 15 }, [0, 255, 122])",
+      load 15 00ff7a=Load(Slot { number: 15 }, [0, 255, 122])\n\
+      read 0 =Read(Slot { number: 0 }, \"\")\n\
+      read 15  \xc3\xa9 \" =Read(Slot { number: 15 }, \" \xc3\xa9 \\\" \")\n\
+      text 15=Text(Slot { number: 15 })",
     ),
     // The builder.
     (

@@ -1,6 +1,6 @@
 //! What follows the first word of a line.
 ghost use Rattle.hex.specs.Hex.{IsBytes, encode_lower};
-ghost use Rattle.std.specs.Prelude.{◌≡◌, IfOk, IfErr, ℕ, List, [], ◌∷◌, All, map, encode_utf8};
+ghost use Rattle.std.specs.Prelude.{◌≡◌, IfOk, IfErr, ℕ, List, [], ◌∷◌, All, IsUtf8, map, encode_utf8};
 ghost use Rattle.std.specs.Char.{IsScalar};
 ghost use Rattle.tt_base.specs.Fits.{LeafFits, TokenFits};
 ghost use Rattle.tt_base.specs.declared.fault.TtFault.TheVariants.{Memory};
@@ -11,8 +11,8 @@ use crate::command::tokens::{character, leaf, token};
 use crate::command::word::{Word, next};
 use crate::digits::Digits;
 use crate::many::Many;
-use crate::texts::Texts;
-use tt_base::{Leaf, TokenTree, TtFault};
+use crate::texts::{Texts, new_symbol};
+use tt_base::{Leaf, Symbol, TokenTree, TtFault};
 
 /// Values that the pieces behind the first word of a line spell.
 pub trait Part: Sized {
@@ -102,6 +102,20 @@ impl Part for Digits {
             return Ok(None);
         };
         Digits::read(texts.alloc(), text)
+    }
+}
+
+// A text takes all the rest.
+impl Part for Symbol {
+    ghost pieces = { λ text. text ∷ [] };
+
+    ghost fits = { IsUtf8 };
+
+    fn read(texts: &mut Texts, text: &[u8]) -> Result<Option<Symbol>, TtFault> {
+        let Some(text) = text.strip_prefix(b" ".as_slice()) else {
+            return Ok(None);
+        };
+        new_symbol(texts.alloc(), text)
     }
 }
 

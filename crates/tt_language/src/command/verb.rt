@@ -32,6 +32,8 @@ pub enum Verb {
     Equal,
     Save,
     Load,
+    Read,
+    Text,
     View(View),
 }
 
@@ -74,7 +76,9 @@ impl Word for Verb {
             b"split" => Verb::Split,
             b"equal" => Verb::Equal,
             b"save" => Verb::Save,
-            b"load" => Verb::Load
+            b"load" => Verb::Load,
+            b"read" => Verb::Read,
+            b"text" => Verb::Text
         )
     }
 

@@ -144,3 +144,13 @@ pub returns-in_ok-read-in-Load-clause-reads : goal.returns-in_ok-read-in-Load-cl
 returns-in_ok-read-in-Load-clause-reads c =
     let made : c.map-in-Load.result ≡ option_map (make verb.Load) c.in_ok-read-in-Load.field-0 = mapped (make verb.Load) _ _ c.map-in-Load.ensures.cases (λ x y learnt. search) in
     rw c.in-Load.is (command_read verb.Load _ _ _ c.requires.tail c.in_ok-read-in-Load.ensures.reads made)
+
+pub returns-in_ok-read-in-Read-clause-reads : goal.returns-in_ok-read-in-Read-clause-reads
+returns-in_ok-read-in-Read-clause-reads c =
+    let made : c.map-in-Read.result ≡ option_map (make verb.Read) c.in_ok-read-in-Read.field-0 = mapped (make verb.Read) _ _ c.map-in-Read.ensures.cases (λ x y learnt. search) in
+    rw c.in-Read.is (command_read verb.Read _ _ _ c.requires.tail c.in_ok-read-in-Read.ensures.reads made)
+
+pub returns-in_ok-read-in-Text-clause-reads : goal.returns-in_ok-read-in-Text-clause-reads
+returns-in_ok-read-in-Text-clause-reads c =
+    let made : c.map-in-Text.result ≡ option_map (make verb.Text) c.in_ok-read-in-Text.field-0 = mapped (make verb.Text) _ _ c.map-in-Text.ensures.cases (λ x y learnt. search) in
+    rw c.in-Text.is (command_read verb.Text _ _ _ c.requires.tail c.in_ok-read-in-Text.ensures.reads made)
