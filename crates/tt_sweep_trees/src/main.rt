@@ -18,6 +18,7 @@ mod quiet;
 mod quiet_stored;
 mod quiet_tokens;
 mod quiet_views;
+mod texts;
 
 use std::process::ExitCode;
 use tt::TtFault;
@@ -41,6 +42,7 @@ impl Groups for TreeGroups {
             "lists" => lists::judged(rt, rt.alloc(), call),
             "counted" => counted::judged(rt, rt.alloc(), call),
             "pieces" => pieces::judged(rt, rt.alloc(), call),
+            "texts" => texts::judged(rt, rt.alloc(), call),
             "levels" => levels::judged(rt, rt.alloc()),
             "faulty" => faulty::judged(rt, rt.alloc(), call),
             _ => Err(TtFault::NoSuchPlace),

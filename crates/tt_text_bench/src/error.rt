@@ -1,0 +1,28 @@
+//! Why nothing was measured or shown.
+use std::io;
+use thiserror::Error;
+use tt::TtFault;
+use tt_text::TextFault;
+
+/// Why nothing was measured or shown.
+#[derive(Debug, Drop, Error)]
+pub enum BenchError {
+    /// The arguments ask for nothing that there is.
+    #[error("usage: tt_text_bench time ROUNDS < TEXT, or tt_text_bench show < TEXT")]
+    Usage,
+    /// A text that is to be timed has no tree.
+    #[error("{0}")]
+    Refused(TextFault),
+    /// Memory for what is shown was refused.
+    #[error("{0}")]
+    Show(TtFault),
+    /// Input, output or the clock failed, or the input is no UTF-8.
+    #[error(transparent)]
+    Io(#[from] io::Error),
+}
+
+impl From<TtFault> for BenchError {
+    fn from(fault: TtFault) -> BenchError {
+        BenchError::Show(fault)
+    }
+}
