@@ -7,9 +7,11 @@ from plain_lists import Header, NotOneSubtree, one_subtree, trees_of  # noqa: F4
 from plain_pieces import WrongBytes, piece, tree_of_piece
 from plain_rules import RuleFault, expanded
 from plain_stored import Stored, part_table, parts_used, symbol_table, symbols_used
+from plain_text import WrongText, tree_of_text
 from plain_trees import (
     Punct, Subtree, debug_lines, flat, glued_sizes, piece_sizes, size, text_of, token_words, walk,
 )
+from plain_written import NotWritable, written
 
 SLOTS = 16
 
@@ -288,6 +290,18 @@ class Machine:
         except WrongBytes as wrong:
             return ["bytes {} {}".format(*wrong.args)]
 
+    def read(self, slot, text):
+        try:
+            self.slots[slot] = tree_of_text(text)
+        except WrongText as wrong:
+            return ["text {} {}".format(*wrong.args)]
+
+    def text(self, slot):
+        try:
+            return [written((self.slots[slot],))]
+        except NotWritable as place:
+            return [f"not writable {place}"]
+
     def equal(self, left, right):
         return yes_or_no(self.slots[left] == self.slots[right])
 
@@ -297,4 +311,4 @@ BUILDER_VERBS = set("open push close append alone unwrap point restore expected 
 # Which values of a command are slots that have to hold a tree.
 READ = {"copy": (1,), "equal": (0, 1), "expand": (0, 1, 2)}
 READ.update((verb, (0,)) for verb in "kind spans set ids rewrite split".split())
-READ.update((verb, (0,)) for verb in "show pretty debug flat siblings walk glue bytes parts symbols save".split())
+READ.update((verb, (0,)) for verb in "show pretty debug flat siblings walk glue bytes parts symbols save text".split())

@@ -2,6 +2,7 @@
 import itertools
 
 from made_rules import NAMES, Rules
+from made_texts import Texts
 from made_values import CUTS, FEW_SLOTS, MANY_PARTS, MANY_SYMBOLS, MOST, SLOTS
 from plain_machine import Header
 from plain_pieces import piece
@@ -17,7 +18,7 @@ LARGE_SYMBOLS = 2 * 8192 + 8
 LARGE_EACH = 300
 # Different values in a builder that go by the hundreds.
 COUNTED = (90, 130, 270, 300)
-SHOWN = "show pretty debug flat siblings walk glue bytes parts symbols save".split()
+SHOWN = "show pretty debug flat siblings walk glue bytes parts symbols save text".split()
 STORED = "bytes parts symbols".split()
 # How often each command, or some that belong together, come among others.
 WEIGHTS = {
@@ -25,11 +26,11 @@ WEIGHTS = {
     "new": 2, "open": 11, "push": 14, "close": 10, "append": 3, "alone": 3, "ends_alone": 1, "unwrap": 4, "marked": 3,
     "point": 4, "restore": 4, "points": 0.3, "many": 0.1, "expected": 1, "counts": 4, "build": 2, "skip": 2, "skipped": 1,
     "copy": 2, "kind": 2, "spans": 2, "set": 3, "ids": 2, "rewrite": 4, "expand": 1, "equal": 2, "nearly_equal": 1,
-    "split": 4, "shown": 10, "load": 8,
+    "split": 4, "shown": 10, "load": 8, "read": 30,
 }
 
 
-class Script(Rules):
+class Script(Rules, Texts):
     """Commands made by chance. A method `add_VERB` adds one of that verb; a verb that has none has no values."""
 
     def __init__(self, seed):
@@ -324,6 +325,13 @@ class Script(Rules):
             data[:place] + data[max(0, place - 12):],
             data[:8] + symbols.to_bytes(4, "little") + data[12:packed] + b"\1\0\0\0z" + data[packed:],
         ))
+
+    def add_read(self):
+        """A text, and the tree that it is."""
+        slot = self.slot()
+        self.add("read", slot, self.rust_text(self.pick((1, 2, 3, 6, 12, 40))))
+        self.add("flat", slot)
+        self.add("text", slot)
 
     def add_split(self):
         self.add("split", self.slot(), self.pick(CUTS))

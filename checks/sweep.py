@@ -26,6 +26,7 @@ TAKE_MEMORY = {
         "lists": ("is_one_subtree pack of_list from_serialized from_tokens",),
         "counted": ("pack_counted of_list_counted",),
         "pieces": ("to_bytes from_bytes",),
+        "texts": ("parse_to_token_tree rust_text",),
         "levels": ("take",),
     },
     "tt_sweep_changes": {

@@ -1,0 +1,80 @@
+"""Definitions of plain_text.py turned: what is turned, the text that is replaced, and the text in its place."""
+COUNTED = 'raise Wrong("several characters" if count else "empty character")'
+JOINT = 'char in PUNCTS and two not in ("//", "/*", \'#"\', "##")'
+NAMES = [
+    ("a raw name keeps its prefix", 'Ident("raw", span_of(start, end), text[start + 2:end])', 'Ident("raw", span_of(start, end), text[start:end])'),
+    ("a raw name is plain", 'return end, [Ident("raw",', 'return end, [Ident("plain",'),
+    ("a name may stand before a quote", "if text[end:end + 1] in ('\"', \"'\", \"#\"):", "if text[end:end + 1] == '#':"),
+    ("a name may stand before a hash", "if text[end:end + 1] in ('\"', \"'\", \"#\"):", "if text[end:end + 1] in ('\"', \"'\"):"),
+    ("a lifetime's name begins at its quote", "Ident(is_raw, span_of(start + 1, end)", "Ident(is_raw, span_of(start, end)"),
+    ("a lifetime's quote is alone", 'return end, [Punct("joint", span_of(start, start + 1), "\'")', 'return end, [Punct("alone", span_of(start, start + 1), "\'")'),
+    ("a raw lifetime is plain", 'name_end(text, start + 3), "raw", text)', 'name_end(text, start + 3), "plain", text)'),
+    ("a lifetime may begin with a digit", 'raise Wrong("lifetime that begins with a digit")', "pass"),
+    ("a lifetime may stand before a hash", 'if text[end:end + 1] == "#" and not is_number:', 'if text[end:end + 1] == "##":'),
+]
+NUMBERS = [
+    ("`1..` is a float", "next_char != \".\" and not begins_name(next_char)", "not begins_name(next_char)"),
+    ("`1.e` is a float", "next_char != \".\" and not begins_name(next_char)", "next_char != \".\""),
+    ("a float has no exponent behind its point", "if end == point + 1 or text[end:end + 1] not in (\"e\", \"E\"):", "if True:"),
+    ("an exponent has no sign", "at + 2 if text[at + 1:at + 2] in (\"+\", \"-\") else at + 1", "at + 1"),
+    ("an exponent may have no digits", 'raise Wrong("empty exponent")', "pass"),
+    ("a number may have no digits", 'raise Wrong("no digits")', "pass"),
+    ("a float may have another base", 'raise Wrong("float of another base")', "pass"),
+    ("a digit may be of another base", 'raise Wrong("digit of another base")', "pass"),
+    ("a base has one digit more", "DECIMAL[base:] for digit", "DECIMAL[base + 1:] for digit"),
+    ("digits end at `_`", 'text[at] in digits + "_"', "text[at] in digits"),
+    ("a suffix `_` counts", 'if suffix == "_":', 'if suffix == "__":'),
+    ("a suffix counts its characters", "len(suffix.encode())", "len(suffix) % 2"),
+    ("what is no number may have a suffix", 'if suffix and kind not in ("int", "float"):', 'if suffix and kind == "byte":'),
+]
+QUOTED = [
+    ("an escape takes nothing along", 'while text[at:at + 1] != quote:\n        if at >= len(text):\n            raise Wrong("unterminated literal")\n        at += 2 if text[at] == "\\\\" else 1', 'while text[at:at + 1] != quote:\n        if at >= len(text):\n            raise Wrong("unterminated literal")\n        at += 1'),
+    ("a raw literal ends at the first quote", 'closing = \'"\' + "#" * hashes', "closing = '\"'"),
+    ("a raw literal of too many hashes", 'f"{kind}:{hashes}"', 'f"{kind}:{min(hashes, 1)}"'),
+    ("an escape that there is not", 'raise Wrong("unknown escape")', "return at + 2"),
+    ("`\\x` has one digit", "if len(digits) < 2 or any", "if any"),
+    ("`\\x80` is a character", 'if value > 0x7f and kind in ("char", "str"):', 'if value > 0xff and kind in ("char", "str"):'),
+    ("`\\x7f` is none", 'if value > 0x7f and kind in ("char", "str"):', 'if value > 0x7e and kind in ("char", "str"):'),
+    ("`\\u` stands in bytes", 'elif sign == "u" and kind not in ("byte", "bstr"):', 'elif sign == "u":'),
+    ("a surrogate is a character", "or 0xd800 <= value <= 0xdfff", ""),
+    ("`\\u{..}` has seven digits", "){0,5}_*", "){0,6}_*"),
+    ("`\\u{..}` begins with `_`", r'r"\{([0-9a-fA-F](?:_*', r'r"\{_*([0-9a-fA-F](?:_*'),
+    ("`\\u{..}` ends with no `_`", "{0,5}_*)", "{0,5})"),
+    ("a C string holds an escaped null", 'if kind == "cstr" and value == 0:', 'if kind == "cstr" and value == 256:'),
+    ("a C string holds a null", 'if kind == "cstr" and inside[at] == "\\0":', 'if kind == "cstr" and inside[at] == "\\1":'),
+    ("a raw C string holds a null", 'elif kind == "rcstr" and "\\0" in inside:', 'elif kind == "rcstr" and "\\1\\1" in inside:'),
+    ("a literal of no character", COUNTED, "if count:\n            raise Wrong('several characters')"),
+    ("a literal of two characters", COUNTED, "if not count:\n            raise Wrong('empty character')"),
+    ("bytes beyond ASCII", 'if kind in ("byte", "bstr", "rbstr") and not inside.isascii():', 'if kind in ("byte", "rbstr") and not inside.isascii():'),
+    ("raw bytes beyond ASCII", 'if kind in ("byte", "bstr", "rbstr") and not inside.isascii():', 'if kind in ("byte", "bstr") and not inside.isascii():'),
+    ("a bare carriage return", 'raise Wrong("bare carriage return")', "return"),
+]
+COMMENTS = [
+    ("comments are not nested", 'depth += 1 if sign[0] == "/*" else -1', 'depth = 1 if sign[0] == "/*" else 0'),
+    ("`////` documents", '"///(?!/)"', '"///"'),
+    ("`/***` documents", r'r"/\*\*(?![*/])"', r'r"/\*\*(?![/])"'),
+    ("`/**/` documents", r'r"/\*\*(?![*/])"', r'r"/\*\*(?![*])"'),
+    ("an inner comment has no `!`", '"#!" if inner else "#"', '"#"'),
+    ("a comment's text has one hash", 'default=0)\n', 'default=0) and 1\n'),
+    ("a comment's text takes a hash more", 'default=0)\n', 'default=0) + 1\n'),
+    ("a comment's last carriage return is bare", 'inside = inside.removesuffix("\\r")', "pass"),
+    ("a comment loses all carriage returns at its end", 'inside.removesuffix("\\r")', 'inside.rstrip("\\r")'),
+]
+TREES = [
+    ("a comment leaves a punct joint", JOINT, 'char in PUNCTS and two not in (\'#"\', "##")'),
+    ("a lifetime leaves a punct alone", "if char == \"'\":\n        try:", "if char == \"''\":\n        try:"),
+    ("a punct is joint before anything", f'return char != "" and {JOINT}', 'return char not in ("", " ", "\\t") and two not in ("//", "/*")'),
+    ("`##` may stand", "if two in ('#\"', \"##\"):", "if two == '#\"':"),
+    ("`#\"` may stand", "if two in ('#\"', \"##\"):", "if two == '##':"),
+    ("brackets need not match", "if opening != CLOSES[char]:", "if False:"),
+    ("what closes nothing is passed", 'if not opened:\n                raise', 'if not opened:\n                at = end\n                continue\n                raise'),
+    ("the outermost bracket is unclosed", "opening, place = opened[-1]", "opening, place = opened[0]"),
+    ("what is open is closed at the end", "    if opened:\n", "    if len(opened) > 1:\n"),
+    ("places count characters", "places.append(places[-1] + len(char.encode()))", "places.append(places[-1] + 1)"),
+    ("the top ends at its start", "span_of(at, at), tuple(levels[0])", "span_of(0, 0), tuple(levels[0])"),
+    ("an opening is told for a closing", "raise WrongText(places[at], f\"{char} for", "raise WrongText(places[place], f\"{char} for"),
+    ("a blank is a line feed or a space", 'BLANKS = "\\t\\n\\v\\f\\r \\x85\\u200e\\u200f\\u2028\\u2029"', 'BLANKS = "\\t\\n\\v\\f\\r "'),
+    ("an emoji is unknown", 'if is_emoji(char):\n        raise Wrong("invalid identifier")', 'if is_emoji(char):\n        raise Wrong("unknown character")'),
+]
+MUTANTS = NAMES + NUMBERS + QUOTED + COMMENTS + TREES
+HELPERS = ""
