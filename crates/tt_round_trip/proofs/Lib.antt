@@ -1,0 +1,15 @@
+pub mod CutFacts
+pub mod LifeFacts
+pub mod Names
+pub mod NumberCuts
+pub mod Numbers
+pub mod QuoteCuts
+pub mod ReadCuts
+pub mod ReadyFacts
+pub mod SortFits
+pub mod ToldKinds
+pub mod TokenFits
+pub mod Values
+pub mod WordCuts
+pub mod Words
+pub mod Writings
