@@ -35,7 +35,7 @@ no_unit [] u = cc u.0
 no_unit (it ∷ others) u = u.1.0
 
 -- Behind the end is the end.
-after_end : (n : ℕ) → after_trees n end ≡ end
+pub after_end : (n : ℕ) → after_trees n end ≡ end
 after_end zero = refl
 after_end (suc n) = after_end n
 

@@ -1,5 +1,8 @@
 pub mod Adding
 pub mod Compiling
+pub mod CutLevels
+pub mod CutSteps
+pub mod CutWhole
 pub mod Decompiling
 pub mod Ending
 pub mod FirstTrees
@@ -7,12 +10,16 @@ pub mod Leading
 pub mod LeafSteps
 pub mod LevelSteps
 pub mod Levelling
+pub mod LinkSteps
 pub mod Logs
 pub mod OneReading
 pub mod Reaching
+pub mod PartSteps
+pub mod Passing
 pub mod ReadingParts
 pub mod ReadingSteps
 pub mod Results
+pub mod Standing
 pub mod Stepping
 pub mod Telling
 pub mod Told

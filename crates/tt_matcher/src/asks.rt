@@ -8,8 +8,8 @@ ghost use Rattle.tt_matcher.specs.Units.{is_at_ident, unit_from, unit_size, IsSa
 use crate::pattern::Fragment;
 use tt::{DelimiterKind, Leaf, LitKind, TtElement, TtIter};
 
-// How many trees stand as one at the front: those of a token, or a subtree.
-fn unit_size(mut trees: TtIter<'_>) -> usize
+/// How many trees stand as one at the front: those of a token, or a subtree.
+pub(crate) fn unit_size(mut trees: TtIter<'_>) -> usize
     ensures { result ≡ unit_size (rest_of trees.entry) }
 {
     let mut behind = trees.remaining().iter();

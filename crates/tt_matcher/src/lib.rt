@@ -4,12 +4,20 @@
 #![tactic(auto)]
 
 mod asks;
+mod cutting;
+mod error;
+mod linking;
+mod matcher;
+mod parts;
 mod pattern;
+mod pieces;
 mod places;
 mod reading;
+mod signs;
 mod threads;
 
+pub use error::PatternError;
+pub use matcher::Matcher;
 pub use pattern::{Fragment, RepeatKind, Variable};
-pub use places::{Atom, Place};
-pub use reading::{Found, read};
+pub use reading::Found;
 pub use threads::Turn;

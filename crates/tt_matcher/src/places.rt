@@ -4,7 +4,7 @@ use tt::{DelimiterKind, Leaf};
 
 /// What a place asks of what is left of an input.
 #[derive(Drop)]
-pub enum Atom {
+pub(crate) enum Atom {
     /// What stands first is taken by the fragment.
     Take(Fragment),
     /// A token of these leaves stands first, spans and spacing put aside.
@@ -17,7 +17,7 @@ pub enum Atom {
 
 /// A place, and the numbers of the places that may come behind it.
 #[derive(Drop)]
-pub struct Place {
-    pub atom: Atom,
-    pub edges: Vec<usize>,
+pub(crate) struct Place {
+    pub(crate) atom: Atom,
+    pub(crate) edges: Vec<usize>,
 }

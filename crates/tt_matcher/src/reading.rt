@@ -188,7 +188,7 @@ fn find_by(choice: Choice, log: Vec<Turn>) -> Found
 ///
 /// Time is in proportion to the length of the input times the number of edges that are taken at a tree, and memory to how many
 /// places are passed. It is refused only where memory is.
-pub fn read(
+pub(crate) fn read(
     alloc: Global,
     places: &[Place],
     starts: &[usize],

@@ -1,176 +1,177 @@
-//! Patterns by their places, each with inputs and in how many ways these are an instance: none, one, or two and more.
-use std::alloc::{AllocError, Global};
+//! Patterns, each with an input and in how many ways it is an instance of the pattern: none, one, or two and more.
+use std::alloc::Global;
 use std::test::Fail;
-use tt::{
-    DelimiterKind, ErasedFileAstId, FileId, SpanAnchor, SyntaxContext, TopSubtree, TtElement,
-    TtFault,
-};
-use tt_matcher::{Atom, Found, Fragment, Place, read};
+use tt::{ErasedFileAstId, FileId, SpanAnchor, SyntaxContext, TopSubtree};
+use tt_matcher::{Found, Matcher, PatternError};
 use tt_text::parse_to_token_tree;
 
-// The tree of a text that has one.
-fn tree_of(alloc: Global, text: &str) -> Result<TopSubtree, TtFault> {
+// The tree of a text, if it has one.
+fn tree_of(alloc: Global, text: &str) -> Option<TopSubtree> {
     let anchor = SpanAnchor {
         file_id: FileId(0),
         ast_id: ErasedFileAstId(0),
     };
-    parse_to_token_tree(alloc, anchor, SyntaxContext(0), text).map_err(|_fault| TtFault::Memory)
+    parse_to_token_tree(alloc, anchor, SyntaxContext(0), text).ok()
 }
 
-// A place, with the numbers of those behind it.
-fn place(alloc: Global, atom: Atom, behind: &[usize]) -> Result<Place, AllocError> {
-    let mut edges = Vec::new(alloc);
-    for to in behind {
-        edges.push(*to)?;
+// In how many ways an input is an instance of a pattern, where there is an answer: 2 stands for more, too.
+fn ways(alloc: Global, pattern: &str, input: &str) -> Option<usize> {
+    let pattern = tree_of(alloc, pattern)?;
+    let matcher = Matcher::new(alloc, pattern.token_trees().iter()).ok()?;
+    let input = tree_of(alloc, input)?;
+    match matcher.read(alloc, input.token_trees().iter()) {
+        Ok(Found::Nothing) => Some(0),
+        Ok(Found::One(_, _)) => Some(1),
+        Ok(Found::Many) => Some(2),
+        Err(_) => None,
     }
-    Ok(Place { atom, edges })
 }
 
-// The token of a text.
-fn token(alloc: Global, text: &str) -> Result<Atom, TtFault> {
-    let tree = tree_of(alloc, text)?;
-    let mut leaves = Vec::new(alloc);
-    for element in tree.token_trees().iter() {
-        if let TtElement::Leaf(leaf) = element {
-            leaves.push(leaf)?;
+// Whether a pattern is refused, since a repetition of it may take no tree.
+fn is_refused(alloc: Global, pattern: &str) -> bool {
+    let Some(pattern) = tree_of(alloc, pattern) else {
+        return false;
+    };
+    match Matcher::new(alloc, pattern.token_trees().iter()) {
+        Err(PatternError::EmptyRepetition) => true,
+        Err(PatternError::Memory) | Ok(_) => false,
+    }
+}
+
+// A list with a comma at its end or none, what may be left out twice, fragments, subtrees, repetitions inside of others, names, and a
+// `$` that begins nothing.
+const WAYS: [(&str, &str, usize); 81] = [
+    ("$($x:ident),* $(,)?", "", 1),
+    ("$($x:ident),* $(,)?", "a", 1),
+    ("$($x:ident),* $(,)?", "a, b,", 1),
+    ("$($x:ident),* $(,)?", ",", 1),
+    ("$($x:ident),* $(,)?", "a b", 0),
+    ("$($x:ident),* $(,)?", "a,,", 0),
+    ("$($x:ident),* $(,)?", ", a", 0),
+    ("$($x:ident),* $(,)?", "(a)", 0),
+    ("$($x:ident),*", "a,", 0),
+    ("$($x:ident)*", "a b", 1),
+    ("$($x:ident)* b", "a b", 1),
+    ("$($x:ident)* b", "a c", 0),
+    ("$($x:ident),+", "", 0),
+    ("$($x:ident),+", "a", 1),
+    ("$($x:ident),+", "a, b", 1),
+    ("$($x:ident)+", "", 0),
+    ("$($x:ident)?", "a", 1),
+    ("$($x:ident)?", "a b", 0),
+    ("$(=>)? $(=>)?", "", 1),
+    ("$(=>)? $(=>)?", "=>", 2),
+    ("$(=>)? $(=>)?", "=> =>", 1),
+    ("$(=>)? $(=>)?", "= >", 0),
+    ("$(=>)? $(=>)?", "=> => =>", 0),
+    ("$($x:tt)* $($y:tt)*", "a", 2),
+    ("$($x:tt)* $($y:tt)*", "", 1),
+    ("$($x:tt $y:literal)+", "a 1", 1),
+    ("$($x:tt $y:literal)+", "'a -1", 1),
+    ("$($x:tt $y:literal)+", "=> true () -1.5", 1),
+    ("$($x:tt $y:literal)+", "a b", 0),
+    ("$($x:tt $y:literal)+", "= > 1", 0),
+    ("$($x:tt $y:literal)+", "a - b", 0),
+    ("$($x:tt $y:literal)+", "- 1", 1),
+    ("[$($x:lifetime)*] $y:block", "[] {}", 1),
+    ("[$($x:lifetime)*] $y:block", "['a 'b] { c }", 1),
+    ("[$($x:lifetime)*] $y:block", "['a b] {}", 0),
+    ("[$($x:lifetime)*] $y:block", "('a) {}", 0),
+    ("[$($x:lifetime)*] $y:block", "[] ()", 0),
+    ("[$($x:lifetime)*] $y:block", "[] {} {}", 0),
+    ("[$($x:lifetime)*] $y:block", "[[]] {}", 0),
+    ("$($k:ident => $v:tt),* $(,)?", "a => 1, b => (2),", 1),
+    ("$($k:ident => $v:tt),* $(,)?", "a = > 1", 0),
+    ("$($x:ident)=>*", "a => b", 1),
+    ("$($x:ident)=>*", "a = > b", 0),
+    ("$($x:ident)'a*", "b 'a c", 1),
+    ("$($x:ident)**", "a b *", 1),
+    ("$($x:ident)**", "a * b", 0),
+    ("$($x:ident)+*", "a b *", 1),
+    ("$($x:ident)?*", "a *", 1),
+    ("$($($x:ident)+);*", "a b; c", 1),
+    ("$($($x:ident)+);*", "a b;", 0),
+    ("$([$($x:ident),*])*", "[] [a] [b, c]", 1),
+    ("$([$($x:ident),*])*", "[a] (b)", 0),
+    ("$($($($x:ident),+);+)|+", "a, b; c | d", 1),
+    ("$($(a)? b)*", "a b b", 1),
+    ("$($(a)? b)*", "b a", 0),
+    ("{ $x:tt } $($rest:tt)*", "{ a } b c", 1),
+    ("{ $x:tt } $($rest:tt)*", "{ a b } c", 0),
+    ("$_:ident", "a", 1),
+    ("$_:ident", "_", 0),
+    ("$x:tt", "_", 1),
+    ("$r#x:ident", "a", 1),
+    ("$x:r#ident", "a", 1),
+    ("$x", "$x", 1),
+    ("$x", "a", 0),
+    ("$x:expr", "$x:expr", 1),
+    ("$", "$", 1),
+    ("$crate", "$crate", 1),
+    ("$crate::a", "$crate::a", 1),
+    ("$crate:ident", "a", 0),
+    ("==", "==", 1),
+    ("==", "= =", 0),
+    ("= =", "==", 0),
+    ("$x:literal", "- \"s\"", 0),
+    ("$x:literal", "- true", 0),
+    ("$x:literal", "-", 0),
+    ("$x:block", "{ 1 2, }", 1),
+    ("$(a),?", "a", 1),
+    ("$(a),?", "a, a", 0),
+    ("$(a)$*", "$(a)$*", 1),
+    ("$x:tt $x:tt", "a b", 1),
+    ("$x:vis", "$x:vis", 1),
+];
+
+fn are_ways(alloc: Global) -> bool {
+    for (pattern, input, wanted) in &WAYS {
+        if ways(alloc, pattern, input) != Some(*wanted) {
+            return false;
         }
     }
-    Ok(Atom::Same(leaves))
+    true
 }
 
-// In how many ways an input is read: 2 stands for more, too.
-fn ways(alloc: Global, places: &[Place], starts: &[usize], text: &str) -> Result<usize, TtFault> {
-    let input = tree_of(alloc, text)?;
-    match read(alloc, places, starts, input.token_trees().iter())? {
-        Found::Nothing => Ok(0),
-        Found::One(_, _) => Ok(1),
-        Found::Many => Ok(2),
-    }
-}
+// Whether a repetition of each may take no tree.
+const EMPTY: [(&str, bool); 11] = [
+    ("$()*", true),
+    ("$($(a)*),*", true),
+    ("$($(a)*)*", true),
+    ("$($(a)?)+", true),
+    ("$($(a)? $(b)*),*", true),
+    ("($($(a)*)?)", true),
+    ("a $($($(a)*)+)* b", true),
+    ("$($(a)? b)*", false),
+    ("$($(a)+)*", false),
+    ("$(())*", false),
+    ("$($x)*", false),
+];
 
-// Whether each of the inputs is read in so many ways.
-fn are_read(
-    alloc: Global,
-    places: &[Place],
-    starts: &[usize],
-    rows: &[(&str, usize)],
-) -> Result<bool, TtFault> {
-    for (text, wanted) in rows {
-        if ways(alloc, places, starts, text)? != *wanted {
-            return Ok(false);
+fn are_refused(alloc: Global) -> bool {
+    for (pattern, wanted) in &EMPTY {
+        if is_refused(alloc, pattern) != *wanted {
+            return false;
         }
     }
-    Ok(true)
+    true
 }
 
 // A test passes where what it asks is so.
-fn holds(is_so: Result<bool, TtFault>) -> Result<(), Fail> {
-    match is_so {
-        Ok(true) => Ok(()),
-        Ok(false) => Err(Fail::new("an input is read otherwise")),
-        Err(fault) => Err(fault.into()),
+fn holds(is_so: bool) -> Result<(), Fail> {
+    if is_so {
+        Ok(())
+    } else {
+        Err(Fail::new("a row is answered otherwise"))
     }
 }
 
-// `$($x:ident),* $(,)?`
-const LISTS: [(&str, usize); 8] = [
-    ("", 1),
-    ("a", 1),
-    ("a, b,", 1),
-    (",", 1),
-    ("a b", 0),
-    ("a,,", 0),
-    (", a", 0),
-    ("(a)", 0),
-];
-
-fn lists(alloc: Global) -> Result<bool, TtFault> {
-    let places = [
-        place(alloc, Atom::Take(Fragment::Ident), &[1, 2, 3])?,
-        place(alloc, token(alloc, ",")?, &[0])?,
-        place(alloc, token(alloc, ",")?, &[3])?,
-        place(alloc, Atom::Leave, &[])?,
-    ];
-    are_read(alloc, &places, &[0, 2, 3], &LISTS)
+#[test]
+fn inputs_are_instances_in_so_many_ways(rt: HostRuntime) -> Result<(), Fail> {
+    holds(are_ways(rt.alloc()))
 }
 
 #[test]
-fn a_list_with_a_comma_at_its_end(rt: HostRuntime) -> Result<(), Fail> {
-    holds(lists(rt.alloc()))
-}
-
-// `$(=>)? $(=>)?`
-const ARROWS: [(&str, usize); 5] = [
-    ("", 1),
-    ("=>", 2),
-    ("=> =>", 1),
-    ("= >", 0),
-    ("=> => =>", 0),
-];
-
-fn arrows(alloc: Global) -> Result<bool, TtFault> {
-    let places = [
-        place(alloc, token(alloc, "=>")?, &[1, 2])?,
-        place(alloc, token(alloc, "=>")?, &[2])?,
-        place(alloc, Atom::Leave, &[])?,
-    ];
-    are_read(alloc, &places, &[0, 1, 2], &ARROWS)
-}
-
-#[test]
-fn one_token_in_two_ways(rt: HostRuntime) -> Result<(), Fail> {
-    holds(arrows(rt.alloc()))
-}
-
-// `$($x:tt $y:literal)+`
-const PAIRS: [(&str, usize); 8] = [
-    ("", 0),
-    ("a 1", 1),
-    ("'a -1", 1),
-    ("=> true () -1.5", 1),
-    ("a b", 0),
-    ("= > 1", 0),
-    ("a - b", 0),
-    ("- 1", 1),
-];
-
-fn pairs(alloc: Global) -> Result<bool, TtFault> {
-    let places = [
-        place(alloc, Atom::Take(Fragment::Tt), &[1])?,
-        place(alloc, Atom::Take(Fragment::Literal), &[0, 2])?,
-        place(alloc, Atom::Leave, &[])?,
-    ];
-    are_read(alloc, &places, &[0], &PAIRS)
-}
-
-#[test]
-fn tokens_and_literals(rt: HostRuntime) -> Result<(), Fail> {
-    holds(pairs(rt.alloc()))
-}
-
-// `[$($x:lifetime)*] $y:block`
-const BLOCKS: [(&str, usize); 7] = [
-    ("[] {}", 1),
-    ("['a 'b] { c }", 1),
-    ("['a b] {}", 0),
-    ("('a) {}", 0),
-    ("[] ()", 0),
-    ("[] {} {}", 0),
-    ("[[]] {}", 0),
-];
-
-fn blocks(alloc: Global) -> Result<bool, TtFault> {
-    let places = [
-        place(alloc, Atom::Enter(DelimiterKind::Bracket), &[1, 2])?,
-        place(alloc, Atom::Take(Fragment::Lifetime), &[1, 2])?,
-        place(alloc, Atom::Leave, &[3])?,
-        place(alloc, Atom::Take(Fragment::Block), &[4])?,
-        place(alloc, Atom::Leave, &[])?,
-    ];
-    are_read(alloc, &places, &[0], &BLOCKS)
-}
-
-#[test]
-fn lifetimes_and_a_block(rt: HostRuntime) -> Result<(), Fail> {
-    holds(blocks(rt.alloc()))
+fn a_repetition_that_may_take_no_tree_is_refused(rt: HostRuntime) -> Result<(), Fail> {
+    holds(are_refused(rt.alloc()))
 }

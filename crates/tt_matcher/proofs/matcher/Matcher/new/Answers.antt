@@ -1,0 +1,20 @@
+use Rattle.std.proofs.Common.{rules, ◌≡◌, [], map, reverse, ap, ◌∙◌}
+use Rattle.tt.specs.Iters.{rest_of}
+use Rattle.tt_matcher.specs.Compiled.{all_stops, starts_of}
+use Rattle.tt_matcher.specs.Linking.{Made, made_of, made_by, nothing_made, stop_of}
+use Rattle.tt_matcher.specs.Spelling.{pattern_of}
+use Rattle.tt_matcher.proofs.LinkSteps.{made_whole}
+use Rattle.tt_matcher.proofs.Standing.{stand_as}
+use Rattle.tt_matcher.proofs.matcher.Matcher.new.Goals as goal
+
+pub returns-clause-ok : goal.returns-clause-ok
+returns-clause-ok c =
+    let pattern = pattern_of (rest_of c.args.pattern) in
+    let linked = c.in_ok-places.field-0 in
+    let places = c.reverse.new.self.items in
+    let pieces = c.in_ok-pieces.ensures.ok in
+    let whole : Made = record { stops = all_stops pattern; edges = starts_of pattern; around = [] } in
+    let made : made_by linked ≡ whole = c.in_ok-places.ensures ∙ ap (λ bits. made_of bits nothing_made) pieces.0 ∙ made_whole pattern in
+    let turned : places ≡ reverse linked.places.items = search rules in
+    let stops : map stop_of places ≡ all_stops pattern = ap (map stop_of) turned ∙ ap (λ m. m.stops) made in
+    record { full = pieces.1; stand = stand_as places (all_stops pattern) stops; starts = ap (λ m. m.edges) made }

@@ -1,0 +1,295 @@
+//! A pattern is cut into pieces, part by part.
+ghost use Rattle.std.specs.Prelude.{◌≡◌, ◌≤◌, ◌&&◌, ◌∷◌, [], suc, None, Some, IfOk, IfErr};
+ghost use Rattle.tt_matcher.specs.Asks.{ask_of};
+ghost use Rattle.tt.specs.Iters.{rest_of};
+ghost use Rattle.tt_matcher.specs.Compiled.{separator_count};
+ghost use Rattle.tt_matcher.specs.Patterns.{may_be_none};
+ghost use Rattle.tt_matcher.specs.Matchers.{IsPatternError};
+ghost use Rattle.tt_matcher.specs.Cutting.{marked, gained, level_left, levels_left, fresh_level, ended, stepped, IsStepped, IsEmptyEnd, IsRefused};
+ghost use Rattle.tt_matcher.specs.Pieces.{place, begin, AreAllPieces};
+ghost use Rattle.tt_matcher.specs.Spelling.{pattern_of};
+
+use crate::error::PatternError;
+use crate::parts::{Part, next_part};
+use crate::pattern::RepeatKind;
+use crate::pieces::{Cutting, Level, Piece};
+use crate::places::Atom;
+use crate::signs::Tail;
+use std::alloc::{AllocError, Global};
+use tt::{DelimiterKind, Leaf, TtIter};
+
+// A part that has to be there stands at that place.
+fn mark<'p>(level: Level<'p>, at: usize) -> Result<Level<'p>, AllocError>
+    ensures { IfOk result (λ next. level_left next ≡ marked at (level_left level.entry)) }
+{
+    let Level {
+        rest,
+        closing,
+        mut entries,
+        is_open,
+    } = level;
+    if is_open {
+        entries.push(at)?;
+    }
+    Ok(Level {
+        rest,
+        closing,
+        entries,
+        is_open: false,
+    })
+}
+
+// A level of which nothing was read.
+fn fresh<'p>(alloc: Global, rest: TtIter<'p>, closing: Option<Tail>) -> Level<'p>
+    ensures { level_left result ≡ fresh_level (pattern_of (rest_of rest.entry)) closing }
+{
+    Level {
+        rest,
+        closing,
+        entries: Vec::new(alloc),
+        is_open: true,
+    }
+}
+
+// A place, and a level behind it.
+fn add_place<'p>(
+    cutting: Cutting<'p>,
+    atom: Atom,
+    level: Level<'p>,
+) -> Result<Cutting<'p>, AllocError>
+    ensures { IfOk result (λ next. IsStepped (record { bits = place cutting.entry.count (ask_of atom) ∷ []; count = suc cutting.entry.count; levels = marked cutting.entry.count (level_left level.entry) ∷ levels_left cutting.entry.levels.items }) cutting.entry next) }
+{
+    let Cutting {
+        mut pieces,
+        count,
+        mut levels,
+    } = cutting;
+    let level = mark(level, count)?;
+    pieces.push(Piece::Place(count, atom))?;
+    levels.push(level)?;
+    Ok(Cutting {
+        pieces,
+        count: count + 1,
+        levels,
+    })
+}
+
+// One level more, in which nothing was read.
+fn enter<'p>(
+    alloc: Global,
+    cutting: Cutting<'p>,
+    inner: TtIter<'p>,
+    closing: Option<Tail>,
+) -> Result<Cutting<'p>, AllocError>
+    ensures { IfOk result (λ next. IsStepped (record { bits = []; count = cutting.entry.count; levels = fresh_level (pattern_of (rest_of inner.entry)) closing ∷ levels_left cutting.entry.levels.items }) cutting.entry next) }
+{
+    let Cutting {
+        pieces,
+        count,
+        mut levels,
+    } = cutting;
+    levels.push(fresh(alloc, inner, closing))?;
+    Ok(Cutting {
+        pieces,
+        count,
+        levels,
+    })
+}
+
+// The beginning of a repetition, and what stands round it.
+fn begin<'p>(cutting: Cutting<'p>, level: Level<'p>) -> Result<Cutting<'p>, AllocError>
+    ensures { IfOk result (λ next. IsStepped (record { bits = begin ∷ []; count = cutting.entry.count; levels = level_left level.entry ∷ levels_left cutting.entry.levels.items }) cutting.entry next) }
+{
+    let Cutting {
+        mut pieces,
+        count,
+        mut levels,
+    } = cutting;
+    pieces.push(Piece::Begin)?;
+    levels.push(level)?;
+    Ok(Cutting {
+        pieces,
+        count,
+        levels,
+    })
+}
+
+// The end of a subtree, or of all.
+fn leave<'p>(cutting: Cutting<'p>) -> Result<Cutting<'p>, AllocError>
+    ensures { IfOk result (λ next. IsStepped (ended cutting.entry.count None [] (levels_left cutting.entry.levels.items)) cutting.entry next) }
+{
+    let Cutting {
+        mut pieces,
+        count,
+        levels,
+    } = cutting;
+    pieces.push(Piece::Place(count, Atom::Leave))?;
+    Ok(Cutting {
+        pieces,
+        count: count + 1,
+        levels,
+    })
+}
+
+// The level round a repetition that is closed.
+fn closed_in<'p>(
+    next: Level<'p>,
+    kind: RepeatKind,
+    rounds: &[usize],
+) -> Result<Level<'p>, AllocError>
+    ensures { IfOk result (λ level. level_left level ≡ record { rest = (level_left next.entry).rest; closing = (level_left next.entry).closing; entries = gained (level_left next.entry).is_open (level_left next.entry).entries rounds.now; is_open = (level_left next.entry).is_open && may_be_none kind }) }
+{
+    let Level {
+        rest,
+        closing,
+        mut entries,
+        is_open,
+    } = next;
+    if is_open {
+        entries.extend_from_slice(rounds)?;
+    }
+    let may_be_none = match kind {
+        RepeatKind::ZeroOrMore | RepeatKind::ZeroOrOne => true,
+        RepeatKind::OneOrMore => false,
+    };
+    Ok(Level {
+        rest,
+        closing,
+        entries,
+        is_open: is_open & may_be_none,
+    })
+}
+
+// How many places a separator has.
+fn separator_count(separator: &[Leaf]) -> usize
+    ensures count { result ≡ separator_count separator.now }
+    ensures few { result ≤ 1 }
+{
+    match separator.first() {
+        None => 0,
+        Some(_) => 1,
+    }
+}
+
+// The end of a repetition, and the level round it.
+fn close<'p>(
+    cutting: Cutting<'p>,
+    tail: Tail,
+    rounds: Vec<usize>,
+) -> Result<Cutting<'p>, AllocError>
+    ensures { IfOk result (λ next. IsStepped (ended cutting.entry.count (Some tail) rounds.items (levels_left cutting.entry.levels.items)) cutting.entry next) }
+{
+    let Cutting {
+        mut pieces,
+        count,
+        mut levels,
+    } = cutting;
+    let Some(outer) = levels.pop() else {
+        return Ok(Cutting {
+            pieces,
+            count,
+            levels,
+        });
+    };
+    let outer = closed_in(outer, tail.kind, &rounds)?;
+    let places = separator_count(&tail.separator);
+    pieces.push(Piece::Close(count, tail, rounds))?;
+    levels.push(outer)?;
+    Ok(Cutting {
+        pieces,
+        count: count + places,
+        levels,
+    })
+}
+
+// The end of a level. A repetition of which no part has to be there may be empty.
+fn end_level<'p>(cutting: Cutting<'p>, level: Level<'p>) -> Result<Cutting<'p>, PatternError>
+    ensures ok { IfOk result (λ next. IsStepped (stepped Part.End cutting.entry.count (level_left level.entry) (levels_left cutting.entry.levels.items)) cutting.entry next) }
+    ensures full { IfOk result (λ _. IsEmptyEnd Part.End (level_left level.entry) → ⊥) }
+    ensures err { IfErr result (IsRefused Part.End (level_left level.entry)) }
+{
+    let Level {
+        closing,
+        entries,
+        is_open,
+        ..
+    } = level;
+    match closing {
+        None => Ok(leave(cutting)?),
+        Some(tail) => {
+            if is_open {
+                return Err(PatternError::EmptyRepetition);
+            }
+            Ok(close(cutting, tail, entries)?)
+        }
+    }
+}
+
+// A subtree: its place, and a level more.
+fn enter_subtree<'p>(
+    alloc: Global,
+    cutting: Cutting<'p>,
+    level: Level<'p>,
+    kind: DelimiterKind,
+    inner: TtIter<'p>,
+) -> Result<Cutting<'p>, AllocError>
+    ensures { IfOk result (λ next. IsStepped (stepped (Part.Subtree kind inner.entry) cutting.entry.count (level_left level.entry) (levels_left cutting.entry.levels.items)) cutting.entry next) }
+{
+    let placed = add_place(cutting, Atom::Enter(kind), level)?;
+    enter(alloc, placed, inner, None)
+}
+
+// A repetition: its beginning, and a level more.
+fn enter_repetition<'p>(
+    alloc: Global,
+    cutting: Cutting<'p>,
+    level: Level<'p>,
+    inner: TtIter<'p>,
+    tail: Tail,
+) -> Result<Cutting<'p>, AllocError>
+    ensures { IfOk result (λ next. IsStepped (stepped (Part.Repetition inner.entry tail) cutting.entry.count (level_left level.entry) (levels_left cutting.entry.levels.items)) cutting.entry next) }
+{
+    let begun = begin(cutting, level)?;
+    enter(alloc, begun, inner, Some(tail))
+}
+
+// The part that was read of a level.
+fn take_part<'p>(
+    alloc: Global,
+    cutting: Cutting<'p>,
+    level: Level<'p>,
+    part: Part<'p>,
+) -> Result<Cutting<'p>, PatternError>
+    ensures ok { IfOk result (λ next. IsStepped (stepped part.entry cutting.entry.count (level_left level.entry) (levels_left cutting.entry.levels.items)) cutting.entry next) }
+    ensures full { IfOk result (λ _. IsEmptyEnd part.entry (level_left level.entry) → ⊥) }
+    ensures err { IfErr result (IsRefused part.entry (level_left level.entry)) }
+{
+    match part {
+        Part::End => end_level(cutting, level),
+        Part::Variable(variable) => {
+            Ok(add_place(cutting, Atom::Take(variable.fragment), level)?)
+        }
+        Part::Token(leaves) => Ok(add_place(cutting, Atom::Same(leaves), level)?),
+        Part::Subtree(kind, inner) => Ok(enter_subtree(alloc, cutting, level, kind, inner)?),
+        Part::Repetition(inner, tail) => Ok(enter_repetition(alloc, cutting, level, inner, tail)?),
+    }
+}
+
+/// The pieces of the pattern that the trees spell. A repetition that may take no tree is refused.
+pub(crate) fn cut(alloc: Global, pattern: TtIter<'_>) -> Result<Vec<Piece>, PatternError>
+    ensures ok { IfOk result (λ pieces. AreAllPieces (pattern_of (rest_of pattern.entry)) pieces.items) }
+    ensures err { IfErr result (IsPatternError (pattern_of (rest_of pattern.entry))) }
+{
+    let whole = Cutting {
+        pieces: Vec::new(alloc),
+        count: 0,
+        levels: Vec::new(alloc),
+    };
+    let mut cutting = enter(alloc, whole, pattern, None)?;
+    while let Some(level) = cutting.levels.pop() {
+        let mut level = level;
+        let part = next_part(alloc, &mut level.rest)?;
+        cutting = take_part(alloc, cutting, level, part)?;
+    }
+    Ok(cutting.pieces)
+}

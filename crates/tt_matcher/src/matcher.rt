@@ -1,0 +1,53 @@
+//! The matcher of a pattern, by which any number of inputs is read.
+ghost use Rattle.std.specs.Prelude.{IfOk, IfErr};
+ghost use Rattle.tt.specs.Iters.{rest_of};
+ghost use Rattle.tt_matcher.specs.Levels.{Tells};
+ghost use Rattle.tt_matcher.specs.Matchers.{IsMatcherOf, IsPatternError};
+ghost use Rattle.tt_matcher.specs.Patterns.{Pattern};
+ghost use Rattle.tt_matcher.specs.Spelling.{pattern_of};
+
+use crate::cutting::cut;
+use crate::error::PatternError;
+use crate::linking::{Linked, link};
+use crate::places::Place;
+use crate::reading::{Found, read};
+use std::alloc::{AllocError, Global};
+use tt::TtIter;
+
+/// A pattern that is ready to read inputs.
+#[derive(Drop)]
+pub struct Matcher {
+    places: Vec<Place>,
+    starts: Vec<usize>,
+}
+
+impl Matcher {
+    /// The matcher of the pattern that the trees spell: `$name:fragment` is a variable, `$( .. )` with a separator, if there is one,
+    /// and `*`, `+` or `?` a repetition, and all else stands for itself.
+    ///
+    /// Time and memory are in proportion to the pattern, and to how many places may come behind each of its parts. It is refused
+    /// where a repetition may take no tree, and where memory is.
+    pub fn new(alloc: Global, pattern: TtIter<'_>) -> Result<Matcher, PatternError>
+        ensures ok { IfOk result (IsMatcherOf (pattern_of (rest_of pattern.entry))) }
+        ensures err { IfErr result (IsPatternError (pattern_of (rest_of pattern.entry))) }
+    {
+        let pieces = cut(alloc, pattern)?;
+        let Linked {
+            mut places,
+            edges: starts,
+            ..
+        } = link(alloc, pieces)?;
+        places.reverse();
+        Ok(Matcher { places, starts })
+    }
+
+    /// In how many ways the input is an instance of the pattern: in none, in one and no other, or in two and maybe more.
+    ///
+    /// Time is in proportion to the length of the input times the number of edges that are taken at a tree, and memory to how many
+    /// places are passed. It is refused only where memory is.
+    pub fn read(&self, alloc: Global, input: TtIter<'_>) -> Result<Found, AllocError>
+        ensures { IfOk result (λ found. (pattern : Pattern) → IsMatcherOf pattern self.now → Tells pattern (rest_of input.entry) found) }
+    {
+        read(alloc, &self.places, &self.starts, input)
+    }
+}
