@@ -105,11 +105,23 @@ ended at (Some tail) its (next ∷ outer) =
       levels = closed_in tail its next ∷ outer;
     }
 
+-- a place with that number, and the level behind it
+abbrev pub placed : (at : ℕ) → Ask → LevelLeft → (outer : List LevelLeft) → Step
+placed at asked level outer = record { bits = place at asked ∷ []; count = suc at; levels = marked at level ∷ outer }
+
+-- a level more, in which nothing was read
+abbrev pub entered : (at : ℕ) → Pattern → Option Tail → (outer : List LevelLeft) → Step
+entered at rest closing outer = record { bits = []; count = at; levels = fresh_level rest closing ∷ outer }
+
+-- the beginning of a repetition in a level
+abbrev pub opened : (at : ℕ) → LevelLeft → (outer : List LevelLeft) → Step
+opened at level outer = record { bits = begin ∷ []; count = at; levels = level ∷ outer }
+
 -- a part of a level, behind which that is left
 abbrev pub stepped : Part → (at : ℕ) → LevelLeft → (outer : List LevelLeft) → Step
 stepped part.End at level outer = ended at level.closing level.entries outer
-stepped (part.Variable it) at level outer = record { bits = place at (ask.take it.fragment) ∷ []; count = suc at; levels = marked at level ∷ outer }
-stepped (part.Token leaves) at level outer = record { bits = place at (ask.same leaves.items) ∷ []; count = suc at; levels = marked at level ∷ outer }
+stepped (part.Variable it) at level outer = placed at (ask.take it.fragment) level outer
+stepped (part.Token leaves) at level outer = placed at (ask.same leaves.items) level outer
 stepped (part.Subtree kind inner) at level outer =
     record { bits = place at (ask.enter kind) ∷ []; count = suc at; levels = fresh_level (pattern_of (rest_of inner)) None ∷ marked at level ∷ outer }
 stepped (part.Repetition inner tail) at level outer =

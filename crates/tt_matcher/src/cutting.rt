@@ -1,12 +1,11 @@
 //! A pattern is cut into pieces, part by part.
-ghost use Rattle.std.specs.Prelude.{◌≡◌, ◌≤◌, ◌&&◌, ◌∷◌, [], suc, None, Some, IfOk, IfErr};
+ghost use Rattle.std.specs.Prelude.{◌≡◌, ◌≤◌, [], None, Some, IfOk, IfErr};
 ghost use Rattle.tt_matcher.specs.Asks.{ask_of};
 ghost use Rattle.tt.specs.Iters.{rest_of};
 ghost use Rattle.tt_matcher.specs.Compiled.{separator_count};
-ghost use Rattle.tt_matcher.specs.Patterns.{may_be_none};
 ghost use Rattle.tt_matcher.specs.Matchers.{IsPatternError};
-ghost use Rattle.tt_matcher.specs.Cutting.{marked, gained, level_left, levels_left, fresh_level, ended, stepped, IsStepped, IsEmptyEnd, IsRefused};
-ghost use Rattle.tt_matcher.specs.Pieces.{place, begin, AreAllPieces};
+ghost use Rattle.tt_matcher.specs.Cutting.{marked, closed_in, level_left, levels_left, fresh_level, placed, entered, opened, ended, stepped, IsStepped, IsEmptyEnd, IsRefused};
+ghost use Rattle.tt_matcher.specs.Pieces.{AreAllPieces};
 ghost use Rattle.tt_matcher.specs.Spelling.{pattern_of};
 
 use crate::error::PatternError;
@@ -57,7 +56,7 @@ fn add_place<'p>(
     atom: Atom,
     level: Level<'p>,
 ) -> Result<Cutting<'p>, AllocError>
-    ensures { IfOk result (λ next. IsStepped (record { bits = place cutting.entry.count (ask_of atom) ∷ []; count = suc cutting.entry.count; levels = marked cutting.entry.count (level_left level.entry) ∷ levels_left cutting.entry.levels.items }) cutting.entry next) }
+    ensures { IfOk result (λ next. IsStepped (placed cutting.entry.count (ask_of atom) (level_left level.entry) (levels_left cutting.entry.levels.items)) cutting.entry next) }
 {
     let Cutting {
         mut pieces,
@@ -81,7 +80,7 @@ fn enter<'p>(
     inner: TtIter<'p>,
     closing: Option<Tail>,
 ) -> Result<Cutting<'p>, AllocError>
-    ensures { IfOk result (λ next. IsStepped (record { bits = []; count = cutting.entry.count; levels = fresh_level (pattern_of (rest_of inner.entry)) closing ∷ levels_left cutting.entry.levels.items }) cutting.entry next) }
+    ensures { IfOk result (λ next. IsStepped (entered cutting.entry.count (pattern_of (rest_of inner.entry)) closing (levels_left cutting.entry.levels.items)) cutting.entry next) }
 {
     let Cutting {
         pieces,
@@ -98,7 +97,7 @@ fn enter<'p>(
 
 // The beginning of a repetition, and what stands round it.
 fn begin<'p>(cutting: Cutting<'p>, level: Level<'p>) -> Result<Cutting<'p>, AllocError>
-    ensures { IfOk result (λ next. IsStepped (record { bits = begin ∷ []; count = cutting.entry.count; levels = level_left level.entry ∷ levels_left cutting.entry.levels.items }) cutting.entry next) }
+    ensures { IfOk result (λ next. IsStepped (opened cutting.entry.count (level_left level.entry) (levels_left cutting.entry.levels.items)) cutting.entry next) }
 {
     let Cutting {
         mut pieces,
@@ -132,12 +131,8 @@ fn leave<'p>(cutting: Cutting<'p>) -> Result<Cutting<'p>, AllocError>
 }
 
 // The level round a repetition that is closed.
-fn closed_in<'p>(
-    next: Level<'p>,
-    kind: RepeatKind,
-    rounds: &[usize],
-) -> Result<Level<'p>, AllocError>
-    ensures { IfOk result (λ level. level_left level ≡ record { rest = (level_left next.entry).rest; closing = (level_left next.entry).closing; entries = gained (level_left next.entry).is_open (level_left next.entry).entries rounds.now; is_open = (level_left next.entry).is_open && may_be_none kind }) }
+fn closed_in<'p>(next: Level<'p>, tail: &Tail, rounds: &[usize]) -> Result<Level<'p>, AllocError>
+    ensures { IfOk result (λ level. level_left level ≡ closed_in tail.now rounds.now (level_left next.entry)) }
 {
     let Level {
         rest,
@@ -148,7 +143,7 @@ fn closed_in<'p>(
     if is_open {
         entries.extend_from_slice(rounds)?;
     }
-    let may_be_none = match kind {
+    let may_be_none = match tail.kind {
         RepeatKind::ZeroOrMore | RepeatKind::ZeroOrOne => true,
         RepeatKind::OneOrMore => false,
     };
@@ -191,7 +186,7 @@ fn close<'p>(
             levels,
         });
     };
-    let outer = closed_in(outer, tail.kind, &rounds)?;
+    let outer = closed_in(outer, &tail, &rounds)?;
     let places = separator_count(&tail.separator);
     pieces.push(Piece::Close(count, tail, rounds))?;
     levels.push(outer)?;
