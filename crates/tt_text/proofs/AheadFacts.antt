@@ -1,13 +1,15 @@
 -- What a loop over the tokens of a text keeps: any tokens of what is left complete those of the text.
 use Rattle.std.proofs.Common.{◌≡◌, ℕ, ◌+◌, ◌<◌, List, [], ◌∷◌, ◌++◌, length, take, drop, Option, Ok, Err, refl, sym, ap, ◌∙◌, subst, arith, append_assoc, append-nil}
 use Rattle.std.specs.Str.{chars, IsUtf8}
-use Rattle.tt_base.specs.Building.{BuilderState, built, open_kinds}
+use Rattle.tt_base.specs.Building.{most_held, open_kinds}
+use Rattle.tt_flat.specs.Held.{Held, built}
 use Rattle.tt_base.specs.Forest.{Root}
 use Rattle.tt_base.specs.declared.span.SpanPart.{SpanPart}
 use Rattle.tt_lex.specs.Reading.{AreTokensOf, first_token_of}
 use Rattle.tt_lex.specs.declared.token.Token.{Token}
 use Rattle.tt_lex.proofs.FrontFacts.{chars-empty, empty_from_chars}
 use Rattle.tt_text.specs.Faults.{fault_from, or_behind, step}
+use Rattle.tt_text.specs.Limits.{HasManyTokens, token_count}
 use Rattle.tt_text.specs.Parsed.{IsParse, IsTop, kind_ahead, next_kind, pieces_from, token_ahead}
 use Rattle.tt_text.specs.Pieces.{pieces_of}
 use Rattle.tt_text.specs.Refusal.{IsFaultOf}
@@ -15,6 +17,7 @@ use Rattle.tt_text.specs.Spelled.{Piece, spelled, spelled_so_far}
 use Rattle.tt_text.specs.declared.fault.SyntaxFault.{SyntaxFault}
 use Rattle.tt_text.specs.declared.fault.SyntaxFault.TheVariants.{Unclosed}
 use Rattle.tt_text.specs.declared.fault.Open.{Open}
+use Rattle.tt_text.proofs.Counts.{token_count-append}
 use Rattle.tt_text.proofs.StackFacts.{spelled-bottom}
 use Rattle.tt_text.proofs.TextFacts.{cut, next_is, tokens_exist}
 
@@ -84,6 +87,24 @@ ahead_fault part text rest word held opens at token fault utf8 some is word_is s
           ∙ ap (λ r. or_behind r (λ os. fault_from os (at + token.len) behind more.0)) stepped;
     }
 
+-- with a token that is more than a tree may hold, the text has too many
+pub ahead_many : (part : SpanPart) (text rest word behind : List ℕ) (held : List Piece) (opens : List Open) (at : ℕ) (token : Token) (next : Option Token)
+    → IsUtf8 rest → 0 < length rest → token ≡ first_token_of (chars rest) → next ≡ token_ahead (chars behind) → word ≡ take token.len rest → behind ≡ drop token.len rest
+    → IsAhead part text rest held opens at → most_held < token_count (held ++ pieces_of part token.kind (kind_ahead next) at word) → HasManyTokens part text
+ahead_many part text rest word behind held opens at token next utf8 some is next_token word_is left ahead many =
+    let more = tokens_exist (length (chars behind)) (chars behind) (omega arith) in
+    let all = ahead (token ∷ more.0) (one_before rest behind token more.0 utf8 some is left more.1) in
+    let kind : kind_ahead next ≡ next_kind more.0 = ap kind_ahead next_token ∙ next_is more.0 (chars behind) more.1 in
+    let now = pieces_of part token.kind (next_kind more.0) at (take token.len rest) in
+    let later = pieces_from part (at + token.len) (drop token.len rest) more.0 in
+    let these : pieces_of part token.kind (kind_ahead next) at word ≡ now = ap (λ k. pieces_of part token.kind k at word) kind ∙ ap (λ w. pieces_of part token.kind (next_kind more.0) at w) word_is in
+    let so_far = token_count-append held (pieces_of part token.kind (kind_ahead next) at word) in
+    let here = ap token_count these in
+    let both = token_count-append now later in
+    let total = token_count-append held (now ++ later) in
+    let whole = ap token_count all.pieces in
+    record { tokens = all.tokens; read = all.read; many = omega (arith, many, so_far, here, both, total, whole) }
+
 pub ahead_unclosed : (part : SpanPart) (text rest : List ℕ) (held : List Piece) (opens before : List Open) (at : ℕ) (last : Open)
     → length rest ≡ 0 → opens ≡ last ∷ before → IsAhead part text rest held opens at → IsFaultOf text (Unclosed last.bracket last.at)
 ahead_unclosed part text rest held opens before at last none some ahead =
@@ -93,7 +114,7 @@ ahead_unclosed part text rest held opens before at last none some ahead =
       first = sym all.faults ∙ ap (λ os. fault_from os at rest []) some;
     }
 
-pub ahead_end : (part : SpanPart) (text rest : List ℕ) (s : BuilderState) (root : Root) (opens : List Open) (at : ℕ)
+pub ahead_end : (part : SpanPart) (text rest : List ℕ) (s : Held) (root : Root) (opens : List Open) (at : ℕ)
     → length rest ≡ 0 → opens ≡ [] → open_kinds s.stack ≡ [] → root ≡ built s → IsTop part (length text) s.top → IsAhead part text rest (spelled_so_far s.stack) opens at → IsParse part text root
 ahead_end part text rest s root opens at none nothing closed is top ahead =
     let all = ahead [] (chars-empty rest none) in record {

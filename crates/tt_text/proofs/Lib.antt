@@ -1,4 +1,6 @@
 pub mod AheadFacts
+pub mod Counts
+pub mod Hashes
 pub mod LimitFacts
 pub mod LiteralBytes
 pub mod OneSpelling

@@ -1,6 +1,7 @@
 -- What the calls of a builder add to the pieces that it holds.
 use Rattle.std.proofs.Common.{◌≡◌, ℕ, List, [], ◌∷◌, ◌++◌, refl, sym, ap, ◌∙◌, append_assoc, true, reverse}
-use Rattle.tt_base.specs.Building.{BuilderState, Stack, lowest, above, append, close_innermost, open_kinds, opened, pushed, closed, bottom, IsAbove, IsOpen}
+use Rattle.tt_base.specs.Building.{Stack, lowest, above, append, close_innermost, open_kinds, bottom, IsAbove}
+use Rattle.tt_flat.specs.Held.{Held, IsOpen, closed, opened, pushed}
 use Rattle.tt_base.specs.Forest.{Forest, end, leaf, node, join}
 use Rattle.tt_base.specs.Token.{delimiter}
 use Rattle.tt_base.specs.declared.delimiter.DelimiterKind.{DelimiterKind}
@@ -35,7 +36,7 @@ open_kinds-append more (lowest trees) = refl
 open_kinds-append more (above outer kind open_span trees) = refl
 
 -- a leaf that is pushed
-pub adds_leaf : (it : Leaf) (old new : BuilderState) → new ≡ pushed it old → Adds (piece_of it ∷ []) old new
+pub adds_leaf : (it : Leaf) (old new : Held) → new ≡ pushed it old → Adds (piece_of it ∷ []) old new
 adds_leaf it old new is = record {
   holds = ap (λ s. spelled_so_far s.stack) is ∙ spelled_so_far-append (leaf it end) old.stack;
   opens = ap (λ s. open_kinds s.stack) is ∙ open_kinds-append (leaf it end) old.stack;
@@ -74,7 +75,7 @@ same_bracket-is Square Parenthesis h = absurd (cc)
 same_bracket-is Square Brace h = absurd (cc)
 
 -- the innermost subtree is closed by a bracket of its kind
-pub close_step : (s t : BuilderState) (close_span : Span) (bracket : Bracket) (last : Open) (old new : List Open) → t ≡ closed close_span s
+pub close_step : (s t : Held) (close_span : Span) (bracket : Bracket) (last : Open) (old new : List Open) → t ≡ closed close_span s
     → kinds_of (reverse old) ≡ open_kinds s.stack → reverse old ≡ last ∷ reverse new → same_bracket last.bracket bracket ≡ true
     → spelled_so_far t.stack ≡ spelled_so_far s.stack ++ at_span (closing (kind_of bracket)) close_span ∷ []
 close_step s t close_span bracket last old new is kinds popped pair =
@@ -94,7 +95,7 @@ spelled-bottom (lowest trees) h = refl
 spelled-bottom (above outer kind open_span trees) h = absurd (cc)
 
 -- where none is open, no builder is open
-pub none_open : (s : BuilderState) → open_kinds s.stack ≡ [] → IsOpen s → ⊥
+pub none_open : (s : Held) → open_kinds s.stack ≡ [] → IsOpen s → ⊥
 none_open s h = go s.stack h
   where
     go : (t : Stack) → open_kinds t ≡ [] → IsAbove t → ⊥
@@ -102,7 +103,7 @@ none_open s h = go s.stack h
     go (above outer kind open_span trees) h k = cc
 
 -- one after the other
-pub adds_both : (ps qs : List Piece) (a b c : BuilderState) → Adds ps a b → Adds qs b c → Adds (ps ++ qs) a c
+pub adds_both : (ps qs : List Piece) (a b c : Held) → Adds ps a b → Adds qs b c → Adds (ps ++ qs) a c
 adds_both ps qs a b c h k = record {
   holds = k.holds ∙ ap (λ xs. xs ++ qs) h.holds ∙ append_assoc (spelled_so_far a.stack) ps qs;
   opens = k.opens ∙ h.opens;
@@ -110,7 +111,7 @@ adds_both ps qs a b c h k = record {
 }
 
 -- pieces in brackets
-pub adds_brackets : (kind : DelimiterKind) (span : Span) (ps : List Piece) (s t u v : BuilderState) → t ≡ opened kind span s → Adds ps t u → v ≡ closed span u
+pub adds_brackets : (kind : DelimiterKind) (span : Span) (ps : List Piece) (s t u v : Held) → t ≡ opened kind span s → Adds ps t u → v ≡ closed span u
     → Adds (at_span (opening kind) span ∷ (ps ++ at_span (closing kind) span ∷ [])) s v
 adds_brackets kind span ps s t u v opens inside closes =
     let kinds : open_kinds u.stack ≡ kind ∷ open_kinds s.stack = inside.opens ∙ ap (λ b. open_kinds b.stack) opens in record {
@@ -125,7 +126,7 @@ adds_brackets kind span ps s t u v opens inside closes =
     }
 
 -- a builder in which one is open can close it
-pub can_close : (kind : DelimiterKind) (span : Span) (ps : List Piece) (s t u : BuilderState) → t ≡ opened kind span s → Adds ps t u → IsOpen u
+pub can_close : (kind : DelimiterKind) (span : Span) (ps : List Piece) (s t u : Held) → t ≡ opened kind span s → Adds ps t u → IsOpen u
 can_close kind span ps s t u opens inside = is_above u.stack kind (open_kinds s.stack) (inside.opens ∙ ap (λ b. open_kinds b.stack) opens)
 
 -- these at a span, by the numbers of the span
@@ -133,3 +134,8 @@ pub all_placed : (sorts : List Sort) (span : Span) (part : SpanPart) (start stop
     → all_at span sorts ≡ placed part start stop sorts
 all_placed [] span part start stop p s e = refl
 all_placed (sort ∷ sorts) span part start stop p s e = ap (λ x. x ∷ all_at span sorts) (at_piece sort span part start stop p s e) ∙ ap (λ xs. piece part start stop sort ∷ xs) (all_placed sorts span part start stop p s e)
+
+-- these and those at a span
+pub all_at-append : (span : Span) (sorts more : List Sort) → all_at span (sorts ++ more) ≡ all_at span sorts ++ all_at span more
+all_at-append span [] more = refl
+all_at-append span (sort ∷ sorts) more = ap (λ xs. at_span sort span ∷ xs) (all_at-append span sorts more)

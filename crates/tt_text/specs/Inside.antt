@@ -1,10 +1,12 @@
 -- What no literal may hold, and no comment that documents something.
-use Rattle.std.specs.Prelude.{ℕ, Bool, false, ◌&&◌, ◌||◌, ◌==◌, not, nat_le, List, [], ◌∷◌, length, take, min, Option, None, Some, if◌then◌else◌}
+use Rattle.std.specs.Prelude.{ℕ, Bool, true, false, ◌&&◌, ◌||◌, ◌==◌, not, nat_le, nat_lt, List, [], ◌∷◌, length, take, drop, min, Option, None, Some, if◌then◌else◌}
 use Rattle.std.specs.List.{list_any}
 use Rattle.tt_lex.specs.declared.token.Base.{Base}
 use Rattle.tt_lex.specs.declared.token.Base.TheVariants.{Binary, Octal, Decimal, Hexadecimal}
+use Rattle.tt_lex.specs.declared.token.DocStyle.{DocStyle}
 use Rattle.tt_lex.specs.declared.token.LiteralKind.{LiteralKind}
 use Rattle.tt_lex.specs.declared.token.LiteralKind.TheVariants as literals
+use Rattle.tt_text.specs.Doc.{block_text, hashes_wanted, line_text}
 use Rattle.tt_text.specs.Escapes.{escape_fault}
 use Rattle.tt_text.specs.declared.fault.BadToken.{BadToken}
 use Rattle.tt_text.specs.declared.fault.BadToken.TheVariants as bad
@@ -56,14 +58,22 @@ fault_if wrong why = if wrong then Some why else None
 abbrev pub return_fault : (text : List ℕ) → Option BadToken
 return_fault text = fault_if (bare_return text) bad.BareReturn
 
--- what is wrong inside of a comment of one line that documents something
-abbrev pub line_fault : (text : List ℕ) → Option BadToken
-line_fault text = fault_if (inner_return text) bad.BareReturn
+-- what is wrong with a comment whose text, in a raw string, would want more than 255 hashes
+abbrev pub hashes_fault : (text : List ℕ) → Option BadToken
+hashes_fault text = fault_if (nat_lt 255 (hashes_wanted text)) bad.TooManyHashes
 
 -- the first of two that is there
 abbrev pub first_of : Option BadToken → Option BadToken → Option BadToken
 first_of None other = other
 first_of (Some why) other = Some why
+
+-- what is wrong inside of a comment of one line that documents something
+abbrev pub line_fault : DocStyle → (text : List ℕ) → Option BadToken
+line_fault style text = first_of (fault_if (inner_return text) bad.BareReturn) (hashes_fault (line_text style text))
+
+-- what is wrong inside of one between signs
+abbrev pub block_fault : DocStyle → (text : List ℕ) → Option BadToken
+block_fault style text = first_of (return_fault text) (hashes_fault (block_text style text))
 
 -- what is wrong with a text in quotes, whose first quote ends so many bytes from its start
 abbrev pub quoted_fault : LiteralKind → (opening : ℕ) → (text : List ℕ) → Option BadToken
@@ -85,3 +95,17 @@ inside_fault (literals.CStr terminated) text = quoted_fault (literals.CStr termi
 inside_fault (literals.RawStr n_hashes) text = return_fault text
 inside_fault (literals.RawByteStr n_hashes) text = bytes_fault text
 inside_fault (literals.RawCStr n_hashes) text = first_of (return_fault text) (fault_if (has_null text) bad.NullInCStr)
+
+-- whether a literal may have a suffix: a number
+abbrev pub takes_suffix : LiteralKind → Bool
+takes_suffix (literals.Int base empty_int) = true
+takes_suffix (literals.Float base empty_exponent) = true
+takes_suffix _ = false
+
+-- what is wrong with the suffix of a literal, which begins at a byte
+abbrev pub suffix_fault : LiteralKind → (place : ℕ) → (text : List ℕ) → Option BadToken
+suffix_fault kind place text = fault_if (takes_suffix kind && nat_lt 255 (length (drop place text))) bad.SuffixTooLong
+
+-- what is wrong with a literal whose suffix begins at a byte: inside of it, or with its suffix
+abbrev pub literal_fault : LiteralKind → (place : ℕ) → (text : List ℕ) → Option BadToken
+literal_fault kind place text = first_of (inside_fault kind (before_suffix place text)) (suffix_fault kind place text)

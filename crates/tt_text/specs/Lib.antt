@@ -9,6 +9,8 @@ pub mod LiteralText
 pub mod Refusal
 pub mod Parsed
 pub mod Pieces
+pub mod RawLiteral
+pub mod RawName
 pub mod Role
 pub mod Scanned
 pub mod Spelled

@@ -1,11 +1,12 @@
 -- The pieces of a text, the trees that they spell, and when a text is refused.
 use Rattle.std.specs.Prelude.{◌≡◌, ℕ, ◌+◌, List, [], ◌∷◌, ◌++◌, length, take, drop, Option, None, Some}
 use Rattle.std.specs.Str.{chars}
-use Rattle.tt_base.specs.Building.{BuilderState, open_kinds}
+use Rattle.tt_base.specs.Building.{open_kinds}
 use Rattle.tt_base.specs.Forest.{Root}
 use Rattle.tt_base.specs.declared.delimiter.Delimiter.{Delimiter}
 use Rattle.tt_base.specs.declared.delimiter.DelimiterKind.TheVariants.{Invisible}
 use Rattle.tt_base.specs.declared.span.SpanPart.{SpanPart}
+use Rattle.tt_flat.specs.Held.{Held}
 use Rattle.tt_lex.specs.Reading.{AreTokensOf, first_token_of}
 use Rattle.tt_lex.specs.declared.token.Token.{Token}
 use Rattle.tt_lex.specs.declared.token.TokenKind.{TokenKind}
@@ -35,7 +36,7 @@ pieces_from part at text (token ∷ tokens) =
     pieces_of part token.kind (next_kind tokens) at (take token.len text) ++ pieces_from part (at + token.len) (drop token.len text) tokens
 
 -- the pieces are added behind those that a builder holds, and the same subtrees are open
-pub record Adds (pieces : List Piece) (old new : BuilderState) : Type 0 where
+pub record Adds (pieces : List Piece) (old new : Held) : Type 0 where
   pub holds : spelled_so_far new.stack ≡ spelled_so_far old.stack ++ pieces
   pub opens : open_kinds new.stack ≡ open_kinds old.stack
   pub top : new.top ≡ old.top

@@ -17,6 +17,7 @@ use Rattle.tt_lex.specs.declared.token.LiteralKind.TheVariants as literals
 use Rattle.tt_lex.specs.declared.token.TokenKind.{TokenKind}
 use Rattle.tt_lex.specs.declared.token.TokenKind.TheVariants as kinds
 use Rattle.tt_text.specs.Doc.{block_text, hashes_wanted, line_text, without_prefix}
+use Rattle.tt_text.specs.RawName.{behind_apostrophe}
 use Rattle.tt_text.specs.Role.{kind_of, role_in}
 use Rattle.tt_text.specs.declared.role.Role.{Role}
 use Rattle.tt_text.specs.declared.role.Role.TheVariants.{Bad, Nothing, Opens, Closes, Leaf}
@@ -84,19 +85,22 @@ abbrev pub puncts : Option ℕ → Spacing → List Sort
 puncts None spacing = []
 puncts (Some c) spacing = sign c spacing ∷ []
 
--- what stands behind the quote of a lifetime
-abbrev pub behind_apostrophe : List ℕ → List ℕ
-behind_apostrophe text = without_prefix (codes "'") text
+-- the `#` of an attribute, and the `!` of one that documents what it stands in
+abbrev pub signs : DocStyle → List Sort
+signs Outer = sign 35 Alone ∷ []
+signs Inner = sign 35 Alone ∷ sign 33 Alone ∷ []
 
--- the `!` of a comment that documents what it stands in
-abbrev pub bang : DocStyle → List Sort
-bang Outer = []
-bang Inner = sign 33 Alone ∷ []
+-- what an attribute holds that documents something: its text in a raw string
+abbrev pub inside : (text : List ℕ) → List Sort
+inside text = name (codes "doc") No ∷ sign 61 Alone ∷ value (StrRaw (hashes_wanted text)) text 0 ∷ []
 
--- what a comment means that documents something: an attribute with its text in a raw string
+-- the same in its brackets
+abbrev pub attribute : (text : List ℕ) → List Sort
+attribute text = opening Bracket ∷ (inside text ++ closing Bracket ∷ [])
+
+-- what a comment means that documents something: an attribute
 abbrev pub doc : DocStyle → (text : List ℕ) → List Sort
-doc style text =
-    sign 35 Alone ∷ (bang style ++ opening Bracket ∷ name (codes "doc") No ∷ sign 61 Alone ∷ value (StrRaw (hashes_wanted text)) text 0 ∷ closing Bracket ∷ [])
+doc style text = signs style ++ attribute text
 
 -- what a leaf of a kind, with this text, is where all of it is in one place; a lifetime is none
 abbrev pub sorts_of : TokenKind → (next : Option TokenKind) → (text : List ℕ) → List Sort

@@ -1,5 +1,5 @@
 -- What a token is to a tree.
-use Rattle.std.specs.Prelude.{ℕ, List, Option, Some, Bool, true, false, not, is_none, is_some, if◌then◌else◌}
+use Rattle.std.specs.Prelude.{ℕ, List, Option, Some, drop, Bool, true, false, not, is_none, is_some, if◌then◌else◌}
 use Rattle.tt_lex.specs.declared.token.Base.{Base}
 use Rattle.tt_lex.specs.declared.token.Base.TheVariants.{Decimal}
 use Rattle.tt_lex.specs.declared.token.LiteralKind.{LiteralKind}
@@ -12,7 +12,9 @@ use Rattle.tt_text.specs.declared.bracket.Bracket.{Bracket}
 use Rattle.tt_text.specs.declared.bracket.Bracket.TheVariants.{Parenthesis, Brace, Square}
 use Rattle.tt_text.specs.declared.fault.BadToken.{BadToken}
 use Rattle.tt_text.specs.declared.fault.BadToken.TheVariants as bad
-use Rattle.tt_text.specs.Inside.{before_suffix, inside_fault, line_fault, return_fault}
+use Rattle.tt_text.specs.Inside.{block_fault, line_fault, literal_fault}
+use Rattle.tt_text.specs.RawLiteral.{raw_fault}
+use Rattle.tt_text.specs.RawName.{behind_apostrophe, raw_name_fault}
 use Rattle.tt_text.specs.declared.role.Role.{Role}
 use Rattle.tt_text.specs.declared.role.Role.TheVariants.{Bad, Nothing, Opens, Closes, Leaf}
 
@@ -42,20 +44,20 @@ abbrev pub float_role : Base → (empty_exponent : Bool) → Role
 float_role Decimal empty_exponent = or_leaf empty_exponent bad.EmptyExponent
 float_role _ empty_exponent = if empty_exponent then Bad bad.EmptyExponent else Bad bad.FloatOfAnotherBase
 
--- what a literal is: a leaf where it is closed, and has digits where it should have some
-abbrev pub literal_role : LiteralKind → Role
-literal_role (literals.Int base empty_int) = or_leaf empty_int bad.NoDigits
-literal_role (literals.Float base empty_exponent) = float_role base empty_exponent
-literal_role (literals.Char terminated) = or_leaf (not terminated) bad.UnterminatedLiteral
-literal_role (literals.Byte terminated) = or_leaf (not terminated) bad.UnterminatedLiteral
-literal_role (literals.Str terminated) = or_leaf (not terminated) bad.UnterminatedLiteral
-literal_role (literals.ByteStr terminated) = or_leaf (not terminated) bad.UnterminatedLiteral
-literal_role (literals.CStr terminated) = or_leaf (not terminated) bad.UnterminatedLiteral
-literal_role (literals.RawStr n_hashes) = or_leaf (is_none n_hashes) bad.BadRawLiteral
-literal_role (literals.RawByteStr n_hashes) = or_leaf (is_none n_hashes) bad.BadRawLiteral
-literal_role (literals.RawCStr n_hashes) = or_leaf (is_none n_hashes) bad.BadRawLiteral
+-- what a literal with this text is: a leaf where it is closed, and has digits where it should have some
+abbrev pub literal_role : LiteralKind → (text : List ℕ) → Role
+literal_role (literals.Int base empty_int) text = or_leaf empty_int bad.NoDigits
+literal_role (literals.Float base empty_exponent) text = float_role base empty_exponent
+literal_role (literals.Char terminated) text = or_leaf (not terminated) bad.UnterminatedLiteral
+literal_role (literals.Byte terminated) text = or_leaf (not terminated) bad.UnterminatedLiteral
+literal_role (literals.Str terminated) text = or_leaf (not terminated) bad.UnterminatedLiteral
+literal_role (literals.ByteStr terminated) text = or_leaf (not terminated) bad.UnterminatedLiteral
+literal_role (literals.CStr terminated) text = or_leaf (not terminated) bad.UnterminatedLiteral
+literal_role (literals.RawStr n_hashes) text = or_leaf (is_none n_hashes) (raw_fault (drop 1 text))
+literal_role (literals.RawByteStr n_hashes) text = or_leaf (is_none n_hashes) (raw_fault (drop 2 text))
+literal_role (literals.RawCStr n_hashes) text = or_leaf (is_none n_hashes) (raw_fault (drop 2 text))
 
--- what a token of a kind is to a tree, in edition 2024
+-- what a token of a kind is to a tree, whatever is in its text, in edition 2024
 abbrev pub role_of : TokenKind → Role
 role_of (kinds.LineComment doc) = comment_role (is_some doc)
 role_of (kinds.BlockComment doc terminated) = if terminated then comment_role (is_some doc) else Bad bad.UnterminatedComment
@@ -65,7 +67,6 @@ role_of kinds.UnknownPrefix = Bad bad.UnknownPrefix
 role_of kinds.UnknownPrefixLifetime = Bad bad.UnknownPrefix
 role_of kinds.GuardedStrPrefix = Bad bad.GuardedPrefix
 role_of kinds.Unknown = Bad bad.UnknownCharacter
-role_of (kinds.Literal kind suffix_start) = literal_role kind
 role_of (kinds.Lifetime starts_with_number) = or_leaf starts_with_number bad.LifetimeBeginsWithDigit
 role_of kinds.OpenParen = Opens Parenthesis
 role_of kinds.CloseParen = Closes Parenthesis
@@ -82,7 +83,9 @@ with_inside role _ = role
 
 -- what a token with this text is to a tree
 abbrev pub role_in : TokenKind → (text : List ℕ) → Role
-role_in (kinds.Literal kind suffix_start) text = with_inside (literal_role kind) (inside_fault kind (before_suffix suffix_start text))
-role_in (kinds.LineComment (Some style)) text = with_inside (role_of (kinds.LineComment (Some style))) (line_fault text)
-role_in (kinds.BlockComment (Some style) terminated) text = with_inside (role_of (kinds.BlockComment (Some style) terminated)) (return_fault text)
+role_in (kinds.Literal kind suffix_start) text = with_inside (literal_role kind text) (literal_fault kind suffix_start text)
+role_in (kinds.LineComment (Some style)) text = with_inside (role_of (kinds.LineComment (Some style))) (line_fault style text)
+role_in (kinds.BlockComment (Some style) terminated) text = with_inside (role_of (kinds.BlockComment (Some style) terminated)) (block_fault style text)
+role_in kinds.RawIdent text = with_inside Leaf (raw_name_fault text)
+role_in kinds.RawLifetime text = with_inside Leaf (raw_name_fault (behind_apostrophe text))
 role_in kind text = role_of kind

@@ -4,48 +4,50 @@ ghost use Rattle.tt_base.specs.Scan.{FitsText, parts_told};
 ghost use Rattle.tt_text.specs.Limits.{IsAddFault};
 ghost use Rattle.tt_text.specs.Parsed.{Adds};
 ghost use Rattle.tt_text.specs.Pieces.{leaves_of, lifetime, literal_of, name_of, piece, scan_of};
+ghost use Rattle.tt_text.specs.Role.{role_in};
 ghost use Rattle.tt_text.specs.Scanned.{IsScanned};
 ghost use Rattle.tt_text.specs.Spelled.{at_span, piece_of, sign};
+ghost use Rattle.tt_text.specs.declared.role.Role.TheVariants.{Leaf as IsLeaf};
 
 use crate::doc::{add_doc, block_text, line_text};
 use crate::leaves::{behind_apostrophe, punct_char, scan_of, spacing_before, span_at};
 use std::alloc::Global;
-use tt::TopSubtreeBuilder;
 use tt_base::{Ident, Leaf, Punct, Spacing, Span, SpanPart, TtFault, token_to_literal};
+use tt_flat::FlatBuilder;
 use tt_lex::{LiteralKind, TokenKind};
 
-// Puts a leaf at the end.
-#[tactic(auto, using(crate::proofs::StackFacts::adds_leaf, crate::proofs::LimitFacts::growth_fault))]
-pub fn add_leaf(builder: &mut TopSubtreeBuilder, leaf: Leaf) -> Result<(), TtFault>
+/// Puts a leaf at the end.
+#[tactic(auto, using(crate::proofs::StackFacts::adds_leaf, crate::proofs::LimitFacts::leaf_fault))]
+pub fn add_leaf(builder: &mut FlatBuilder, leaf: Leaf) -> Result<(), TtFault>
     ensures ok { OnOk result (Adds (piece_of leaf ∷ []) builder.old builder.new) }
-    ensures err { IfErr result IsAddFault }
+    ensures err { IfErr result (IsAddFault (piece_of leaf ∷ []) builder.old) }
 {
     builder.push(leaf)?;
     Ok(())
 }
 
-// Puts the name that a text spells at the end.
-fn add_name(
+/// Puts the name that a text spells at the end.
+pub fn add_name(
     alloc: Global,
-    builder: &mut TopSubtreeBuilder,
+    builder: &mut FlatBuilder,
     text: &str,
     span: Span,
 ) -> Result<(), TtFault>
-    ensures err { IfErr result IsAddFault }
+    ensures err { IfErr result (IsAddFault (at_span (name_of text.now) span ∷ []) builder.old) }
     ensures ok { OnOk result (Adds (at_span (name_of text.now) span ∷ []) builder.old builder.new) }
 {
     let ident = Ident::new(alloc, text, span)?;
     add_leaf(builder, Leaf::Ident(ident))
 }
 
-// Puts a punct at the end.
+/// Puts a punct at the end.
 pub fn add_punct(
-    builder: &mut TopSubtreeBuilder,
+    builder: &mut FlatBuilder,
     char: char,
     spacing: Spacing,
     span: Span,
 ) -> Result<(), TtFault>
-    ensures err { IfErr result IsAddFault }
+    ensures err { IfErr result (IsAddFault (at_span (sign char spacing) span ∷ []) builder.old) }
     ensures ok { OnOk result (Adds (at_span (sign char spacing) span ∷ []) builder.old builder.new) }
 {
     add_leaf(
@@ -59,17 +61,18 @@ pub fn add_punct(
 }
 
 // Puts the literal that a text spells at the end.
-#[tactic(auto, using(crate::proofs::LimitFacts::scan_fault))]
+#[tactic(auto, using(crate::proofs::Hashes::scan_fault))]
 fn add_literal(
     alloc: Global,
-    builder: &mut TopSubtreeBuilder,
+    builder: &mut FlatBuilder,
     kind: LiteralKind,
     suffix_start: u32,
     text: &str,
     span: Span,
 ) -> Result<(), TtFault>
     requires scan { FitsText text.now (scan_of kind) suffix_start }
-    ensures err { IfErr result IsAddFault }
+    requires short { length (parts_told text.now (Some (scan_of kind, suffix_start))).suffix ≤ 255 }
+    ensures err { IfErr result (IsAddFault (at_span (literal_of (parts_told text.now (Some (scan_of kind, suffix_start)))) span ∷ []) builder.old) }
     ensures ok { OnOk result (Adds (at_span (literal_of (parts_told text.now (Some (scan_of kind, suffix_start)))) span ∷ []) builder.old builder.new) }
 {
     let literal = token_to_literal(alloc, text, span, Some((scan_of(kind), suffix_start)))?;
@@ -79,14 +82,14 @@ fn add_literal(
 // Puts the quote of a lifetime and its name at the end.
 fn add_lifetime(
     alloc: Global,
-    builder: &mut TopSubtreeBuilder,
+    builder: &mut FlatBuilder,
     part: SpanPart,
     start: u32,
     text: &str,
 ) -> Result<(), TtFault>
     requires some { 0 < length text.now }
     requires fits { start + length text.now < 2 ^ 32 }
-    ensures err { IfErr result IsAddFault }
+    ensures err { IfErr result (IsAddFault (lifetime part start text.now) builder.old) }
     ensures ok { OnOk result (Adds (lifetime part start text.now) builder.old builder.new) }
 {
     let end = start + text.len() as u32;
@@ -118,16 +121,18 @@ pub struct Placed<'a> {
 }
 
 /// Puts the leaves of a token at the end.
+#[tactic(auto, using(crate::proofs::Hashes::block_few, crate::proofs::Hashes::short_suffix))]
 pub fn add_leaves(
     alloc: Global,
-    builder: &mut TopSubtreeBuilder,
+    builder: &mut FlatBuilder,
     part: SpanPart,
     token: Placed,
 ) -> Result<(), TtFault>
     requires some { 0 < length token.text.now }
     requires fits { token.at + length token.text.now < 2 ^ 32 }
     requires scan { IsScanned token.kind token.text.now }
-    ensures err { IfErr result IsAddFault }
+    requires leaf { role_in token.kind token.text.now ≡ IsLeaf }
+    ensures err { IfErr result (IsAddFault (leaves_of part token.entry.kind token.entry.next token.entry.at token.entry.text.now) builder.old) }
     ensures ok { OnOk result (Adds (leaves_of part token.entry.kind token.entry.next token.entry.at token.entry.text.now) builder.old builder.new) }
 {
     let text = token.text;

@@ -1,21 +1,15 @@
 //! Comments that document something.
-ghost use Rattle.std.specs.Prelude.{◌≡◌, ◌^◌, ◌-◌, ◌<◌, [], ◌∷◌, codes, IfErr, OnOk};
+ghost use Rattle.std.specs.Prelude.{◌≡◌, ◌^◌, ◌-◌, ◌<◌, IfErr, OnOk};
 ghost use Rattle.tt_text.specs.Doc.{before_closing, behind_line_opening, behind_opening, block_text, hashes_wanted, line_text, next_run, without_return};
 ghost use Rattle.tt_text.specs.Limits.{IsAddFault};
 ghost use Rattle.tt_text.specs.Parsed.{Adds};
-ghost use Rattle.tt_text.specs.Pieces.{doc};
-ghost use Rattle.tt_text.specs.Spelled.{all_at, at_span, closing, name, opening, sign, value};
-ghost use Rattle.tt_base.specs.declared.delimiter.DelimiterKind.TheVariants.{Bracket};
-ghost use Rattle.tt_base.specs.declared.ident.IdentIsRaw.TheVariants.{No};
-ghost use Rattle.tt_base.specs.declared.literal.LitKind.TheVariants.{StrRaw};
-ghost use Rattle.tt_base.specs.declared.punct.Spacing.TheVariants.{Alone};
+ghost use Rattle.tt_text.specs.Pieces.{attribute, doc, inside, signs};
+ghost use Rattle.tt_text.specs.Spelled.{all_at};
 
-use crate::add::{add_leaf, add_punct};
+use crate::add::{add_leaf, add_name, add_punct};
 use std::alloc::Global;
-use tt::TopSubtreeBuilder;
-use tt_base::{
-    DelimiterKind, Ident, IdentIsRaw, Leaf, LitKind, Literal, Spacing, Span, Symbol, TtFault,
-};
+use tt_base::{DelimiterKind, Leaf, LitKind, Literal, Spacing, Span, TtFault};
+use tt_flat::FlatBuilder;
 use tt_lex::DocStyle;
 
 // The text behind the signs that open a comment of one line.
@@ -98,8 +92,8 @@ fn next_run(run: usize, byte: u8) -> usize
     }
 }
 
-// How many hashes a raw string wants that holds the text.
-fn hashes_wanted(text: &str) -> usize
+/// How many hashes a raw string wants that holds the text.
+pub fn hashes_wanted(text: &str) -> usize
     ensures { result ≡ hashes_wanted text.now }
 {
     let mut run = 0;
@@ -116,60 +110,67 @@ fn hashes_wanted(text: &str) -> usize
 // Puts `doc = text` at the end.
 fn add_inside(
     alloc: Global,
-    builder: &mut TopSubtreeBuilder,
+    builder: &mut FlatBuilder,
     text: &str,
     span: Span,
 ) -> Result<(), TtFault>
-    ensures err { IfErr result IsAddFault }
-    ensures ok { OnOk result (Adds (at_span (name (codes "doc") No) span ∷ at_span (sign 61 Alone) span ∷ at_span (value (StrRaw (hashes_wanted text.now)) text.now 0) span ∷ []) builder.old builder.new) }
+    requires { hashes_wanted text.now < 256 }
+    ensures err { IfErr result (IsAddFault (all_at span (inside text.now)) builder.old) }
+    ensures ok { OnOk result (Adds (all_at span (inside text.now)) builder.old builder.new) }
 {
-    let Ok(hashes) = u8::try_from(hashes_wanted(text)) else {
-        return Err(TtFault::SuffixTooLong);
-    };
-    add_leaf(
-        builder,
-        Leaf::Ident(Ident {
-            sym: Symbol::new(alloc, "doc")?,
-            span,
-            is_raw: IdentIsRaw::No,
-        }),
-    )?;
+    let hashes = hashes_wanted(text) as u8;
+    add_name(alloc, builder, "doc", span)?;
     add_punct(builder, '=', Spacing::Alone, span)?;
     let literal = Literal::new_no_suffix(alloc, text, span, LitKind::StrRaw(hashes))?;
-    add_leaf(builder, Leaf::Literal(literal))
+    add_leaf(builder, Leaf::Literal(literal))?;
+    Ok(())
 }
 
 // Puts `[doc = text]` at the end.
-#[tactic(auto, using(crate::proofs::LimitFacts::open_fault))]
 fn add_brackets(
     alloc: Global,
-    builder: &mut TopSubtreeBuilder,
+    builder: &mut FlatBuilder,
     text: &str,
     span: Span,
 ) -> Result<(), TtFault>
-    ensures err { IfErr result IsAddFault }
-    ensures ok { OnOk result (Adds (at_span (opening Bracket) span ∷ at_span (name (codes "doc") No) span ∷ at_span (sign 61 Alone) span ∷ at_span (value (StrRaw (hashes_wanted text.now)) text.now 0) span ∷ at_span (closing Bracket) span ∷ []) builder.old builder.new) }
+    requires { hashes_wanted text.now < 256 }
+    ensures err { IfErr result (IsAddFault (all_at span (attribute text.now)) builder.old) }
+    ensures ok { OnOk result (Adds (all_at span (attribute text.now)) builder.old builder.new) }
 {
     builder.open(DelimiterKind::Bracket, span)?;
     add_inside(alloc, builder, text, span)?;
-    builder.close(span)?;
+    builder.close(span);
     Ok(())
+}
+
+// Puts the signs before the brackets at the end.
+fn add_signs(builder: &mut FlatBuilder, style: DocStyle, span: Span) -> Result<(), TtFault>
+    ensures err { IfErr result (IsAddFault (all_at span (signs style)) builder.old) }
+    ensures ok { OnOk result (Adds (all_at span (signs style)) builder.old builder.new) }
+{
+    add_punct(builder, '#', Spacing::Alone, span)?;
+    match style {
+        DocStyle::Outer => Ok(()),
+        DocStyle::Inner => {
+            add_punct(builder, '!', Spacing::Alone, span)?;
+            Ok(())
+        }
+    }
 }
 
 /// Puts the attribute at the end that a comment of that text stands for.
 pub fn add_doc(
     alloc: Global,
-    builder: &mut TopSubtreeBuilder,
+    builder: &mut FlatBuilder,
     style: DocStyle,
     text: &str,
     span: Span,
 ) -> Result<(), TtFault>
-    ensures err { IfErr result IsAddFault }
+    requires { hashes_wanted text.now < 256 }
+    ensures err { IfErr result (IsAddFault (all_at span (doc style text.now)) builder.old) }
     ensures ok { OnOk result (Adds (all_at span (doc style text.now)) builder.old builder.new) }
 {
-    add_punct(builder, '#', Spacing::Alone, span)?;
-    if let DocStyle::Inner = style {
-        add_punct(builder, '!', Spacing::Alone, span)?;
-    }
-    add_brackets(alloc, builder, text, span)
+    add_signs(builder, style, span)?;
+    add_brackets(alloc, builder, text, span)?;
+    Ok(())
 }

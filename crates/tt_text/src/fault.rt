@@ -21,12 +21,21 @@ pub enum BadToken {
     /// `/*` with no `*/` that closes it.
     #[error("unterminated comment")]
     UnterminatedComment,
-    /// A literal with no quote that closes it.
+    /// A literal with no quote that closes it, and of a raw one with no quote that has as many hashes behind it.
     #[error("unterminated literal")]
     UnterminatedLiteral,
-    /// A raw literal that no quote with as many hashes closes, that has no quote, or that has more than 255 hashes.
-    #[error("raw literal that is not closed, or has more than 255 hashes")]
-    BadRawLiteral,
+    /// The hashes of a raw literal with no quote behind them.
+    #[error("raw literal without a quote")]
+    RawWithoutQuote,
+    /// A raw literal with more than 255 hashes, or a comment that documents something whose text would want as many.
+    #[error("more than 255 hashes")]
+    TooManyHashes,
+    /// A number with a suffix of more than 255 bytes.
+    #[error("suffix of more than 255 bytes")]
+    SuffixTooLong,
+    /// `r#` before `_`, `crate`, `self`, `super` or `Self`, which are never raw.
+    #[error("name that is never raw")]
+    NeverRaw,
     /// A character that begins no token.
     #[error("unknown character")]
     UnknownCharacter,

@@ -2,11 +2,12 @@
 ghost use Rattle.std.specs.Prelude.{◌≡◌};
 ghost use Rattle.tt_text.specs.Escapes.{escape_fault};
 ghost use Rattle.tt_text.specs.declared.fault.BadToken.TheVariants.{NullInCStr};
-ghost use Rattle.tt_text.specs.Inside.{first_of, has_null, quoted_fault, inner_return, line_fault, before_suffix, beyond_ascii, bytes_fault, bare_return, fault_if, foreign_digit, inside_fault, is_foreign_digit, return_fault};
+ghost use Rattle.tt_text.specs.Inside.{first_of, has_null, quoted_fault, inner_return, block_fault, line_fault, literal_fault, suffix_fault, takes_suffix, hashes_fault, before_suffix, beyond_ascii, bytes_fault, bare_return, fault_if, foreign_digit, inside_fault, is_foreign_digit, return_fault};
 
+use crate::doc::{block_text, hashes_wanted, line_text};
 use crate::escapes::escape_fault;
 use crate::fault::BadToken;
-use tt_lex::{Base, LiteralKind};
+use tt_lex::{Base, DocStyle, LiteralKind};
 
 // Whether a byte is a decimal digit that a base has not.
 fn is_foreign_digit(base: Base, byte: u8) -> bool
@@ -134,30 +135,47 @@ fn raw_c_fault(text: &[u8]) -> Option<BadToken>
     }
 }
 
-/// What is wrong inside of a comment of one line that documents something.
-pub fn line_fault(text: &str) -> Option<BadToken>
-    ensures { result ≡ line_fault text.now }
+// What is wrong with a comment that has this text. Only a long one may want many hashes.
+#[tactic(auto, using(crate::proofs::Hashes::few_wanted))]
+fn hashes_fault(text: &str) -> Option<BadToken>
+    ensures { result ≡ hashes_fault text.now }
 {
-    fault_if(inner_return(text.as_bytes()), BadToken::BareReturn)
+    if text.len() <= 255 {
+        return None;
+    }
+    fault_if(hashes_wanted(text) > 255, BadToken::TooManyHashes)
+}
+
+/// What is wrong inside of a comment of one line that documents something.
+pub fn line_fault(style: DocStyle, text: &str) -> Option<BadToken>
+    ensures { result ≡ line_fault style text.now }
+{
+    if inner_return(text.as_bytes()) {
+        return Some(BadToken::BareReturn);
+    }
+    hashes_fault(line_text(style, text))
 }
 
 /// What is wrong inside of one between signs.
-pub fn block_fault(text: &str) -> Option<BadToken>
-    ensures { result ≡ return_fault text.now }
+pub fn block_fault(style: DocStyle, text: &str) -> Option<BadToken>
+    ensures { result ≡ block_fault style text.now }
 {
-    return_fault(text.as_bytes())
+    match return_fault(text.as_bytes()) {
+        None => hashes_fault(block_text(style, text)),
+        Some(why) => Some(why),
+    }
 }
 
-/// A literal without its suffix, which begins at that byte.
-pub fn before_suffix(place: u32, text: &str) -> &[u8]
+// A literal without its suffix, which begins at that byte.
+fn before_suffix(place: u32, text: &str) -> &[u8]
     ensures { result.now ≡ before_suffix place text.now }
 {
     let end = (place as usize).min(text.len());
     &text.as_bytes()[..end]
 }
 
-/// What is wrong inside of a literal, of which this stands before its suffix.
-pub fn inside_fault(kind: LiteralKind, text: &[u8]) -> Option<BadToken>
+// What is wrong inside of a literal, of which this stands before its suffix.
+fn inside_fault(kind: LiteralKind, text: &[u8]) -> Option<BadToken>
     ensures { result ≡ inside_fault kind text.now }
 {
     match kind {
@@ -173,5 +191,33 @@ pub fn inside_fault(kind: LiteralKind, text: &[u8]) -> Option<BadToken>
         LiteralKind::RawStr { .. } => return_fault(text),
         LiteralKind::RawByteStr { .. } => bytes_fault(text),
         LiteralKind::RawCStr { .. } => raw_c_fault(text),
+    }
+}
+
+// Whether a literal may have a suffix.
+fn takes_suffix(kind: LiteralKind) -> bool
+    ensures { result ≡ takes_suffix kind }
+{
+    matches!(kind, LiteralKind::Int { .. } | LiteralKind::Float { .. })
+}
+
+// What is wrong with the suffix of a literal, which begins at that byte.
+fn suffix_fault(kind: LiteralKind, place: u32, text: &str) -> Option<BadToken>
+    ensures { result ≡ suffix_fault kind place text.now }
+{
+    let suffix_len = text.len().saturating_sub(place as usize);
+    fault_if(
+        takes_suffix(kind) & (suffix_len > 255),
+        BadToken::SuffixTooLong,
+    )
+}
+
+/// What is wrong with a literal whose suffix begins at that byte: inside of it, or with its suffix.
+pub fn literal_fault(kind: LiteralKind, place: u32, text: &str) -> Option<BadToken>
+    ensures { result ≡ literal_fault kind place text.now }
+{
+    match inside_fault(kind, before_suffix(place, text)) {
+        None => suffix_fault(kind, place, text),
+        Some(why) => Some(why),
     }
 }

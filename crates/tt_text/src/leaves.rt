@@ -2,7 +2,8 @@
 ghost use Rattle.std.specs.Prelude.{◌≡◌, ◌≤◌, codes};
 ghost use Rattle.tt_base.specs.Span.{start_of, end_of, part_of};
 ghost use Rattle.tt_text.specs.Doc.{without_prefix};
-ghost use Rattle.tt_text.specs.Pieces.{behind_apostrophe, punct_char, scan_of, spacing_before};
+ghost use Rattle.tt_text.specs.Pieces.{punct_char, scan_of, spacing_before};
+ghost use Rattle.tt_text.specs.RawName.{behind_apostrophe};
 
 use tt_base::{LiteralScan, Spacing, Span, SpanPart, TextRange, TextSize};
 use tt_lex::{LiteralKind, TokenKind};

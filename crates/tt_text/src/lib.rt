@@ -10,6 +10,7 @@ mod inside;
 pub mod laws;
 mod leaves;
 mod parse;
+mod raw;
 mod role;
 mod step;
 

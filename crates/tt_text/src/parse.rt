@@ -9,9 +9,16 @@ use crate::fault::{Open, SyntaxFault, TextFault};
 use crate::leaves::span_at;
 use crate::step::take;
 use std::alloc::Global;
-use tt::{TopSubtree, TopSubtreeBuilder};
 use tt_base::{DelimSpan, Delimiter, SpanAnchor, SpanPart, SyntaxContext};
+use tt_flat::FlatBuilder;
 use tt_lex::{MOST_TEXT_BYTES, Token, TokenKind, first_token};
+use tt_view::TopSubtree;
+
+// A token of source has more bytes than that on average, white space counted.
+const BYTES_OF_TOKEN: usize = 2;
+
+// For no more tokens room is made before they are read.
+const MOST_TOKENS_AT_FIRST: usize = 512;
 
 // The first token of a text, if it has one.
 fn token_ahead(text: &str) -> Option<Token>
@@ -45,11 +52,16 @@ fn top_of(part: SpanPart, len: u32) -> Delimiter
     ))
 }
 
+// For how many tokens room is made at first: all of a short text.
+fn room_for(text: &str) -> usize {
+    (text.len() / BYTES_OF_TOKEN + 1).min(MOST_TOKENS_AT_FIRST)
+}
+
 /// The token trees of a text, under an invisible top whose two spans are the empty ones at its start and at its end.
 ///
 /// A text with a token that is not valid, or with brackets that do not match, is refused for the first of them. The text
 /// is of edition 2024.
-#[tactic(auto, using(crate::proofs::LimitFacts::limit_of_leaves))]
+#[tactic(auto, using(crate::proofs::LimitFacts::limit_of_memory))]
 pub fn parse_to_token_tree(
     alloc: Global,
     anchor: SpanAnchor,
@@ -63,7 +75,8 @@ pub fn parse_to_token_tree(
         return Err(TextFault::TooLong);
     }
     let part = SpanPart { anchor, ctx };
-    let mut builder = TopSubtreeBuilder::new(alloc, top_of(part, text.len() as u32))?;
+    let top = top_of(part, text.len() as u32);
+    let mut builder = FlatBuilder::with_capacity(alloc, top, room_for(text))?;
     let mut open: Vec<Open> = Vec::new(alloc);
     let mut at = 0;
     let mut rest = text;
@@ -90,8 +103,5 @@ pub fn parse_to_token_tree(
             at: last.at,
         }));
     }
-    match builder.build() {
-        Ok(tree) => Ok(tree),
-        Err(refused) => Err(TextFault::Limit(refused.fault)),
-    }
+    Ok(builder.build()?)
 }

@@ -1,10 +1,13 @@
 //! What a token is to a tree.
-ghost use Rattle.std.specs.Prelude.{◌≡◌};
+ghost use Rattle.std.specs.Prelude.{◌≡◌, drop, is_none};
+ghost use Rattle.tt_text.specs.RawLiteral.{raw_fault};
 ghost use Rattle.tt_text.specs.Role.{comment_role, float_role, literal_role, or_leaf, role_in, role_of, with_inside};
 
 use crate::bracket::Bracket;
 use crate::fault::BadToken;
-use crate::inside::{before_suffix, block_fault, inside_fault, line_fault};
+use crate::inside::{block_fault, line_fault, literal_fault};
+use crate::leaves::behind_apostrophe;
+use crate::raw::{behind_letters, raw_fault, raw_name_fault};
 use tt_lex::{Base, LiteralKind, TokenKind};
 
 /// What a token is to a tree.
@@ -52,9 +55,19 @@ fn float_role(base: Base, empty_exponent: bool) -> Role
     }
 }
 
+// A leaf where a raw literal has its hashes; else what is wrong behind so many letters.
+fn raw_role(n_hashes: Option<u8>, letters: usize, text: &str) -> Role
+    ensures { result ≡ or_leaf (is_none n_hashes) (raw_fault (drop letters text.now)) }
+{
+    match n_hashes {
+        Some(_) => Role::Leaf,
+        None => Role::Bad(raw_fault(behind_letters(letters, text))),
+    }
+}
+
 // What a literal is: a leaf where it is closed, and has digits where it should have some.
-fn literal_role(kind: LiteralKind) -> Role
-    ensures { result ≡ literal_role kind }
+fn literal_role(kind: LiteralKind, text: &str) -> Role
+    ensures { result ≡ literal_role kind text.now }
 {
     match kind {
         LiteralKind::Int { empty_int, .. } => or_leaf(empty_int, BadToken::NoDigits),
@@ -67,13 +80,14 @@ fn literal_role(kind: LiteralKind) -> Role
         | LiteralKind::Str { terminated }
         | LiteralKind::ByteStr { terminated }
         | LiteralKind::CStr { terminated } => or_leaf(!terminated, BadToken::UnterminatedLiteral),
-        LiteralKind::RawStr { n_hashes }
-        | LiteralKind::RawByteStr { n_hashes }
-        | LiteralKind::RawCStr { n_hashes } => or_leaf(n_hashes.is_none(), BadToken::BadRawLiteral),
+        LiteralKind::RawStr { n_hashes } => raw_role(n_hashes, 1, text),
+        LiteralKind::RawByteStr { n_hashes } | LiteralKind::RawCStr { n_hashes } => {
+            raw_role(n_hashes, 2, text)
+        }
     }
 }
 
-// What a token of a kind is to a tree, in edition 2024.
+// What a token of a kind is to a tree, whatever is in its text, in edition 2024.
 fn role_of(kind: TokenKind) -> Role
     ensures { result ≡ role_of kind }
 {
@@ -95,7 +109,6 @@ fn role_of(kind: TokenKind) -> Role
         TokenKind::UnknownPrefixLifetime => Role::Bad(BadToken::UnknownPrefix),
         TokenKind::GuardedStrPrefix => Role::Bad(BadToken::GuardedPrefix),
         TokenKind::Unknown => Role::Bad(BadToken::UnknownCharacter),
-        TokenKind::Literal { kind, .. } => literal_role(kind),
         TokenKind::Lifetime { starts_with_number } => {
             or_leaf(starts_with_number, BadToken::LifetimeBeginsWithDigit)
         }
@@ -125,16 +138,20 @@ pub fn role_in(kind: TokenKind, text: &str) -> Role
 {
     match kind {
         TokenKind::Literal { kind, suffix_start } => with_inside(
-            literal_role(kind),
-            inside_fault(kind, before_suffix(suffix_start, text)),
+            literal_role(kind, text),
+            literal_fault(kind, suffix_start, text),
         ),
-        TokenKind::LineComment { doc_style: Some(_) } => {
-            with_inside(role_of(kind), line_fault(text))
-        }
+        TokenKind::LineComment {
+            doc_style: Some(style),
+        } => with_inside(role_of(kind), line_fault(style, text)),
         TokenKind::BlockComment {
-            doc_style: Some(_),
+            doc_style: Some(style),
             ..
-        } => with_inside(role_of(kind), block_fault(text)),
+        } => with_inside(role_of(kind), block_fault(style, text)),
+        TokenKind::RawIdent => with_inside(Role::Leaf, raw_name_fault(text)),
+        TokenKind::RawLifetime => {
+            with_inside(Role::Leaf, raw_name_fault(behind_apostrophe(text)))
+        }
         _ => role_of(kind),
     }
 }

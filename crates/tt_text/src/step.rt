@@ -15,14 +15,13 @@ use crate::fault::{Open, SyntaxFault};
 use crate::leaves::span_at;
 use crate::role::{Role, role_in};
 use std::alloc::Global;
-use tt::TopSubtreeBuilder;
 use tt_base::{SpanPart, TtFault};
+use tt_flat::FlatBuilder;
 
 /// Takes one token, and puts its pieces at the end of what the builder holds, or says why it cannot stand there.
-#[tactic(auto, using(crate::proofs::LimitFacts::open_fault))]
 pub fn take(
     alloc: Global,
-    builder: &mut TopSubtreeBuilder,
+    builder: &mut FlatBuilder,
     opens: &mut Vec<Open>,
     part: SpanPart,
     token: Placed,
@@ -38,7 +37,7 @@ pub fn take(
         (kinds_of (reverse opens.new.items) ≡ open_kinds builder.new.stack) (λ _. ⊤)) }
     ensures holds { IfOk result (λ fault. MatchOption fault
         (spelled_so_far builder.new.stack ≡ spelled_so_far builder.old.stack ++ pieces_of part token.entry.kind token.entry.next token.entry.at token.entry.text.now) (λ _. ⊤)) }
-    ensures err { IfErr result IsAddFault }
+    ensures err { IfErr result (IsAddFault (pieces_of part token.entry.kind token.entry.next token.entry.at token.entry.text.now) builder.old) }
     ensures top { IfOk result (λ _. builder.new.top ≡ builder.old.top) }
 {
     let at = token.at;
@@ -62,7 +61,7 @@ pub fn take(
                     return Ok(Some(SyntaxFault::Mismatched { bracket, at, open }));
                 }
                 let span = span_at(part, at, at + token.text.len() as u32);
-                builder.close(span)?;
+                builder.close(span);
                 Ok(None)
             }
         },

@@ -1,13 +1,17 @@
 use Rattle.std.proofs.Common.{arith, rules, ◌≡◌, reverse, length, ◌++◌, [], refl, sym, subst, ap, ◌∙◌}
 use Rattle.std.proofs.lemmas.Grind.{common_steps}
+use Rattle.std.proofs.lemmas.Result.{err_from_is_err_and}
 use Rattle.std.specs.Str.{IsCharBoundary}
-use Rattle.tt_base.specs.Building.{built, open_kinds}
+use Rattle.tt_base.specs.Building.{open_kinds}
+use Rattle.tt_flat.specs.Held.{built}
+use Rattle.tt_base.specs.declared.fault.TtFault.{TtFault}
 use Rattle.tt_base.specs.declared.span.SpanPart.{SpanPart}
-use Rattle.tt_text.specs.Parsed.{IsTop}
+use Rattle.tt_text.specs.Limits.{IsAddFault}
+use Rattle.tt_text.specs.Parsed.{IsTop, kind_ahead}
 use Rattle.tt_text.specs.Pieces.{pieces_of}
 use Rattle.tt_text.specs.Spelled.{spelled_so_far}
-use Rattle.tt_text.proofs.AheadFacts.{ahead_step, ahead_fault, ahead_unclosed, ahead_end}
-use Rattle.tt_text.proofs.LimitFacts.{limit_of_tree}
+use Rattle.tt_text.proofs.AheadFacts.{ahead_many, ahead_step, ahead_fault, ahead_unclosed, ahead_end}
+use Rattle.tt_text.proofs.LimitFacts.{limit_of_leaves, limit_of_tree}
 use Rattle.tt_text.proofs.ScanFacts.{word_scanned}
 use Rattle.tt_text.proofs.TextFacts.{ahead_is, cut, is_empty}
 use Rattle.tt_text.proofs.parse.parse_to_token_tree.Goals as goal
@@ -66,20 +70,38 @@ returns-in-Some-pop-clause-err c =
     ahead_unclosed (record { anchor = c.args.anchor; ctx = c.args.ctx }) c.args.text.now c.loop-ahead.rest.now (spelled_so_far c.loop-ahead.builder.stack) (reverse c.loop-ahead.open.items) (reverse c.pop.new.self.items)
     c.loop-ahead.at c.in-Some-pop.last (is_empty c.loop-ahead.rest.now c.loop-ahead.invariant.0 (sym c.in_default.is ∙ c.loop-ahead.invariant.1.token)) (grind (arith, common_steps, c.in-Some-pop.ensures)) c.loop-ahead.invariant.1.ahead
 
-pub returns-in-Ok-clause-ok : goal.returns-in-Ok-clause-ok
-returns-in-Ok-clause-ok c =
+pub returns-in_err-fault-clause-err : goal.returns-in_err-fault-clause-err
+returns-in_err-fault-clause-err c =
+    let part : SpanPart = record { anchor = c.args.anchor; ctx = c.args.ctx } in
+    let fault : TtFault = c.in_err-fault.field-0.0 in
+    let first = ahead_is c.in-Some.token c.loop-ahead.rest.now (sym c.in-Some.is ∙ c.loop-ahead.invariant.1.token) in
+    let ahead = kind_ahead c.token_ahead-next.result in
+    let refused : IsAddFault (pieces_of part c.in-Some.token.kind ahead c.loop-ahead.at c.split_at.result.0.now) c.loop-ahead.builder fault =
+    subst (λ k. IsAddFault (pieces_of part c.in-Some.token.kind k c.loop-ahead.at c.split_at.result.0.now) c.loop-ahead.builder fault) c.kind_of.ensures c.in_err-fault.ensures.err in
+    let p = err_from_is_err_and c.from_residual-in_err-fault.result c.from_residual-in_err-fault.ensures.1 in
+    rw (p.1, p.2)
+    (limit_of_leaves part c.args.text.now (pieces_of part c.in-Some.token.kind ahead c.loop-ahead.at c.split_at.result.0.now) c.loop-ahead.builder fault
+    (ahead_many part c.args.text.now c.loop-ahead.rest.now c.split_at.result.0.now c.split_at.result.1.now (spelled_so_far c.loop-ahead.builder.stack) (reverse c.loop-ahead.open.items)
+    c.loop-ahead.at c.in-Some.token c.token_ahead-next.result c.loop-ahead.invariant.0 first.0 first.1 c.token_ahead-next.ensures c.split_at.ensures.front c.split_at.ensures.back
+    c.loop-ahead.invariant.1.ahead)
+    refused)
+
+pub returns-clause-ok : goal.returns-clause-ok
+returns-clause-ok c =
     let none : reverse c.loop-ahead.open.items ≡ [] = grind (arith, common_steps, c.in_default-pop.ensures) in
     let closed : open_kinds c.loop-ahead.builder.stack ≡ [] = grind (arith, common_steps, c.loop-ahead.invariant.1.same, none) in
-    ahead_end (record { anchor = c.args.anchor; ctx = c.args.ctx }) c.args.text.now c.loop-ahead.rest.now c.loop-ahead.builder c.in-Ok.tree (reverse c.loop-ahead.open.items)
-    c.loop-ahead.at (is_empty c.loop-ahead.rest.now c.loop-ahead.invariant.0 (sym c.in_default.is ∙ c.loop-ahead.invariant.1.token)) none closed c.in-Ok.ensures.ok c.loop-ahead.invariant.1.top c.loop-ahead.invariant.1.ahead
+    ahead_end (record { anchor = c.args.anchor; ctx = c.args.ctx }) c.args.text.now c.loop-ahead.rest.now c.loop-ahead.builder c.in_ok-build.field-0 (reverse c.loop-ahead.open.items)
+    c.loop-ahead.at (is_empty c.loop-ahead.rest.now c.loop-ahead.invariant.0 (sym c.in_default.is ∙ c.loop-ahead.invariant.1.token)) none closed c.in_ok-build.ensures.ok c.loop-ahead.invariant.1.top c.loop-ahead.invariant.1.ahead
 
-pub returns-clause-err : goal.returns-clause-err
-returns-clause-err c =
+pub returns-in_err-build-clause-err : goal.returns-in_err-build-clause-err
+returns-in_err-build-clause-err c =
     let part : SpanPart = record { anchor = c.args.anchor; ctx = c.args.ctx } in
     let none : reverse c.loop-ahead.open.items ≡ [] = grind (arith, common_steps, c.in_default-pop.ensures) in
     let closed : open_kinds c.loop-ahead.builder.stack ≡ [] = grind (arith, common_steps, c.loop-ahead.invariant.1.same, none) in
     let empty = is_empty c.loop-ahead.rest.now c.loop-ahead.invariant.0 (sym c.in_default.is ∙ c.loop-ahead.invariant.1.token) in
-    limit_of_tree part c.args.text.now (built c.loop-ahead.builder) c.in-Err.refused.fault
+    let p = err_from_is_err_and c.from_residual-in_err-build.result c.from_residual-in_err-build.ensures.1 in
+    rw (p.1, p.2)
+    (limit_of_tree part c.args.text.now (built c.loop-ahead.builder) c.in_err-build.field-0.0
     (ahead_end part c.args.text.now c.loop-ahead.rest.now c.loop-ahead.builder (built c.loop-ahead.builder) (reverse c.loop-ahead.open.items)
     c.loop-ahead.at empty none closed refl c.loop-ahead.invariant.1.top c.loop-ahead.invariant.1.ahead)
-    c.in-Err.ensures.fault
+    c.in_err-build.ensures.fault)

@@ -1,0 +1,6 @@
+//! Trees built as flat lists.
+#![tactic(auto)]
+
+mod builder;
+
+pub use builder::FlatBuilder;

@@ -1,0 +1,33 @@
+use Rattle.std.proofs.Common.{◌≡◌, [], ◌∷◌, ◌++◌, codes, Err, rules, ap, sym, subst, ◌∙◌}
+use Rattle.tt_base.specs.declared.delimiter.DelimiterKind.TheVariants.{Bracket}
+use Rattle.tt_base.specs.declared.ident.IdentIsRaw.TheVariants.{No}
+use Rattle.tt_base.specs.declared.literal.LitKind.TheVariants.{StrRaw}
+use Rattle.tt_base.specs.declared.punct.Spacing.TheVariants.{Alone}
+use Rattle.tt_text.proofs.LimitFacts.{behind_fault, more_fault, open_fault}
+use Rattle.tt_text.proofs.StackFacts.{adds_both, adds_brackets, all_at-append}
+use Rattle.tt_text.specs.Doc.{hashes_wanted}
+use Rattle.tt_text.specs.Limits.{IsAddFault}
+use Rattle.tt_text.specs.Parsed.{Adds}
+use Rattle.tt_text.specs.Pieces.{attribute, inside, signs}
+use Rattle.tt_text.specs.Spelled.{Piece, all_at, at_span, closing, name, opening, sign, spelled_so_far, value}
+use Rattle.tt_text.proofs.doc.add_inside.Goals as goal
+
+pub returns-in_err-add_name-clause-err : goal.returns-in_err-add_name-clause-err
+returns-in_err-add_name-clause-err c =
+    let span = c.args.span in
+    let first : Piece = at_span (name (codes "doc") No) span in
+    let second : Piece = at_span (sign 61 Alone) span in
+    let third : Piece = at_span (value (StrRaw (hashes_wanted c.args.text.now)) c.args.text.now 0) span in
+    let failed : c.from_residual.result ≡ Err c.in_err-add_name.field-0.0 = search rules in
+    rw failed (more_fault (first ∷ []) (second ∷ third ∷ []) c.args.builder.now c.in_err-add_name.field-0.0 c.in_err-add_name.ensures.err)
+
+pub returns-in_err-add_punct-clause-err : goal.returns-in_err-add_punct-clause-err
+returns-in_err-add_punct-clause-err c =
+    let span = c.args.span in
+    let first : Piece = at_span (name (codes "doc") No) span in
+    let second : Piece = at_span (sign 61 Alone) span in
+    let third : Piece = at_span (value (StrRaw (hashes_wanted c.args.text.now)) c.args.text.now 0) span in
+    let failed : c.from_residual-in_err-add_punct.result ≡ Err c.in_err-add_punct.field-0.0 = search rules in
+    rw failed
+    (behind_fault (first ∷ []) (second ∷ third ∷ []) c.args.builder.now c.add_name.new.builder c.in_err-add_punct.field-0.0 c.in_ok-add_name.ensures.ok.holds
+    (more_fault (second ∷ []) (third ∷ []) c.add_name.new.builder c.in_err-add_punct.field-0.0 c.in_err-add_punct.ensures.err))
