@@ -1,7 +1,7 @@
 -- What each token of a text is read as can be written behind what stands before it.
 use Rattle.std.proofs.Common.{◌≡◌, ◌⊎◌, ℕ, zero, suc, ◌+◌, Bool, true, false, IsTrue, inl, inr, List, [], ◌∷◌, ◌++◌, length, append-nil, not, is_none, Option, None, Some, refl, sym, ap, ◌∙◌, subst, arith, if◌then◌else◌}
 use Rattle.std.proofs.Math.Utf8.{encodes, scalars}
-use Rattle.std.proofs.lemmas.Bool.{false≢true, eqb-true}
+use Rattle.std.proofs.lemmas.Bool.{eqb-true}
 use Rattle.std.proofs.lemmas.Str.{IsUtf8-from_ascii, chars-IsAscii, chars-encodes, encode_ascii, encodes-append}
 use Rattle.std.specs.Prelude.{codes}
 use Rattle.std.specs.Str.{IsAscii}
@@ -18,6 +18,8 @@ use Rattle.tt_lex.specs.declared.token.LiteralKind.TheVariants as literals
 use Rattle.tt_lex.specs.declared.token.Base.TheVariants.{Binary, Octal, Decimal, Hexadecimal}
 use Rattle.tt_lex.specs.declared.token.TokenKind.{TokenKind}
 use Rattle.tt_lex.specs.declared.token.TokenKind.TheVariants as kinds
+use Rattle.tt_round_trip.proofs.DocFits.{block_role, doc_alone, line_role}
+use Rattle.tt_round_trip.proofs.DocTexts.{IsDocText, block_doc, line_doc}
 use Rattle.tt_round_trip.proofs.LifeFacts.{Life, life_back, name_read}
 use Rattle.tt_round_trip.proofs.Names.{name_alone, name_text}
 use Rattle.tt_round_trip.proofs.ReadCuts.{token_alone}
@@ -64,12 +66,12 @@ doc_name ident text raw =
 abbrev Behinds : (left : List ℕ) (next : Option TokenKind) (rest : List Sort) → Type 0
 Behinds left next rest = (b : Behind) → Ready b left next → Fit b next rest
 
-doc_fits : (behind : Behind) (cs left : List ℕ) (kind : TokenKind) (next : Option TokenKind) (style : DocStyle) (text : List ℕ) (rest : List Sort) → spacing_before (Some kind) ≡ Alone → Ready behind cs (Some kind)
+doc_fits : (behind : Behind) (cs left : List ℕ) (kind : TokenKind) (next : Option TokenKind) (style : DocStyle) (text : List ℕ) (rest : List Sort) → IsDocText text → spacing_before (Some kind) ≡ Alone → Ready behind cs (Some kind)
     → Behinds left next rest → SortFits behind (doc style text ++ rest)
-doc_fits behind cs left kind next Outer text rest alone ready more =
-    (ready_doc behind cs kind alone ready, inr (kinds.Pound, refl), refl, (tt, tt, (doc_name, tt, (tt, inr (kinds.Eq, refl), refl, (tt, (λ quoted. absurd (false≢true (sym quoted))), (tt, tt, (more Apart tt).0))))))
-doc_fits behind cs left kind next Inner text rest alone ready more =
-    (ready_doc behind cs kind alone ready, inr (kinds.Pound, refl), refl, (tt, inr (kinds.Bang, refl), refl, (tt, tt, (doc_name, tt, (tt, inr (kinds.Eq, refl), refl, (tt, (λ quoted. absurd (false≢true (sym quoted))), (tt, tt, (more Apart tt).0)))))))
+doc_fits behind cs left kind next Outer text rest it alone ready more =
+    (ready_doc behind cs kind alone ready, inr (kinds.Pound, refl), refl, (tt, tt, (doc_name, tt, (tt, inr (kinds.Eq, refl), refl, (tt, (λ few literal symbol sort len. doc_alone text it few literal symbol sort len), (tt, tt, (more Apart tt).0))))))
+doc_fits behind cs left kind next Inner text rest it alone ready more =
+    (ready_doc behind cs kind alone ready, inr (kinds.Pound, refl), refl, (tt, inr (kinds.Bang, refl), refl, (tt, tt, (doc_name, tt, (tt, inr (kinds.Eq, refl), refl, (tt, (λ few literal symbol sort len. doc_alone text it few literal symbol sort len), (tt, tt, (more Apart tt).0)))))))
 
 -- the role of a literal
 leaf_or_bad : (wrong : Bool) (why : BadToken) (inside : Option BadToken) → (with_inside (if wrong then Bad why else Leaf) inside ≡ Leaf) ⊎ ((other : BadToken) × (with_inside (if wrong then Bad why else Leaf) inside ≡ Bad other))
@@ -229,7 +231,7 @@ token_fits behind part at word letters left _ next rest (line style) it fine rea
     go (inr (other, e)) = absurd (fine other e)
     go (inl e) =
         subst (λ r. Fit behind (Some kind) (SortsAs r part kind next at word ++ rest)) (sym e)
-        (subst (λ t. SortFits behind (t ++ rest)) (sym (placed_are part at (at + length word) (doc style (line_text style word)))) (doc_fits behind letters left kind next style (line_text style word) rest refl ready more), λ h. absurd (alone_joint h))
+        (subst (λ t. SortFits behind (t ++ rest)) (sym (placed_are part at (at + length word) (doc style (line_text style word)))) (doc_fits behind letters left kind next style (line_text style word) rest (line_doc style word it.utf8 (line_role style word e)) refl ready more), λ h. absurd (alone_joint h))
 token_fits behind part at word letters left _ next rest (block style false) it fine ready more = absurd (block_bad style word fine)
 token_fits behind part at word letters left _ next rest (block style true) it fine ready more = go (leaf_or_bad false bad.BareReturn (return_fault word))
   where
@@ -240,4 +242,4 @@ token_fits behind part at word letters left _ next rest (block style true) it fi
     go (inr (other, e)) = absurd (fine other e)
     go (inl e) =
         subst (λ r. Fit behind (Some kind) (SortsAs r part kind next at word ++ rest)) (sym e)
-        (subst (λ t. SortFits behind (t ++ rest)) (sym (placed_are part at (at + length word) (doc style (block_text style word)))) (doc_fits behind letters left kind next style (block_text style word) rest refl ready more), λ h. absurd (alone_joint h))
+        (subst (λ t. SortFits behind (t ++ rest)) (sym (placed_are part at (at + length word) (doc style (block_text style word)))) (doc_fits behind letters left kind next style (block_text style word) rest (block_doc style word it.utf8 (block_role style word e)) refl ready more), λ h. absurd (alone_joint h))

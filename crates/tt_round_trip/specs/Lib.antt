@@ -1,3 +1,3 @@
 -- What can be written of what was read.
-pub mod Alone
+pub mod Hashes
 pub mod Whole
