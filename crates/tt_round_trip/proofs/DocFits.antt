@@ -1,6 +1,5 @@
 -- The raw string that the text of a comment becomes reads alone.
-use Rattle.std.proofs.Common.{◌≡◌, ℕ, zero, suc, ◌-◌, ◌<◌, Bool, true, false, List, [], ◌∷◌, ◌++◌, length, replicate, take, Some, refl, sym, ap, ◌∙◌, subst, arith, append_assoc}
-use Rattle.std.proofs.Math.Seq.{take-length}
+use Rattle.std.proofs.Common.{◌≡◌, ℕ, zero, suc, ◌-◌, ◌<◌, false, List, [], ◌∷◌, ◌++◌, replicate, Some, refl, sym, ap, ◌∙◌, subst, arith, append_assoc}
 use Rattle.std.proofs.Math.Utf8.{encodes}
 use Rattle.std.proofs.lemmas.Str.{encodes-chars, scalars-chars}
 use Rattle.std.specs.Str.{chars}
@@ -14,43 +13,18 @@ use Rattle.tt_lex.specs.Closing.{raw_text}
 use Rattle.tt_lex.specs.Grammar.{IsRawText}
 use Rattle.tt_lex.specs.Literals.{raw}
 use Rattle.tt_lex.specs.Reading.{reading, reading_of}
-use Rattle.tt_lex.specs.declared.token.DocStyle.{DocStyle}
 use Rattle.tt_lex.specs.declared.token.LiteralKind.{LiteralKind}
 use Rattle.tt_lex.specs.declared.token.LiteralKind.TheVariants as literals
-use Rattle.tt_lex.specs.declared.token.TokenKind.TheVariants as kinds
 use Rattle.tt_round_trip.proofs.DocTexts.{IsDocText, wanted_keep}
 use Rattle.tt_round_trip.proofs.QuotedAlone.{text_bytes, text_in, written_alone}
 use Rattle.tt_round_trip.proofs.Quotes.{IsAll, raw_alone}
 use Rattle.tt_round_trip.proofs.RawReads.{raw_opens}
 use Rattle.tt_round_trip.proofs.Returns.{bare_joined}
+use Rattle.tt_round_trip.proofs.Roles.{raw_role}
 use Rattle.tt_round_trip.proofs.WordCuts.{byte_length-is}
 use Rattle.tt_text.specs.Doc.{hashes_wanted}
-use Rattle.tt_text.specs.Inside.{bare_return, before_suffix, fault_if, inner_return, return_fault}
-use Rattle.tt_text.specs.Role.{role_in, with_inside}
-use Rattle.tt_text.specs.declared.fault.BadToken.TheVariants as bad
-use Rattle.tt_text.specs.declared.role.Role.TheVariants.{Bad, Leaf}
+use Rattle.tt_text.specs.Inside.{bare_return}
 use Rattle.tt_unparse.specs.Writable.{ReadsAlone}
-
-bad_leaf : Bad bad.BareReturn ≡ Leaf → ⊥
-bad_leaf e = cc
-
--- a leaf with nothing wrong inside of it
-none_inside : (wrong : Bool) → with_inside Leaf (fault_if wrong bad.BareReturn) ≡ Leaf → wrong ≡ false
-none_inside false fine = refl
-none_inside true fine = absurd (bad_leaf fine)
-
--- what is valid of a comment: no carriage return in it is bare
-pub line_role : (style : DocStyle) (word : List ℕ) → role_in (kinds.LineComment (Some style)) word ≡ Leaf → inner_return word ≡ false
-line_role style word fine = none_inside (inner_return word) fine
-
-pub block_role : (style : DocStyle) (word : List ℕ) → role_in (kinds.BlockComment (Some style) true) word ≡ Leaf → bare_return word ≡ false
-block_role style word fine = none_inside (bare_return word) fine
-
--- a raw string without a bare carriage return is a leaf
-raw_role : (n start : ℕ) (word : List ℕ) → start ≡ length word → bare_return word ≡ false → role_in (kinds.Literal (literals.RawStr (Some n)) start) word ≡ Leaf
-raw_role n start word place quiet =
-    let all : before_suffix start word ≡ word = ap (λ k. take k word) (omega (arith, place)) ∙ take-length word in
-    ap (λ t. with_inside Leaf (return_fault t)) all ∙ ap (λ b. with_inside Leaf (fault_if b bad.BareReturn)) quiet
 
 -- hashes are no carriage returns
 quiet_hashes : (n : ℕ) (rest : List ℕ) → bare_return (replicate n 35 ++ rest) ≡ bare_return rest

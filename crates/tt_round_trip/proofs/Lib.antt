@@ -13,6 +13,7 @@ pub mod RawReads
 pub mod ReadCuts
 pub mod ReadyFacts
 pub mod Returns
+pub mod Roles
 pub mod SortFits
 pub mod ToldKinds
 pub mod TokenFits

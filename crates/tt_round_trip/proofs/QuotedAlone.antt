@@ -21,11 +21,11 @@ use Rattle.tt_lex.specs.declared.token.LiteralKind.{LiteralKind}
 use Rattle.tt_lex.specs.declared.token.LiteralKind.TheVariants as literals
 use Rattle.tt_lex.specs.declared.token.TokenKind.TheVariants as kinds
 use Rattle.tt_round_trip.proofs.Quotes.{Quoted, has_quotes, is_quoted, lit_of}
+use Rattle.tt_round_trip.proofs.Roles.{literal_kept}
 use Rattle.tt_round_trip.proofs.WordCuts.{byte_length-is}
 use Rattle.tt_round_trip.proofs.Words.{scalars-back, scalars-front, whole_token}
-use Rattle.tt_text.specs.Inside.{before_suffix, inside_fault}
 use Rattle.tt_text.specs.Pieces.{scan_of}
-use Rattle.tt_text.specs.Role.{literal_role, role_in, with_inside}
+use Rattle.tt_text.specs.Role.{role_in}
 use Rattle.tt_text.specs.declared.role.Role.TheVariants.{Leaf}
 use Rattle.tt_unparse.specs.Writable.{HasParts, IsOneToken, MeansLiteral, ReadsAlone, ReadsAs, first_kind}
 
@@ -210,14 +210,6 @@ written_alone kind body start is fine read place role literal symbol sort len =
     means : HasParts literal (parts_told word (Some (scan_of kind, start)))
     means = subst (HasParts literal) (sym parts) (record { symbol = symbol ∙ sym (append-nil (encodes body)); span = refl; kind = sort; suffix_len = len })
 
--- what is a leaf is one without what is left behind it
-role_kept : (kind : LiteralKind) (start : ℕ) (word rest : List ℕ) → start ≡ length word → role_in (kinds.Literal kind start) (word ++ rest) ≡ Leaf → role_in (kinds.Literal kind start) word ≡ Leaf
-role_kept kind start word rest place fine =
-    let longs = length-append word rest in
-    let cut : before_suffix start (word ++ rest) ≡ word = ap (λ n. take n (word ++ rest)) (omega (arith, place, longs)) ∙ take-append_seam word rest in
-    let all : before_suffix start word ≡ word = ap (λ n. take n word) (omega (arith, place)) ∙ take-length word in
-    ap (λ t. with_inside (literal_role kind) (inside_fault kind t)) (all ∙ sym cut) ∙ fine
-
 -- a literal in quotes that is read of a text reads alone
 pub quoted_alone : (kind : LiteralKind) (word front : List ℕ) (start : ℕ) → Quoted kind front start → is_quoted kind ≡ true → word ≡ encodes front → scalars front ≡ true
     → role_in (kinds.Literal kind start) word ≡ Leaf → has_quotes (parts_told word (Some (scan_of kind, start))).kind ≡ true
@@ -261,7 +253,7 @@ quoted_alone kind word front start it is bytes fine role quotes literal symbol s
     scalar = scalars-front it.body (closing_quote (lit_of kind) ++ it.rest) (scalars-back (opening_quote (lit_of kind)) _ (subst (λ t. scalars t ≡ true) are fine))
 
     leaf : role_in (kinds.Literal kind start) (encodes text) ≡ Leaf
-    leaf = role_kept kind start (encodes text) (encodes it.rest) (place ∙ byte_length-is text) (subst (λ w. role_in (kinds.Literal kind start) w ≡ Leaf) words role)
+    leaf = literal_kept kind start (encodes text) (encodes it.rest) (place ∙ byte_length-is text) (subst (λ w. role_in (kinds.Literal kind start) w ≡ Leaf) words role)
 
     made : LiteralParts
     made = record { kind = lit_of kind; value = value; suffix = suffix }

@@ -27,15 +27,15 @@ use Rattle.tt_round_trip.proofs.Quotes.{Quoted, has_quotes, is_quoted}
 use Rattle.tt_round_trip.proofs.QuotesBack.{quotes_back}
 use Rattle.tt_round_trip.proofs.ReadCuts.{token_alone}
 use Rattle.tt_round_trip.proofs.ReadyFacts.{Read, one}
+use Rattle.tt_round_trip.proofs.Roles.{literal_closed}
 use Rattle.tt_round_trip.proofs.SortFits.{ValueAlone}
 use Rattle.tt_round_trip.proofs.WordCuts.{byte_length-append}
 use Rattle.tt_round_trip.proofs.Words.{scalars-back}
 use Rattle.tt_stops.specs.Stops.{is_closed}
-use Rattle.tt_text.specs.Inside.{before_suffix, inside_fault}
 use Rattle.tt_text.specs.Pieces.{scan_of}
 use Rattle.tt_text.specs.Role.{role_in}
 use Rattle.tt_text.specs.declared.role.Role.TheVariants.{Leaf}
-use Rattle.tt_unparse.proofs.KindFacts.{ascii_one, closed_leaf}
+use Rattle.tt_unparse.proofs.KindFacts.{ascii_one}
 use Rattle.tt_unparse.specs.Writable.{MeansLiteral, ReadsAlone, ReadsAs}
 
 -- a literal without quotes has its symbol as text
@@ -137,7 +137,7 @@ value_alone word letters left kind start it fine few literal symbol sort len = g
     parts = parts_told word (Some (scan_of kind, start))
 
     closed : is_closed kind ≡ true
-    closed = closed_leaf kind (inside_fault kind (before_suffix start word)) fine
+    closed = literal_closed kind start word fine
 
     read : reading it.front ≡ (kinds.Literal kind start, [])
     read = token_alone it.front left (kinds.Literal kind start) it.some it.read closed
