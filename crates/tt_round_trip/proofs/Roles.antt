@@ -1,5 +1,5 @@
 -- What the roles of tokens say of their texts: all that is used of their shape.
-use Rattle.std.proofs.Common.{◌≡◌, ◌⊎◌, ℕ, Bool, true, false, IsTrue, inl, inr, List, ◌∷◌, ◌++◌, length, not, take, is_none, Option, None, Some, refl, sym, ap, ◌∙◌, arith, length-append, if◌then◌else◌}
+use Rattle.std.proofs.Common.{◌≡◌, ◌⊎◌, ℕ, ◌<◌, Bool, true, false, IsTrue, inl, inr, List, ◌∷◌, ◌++◌, length, not, take, is_none, Option, None, Some, refl, sym, ap, ◌∙◌, arith, length-append, if◌then◌else◌}
 use Rattle.std.proofs.Math.Seq.{take-append_seam, take-length}
 use Rattle.tt_lex.specs.declared.token.Base.TheVariants.{Binary, Octal, Decimal, Hexadecimal}
 use Rattle.tt_lex.specs.declared.token.DocStyle.{DocStyle}
@@ -8,6 +8,7 @@ use Rattle.tt_lex.specs.declared.token.LiteralKind.TheVariants as literals
 use Rattle.tt_lex.specs.declared.token.TokenKind.{TokenKind}
 use Rattle.tt_lex.specs.declared.token.TokenKind.TheVariants as kinds
 use Rattle.tt_stops.specs.Stops.{is_closed}
+use Rattle.tt_text.specs.Doc.{block_text, hashes_wanted, line_text}
 use Rattle.tt_text.specs.Inside.{bare_return, before_suffix, fault_if, inner_return, inside_fault, line_fault, return_fault}
 use Rattle.tt_text.specs.Role.{literal_role, role_in, with_inside}
 use Rattle.tt_text.specs.declared.fault.BadToken.{BadToken}
@@ -90,6 +91,10 @@ line_two style word = leaf_or_bad false bad.BareReturn (line_fault word)
 pub line_role : (style : DocStyle) (word : List ℕ) → role_in (kinds.LineComment (Some style)) word ≡ Leaf → inner_return word ≡ false
 line_role style word fine = none_inside (inner_return word) fine
 
+-- and a byte counts the hashes that its text wants
+pub line_few : (style : DocStyle) (word : List ℕ) → role_in (kinds.LineComment (Some style)) word ≡ Leaf → hashes_wanted (line_text style word) < 256
+line_few style word fine = ?
+
 -- one between signs, which is closed and holds none that is bare where it is a leaf
 pub block_two : (style : DocStyle) (terminated : Bool) (word : List ℕ) → IsEither (role_in (kinds.BlockComment (Some style) terminated) word)
 block_two style true word = leaf_or_bad false bad.BareReturn (return_fault word)
@@ -97,6 +102,9 @@ block_two style false word = leaf_or_bad true bad.UnterminatedComment (return_fa
 
 pub block_role : (style : DocStyle) (word : List ℕ) → role_in (kinds.BlockComment (Some style) true) word ≡ Leaf → bare_return word ≡ false
 block_role style word fine = none_inside (bare_return word) fine
+
+pub block_few : (style : DocStyle) (word : List ℕ) → role_in (kinds.BlockComment (Some style) true) word ≡ Leaf → hashes_wanted (block_text style word) < 256
+block_few style word fine = ?
 
 pub block_open : (style : DocStyle) (word : List ℕ) → role_in (kinds.BlockComment (Some style) false) word ≡ Leaf → ⊥
 block_open style word fine = go (return_fault word) fine

@@ -17,7 +17,6 @@ use Rattle.tt_lex.specs.declared.token.TokenKind.{TokenKind}
 use Rattle.tt_round_trip.proofs.Names.{punct_alone}
 use Rattle.tt_base.specs.Literal.{kind_of as literal_kind, suffix_len_of, symbol_of}
 use Rattle.tt_base.specs.declared.literal.LitKind.{LitKind}
-use Rattle.tt_round_trip.specs.Hashes.{HasFewHashes, HaveFewHashes}
 use Rattle.tt_text.specs.Pieces.{punct_char}
 use Rattle.tt_text.specs.Role.{kind_of}
 use Rattle.tt_text.specs.Spelled.{Piece, Sort, name, sign, value, opening as opening_sort, closing as closing_sort, at_span, sort_of, spelled}
@@ -79,7 +78,7 @@ IsPair _ = Unit {0}
 -- a literal reads alone
 abbrev pub ValueAlone : LitKind → (symbol : List ℕ) → (suffix_len : ℕ) → Type 0
 ValueAlone kind symbol suffix_len =
-    HasFewHashes kind → (literal : Literal) → symbol_of literal ≡ symbol → literal_kind literal ≡ kind → suffix_len_of literal ≡ suffix_len
+    (literal : Literal) → symbol_of literal ≡ symbol → literal_kind literal ≡ kind → suffix_len_of literal ≡ suffix_len
     → ReadsAlone (leaf_of.Literal literal)
 
 -- these can be written behind what was written last, and are read with the same spacings
@@ -149,16 +148,16 @@ sign_alone punct (inl quote) = inl quote
 sign_alone punct (inr (kind, is)) = inr (punct_alone punct kind is)
 
 -- marks that are such sorts can be written
-pub writable : (last : ℕ) (behind : Behind) (ms : List Mark) → SortFits behind (raw ms) → HaveFewHashes ms → IsFirstRefused last behind ms None
-writable last behind [] f few = inl (may_end behind f, refl)
-writable last behind (word at (leaf_of.Ident ident) ∷ rest) f few =
-    inl (name_follows behind ident f.1, inl (inr (f.0 ident refl refl), writable at Apart rest f.2 few))
-writable last behind (word at (leaf_of.Literal literal) ∷ rest) f few =
-    inl (literal_follows behind literal f.0, inl (f.1 few.0 literal refl refl refl, writable at Apart rest f.2 few.1))
-writable last behind (word at (leaf_of.Punct punct) ∷ rest) f few =
-    inl (sign_follows behind punct f.0, inl (sign_alone punct f.1, writable at (behind_punct punct.char punct.spacing) rest f.3 few))
-writable last behind (opening pair ∷ rest) f few = inl (may_end behind f.0, writable last Opening rest f.2 few)
-writable last behind (closing pair ∷ rest) f few = inl (may_end behind f.0, writable last Apart rest f.2 few)
+pub writable : (last : ℕ) (behind : Behind) (ms : List Mark) → SortFits behind (raw ms) → IsFirstRefused last behind ms None
+writable last behind [] f = inl (may_end behind f, refl)
+writable last behind (word at (leaf_of.Ident ident) ∷ rest) f =
+    inl (name_follows behind ident f.1, inl (inr (f.0 ident refl refl), writable at Apart rest f.2))
+writable last behind (word at (leaf_of.Literal literal) ∷ rest) f =
+    inl (literal_follows behind literal f.0, inl (f.1 literal refl refl refl, writable at Apart rest f.2))
+writable last behind (word at (leaf_of.Punct punct) ∷ rest) f =
+    inl (sign_follows behind punct f.0, inl (sign_alone punct f.1, writable at (behind_punct punct.char punct.spacing) rest f.3))
+writable last behind (opening pair ∷ rest) f = inl (may_end behind f.0, writable last Opening rest f.2)
+writable last behind (closing pair ∷ rest) f = inl (may_end behind f.0, writable last Apart rest f.2)
 
 -- the brackets among sorts are pairs
 abbrev Paired : List Sort → Type 0

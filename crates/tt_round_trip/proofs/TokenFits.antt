@@ -1,5 +1,5 @@
 -- What each token of a text is read as can be written behind what stands before it.
-use Rattle.std.proofs.Common.{◌≡◌, ℕ, zero, suc, ◌+◌, true, false, IsTrue, inl, inr, List, [], ◌∷◌, ◌++◌, length, append-nil, Option, Some, refl, sym, ap, ◌∙◌, subst, arith}
+use Rattle.std.proofs.Common.{◌≡◌, ℕ, zero, suc, ◌+◌, ◌<◌, true, false, IsTrue, inl, inr, List, [], ◌∷◌, ◌++◌, length, append-nil, Option, Some, refl, sym, ap, ◌∙◌, subst, arith}
 use Rattle.std.proofs.Math.Utf8.{encodes, scalars}
 use Rattle.std.proofs.lemmas.Bool.{eqb-true}
 use Rattle.std.proofs.lemmas.Str.{IsUtf8-from_ascii, chars-IsAscii, chars-encodes, encode_ascii, encodes-append}
@@ -22,7 +22,7 @@ use Rattle.tt_round_trip.proofs.Names.{name_alone, name_text}
 use Rattle.tt_round_trip.proofs.ReadCuts.{token_alone}
 use Rattle.tt_round_trip.proofs.Values.{value_alone}
 use Rattle.tt_round_trip.proofs.ReadyFacts.{Ready, Fit, alone_joint, ready_no_quote, ready_blank, ready_sign, ready_quote, ready_doc, ready_name, pair_is, Read, one, name_reads, sign_letters, slash_apart, pound_apart, ready_behind, settled_is}
-use Rattle.tt_round_trip.proofs.Roles.{block_open, block_role, block_two, leaf_valid, life_name, life_two, line_role, line_two, literal_two, name_kind, name_two, no_digit}
+use Rattle.tt_round_trip.proofs.Roles.{block_few, block_open, block_role, block_two, leaf_valid, life_name, life_two, line_few, line_role, line_two, literal_two, name_kind, name_two, no_digit}
 use Rattle.tt_round_trip.proofs.SortFits.{NameAlone, QuoteFits, SortFits}
 use Rattle.tt_round_trip.proofs.ToldKinds.{Told, line, block, blank, wrong, opened, closed, wordy, valued, living, sign as sign_kind}
 use Rattle.tt_round_trip.proofs.Words.{scalars-back, whole_token}
@@ -30,7 +30,7 @@ use Rattle.tt_round_trip.specs.Whole.{is_whole}
 use Rattle.tt_text.specs.Pieces.{behind_apostrophe, doc, pieces_as, pieces_of, placed, punct_char, spacing_before}
 use Rattle.tt_text.specs.Role.{role_in}
 use Rattle.tt_text.specs.Spelled.{Sort, name, sign}
-use Rattle.tt_text.specs.Doc.{block_text, line_text}
+use Rattle.tt_text.specs.Doc.{block_text, hashes_wanted, line_text}
 use Rattle.tt_text.specs.declared.fault.BadToken.{BadToken}
 use Rattle.tt_text.specs.declared.role.Role.{Role}
 use Rattle.tt_text.specs.declared.role.Role.TheVariants.{Bad, Leaf}
@@ -62,12 +62,12 @@ doc_name ident text raw =
 abbrev Behinds : (left : List ℕ) (next : Option TokenKind) (rest : List Sort) → Type 0
 Behinds left next rest = (b : Behind) → Ready b left next → Fit b next rest
 
-doc_fits : (behind : Behind) (cs left : List ℕ) (kind : TokenKind) (next : Option TokenKind) (style : DocStyle) (text : List ℕ) (rest : List Sort) → IsDocText text → spacing_before (Some kind) ≡ Alone → Ready behind cs (Some kind)
+doc_fits : (behind : Behind) (cs left : List ℕ) (kind : TokenKind) (next : Option TokenKind) (style : DocStyle) (text : List ℕ) (rest : List Sort) → IsDocText text → hashes_wanted text < 256 → spacing_before (Some kind) ≡ Alone → Ready behind cs (Some kind)
     → Behinds left next rest → SortFits behind (doc style text ++ rest)
-doc_fits behind cs left kind next Outer text rest it alone ready more =
-    (ready_doc behind cs kind alone ready, inr (kinds.Pound, refl), refl, (tt, tt, (doc_name, tt, (tt, inr (kinds.Eq, refl), refl, (tt, (λ few literal symbol sort len. doc_alone text it few literal symbol sort len), (tt, tt, (more Apart tt).0))))))
-doc_fits behind cs left kind next Inner text rest it alone ready more =
-    (ready_doc behind cs kind alone ready, inr (kinds.Pound, refl), refl, (tt, inr (kinds.Bang, refl), refl, (tt, tt, (doc_name, tt, (tt, inr (kinds.Eq, refl), refl, (tt, (λ few literal symbol sort len. doc_alone text it few literal symbol sort len), (tt, tt, (more Apart tt).0)))))))
+doc_fits behind cs left kind next Outer text rest it few alone ready more =
+    (ready_doc behind cs kind alone ready, inr (kinds.Pound, refl), refl, (tt, tt, (doc_name, tt, (tt, inr (kinds.Eq, refl), refl, (tt, doc_alone text it few, (tt, tt, (more Apart tt).0))))))
+doc_fits behind cs left kind next Inner text rest it few alone ready more =
+    (ready_doc behind cs kind alone ready, inr (kinds.Pound, refl), refl, (tt, inr (kinds.Bang, refl), refl, (tt, tt, (doc_name, tt, (tt, inr (kinds.Eq, refl), refl, (tt, doc_alone text it few, (tt, tt, (more Apart tt).0)))))))
 
 -- a lifetime: a `'`, joint, and a name that makes a lifetime with it
 life_fits : (behind : Behind) (word letters left : List ℕ) (kind : TokenKind) (next : Option TokenKind) (rest : List Sort) → Read word letters left kind → is_whole kind ≡ true → role_in kind word ≡ Leaf
@@ -181,7 +181,7 @@ token_fits behind part at word letters left _ next rest (line style) it fine rea
     let text = line_text style word in
     let e : role_in kind word ≡ Leaf = leaf_valid (role_in kind word) (line_two style word) fine in
     subst (λ r. Fit behind (Some kind) (SortsAs r part kind next at word ++ rest)) (sym e) (
-      subst (λ t. SortFits behind (t ++ rest)) (sym (placed_are part at (at + length word) (doc style text))) (doc_fits behind letters left kind next style text rest (line_doc style word it.utf8 (line_role style word e)) refl ready more),
+      subst (λ t. SortFits behind (t ++ rest)) (sym (placed_are part at (at + length word) (doc style text))) (doc_fits behind letters left kind next style text rest (line_doc style word it.utf8 (line_role style word e)) (line_few style word e) refl ready more),
       λ h. absurd (alone_joint h),
     )
 token_fits behind part at word letters left _ next rest (block style false) it fine ready more =
@@ -191,6 +191,6 @@ token_fits behind part at word letters left _ next rest (block style true) it fi
     let text = block_text style word in
     let e : role_in kind word ≡ Leaf = leaf_valid (role_in kind word) (block_two style true word) fine in
     subst (λ r. Fit behind (Some kind) (SortsAs r part kind next at word ++ rest)) (sym e) (
-      subst (λ t. SortFits behind (t ++ rest)) (sym (placed_are part at (at + length word) (doc style text))) (doc_fits behind letters left kind next style text rest (block_doc style word it.utf8 (block_role style word e)) refl ready more),
+      subst (λ t. SortFits behind (t ++ rest)) (sym (placed_are part at (at + length word) (doc style text))) (doc_fits behind letters left kind next style text rest (block_doc style word it.utf8 (block_role style word e)) (block_few style word e) refl ready more),
       λ h. absurd (alone_joint h),
     )

@@ -131,7 +131,7 @@ quoted_kind (literals.RawCStr hashes) word start closed quotes = closed
 pub value_alone : (word letters left : List ℕ) (kind : LiteralKind) (start : ℕ) → Read word letters left (kinds.Literal kind start) → role_in (kinds.Literal kind start) word ≡ Leaf
     → ValueAlone (parts_told word (Some (scan_of kind, start))).kind ((parts_told word (Some (scan_of kind, start))).value ++ (parts_told word (Some (scan_of kind, start))).suffix)
     (length (parts_told word (Some (scan_of kind, start))).suffix)
-value_alone word letters left kind start it fine few literal symbol sort len = go (has_quotes parts.kind) refl
+value_alone word letters left kind start it fine literal symbol sort len = go (has_quotes parts.kind) refl
   where
     parts : LiteralParts
     parts = parts_told word (Some (scan_of kind, start))
