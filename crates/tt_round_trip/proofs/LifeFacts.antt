@@ -11,9 +11,10 @@ use Rattle.tt_lex.specs.declared.opening.Family.{Family}
 use Rattle.tt_lex.specs.declared.opening.Family.TheVariants as opens
 use Rattle.tt_lex.specs.declared.token.TokenKind.{TokenKind}
 use Rattle.tt_lex.specs.declared.token.TokenKind.TheVariants as kinds
+use Rattle.tt_round_trip.proofs.Roles.{name_kind}
 use Rattle.tt_round_trip.proofs.ToldKinds.{lifetime_as, named_as, word_as}
 use Rattle.tt_stops.proofs.KeepFacts.{no_start, plain_null}
-use Rattle.tt_unparse.specs.Writable.{is_lifetime, is_name}
+use Rattle.tt_unparse.specs.Writable.{is_lifetime}
 use Rattle.unicode_ident.proofs.Computing.{unicode_ident}
 use Rattle.unicode_ident.proofs.IdentLemmas.{is_xid_continue-ascii}
 
@@ -230,13 +231,11 @@ raw_name_read : (z : ℕ) (zs : List ℕ) → is_id_start z ≡ true → behind 
 unfolding reading reading_of opening
 raw_name_read z zs start all = rw start (ap (λ t. (kinds.RawIdent, t)) (ap (λ b. if b then behind is_id_continue zs else z ∷ zs) start ∙ all))
 
--- what a lifetime is
-pub record Life (front : List ℕ) : Type 0 where
+-- what a lifetime of a kind is
+pub record Life (lifetime : TokenKind) (front : List ℕ) : Type 0 where
   pub rest : List ℕ
   pub are : front ≡ 39 ∷ rest
-  pub kind : TokenKind
-  pub named : IsTrue (is_name kind)
-  pub read : reading rest ≡ (kind, [])
+  pub read : reading rest ≡ (name_kind lifetime, [])
 
 no_digit_life : (x : ℕ) (xs : List ℕ) → begins_lifetime (x ∷ xs) ≡ true → is_decimal x ≡ false → is_id_start x ≡ true
 no_digit_life x xs begins none = go (is_id_start x) (ap (λ b. is_id_start x || b) (sym none)) (and_parts (not (first xs == 39)) (is_id_start x || is_decimal x) begins).1
@@ -248,7 +247,7 @@ no_digit_life x xs begins none = go (is_id_start x) (ap (λ b. is_id_start x || 
         or_false true k = refl
         or_false false k = k
 
-quote_life : (cs : List ℕ) (kind : TokenKind) → apostrophe (39 ∷ cs) cs ≡ (kind, []) → IsTrue (is_lifetime kind) → (kind ≡ kinds.Lifetime true → ⊥) → Life (39 ∷ cs)
+quote_life : (cs : List ℕ) (kind : TokenKind) → apostrophe (39 ∷ cs) cs ≡ (kind, []) → IsTrue (is_lifetime kind) → (kind ≡ kinds.Lifetime true → ⊥) → Life kind (39 ∷ cs)
 unfolding apostrophe literal
 quote_life cs kind read living fine = go (begins_lifetime cs) refl (begins_raw_lifetime cs) refl read
   where
@@ -262,14 +261,14 @@ quote_life cs kind read living fine = go (begins_lifetime cs) refl (begins_raw_l
     digit false e = refl
     digit true e = absurd (fine (sym e))
 
-    plain : (t : List ℕ) → begins_lifetime t ≡ true → is_decimal (first t) ≡ false → behind is_id_continue (skip t) ≡ [] → Life (39 ∷ t)
-    plain [] begins none all = absurd (false≢true (sym (ap (λ b. true && (b || false)) plain_null.no_start) ∙ begins))
-    plain (x ∷ xs) begins none all = record { rest = x ∷ xs; are = refl; kind = kinds.Ident; named = refl; read = name_read x xs (no_digit_life x xs begins none) all }
+    plain : (d : Bool) (t : List ℕ) → begins_lifetime t ≡ true → is_decimal (first t) ≡ false → behind is_id_continue (skip t) ≡ [] → Life (kinds.Lifetime d) (39 ∷ t)
+    plain d [] begins none all = absurd (false≢true (sym (ap (λ b. true && (b || false)) plain_null.no_start) ∙ begins))
+    plain d (x ∷ xs) begins none all = record { rest = x ∷ xs; are = refl; read = name_read x xs (no_digit_life x xs begins none) all }
 
-    raw_life : (t : List ℕ) → begins_raw_lifetime t ≡ true → behind is_id_continue (skip (skip (skip t))) ≡ [] → Life (39 ∷ t)
+    raw_life : (t : List ℕ) → begins_raw_lifetime t ≡ true → behind is_id_continue (skip (skip (skip t))) ≡ [] → Life kinds.RawLifetime (39 ∷ t)
     raw_life t begins all = three t begins all
       where
-        three : (t : List ℕ) → begins_raw_lifetime t ≡ true → behind is_id_continue (skip (skip (skip t))) ≡ [] → Life (39 ∷ t)
+        three : (t : List ℕ) → begins_raw_lifetime t ≡ true → behind is_id_continue (skip (skip (skip t))) ≡ [] → Life kinds.RawLifetime (39 ∷ t)
         three [] h k = absurd (false≢true h)
         three (x ∷ []) h k = absurd (false≢true (and_parts (x == 114) (0 == 35) (and_parts ((x == 114) && (0 == 35)) (is_id_start 0) h).0).1)
         three (x ∷ y ∷ []) h k = absurd (false≢true (sym plain_null.no_start ∙ (and_parts ((x == 114) && (y == 35)) (is_id_start 0) h).1))
@@ -278,27 +277,26 @@ quote_life cs kind read living fine = go (begins_lifetime cs) refl (begins_raw_l
             let start = (and_parts ((x == 114) && (y == 35)) (is_id_start z) h).1 in record {
               rest = x ∷ y ∷ z ∷ zs;
               are = refl;
-              kind = kinds.RawIdent;
-              named = refl;
               read = ap₂ (λ a b. reading (a ∷ b ∷ z ∷ zs)) (eqb-true x 114 both.0) (eqb-true y 35 both.1) ∙ raw_name_read z zs start k;
             }
 
-    named_go : (quote hash : Bool) → begins_lifetime cs ≡ true → named_as (39 ∷ cs) quote hash (is_decimal (first cs)) left ≡ (kind, []) → Life (39 ∷ cs)
+    named_go : (quote hash : Bool) → begins_lifetime cs ≡ true → named_as (39 ∷ cs) quote hash (is_decimal (first cs)) left ≡ (kind, []) → Life kind (39 ∷ cs)
     named_go true hash begins e = absurd (no_literal _ refl e)
     named_go false true begins e = absurd (no_literal _ refl e)
-    named_go false false begins e = plain cs begins (digit (is_decimal (first cs)) (ap (λ p. p.0) e)) (ap (λ p. p.1) e)
+    named_go false false begins e =
+        subst (λ k. Life k (39 ∷ cs)) (ap (λ p. p.0) e) (plain (is_decimal (first cs)) cs begins (digit (is_decimal (first cs)) (ap (λ p. p.0) e)) (ap (λ p. p.1) e))
 
-    go : (b : Bool) → begins_lifetime cs ≡ b → (w : Bool) → begins_raw_lifetime cs ≡ w → lifetime_as (39 ∷ cs) (begins_lifetime cs) (begins_raw_lifetime cs) cs left ≡ (kind, []) → Life (39 ∷ cs)
+    go : (b : Bool) → begins_lifetime cs ≡ b → (w : Bool) → begins_raw_lifetime cs ≡ w → lifetime_as (39 ∷ cs) (begins_lifetime cs) (begins_raw_lifetime cs) cs left ≡ (kind, []) → Life kind (39 ∷ cs)
     go false e w f h = absurd (no_literal _ refl (sym (ap (λ b. lifetime_as (39 ∷ cs) b (begins_raw_lifetime cs) cs left) e) ∙ h))
     go true e true f h =
         let is = sym (ap₂ (λ b v. lifetime_as (39 ∷ cs) b v cs left) e f) ∙ h in
-        raw_life cs f (ap (λ p. p.1) is)
+        subst (λ k. Life k (39 ∷ cs)) (ap (λ p. p.0) is) (raw_life cs f (ap (λ p. p.1) is))
     go true e false f h =
         let is = sym (ap₂ (λ b v. lifetime_as (39 ∷ cs) b v cs left) e f) ∙ h in
         named_go (first left == 39) ((first left == 35) && not (is_decimal (first cs))) e is
 
 -- a lifetime alone is a `'` and a name
-pub life_back : (front : List ℕ) (kind : TokenKind) → reading front ≡ (kind, []) → IsTrue (is_lifetime kind) → (kind ≡ kinds.Lifetime true → ⊥) → Life front
+pub life_back : (front : List ℕ) (kind : TokenKind) → reading front ≡ (kind, []) → IsTrue (is_lifetime kind) → (kind ≡ kinds.Lifetime true → ⊥) → Life kind front
 unfolding reading reading_of literal word
 life_back [] kind read living fine = absurd (false≢true (ap (λ p. is_lifetime p.0) read ∙ living))
 life_back (d ∷ ds) kind read living fine = go (opening d (first ds) (second ds)) refl read
@@ -306,10 +304,10 @@ life_back (d ∷ ds) kind read living fine = go (opening d (first ds) (second ds
     none : (p : TokenKind × List ℕ) → is_lifetime p.0 ≡ false → p ≡ (kind, []) → ⊥
     none p other e = false≢true (sym other ∙ ap (λ p. is_lifetime p.0) e ∙ living)
 
-    go : (family : Family) → opening d (first ds) (second ds) ≡ family → reading_of family (d ∷ ds) ds ≡ (kind, []) → Life (d ∷ ds)
+    go : (family : Family) → opening d (first ds) (second ds) ≡ family → reading_of family (d ∷ ds) ds ≡ (kind, []) → Life kind (d ∷ ds)
     go opens.Apostrophe e h =
         let is : d ≡ 39 = quote_first d (first ds) (second ds) (ap is_quote e) in
-        subst (λ n. Life (n ∷ ds)) (sym is) (quote_life ds kind (ap (λ n. apostrophe (n ∷ ds) ds) (sym is) ∙ h) living fine)
+        subst (λ n. Life kind (n ∷ ds)) (sym is) (quote_life ds kind (ap (λ n. apostrophe (n ∷ ds) ds) (sym is) ∙ h) living fine)
     go opens.Symbol e h = absurd (none _ (symbol_no_life d) h)
     go opens.Word e h = let left = behind is_id_continue ds in absurd (none _ (word_no_life (begins_literal (first left)) (is_emoji_mark (first left)) left) h)
     go opens.LineComment e h = absurd (none _ refl h)

@@ -32,6 +32,16 @@ abbrev pub is_number_token : TokenKind → Bool
 is_number_token (kinds.Literal kind start) = is_numeric kind
 is_number_token _ = false
 
+-- whether a token is a literal
+abbrev pub is_literal_token : TokenKind → Bool
+is_literal_token (kinds.Literal kind start) = true
+is_literal_token _ = false
+
+-- what is no literal is no number
+no_number : (kind : TokenKind) → is_literal_token kind ≡ false → is_number_token kind ≡ false
+no_number (kinds.Literal kind start) h = absurd (false≢true (sym h))
+no_number kind h = refl
+
 -- no `_` is in front of what is left of a number
 abbrev NoLine : List ℕ → Type 0
 NoLine cs = (first cs == 95) ≡ false
@@ -99,11 +109,12 @@ number_ends digit cs = by (base_of digit (first cs))
     by Decimal = fraction_ends Decimal (behind is_decimal_part cs) (run_ends is_decimal_part cs refl)
     by Hexadecimal = lettered Hexadecimal (has_digit Hexadecimal (skip cs))
 
-none_of : (b : Bool) (f g : TokenKind) → is_number_token f ≡ false → is_number_token g ≡ false → is_number_token (if b then f else g) ≡ false
+-- no character alone is a literal, and no name
+none_of : (b : Bool) (f g : TokenKind) → is_literal_token f ≡ false → is_literal_token g ≡ false → is_literal_token (if b then f else g) ≡ false
 none_of true f g h k = h
 none_of false f g h k = k
 
-symbol_none : (d : ℕ) → is_number_token (symbol d) ≡ false
+pub symbol_none : (d : ℕ) → is_literal_token (symbol d) ≡ false
 unfolding symbol
 symbol_none d =
     none_of (d == 59) _ _ refl
@@ -135,7 +146,7 @@ symbol_none d =
     (none_of (d == 37) _ _ refl
     refl))))))))))))))))))))))))))
 
-word_none : (quote emoji : Bool) (cs : List ℕ) → is_number_token (word_as quote emoji cs).0 ≡ false
+pub word_none : (quote emoji : Bool) (cs : List ℕ) → is_literal_token (word_as quote emoji cs).0 ≡ false
 word_none true emoji cs = refl
 word_none false true cs = refl
 word_none false false cs = refl
@@ -186,8 +197,8 @@ number_back c cs kind read is = go (opening c (first cs) (second cs)) read
           place = sym (ap (λ p. start_of p.0) h);
           no_line = number_ends c cs;
         }
-    go opens.Symbol h = absurd (none _ (symbol_none c) h)
-    go opens.Word h = let left = behind is_id_continue cs in absurd (none _ (word_none (begins_literal (first left)) (is_emoji_mark (first left)) left) h)
+    go opens.Symbol h = absurd (none _ (no_number _ (symbol_none c)) h)
+    go opens.Word h = let left = behind is_id_continue cs in absurd (none _ (no_number _ (word_none (begins_literal (first left)) (is_emoji_mark (first left)) left)) h)
     go opens.Apostrophe h = absurd (none _ (apostrophe_none (c ∷ cs) cs) h)
     go opens.LineComment h = absurd (none _ refl h)
     go opens.BlockComment h = absurd (none _ refl h)

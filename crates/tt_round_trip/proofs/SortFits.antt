@@ -17,7 +17,6 @@ use Rattle.tt_lex.specs.declared.token.TokenKind.{TokenKind}
 use Rattle.tt_round_trip.proofs.Names.{punct_alone}
 use Rattle.tt_base.specs.Literal.{kind_of as literal_kind, suffix_len_of, symbol_of}
 use Rattle.tt_base.specs.declared.literal.LitKind.{LitKind}
-use Rattle.tt_round_trip.specs.Alone.{QuotesReadAlone, has_quotes}
 use Rattle.tt_text.specs.Pieces.{punct_char}
 use Rattle.tt_text.specs.Role.{kind_of}
 use Rattle.tt_text.specs.Spelled.{Piece, Sort, name, sign, value, opening as opening_sort, closing as closing_sort, at_span, sort_of, spelled}
@@ -76,10 +75,10 @@ IsPair delimits.Invisible = ⊥
 IsPair delimits.InvisibleOpaque = ⊥
 IsPair _ = Unit {0}
 
--- a literal without quotes reads alone
+-- a literal reads alone
 abbrev pub ValueAlone : LitKind → (symbol : List ℕ) → (suffix_len : ℕ) → Type 0
 ValueAlone kind symbol suffix_len =
-    has_quotes kind ≡ false → (literal : Literal) → symbol_of literal ≡ symbol → literal_kind literal ≡ kind → suffix_len_of literal ≡ suffix_len
+    (literal : Literal) → symbol_of literal ≡ symbol → literal_kind literal ≡ kind → suffix_len_of literal ≡ suffix_len
     → ReadsAlone (leaf_of.Literal literal)
 
 -- these can be written behind what was written last, and are read with the same spacings
@@ -148,24 +147,17 @@ sign_alone : (punct : Punct) → SignAlone punct.char → ReadsAlone (leaf_of.Pu
 sign_alone punct (inl quote) = inl quote
 sign_alone punct (inr (kind, is)) = inr (punct_alone punct kind is)
 
-literal_alone : (literal : Literal) → ValueAlone (literal_kind literal) (symbol_of literal) (suffix_len_of literal) → (has_quotes (literal_kind literal) ≡ true → ReadsAlone (leaf_of.Literal literal)) → ReadsAlone (leaf_of.Literal literal)
-literal_alone literal plain quoted = go (has_quotes (literal_kind literal)) refl
-  where
-    go : (b : Bool) → has_quotes (literal_kind literal) ≡ b → ReadsAlone (leaf_of.Literal literal)
-    go true e = quoted e
-    go false e = plain e literal refl refl refl
-
--- marks that are such sorts can be written, where their literals read alone
-pub writable : (last : ℕ) (behind : Behind) (ms : List Mark) → SortFits behind (raw ms) → QuotesReadAlone ms → IsFirstRefused last behind ms None
-writable last behind [] f literals = inl (may_end behind f, refl)
-writable last behind (word at (leaf_of.Ident ident) ∷ rest) f literals =
-    inl (name_follows behind ident f.1, inl (inr (f.0 ident refl refl), writable at Apart rest f.2 literals))
-writable last behind (word at (leaf_of.Literal literal) ∷ rest) f literals =
-    inl (literal_follows behind literal f.0, inl (literal_alone literal f.1 literals.0, writable at Apart rest f.2 literals.1))
-writable last behind (word at (leaf_of.Punct punct) ∷ rest) f literals =
-    inl (sign_follows behind punct f.0, inl (sign_alone punct f.1, writable at (behind_punct punct.char punct.spacing) rest f.3 literals))
-writable last behind (opening pair ∷ rest) f literals = inl (may_end behind f.0, writable last Opening rest f.2 literals)
-writable last behind (closing pair ∷ rest) f literals = inl (may_end behind f.0, writable last Apart rest f.2 literals)
+-- marks that are such sorts can be written
+pub writable : (last : ℕ) (behind : Behind) (ms : List Mark) → SortFits behind (raw ms) → IsFirstRefused last behind ms None
+writable last behind [] f = inl (may_end behind f, refl)
+writable last behind (word at (leaf_of.Ident ident) ∷ rest) f =
+    inl (name_follows behind ident f.1, inl (inr (f.0 ident refl refl), writable at Apart rest f.2))
+writable last behind (word at (leaf_of.Literal literal) ∷ rest) f =
+    inl (literal_follows behind literal f.0, inl (f.1 literal refl refl refl, writable at Apart rest f.2))
+writable last behind (word at (leaf_of.Punct punct) ∷ rest) f =
+    inl (sign_follows behind punct f.0, inl (sign_alone punct f.1, writable at (behind_punct punct.char punct.spacing) rest f.3))
+writable last behind (opening pair ∷ rest) f = inl (may_end behind f.0, writable last Opening rest f.2)
+writable last behind (closing pair ∷ rest) f = inl (may_end behind f.0, writable last Apart rest f.2)
 
 -- the brackets among sorts are pairs
 abbrev Paired : List Sort → Type 0

@@ -1,7 +1,7 @@
 -- What each token of a text is read as can be written behind what stands before it.
-use Rattle.std.proofs.Common.{◌≡◌, ◌⊎◌, ℕ, zero, suc, ◌+◌, Bool, true, false, IsTrue, inl, inr, List, [], ◌∷◌, ◌++◌, length, append-nil, not, is_none, Option, None, Some, refl, sym, ap, ◌∙◌, subst, arith, if◌then◌else◌}
+use Rattle.std.proofs.Common.{◌≡◌, ℕ, zero, suc, ◌+◌, ◌<◌, true, false, IsTrue, inl, inr, List, [], ◌∷◌, ◌++◌, length, append-nil, Option, Some, refl, sym, ap, ◌∙◌, subst, arith}
 use Rattle.std.proofs.Math.Utf8.{encodes, scalars}
-use Rattle.std.proofs.lemmas.Bool.{false≢true, eqb-true}
+use Rattle.std.proofs.lemmas.Bool.{eqb-true}
 use Rattle.std.proofs.lemmas.Str.{IsUtf8-from_ascii, chars-IsAscii, chars-encodes, encode_ascii, encodes-append}
 use Rattle.std.specs.Prelude.{codes}
 use Rattle.std.specs.Str.{IsAscii}
@@ -13,27 +13,25 @@ use Rattle.tt_lex.specs.Front.{first}
 use Rattle.tt_lex.specs.Reading.{reading}
 use Rattle.tt_lex.specs.declared.token.DocStyle.{DocStyle}
 use Rattle.tt_lex.specs.declared.token.DocStyle.TheVariants.{Outer, Inner}
-use Rattle.tt_lex.specs.declared.token.LiteralKind.{LiteralKind}
-use Rattle.tt_lex.specs.declared.token.LiteralKind.TheVariants as literals
-use Rattle.tt_lex.specs.declared.token.Base.TheVariants.{Binary, Octal, Decimal, Hexadecimal}
 use Rattle.tt_lex.specs.declared.token.TokenKind.{TokenKind}
 use Rattle.tt_lex.specs.declared.token.TokenKind.TheVariants as kinds
+use Rattle.tt_round_trip.proofs.DocFits.{doc_alone}
+use Rattle.tt_round_trip.proofs.DocTexts.{IsDocText, block_doc, line_doc}
 use Rattle.tt_round_trip.proofs.LifeFacts.{Life, life_back, name_read}
 use Rattle.tt_round_trip.proofs.Names.{name_alone, name_text}
 use Rattle.tt_round_trip.proofs.ReadCuts.{token_alone}
 use Rattle.tt_round_trip.proofs.Values.{value_alone}
 use Rattle.tt_round_trip.proofs.ReadyFacts.{Ready, Fit, alone_joint, ready_no_quote, ready_blank, ready_sign, ready_quote, ready_doc, ready_name, pair_is, Read, one, name_reads, sign_letters, slash_apart, pound_apart, ready_behind, settled_is}
+use Rattle.tt_round_trip.proofs.Roles.{block_few, block_open, block_role, block_two, leaf_valid, life_name, life_two, line_few, line_role, line_two, literal_two, name_kind, name_two, no_digit}
 use Rattle.tt_round_trip.proofs.SortFits.{NameAlone, QuoteFits, SortFits}
 use Rattle.tt_round_trip.proofs.ToldKinds.{Told, line, block, blank, wrong, opened, closed, wordy, valued, living, sign as sign_kind}
 use Rattle.tt_round_trip.proofs.Words.{scalars-back, whole_token}
 use Rattle.tt_round_trip.specs.Whole.{is_whole}
 use Rattle.tt_text.specs.Pieces.{behind_apostrophe, doc, pieces_as, pieces_of, placed, punct_char, spacing_before}
-use Rattle.tt_text.specs.Role.{literal_role, role_in, with_inside}
+use Rattle.tt_text.specs.Role.{role_in}
 use Rattle.tt_text.specs.Spelled.{Sort, name, sign}
-use Rattle.tt_text.specs.Doc.{block_text, line_text}
-use Rattle.tt_text.specs.Inside.{before_suffix, inside_fault, line_fault, return_fault}
+use Rattle.tt_text.specs.Doc.{block_text, hashes_wanted, line_text}
 use Rattle.tt_text.specs.declared.fault.BadToken.{BadToken}
-use Rattle.tt_text.specs.declared.fault.BadToken.TheVariants as bad
 use Rattle.tt_text.specs.declared.role.Role.{Role}
 use Rattle.tt_text.specs.declared.role.Role.TheVariants.{Bad, Leaf}
 use Rattle.tt_unparse.proofs.KindFacts.{IsPunct, lifetime_cases, name_cases, punct_known}
@@ -64,40 +62,12 @@ doc_name ident text raw =
 abbrev Behinds : (left : List ℕ) (next : Option TokenKind) (rest : List Sort) → Type 0
 Behinds left next rest = (b : Behind) → Ready b left next → Fit b next rest
 
-doc_fits : (behind : Behind) (cs left : List ℕ) (kind : TokenKind) (next : Option TokenKind) (style : DocStyle) (text : List ℕ) (rest : List Sort) → spacing_before (Some kind) ≡ Alone → Ready behind cs (Some kind)
+doc_fits : (behind : Behind) (cs left : List ℕ) (kind : TokenKind) (next : Option TokenKind) (style : DocStyle) (text : List ℕ) (rest : List Sort) → IsDocText text → hashes_wanted text < 256 → spacing_before (Some kind) ≡ Alone → Ready behind cs (Some kind)
     → Behinds left next rest → SortFits behind (doc style text ++ rest)
-doc_fits behind cs left kind next Outer text rest alone ready more =
-    (ready_doc behind cs kind alone ready, inr (kinds.Pound, refl), refl, (tt, tt, (doc_name, tt, (tt, inr (kinds.Eq, refl), refl, (tt, (λ quoted. absurd (false≢true (sym quoted))), (tt, tt, (more Apart tt).0))))))
-doc_fits behind cs left kind next Inner text rest alone ready more =
-    (ready_doc behind cs kind alone ready, inr (kinds.Pound, refl), refl, (tt, inr (kinds.Bang, refl), refl, (tt, tt, (doc_name, tt, (tt, inr (kinds.Eq, refl), refl, (tt, (λ quoted. absurd (false≢true (sym quoted))), (tt, tt, (more Apart tt).0)))))))
-
--- the role of a literal
-leaf_or_bad : (wrong : Bool) (why : BadToken) (inside : Option BadToken) → (with_inside (if wrong then Bad why else Leaf) inside ≡ Leaf) ⊎ ((other : BadToken) × (with_inside (if wrong then Bad why else Leaf) inside ≡ Bad other))
-leaf_or_bad true why None = inr (why, refl)
-leaf_or_bad true why (Some other) = inr (why, refl)
-leaf_or_bad false why None = inl refl
-leaf_or_bad false why (Some other) = inr (other, refl)
-
-other_base : (empty : Bool) (inside : Option BadToken) → (other : BadToken) × (with_inside (if empty then Bad bad.EmptyExponent else Bad bad.FloatOfAnotherBase) inside ≡ Bad other)
-other_base true None = (bad.EmptyExponent, refl)
-other_base true (Some why) = (bad.EmptyExponent, refl)
-other_base false None = (bad.FloatOfAnotherBase, refl)
-other_base false (Some why) = (bad.FloatOfAnotherBase, refl)
-
-literal_two : (kind : LiteralKind) (inside : Option BadToken) → (with_inside (literal_role kind) inside ≡ Leaf) ⊎ ((other : BadToken) × (with_inside (literal_role kind) inside ≡ Bad other))
-literal_two (literals.Int base empty) inside = leaf_or_bad empty bad.NoDigits inside
-literal_two (literals.Float Decimal empty) inside = leaf_or_bad empty bad.EmptyExponent inside
-literal_two (literals.Float Binary empty) inside = inr (other_base empty inside)
-literal_two (literals.Float Octal empty) inside = inr (other_base empty inside)
-literal_two (literals.Float Hexadecimal empty) inside = inr (other_base empty inside)
-literal_two (literals.Char terminated) inside = leaf_or_bad (not terminated) bad.UnterminatedLiteral inside
-literal_two (literals.Byte terminated) inside = leaf_or_bad (not terminated) bad.UnterminatedLiteral inside
-literal_two (literals.Str terminated) inside = leaf_or_bad (not terminated) bad.UnterminatedLiteral inside
-literal_two (literals.ByteStr terminated) inside = leaf_or_bad (not terminated) bad.UnterminatedLiteral inside
-literal_two (literals.CStr terminated) inside = leaf_or_bad (not terminated) bad.UnterminatedLiteral inside
-literal_two (literals.RawStr hashes) inside = leaf_or_bad (is_none hashes) bad.BadRawLiteral inside
-literal_two (literals.RawByteStr hashes) inside = leaf_or_bad (is_none hashes) bad.BadRawLiteral inside
-literal_two (literals.RawCStr hashes) inside = leaf_or_bad (is_none hashes) bad.BadRawLiteral inside
+doc_fits behind cs left kind next Outer text rest it few alone ready more =
+    (ready_doc behind cs kind alone ready, inr (kinds.Pound, refl), refl, (tt, tt, (doc_name, tt, (tt, inr (kinds.Eq, refl), refl, (tt, doc_alone text it few, (tt, tt, (more Apart tt).0))))))
+doc_fits behind cs left kind next Inner text rest it few alone ready more =
+    (ready_doc behind cs kind alone ready, inr (kinds.Pound, refl), refl, (tt, inr (kinds.Bang, refl), refl, (tt, tt, (doc_name, tt, (tt, inr (kinds.Eq, refl), refl, (tt, doc_alone text it few, (tt, tt, (more Apart tt).0)))))))
 
 -- a lifetime: a `'`, joint, and a name that makes a lifetime with it
 life_fits : (behind : Behind) (word letters left : List ℕ) (kind : TokenKind) (next : Option TokenKind) (rest : List Sort) → Read word letters left kind → is_whole kind ≡ true → role_in kind word ≡ Leaf
@@ -106,7 +76,7 @@ life_fits : (behind : Behind) (word letters left : List ℕ) (kind : TokenKind) 
 life_fits behind word letters left kind next rest it is fine lasts digit ready more =
     (ready_quote behind letters (Some kind) 39 ready refl refl, inl refl, refl, (named, lives, (more Apart tt).0))
   where
-    life : Life it.front
+    life : Life kind it.front
     life = life_back it.front kind (token_alone it.front left kind it.some it.read is) lasts digit
 
     tail : List ℕ
@@ -121,14 +91,17 @@ life_fits behind word letters left kind next rest it is fine lasts digit ready m
     scalar_rest : scalars life.rest ≡ true
     scalar_rest = scalars-back (39 ∷ []) life.rest (subst (λ t. scalars t ≡ true) life.are it.fine)
 
-    role : role_in life.kind tail ≡ Leaf
-    role = name_cases (λ k. role_in k tail ≡ Leaf) life.kind refl refl life.named
+    role : role_in (name_kind kind) tail ≡ Leaf
+    role = life_name kind tail lasts (subst (λ t. role_in kind t ≡ Leaf) bytes fine)
 
-    alone : IsOneToken tail × (first_kind tail ≡ life.kind)
-    alone = whole_token tail life.rest life.kind (life.rest, (scalar_rest, refl)) (chars-encodes life.rest scalar_rest) life.read role
+    alone : IsOneToken tail × (first_kind tail ≡ name_kind kind)
+    alone = whole_token tail life.rest (name_kind kind) (life.rest, (scalar_rest, refl)) (chars-encodes life.rest scalar_rest) life.read role
+
+    is_named : IsTrue (is_name (name_kind kind))
+    is_named = lifetime_cases (λ k. IsTrue (is_name (name_kind k))) kind (λ digit. refl) refl lasts
 
     named : NameAlone (without_raw_prefix (behind_apostrophe word)) (rawness_of (behind_apostrophe word))
-    named = subst (λ t. NameAlone (without_raw_prefix t) (rawness_of t)) (sym tail_is) (λ ident text raw. name_alone tail ident alone.0 (ap is_name alone.1 ∙ life.named) text raw)
+    named = subst (λ t. NameAlone (without_raw_prefix t) (rawness_of t)) (sym tail_is) (λ ident text raw. name_alone tail ident alone.0 (ap is_name alone.1 ∙ is_named) text raw)
 
     whole : IsOneToken word × (first_kind word ≡ kind)
     whole = one word letters left kind it is fine
@@ -150,14 +123,6 @@ placed_are : (part : SpanPart) (start stop : ℕ) (ss : List Sort) → sorts (pl
 placed_are part start stop [] = refl
 placed_are part start stop (s ∷ ss) = ap (λ t. s ∷ t) (placed_are part start stop ss)
 
--- a comment that is not closed is not valid
-block_bad : (style : DocStyle) (word : List ℕ) → ((why : BadToken) → role_in (kinds.BlockComment (Some style) false) word ≡ Bad why → ⊥) → ⊥
-block_bad style word fine = go (return_fault word) (λ why e. fine why e)
-  where
-    go : (inside : Option BadToken) → ((why : BadToken) → with_inside (Bad bad.UnterminatedComment) inside ≡ Bad why → ⊥) → ⊥
-    go None h = h bad.UnterminatedComment refl
-    go (Some other) h = h bad.UnterminatedComment refl
-
 -- what a token is read as can be written
 pub token_fits : (behind : Behind) (part : SpanPart) (at : ℕ) (word letters left : List ℕ) (kind : TokenKind) (next : Option TokenKind) (rest : List Sort) → Told kind → Read word letters left kind
     → ((why : BadToken) → role_in kind word ≡ Bad why → ⊥) → Ready behind letters (Some kind) → Behinds left next rest → Fit behind (Some kind) (sorts (pieces_of part kind next at word) ++ rest)
@@ -172,26 +137,22 @@ token_fits behind part at word letters left kind next rest (closed pair role alo
     subst (λ r. Fit behind (Some kind) (SortsAs r part kind next at word ++ rest)) (sym (role word))
     ((ready_no_quote behind letters (Some kind) ready, pair_is pair, (more Apart tt).0), λ h. absurd (alone_joint (sym alone ∙ h)))
 token_fits behind part at word letters left kind next rest (wordy named alone) it fine ready more =
-    name_cases (λ k. Read word letters left k → Ready behind letters (Some k) → Fit behind (Some k) (sorts (pieces_of part k next at word) ++ rest)) kind
-    (λ it ready. ((name_reads word letters left kinds.Ident it refl refl refl, ready_name behind letters (Some kinds.Ident) word ready, (more Apart tt).0), λ h. absurd (alone_joint h)))
-    (λ it ready. ((name_reads word letters left kinds.RawIdent it refl refl refl, ready_name behind letters (Some kinds.RawIdent) word ready, (more Apart tt).0), λ h. absurd (alone_joint h)))
-    named it ready
-token_fits behind part at word letters left kind next rest (living life) it fine ready more =
-    lifetime_cases (λ k. Read word letters left k → ((why : BadToken) → role_in k word ≡ Bad why → ⊥) → Ready behind letters (Some k) → Fit behind (Some k) (sorts (pieces_of part k next at word) ++ rest)) kind
-    (λ digit. by_digit digit)
-    (λ it fine ready. (life_fits behind word letters left kinds.RawLifetime next rest it refl refl refl (λ e. raw_is e) ready more, λ h. refl))
-    life it fine ready
+    let e : role_in kind word ≡ Leaf = leaf_valid (role_in kind word) (name_two kind word named) fine in
+    subst (λ r. Fit behind (Some kind) (SortsAs r part kind next at word ++ rest)) (sym e)
+    (name_cases (λ k. Read word letters left k → role_in k word ≡ Leaf → Ready behind letters (Some k) → Fit behind (Some k) (SortsAs Leaf part k next at word ++ rest)) kind
+    (λ it e ready. ((name_reads word letters left kinds.Ident it refl e refl, ready_name behind letters (Some kinds.Ident) word ready, (more Apart tt).0), λ h. absurd (alone_joint h)))
+    (λ it e ready. ((name_reads word letters left kinds.RawIdent it refl e refl, ready_name behind letters (Some kinds.RawIdent) word ready, (more Apart tt).0), λ h. absurd (alone_joint h)))
+    named it e ready)
+token_fits behind part at word letters left kind next rest (living lasts) it fine ready more =
+    let e : role_in kind word ≡ Leaf = leaf_valid (role_in kind word) (life_two kind word lasts) fine in
+    subst (λ r. Fit behind (Some kind) (SortsAs r part kind next at word ++ rest)) (sym e)
+    (lifetime_cases (λ k. Read word letters left k → role_in k word ≡ Leaf → Ready behind letters (Some k) → Fit behind (Some k) (SortsAs Leaf part k next at word ++ rest)) kind
+    (λ digit it e ready. (life_fits behind word letters left (kinds.Lifetime digit) next rest it refl e refl (λ is. no_digit word (subst (λ k. role_in k word ≡ Leaf) is e)) ready more, λ h. refl))
+    (λ it e ready. (life_fits behind word letters left kinds.RawLifetime next rest it refl e refl (λ is. raw_is is) ready more, λ h. refl))
+    lasts it e ready)
   where
     raw_is : kinds.RawLifetime ≡ kinds.Lifetime true → ⊥
     raw_is e = cc
-
-    digit_is : kinds.Lifetime false ≡ kinds.Lifetime true → ⊥
-    digit_is e = cc
-
-    by_digit : (digit : Bool) → Read word letters left (kinds.Lifetime digit) → ((why : BadToken) → role_in (kinds.Lifetime digit) word ≡ Bad why → ⊥) → Ready behind letters (Some (kinds.Lifetime digit))
-        → Fit behind (Some (kinds.Lifetime digit)) (sorts (pieces_of part (kinds.Lifetime digit) next at word) ++ rest)
-    by_digit true it fine ready = absurd (fine bad.LifetimeBeginsWithDigit refl)
-    by_digit false it fine ready = (life_fits behind word letters left (kinds.Lifetime false) next rest it refl refl refl (λ e. digit_is e) ready more, λ h. refl)
 token_fits behind part at word letters left kind next rest (sign_kind c is) it fine ready more =
     subst (λ t. Fit behind (Some kind) (t ++ rest)) (sym (known.means part next at word))
     ((ready_sign behind letters (Some kind) c ready (ap first letters_are), inr (kind, is), settled_is c next rest known.no_quote (λ h. (more (behind_punct c (spacing_before next)) behind_ready).1 h), (more (behind_punct c (spacing_before next)) behind_ready).0), λ h. refl)
@@ -210,34 +171,26 @@ token_fits behind part at word letters left kind next rest (sign_kind c is) it f
         ready_behind c left next known.no_quote
         (λ e. slash_apart left c (subst (λ n. punct_char (reading (n ∷ left)).0 ≡ Some c) (eqb-true c 47 e) read))
         (λ e. pound_apart left c (subst (λ n. punct_char (reading (n ∷ left)).0 ≡ Some c) (eqb-true c 35 e) read))
-token_fits behind part at word letters left _ next rest (valued it start) read fine ready more = go (literal_two it (inside_fault it (before_suffix start word)))
-  where
-    kind : TokenKind
-    kind = kinds.Literal it start
-
-    go : (role_in kind word ≡ Leaf) ⊎ ((other : BadToken) × (role_in kind word ≡ Bad other)) → Fit behind (Some kind) (sorts (pieces_of part kind next at word) ++ rest)
-    go (inr (other, e)) = absurd (fine other e)
-    go (inl e) =
-        subst (λ r. Fit behind (Some kind) (SortsAs r part kind next at word ++ rest)) (sym e)
-        ((ready_no_quote behind letters (Some kind) ready, value_alone word letters left it start read e, (more Apart tt).0), λ h. absurd (alone_joint h))
-token_fits behind part at word letters left _ next rest (line style) it fine ready more = go (leaf_or_bad false bad.BareReturn (line_fault word))
-  where
-    kind : TokenKind
-    kind = kinds.LineComment (Some style)
-
-    go : (role_in kind word ≡ Leaf) ⊎ ((other : BadToken) × (role_in kind word ≡ Bad other)) → Fit behind (Some kind) (sorts (pieces_of part kind next at word) ++ rest)
-    go (inr (other, e)) = absurd (fine other e)
-    go (inl e) =
-        subst (λ r. Fit behind (Some kind) (SortsAs r part kind next at word ++ rest)) (sym e)
-        (subst (λ t. SortFits behind (t ++ rest)) (sym (placed_are part at (at + length word) (doc style (line_text style word)))) (doc_fits behind letters left kind next style (line_text style word) rest refl ready more), λ h. absurd (alone_joint h))
-token_fits behind part at word letters left _ next rest (block style false) it fine ready more = absurd (block_bad style word fine)
-token_fits behind part at word letters left _ next rest (block style true) it fine ready more = go (leaf_or_bad false bad.BareReturn (return_fault word))
-  where
-    kind : TokenKind
-    kind = kinds.BlockComment (Some style) true
-
-    go : (role_in kind word ≡ Leaf) ⊎ ((other : BadToken) × (role_in kind word ≡ Bad other)) → Fit behind (Some kind) (sorts (pieces_of part kind next at word) ++ rest)
-    go (inr (other, e)) = absurd (fine other e)
-    go (inl e) =
-        subst (λ r. Fit behind (Some kind) (SortsAs r part kind next at word ++ rest)) (sym e)
-        (subst (λ t. SortFits behind (t ++ rest)) (sym (placed_are part at (at + length word) (doc style (block_text style word)))) (doc_fits behind letters left kind next style (block_text style word) rest refl ready more), λ h. absurd (alone_joint h))
+token_fits behind part at word letters left _ next rest (valued it start) read fine ready more =
+    let kind : TokenKind = kinds.Literal it start in
+    let e : role_in kind word ≡ Leaf = leaf_valid (role_in kind word) (literal_two it start word) fine in
+    subst (λ r. Fit behind (Some kind) (SortsAs r part kind next at word ++ rest)) (sym e)
+    ((ready_no_quote behind letters (Some kind) ready, value_alone word letters left it start read e, (more Apart tt).0), λ h. absurd (alone_joint h))
+token_fits behind part at word letters left _ next rest (line style) it fine ready more =
+    let kind : TokenKind = kinds.LineComment (Some style) in
+    let text = line_text style word in
+    let e : role_in kind word ≡ Leaf = leaf_valid (role_in kind word) (line_two style word) fine in
+    subst (λ r. Fit behind (Some kind) (SortsAs r part kind next at word ++ rest)) (sym e) (
+      subst (λ t. SortFits behind (t ++ rest)) (sym (placed_are part at (at + length word) (doc style text))) (doc_fits behind letters left kind next style text rest (line_doc style word it.utf8 (line_role style word e)) (line_few style word e) refl ready more),
+      λ h. absurd (alone_joint h),
+    )
+token_fits behind part at word letters left _ next rest (block style false) it fine ready more =
+    absurd (block_open style word (leaf_valid (role_in (kinds.BlockComment (Some style) false) word) (block_two style false word) fine))
+token_fits behind part at word letters left _ next rest (block style true) it fine ready more =
+    let kind : TokenKind = kinds.BlockComment (Some style) true in
+    let text = block_text style word in
+    let e : role_in kind word ≡ Leaf = leaf_valid (role_in kind word) (block_two style true word) fine in
+    subst (λ r. Fit behind (Some kind) (SortsAs r part kind next at word ++ rest)) (sym e) (
+      subst (λ t. SortFits behind (t ++ rest)) (sym (placed_are part at (at + length word) (doc style text))) (doc_fits behind letters left kind next style text rest (block_doc style word it.utf8 (block_role style word e)) (block_few style word e) refl ready more),
+      λ h. absurd (alone_joint h),
+    )

@@ -1,5 +1,5 @@
--- Literals without quotes that are read of a text read alone.
-use Rattle.std.proofs.Common.{◌≡◌, ℕ, ◌+◌, ◌-◌, Bool, true, false, ◌==◌, inr, List, [], ◌∷◌, ◌++◌, length, take, drop, Some, refl, sym, ap, ap₂, ◌∙◌, subst, arith, length-append, append-nil, if◌then◌else◌}
+-- Literals that are read of a text read alone.
+use Rattle.std.proofs.Common.{◌≡◌, ℕ, ◌-◌, Bool, true, false, ◌==◌, inr, List, [], ◌∷◌, ◌++◌, length, take, drop, Some, refl, sym, ap, ap₂, ◌∙◌, subst, arith, append-nil, if◌then◌else◌}
 use Rattle.std.proofs.Math.Seq.{drop-append_seam}
 use Rattle.std.proofs.Math.Utf8.{encodes, scalars}
 use Rattle.std.proofs.lemmas.Bool.{false≢true}
@@ -22,22 +22,21 @@ use Rattle.tt_lex.specs.declared.token.LiteralKind.{LiteralKind}
 use Rattle.tt_lex.specs.declared.token.LiteralKind.TheVariants as literals
 use Rattle.tt_lex.specs.declared.token.TokenKind.TheVariants as kinds
 use Rattle.tt_round_trip.proofs.Numbers.{IsNumber, is_numeric, number_back}
+use Rattle.tt_round_trip.proofs.QuotedAlone.{quoted_alone}
+use Rattle.tt_round_trip.proofs.Quotes.{Quoted, has_quotes, is_quoted}
+use Rattle.tt_round_trip.proofs.QuotesBack.{quotes_back}
 use Rattle.tt_round_trip.proofs.ReadCuts.{token_alone}
 use Rattle.tt_round_trip.proofs.ReadyFacts.{Read, one}
+use Rattle.tt_round_trip.proofs.Roles.{literal_closed}
 use Rattle.tt_round_trip.proofs.SortFits.{ValueAlone}
+use Rattle.tt_round_trip.proofs.WordCuts.{byte_length-append}
 use Rattle.tt_round_trip.proofs.Words.{scalars-back}
-use Rattle.tt_round_trip.specs.Alone.{has_quotes}
 use Rattle.tt_stops.specs.Stops.{is_closed}
-use Rattle.tt_text.specs.Inside.{before_suffix, inside_fault}
 use Rattle.tt_text.specs.Pieces.{scan_of}
 use Rattle.tt_text.specs.Role.{role_in}
 use Rattle.tt_text.specs.declared.role.Role.TheVariants.{Leaf}
-use Rattle.tt_unparse.proofs.KindFacts.{ascii_one, closed_leaf}
-use Rattle.tt_unparse.specs.Writable.{MeansLiteral, ReadsAs}
-
-byte_length-append : (xs ys : List ℕ) → byte_length (xs ++ ys) ≡ length (encodes xs) + byte_length ys
-unfolding byte_length
-byte_length-append xs ys = ap length (encodes-append xs ys) ∙ length-append (encodes xs) (encodes ys)
+use Rattle.tt_unparse.proofs.KindFacts.{ascii_one}
+use Rattle.tt_unparse.specs.Writable.{MeansLiteral, ReadsAlone, ReadsAs}
 
 -- a literal without quotes has its symbol as text
 plain_text : (literal : Literal) → has_quotes (kind_of literal) ≡ false → literal_text literal ≡ symbol_of literal
@@ -115,19 +114,49 @@ nothing_literal kind start e = other (ap (λ p. p.0) e)
     other : kinds.Unknown ≡ kinds.Literal kind start → ⊥
     other k = cc
 
--- a literal without quotes reads alone
+-- a literal with quotes is one that is read with quotes
+quoted_kind : (kind : LiteralKind) (word : List ℕ) (start : ℕ) → is_closed kind ≡ true → has_quotes (parts_told word (Some (scan_of kind, start))).kind ≡ true → is_quoted kind ≡ true
+quoted_kind (literals.Int base empty) word start closed quotes = absurd (false≢true quotes)
+quoted_kind (literals.Float base empty) word start closed quotes = absurd (false≢true quotes)
+quoted_kind (literals.Char terminated) word start closed quotes = closed
+quoted_kind (literals.Byte terminated) word start closed quotes = closed
+quoted_kind (literals.Str terminated) word start closed quotes = closed
+quoted_kind (literals.ByteStr terminated) word start closed quotes = closed
+quoted_kind (literals.CStr terminated) word start closed quotes = closed
+quoted_kind (literals.RawStr hashes) word start closed quotes = closed
+quoted_kind (literals.RawByteStr hashes) word start closed quotes = closed
+quoted_kind (literals.RawCStr hashes) word start closed quotes = closed
+
+-- a literal reads alone
 pub value_alone : (word letters left : List ℕ) (kind : LiteralKind) (start : ℕ) → Read word letters left (kinds.Literal kind start) → role_in (kinds.Literal kind start) word ≡ Leaf
     → ValueAlone (parts_told word (Some (scan_of kind, start))).kind ((parts_told word (Some (scan_of kind, start))).value ++ (parts_told word (Some (scan_of kind, start))).suffix)
     (length (parts_told word (Some (scan_of kind, start))).suffix)
-value_alone word letters left kind start it fine plain literal symbol sort len =
-    let closed : is_closed kind ≡ true = closed_leaf kind (inside_fault kind (before_suffix start word)) fine in
-    let alone = one word letters left (kinds.Literal kind start) it closed fine in
-    let read = token_alone it.front left (kinds.Literal kind start) it.some it.read closed in
-    let text = parts_text word it.front kind start it.bytes it.fine (number it.front read) plain in
-    let is : literal_text literal ≡ word = plain_text literal (ap has_quotes sort ∙ plain) ∙ symbol ∙ text in
-    inr (subst (λ t. ReadsAs t (leaf_of.Literal literal)) (sym is)
-    (alone.0, subst (λ k. MeansLiteral k word literal) (sym alone.1) (record { symbol = symbol; span = refl; kind = sort; suffix_len = len })))
+value_alone word letters left kind start it fine literal symbol sort len = go (has_quotes parts.kind) refl
   where
+    parts : LiteralParts
+    parts = parts_told word (Some (scan_of kind, start))
+
+    closed : is_closed kind ≡ true
+    closed = literal_closed kind start word fine
+
+    read : reading it.front ≡ (kinds.Literal kind start, [])
+    read = token_alone it.front left (kinds.Literal kind start) it.some it.read closed
+
     number : (front : List ℕ) → reading front ≡ (kinds.Literal kind start, []) → is_numeric kind ≡ true → IsNumber front start
     number [] e is = absurd (nothing_literal kind start e)
     number (c ∷ cs) e is = number_back c cs (kinds.Literal kind start) e is
+
+    quotes : (front : List ℕ) → reading front ≡ (kinds.Literal kind start, []) → is_quoted kind ≡ true → Quoted kind front start
+    quotes [] e is = absurd (nothing_literal kind start e)
+    quotes (c ∷ cs) e is = quotes_back c cs (kinds.Literal kind start) e is
+
+    go : (b : Bool) → has_quotes parts.kind ≡ b → ReadsAlone (leaf_of.Literal literal)
+    go true has =
+        let is = quoted_kind kind word start closed has in
+        quoted_alone kind word it.front start (quotes it.front read is) is it.bytes it.fine fine has literal symbol sort len
+    go false plain =
+        let alone = one word letters left (kinds.Literal kind start) it closed fine in
+        let text = parts_text word it.front kind start it.bytes it.fine (number it.front read) plain in
+        let is : literal_text literal ≡ word = plain_text literal (ap has_quotes sort ∙ plain) ∙ symbol ∙ text in
+        inr (subst (λ t. ReadsAs t (leaf_of.Literal literal)) (sym is)
+        (alone.0, subst (λ k. MeansLiteral k word literal) (sym alone.1) (record { symbol = symbol; span = refl; kind = sort; suffix_len = len })))

@@ -19,11 +19,12 @@ use Rattle.tt_round_trip.specs.Whole.{is_whole}
 use Rattle.tt_stops.proofs.KeepFacts.{no_start, plain_null}
 use Rattle.tt_stops.proofs.NumberKeeps.{appended}
 
-byte_length-append : (xs ys : List ℕ) → byte_length (xs ++ ys) ≡ length (encodes xs) + byte_length ys
+-- how many bytes two texts take
+pub byte_length-append : (xs ys : List ℕ) → byte_length (xs ++ ys) ≡ length (encodes xs) + byte_length ys
 unfolding byte_length
 byte_length-append xs ys = ap length (encodes-append xs ys) ∙ length-append (encodes xs) (encodes ys)
 
-byte_length-is : (xs : List ℕ) → byte_length xs ≡ length (encodes xs)
+pub byte_length-is : (xs : List ℕ) → byte_length xs ≡ length (encodes xs)
 unfolding byte_length
 byte_length-is xs = refl
 

@@ -1,5 +1,5 @@
 -- A token of a text, as bytes: what stands for leaves is one token alone.
-use Rattle.std.proofs.Common.{◌≡◌, ◌≢◌, ℕ, ◌+◌, ◌<◌, ◌&&◌, true, List, [], ◌∷◌, ◌++◌, length, take, drop, refl, sym, ap, ap₂, ◌∙◌, subst, arith, length-append}
+use Rattle.std.proofs.Common.{◌≡◌, ◌≢◌, ℕ, ◌+◌, ◌<◌, ◌&&◌, true, List, [], ◌∷◌, ◌++◌, length, take, drop, refl, sym, ap, ap₂, ◌∙◌, subst, arith}
 use Rattle.std.proofs.Math.Seq.{drop-append_seam, take-append_seam}
 use Rattle.std.proofs.Math.Utf8.{encodes, scalars}
 use Rattle.std.proofs.lemmas.Bool.{and_parts}
@@ -14,25 +14,18 @@ use Rattle.tt_lex.specs.Reading.{first_token_of, reading}
 use Rattle.tt_lex.specs.declared.token.Token.{Token}
 use Rattle.tt_lex.specs.declared.token.TokenKind.{TokenKind}
 use Rattle.tt_round_trip.proofs.ReadCuts.{token_alone}
+use Rattle.tt_round_trip.proofs.WordCuts.{byte_length-append}
 use Rattle.tt_round_trip.specs.Whole.{is_whole}
 use Rattle.tt_text.proofs.TextFacts.{end_split}
 use Rattle.tt_text.specs.Role.{role_in}
 use Rattle.tt_text.specs.declared.role.Role.TheVariants.{Leaf}
 use Rattle.tt_unparse.specs.Writable.{IsOneToken, first_kind}
 
-byte_length-append : (xs ys : List ℕ) → byte_length (xs ++ ys) ≡ length (encodes xs) + byte_length ys
-unfolding byte_length
-byte_length-append xs ys = ap length (encodes-append xs ys) ∙ length-append (encodes xs) (encodes ys)
-
-byte_length-is : (xs : List ℕ) → byte_length xs ≡ length (encodes xs)
-unfolding byte_length
-byte_length-is xs = refl
-
 pub scalars-back : (xs ys : List ℕ) → scalars (xs ++ ys) ≡ true → scalars ys ≡ true
 scalars-back [] ys h = h
 scalars-back (x ∷ xs) ys h = scalars-back xs ys (and_parts _ _ h).1
 
-scalars-front : (xs ys : List ℕ) → scalars (xs ++ ys) ≡ true → scalars xs ≡ true
+pub scalars-front : (xs ys : List ℕ) → scalars (xs ++ ys) ≡ true → scalars xs ≡ true
 scalars-front [] ys h = refl
 scalars-front (x ∷ xs) ys h = let both = and_parts _ _ h in ap₂ (λ a b. a && b) both.0 (scalars-front xs ys both.1)
 

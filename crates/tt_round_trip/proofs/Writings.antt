@@ -10,7 +10,6 @@ use Rattle.tt_round_trip.proofs.ToldKinds.{told}
 use Rattle.tt_round_trip.proofs.ReadyFacts.{Fit, Read, Ready, alone_joint, ready_no_quote}
 use Rattle.tt_round_trip.proofs.TokenFits.{token_fits}
 use Rattle.tt_round_trip.proofs.Words.{Word, first_word}
-use Rattle.tt_round_trip.specs.Alone.{QuotesReadAlone}
 use Rattle.tt_text.specs.Faults.{fault_from, or_behind, step_as}
 use Rattle.tt_text.specs.Parsed.{IsParse, next_kind, pieces_from}
 use Rattle.tt_text.specs.Pieces.{pieces_of}
@@ -87,18 +86,18 @@ read_fits : (part : SpanPart) (text : List ℕ) (root : Root) → IsUtf8 text �
 read_fits part text root utf8 parse =
     subst (λ t. SortFits Opening (sorts t)) (sym parse.spells) (tokens_fit part 0 text parse.tokens [] Opening utf8 parse.read parse.fine tt).0
 
--- trees that were read can be written, where their literals read alone
-pub read_is_writable : (part : SpanPart) (text : List ℕ) (root : Root) → IsUtf8 text → IsParse part text root → QuotesReadAlone (marks 0 root.children) → IsWritable root.children
-read_is_writable part text root utf8 parse literals =
+-- trees that were read can be written, where their few read alone
+pub read_is_writable : (part : SpanPart) (text : List ℕ) (root : Root) → IsUtf8 text → IsParse part text root → IsWritable root.children
+read_is_writable part text root utf8 parse =
     let fits = read_fits part text root utf8 parse in
-    writable 0 Opening (marks 0 root.children) (subst (SortFits Opening) (sym (marks_are Opening root.children fits)) fits) literals
+    writable 0 Opening (marks 0 root.children) (subst (SortFits Opening) (sym (marks_are Opening root.children fits)) fits)
 
 -- and what is written of them is read as they are, places put aside
-pub read_again : (part other : SpanPart) (text : List ℕ) (root again : Root) → IsUtf8 text → IsParse part text root → QuotesReadAlone (marks 0 root.children) → IsParse other (text_of root.children) again
+pub read_again : (part other : SpanPart) (text : List ℕ) (root again : Root) → IsUtf8 text → IsParse part text root → IsParse other (text_of root.children) again
     → sorts (spelled again.children) ≡ sorts (spelled root.children)
-read_again part other text root again utf8 parse literals back =
+read_again part other text root again utf8 parse back =
     let fits = read_fits part text root utf8 parse in
     let same = marks_are Opening root.children fits in
-    read_as_settled root.children (text_of root.children) other again (reads_back root.children (read_is_writable part text root utf8 parse literals)) back
+    read_as_settled root.children (text_of root.children) other again (reads_back root.children (read_is_writable part text root utf8 parse)) back
     ∙ settled_are Opening (marks 0 root.children) (subst (SortFits Opening) (sym same) fits)
     ∙ same

@@ -6,7 +6,6 @@ ghost use Rattle.tt_base.specs.declared.span.SpanPart.{SpanPart};
 ghost use Rattle.tt_lex.specs.Reading.{first_token_of, reading};
 ghost use Rattle.tt_lex.specs.declared.token.Token.{Token};
 ghost use Rattle.tt_lex.specs.declared.token.TokenKind.{TokenKind};
-ghost use Rattle.tt_round_trip.specs.Alone.{QuotesReadAlone};
 ghost use Rattle.tt_round_trip.specs.Whole.{is_whole};
 ghost use Rattle.tt_text.specs.Parsed.{IsParse};
 ghost use Rattle.tt_text.specs.Role.{role_in};
@@ -31,15 +30,14 @@ pub fn leaf_alone()
         → IsOneToken (take token.len text) × (first_kind (take token.len text) ≡ token.kind) }
 {}
 
-/// Trees that were read of a text can be written, if each of their literals in quotes reads alone.
+/// Trees that were read of a text can be written.
 pub fn read_is_writable()
-    ensures { (part : SpanPart) → (text : List ℕ) → (root : Root) → IsUtf8 text → IsParse part text root
-        → QuotesReadAlone (marks 0 root.children) → IsWritable root.children }
+    ensures { (part : SpanPart) → (text : List ℕ) → (root : Root) → IsUtf8 text → IsParse part text root → IsWritable root.children }
 {}
 
 /// And what is written of them is read as they are: the same leaves and brackets with the same spacings, places put aside.
 pub fn read_again()
     ensures { (part other : SpanPart) → (text : List ℕ) → (root again : Root) → IsUtf8 text → IsParse part text root
-        → QuotesReadAlone (marks 0 root.children) → IsParse other (text_of root.children) again
+        → IsParse other (text_of root.children) again
         → sorts (spelled again.children) ≡ sorts (spelled root.children) }
 {}
