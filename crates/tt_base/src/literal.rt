@@ -48,7 +48,7 @@ pub struct Literal {
 impl Literal {
     ghost use Rattle.tt_base.specs.Literal.{IsLiteral, CutsText, symbol_of, span_of, kind_of, suffix_len_of, text_of, suffix_of};
 
-    /// The literal of that text followed by that suffix.
+    /// The literal of that text followed by that suffix. The two are joined only where there is a suffix.
     pub fn new(
         alloc: Global,
         text: &str,
@@ -63,6 +63,9 @@ impl Literal {
         let Ok(suffix_len) = u8::try_from(suffix.len()) else {
             return Err(TtFault::SuffixTooLong);
         };
+        if suffix.is_empty() {
+            return Literal::new_no_suffix(alloc, text, span, kind);
+        }
         let mut joined = String::from_str(alloc, text)?;
         joined.push_str(suffix)?;
         Ok(Literal {

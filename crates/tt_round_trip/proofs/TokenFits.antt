@@ -27,7 +27,8 @@ use Rattle.tt_round_trip.proofs.SortFits.{NameAlone, QuoteFits, SortFits}
 use Rattle.tt_round_trip.proofs.ToldKinds.{Told, line, block, blank, wrong, opened, closed, wordy, valued, living, sign as sign_kind}
 use Rattle.tt_round_trip.proofs.Words.{scalars-back, whole_token}
 use Rattle.tt_round_trip.specs.Whole.{is_whole}
-use Rattle.tt_text.specs.Pieces.{behind_apostrophe, doc, pieces_as, pieces_of, placed, punct_char, spacing_before}
+use Rattle.tt_text.specs.RawName.{behind_apostrophe}
+use Rattle.tt_text.specs.Pieces.{doc, pieces_as, pieces_of, placed, punct_char, spacing_before}
 use Rattle.tt_text.specs.Role.{role_in}
 use Rattle.tt_text.specs.Spelled.{Sort, name, sign}
 use Rattle.tt_text.specs.Doc.{block_text, hashes_wanted, line_text}

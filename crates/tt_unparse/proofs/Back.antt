@@ -91,7 +91,7 @@ next_touching behind q o w (closing pair ∷ rest) f = closing_next pair (chunks
 next_touching behind q o w (word at (leaf_of.Ident ident) ∷ rest) f =
     let it = leaf_of.Ident ident in
     let told = reads_as it refl f.1 in
-    let known = name_known ident (ident_text ident) (first_kind (ident_text ident)) told.1 in
+    let known = name_known ident (ident_text ident) (first_kind (ident_text ident)) told.0.fine told.1 in
     ap (λ b. spacing_before (next_kind (tokens_of (if b then lifetime_chunk it ∷ chunks_of Apart rest else gap_if (wants_space behind it) (leaf_chunk it rest ∷ chunks_of Apart rest))))) q
     ∙ gap_next (wants_space behind it) (leaf_chunk it rest ∷ chunks_of Apart rest) known.alone
 next_touching behind q o w (word at (leaf_of.Literal literal) ∷ rest) f =
@@ -177,7 +177,7 @@ word_are : (it : Leaf) (rest : List Mark) → ReadsAlone it → Fits (behind_lea
     → AreChunks (word_as it rest (chunks_of Quote rest) (chunks_of (behind_leaf it) rest))
 word_are (leaf_of.Ident ident) rest reads f inner =
     let told = reads_as (leaf_of.Ident ident) refl reads in
-    (known_chunk (leaf_of.Ident ident) rest (chunks_of Apart rest) told.0 (name_known ident (ident_text ident) (first_kind (ident_text ident)) told.1) (stops_apart rest f), inner)
+    (known_chunk (leaf_of.Ident ident) rest (chunks_of Apart rest) told.0 (name_known ident (ident_text ident) (first_kind (ident_text ident)) told.0.fine told.1) (stops_apart rest f), inner)
 word_are (leaf_of.Literal literal) rest reads f inner =
     let told = reads_as (leaf_of.Literal literal) refl reads in
     let bytes = leaf_text (leaf_of.Literal literal) in

@@ -25,7 +25,7 @@ use Rattle.tt_lex.specs.declared.token.TokenKind.TheVariants as kinds
 use Rattle.tt_stops.proofs.KeepFacts.{IsPlain, plain_null, plain_stop}
 use Rattle.tt_stops.proofs.SignFacts.{sign_read, space_read}
 use Rattle.tt_stops.specs.Stops.{Stops, is_ended, is_glued, is_sign}
-use Rattle.tt_text.specs.Inside.{before_suffix, inside_fault}
+use Rattle.tt_text.specs.Inside.{literal_fault}
 use Rattle.tt_text.specs.Parsed.{next_kind}
 use Rattle.tt_text.specs.Pieces.{literal_of, pieces_as, pieces_of, scan_of, spacing_before}
 use Rattle.tt_text.specs.Role.{role_in}
@@ -122,19 +122,19 @@ pub record IsName (kind : TokenKind) (bytes : List ℕ) (sort : Sort) : Type 0 w
   pub alone : spacing_before (Some kind) ≡ Alone
   pub means : (part : SpanPart) → (next : Option TokenKind) → (at : ℕ) → sorts (pieces_of part kind next at bytes) ≡ sort ∷ []
 
-pub name_known : (ident : Ident) (bytes : List ℕ) (kind : TokenKind) → Means kind bytes (leaf_of.Ident ident) → IsName kind bytes (sort_of (leaf_of.Ident ident))
-name_known ident bytes kind means =
+pub name_known : (ident : Ident) (bytes : List ℕ) (kind : TokenKind) → role_in kind bytes ≡ roles.Leaf → Means kind bytes (leaf_of.Ident ident) → IsName kind bytes (sort_of (leaf_of.Ident ident))
+name_known ident bytes kind fine means =
     let told : ◌≡◌ {A = List Sort} (name (without_raw_prefix bytes) (rawness_of bytes) ∷ []) (name ident.sym ident.is_raw ∷ []) = ap₂ (λ a b. name a b ∷ []) means.1 means.2 in
-    name_cases (λ k. IsName k bytes (sort_of (leaf_of.Ident ident))) kind
-    (record { ended = refl; wordy = refl; alone = refl; means = λ part next at. told })
-    (record { ended = refl; wordy = refl; alone = refl; means = λ part next at. told })
-    means.0
+    name_cases (λ k. role_in k bytes ≡ roles.Leaf → IsName k bytes (sort_of (leaf_of.Ident ident))) kind
+    (λ role. record { ended = refl; wordy = refl; alone = refl; means = λ part next at. told })
+    (λ role. record { ended = refl; wordy = refl; alone = refl; means = λ part next at. ap (λ r. sorts (pieces_as r part kinds.RawIdent next at bytes)) role ∙ told })
+    means.0 fine
 
 pub literal_known : (literal : Literal) (bytes : List ℕ) (kind : TokenKind) → role_in kind bytes ≡ roles.Leaf → MeansLiteral kind bytes literal → IsName kind bytes (sort_of (leaf_of.Literal literal))
 literal_known literal bytes kind fine means =
     literal_cases (λ k. role_in k bytes ≡ roles.Leaf → MeansLiteral k bytes literal → IsName k bytes (sort_of (leaf_of.Literal literal))) kind bytes literal
     (λ it start role parts. record {
-      ended = closed_leaf it (inside_fault it (before_suffix start bytes)) role;
+      ended = closed_leaf it bytes (literal_fault it start bytes) role;
       wordy = refl;
       alone = refl;
       means = λ part next at. ap (λ r. sorts (pieces_as r part (kinds.Literal it start) next at bytes)) role ∙ told it start parts;
@@ -175,7 +175,7 @@ lifetime_is ident chunks makes (inr reads) stops = record {
     by part at next kind is =
         lifetime_cases (λ k. role_in k (39 ∷ ident_text ident) ≡ roles.Leaf → sorts (pieces_of part k next at (39 ∷ ident_text ident)) ≡ sign 39 JointSpacing ∷ name ident.sym ident.is_raw ∷ []) kind
         (λ digit fine. ap (λ r. sorts (pieces_as r part (kinds.Lifetime digit) next at (39 ∷ ident_text ident))) fine ∙ ap (λ s. sign 39 JointSpacing ∷ s ∷ []) same)
-        (λ fine. ap (λ s. sign 39 JointSpacing ∷ s ∷ []) same) is
+        (λ fine. ap (λ r. sorts (pieces_as r part kinds.RawLifetime next at (39 ∷ ident_text ident))) fine ∙ ap (λ s. sign 39 JointSpacing ∷ s ∷ []) same) is
 
 -- the first character of what begins with a leaf that reads alone
 pub leaf_front : (it : Leaf) (rest : List Mark) (chunks : List Chunk) → IsOneToken (leaf_text it) → first (text (leaf_chunk it rest ∷ chunks)) ≡ first (chars (leaf_text it))
@@ -254,7 +254,7 @@ slash_front (closing Brace ∷ rest) f = ap (λ t. is_glued 47 (first t)) (ascii
 slash_front (closing Square ∷ rest) f = ap (λ t. is_glued 47 (first t)) (ascii_first 93 (joined (chunks_of Apart rest)) (omega arith))
 slash_front (word at (leaf_of.Ident ident) ∷ rest) f =
     let told = reads_as (leaf_of.Ident ident) refl f.1 in
-    let known = name_known ident (ident_text ident) (first_kind (ident_text ident)) told.1 in
+    let known = name_known ident (ident_text ident) (first_kind (ident_text ident)) told.0.fine told.1 in
     ap (is_glued 47) (leaf_front (leaf_of.Ident ident) rest (chunks_of Apart rest) told.0)
     ∙ glue_slash (first (chars (ident_text ident))) (begins_not 47 not_slash (ident_text ident) told.0 known.wordy) (begins_not 42 not_star (ident_text ident) told.0 known.wordy)
 slash_front (word at (leaf_of.Literal literal) ∷ rest) f =
@@ -291,7 +291,7 @@ pound_front (closing Square ∷ rest) f = ap (λ t. is_glued 35 (first t)) (asci
 pound_front (word at (leaf_of.Ident ident) ∷ rest) f =
     let told = reads_as (leaf_of.Ident ident) refl f.1 in
     let bytes = ident_text ident in
-    let known = name_known ident bytes (first_kind bytes) told.1 in
+    let known = name_known ident bytes (first_kind bytes) told.0.fine told.1 in
     ap (is_glued 35) (leaf_front (leaf_of.Ident ident) rest (chunks_of Apart rest) told.0)
     ∙ glue_pound (first (chars bytes)) (no_string_name ident told) (begins_not 35 not_hash bytes told.0 known.wordy)
 pound_front (word at (leaf_of.Literal literal) ∷ rest) f = go (is_string_kind (kind_of_literal literal)) refl

@@ -260,25 +260,25 @@ bad_stays why None h = cc
 bad_stays why (Some other) h = cc
 
 -- a literal that stands for a leaf is closed
-pub closed_leaf : (kind : LiteralKind) (inside : Option BadToken) → with_inside (literal_role kind) inside ≡ Leaf → is_closed kind ≡ true
-closed_leaf (literals.Int base empty) inside h = refl
-closed_leaf (literals.Float base empty) inside h = refl
-closed_leaf (literals.Char true) inside h = refl
-closed_leaf (literals.Char false) inside h = absurd (bad_stays _ inside h)
-closed_leaf (literals.Byte true) inside h = refl
-closed_leaf (literals.Byte false) inside h = absurd (bad_stays _ inside h)
-closed_leaf (literals.Str true) inside h = refl
-closed_leaf (literals.Str false) inside h = absurd (bad_stays _ inside h)
-closed_leaf (literals.ByteStr true) inside h = refl
-closed_leaf (literals.ByteStr false) inside h = absurd (bad_stays _ inside h)
-closed_leaf (literals.CStr true) inside h = refl
-closed_leaf (literals.CStr false) inside h = absurd (bad_stays _ inside h)
-closed_leaf (literals.RawStr (Some hashes)) inside h = refl
-closed_leaf (literals.RawStr None) inside h = absurd (bad_stays _ inside h)
-closed_leaf (literals.RawByteStr (Some hashes)) inside h = refl
-closed_leaf (literals.RawByteStr None) inside h = absurd (bad_stays _ inside h)
-closed_leaf (literals.RawCStr (Some hashes)) inside h = refl
-closed_leaf (literals.RawCStr None) inside h = absurd (bad_stays _ inside h)
+pub closed_leaf : (kind : LiteralKind) (text : List ℕ) (inside : Option BadToken) → with_inside (literal_role kind text) inside ≡ Leaf → is_closed kind ≡ true
+closed_leaf (literals.Int base empty) text inside h = refl
+closed_leaf (literals.Float base empty) text inside h = refl
+closed_leaf (literals.Char true) text inside h = refl
+closed_leaf (literals.Char false) text inside h = absurd (bad_stays _ inside h)
+closed_leaf (literals.Byte true) text inside h = refl
+closed_leaf (literals.Byte false) text inside h = absurd (bad_stays _ inside h)
+closed_leaf (literals.Str true) text inside h = refl
+closed_leaf (literals.Str false) text inside h = absurd (bad_stays _ inside h)
+closed_leaf (literals.ByteStr true) text inside h = refl
+closed_leaf (literals.ByteStr false) text inside h = absurd (bad_stays _ inside h)
+closed_leaf (literals.CStr true) text inside h = refl
+closed_leaf (literals.CStr false) text inside h = absurd (bad_stays _ inside h)
+closed_leaf (literals.RawStr (Some hashes)) text inside h = refl
+closed_leaf (literals.RawStr None) text inside h = absurd (bad_stays _ inside h)
+closed_leaf (literals.RawByteStr (Some hashes)) text inside h = refl
+closed_leaf (literals.RawByteStr None) text inside h = absurd (bad_stays _ inside h)
+closed_leaf (literals.RawCStr (Some hashes)) text inside h = refl
+closed_leaf (literals.RawCStr None) text inside h = absurd (bad_stays _ inside h)
 
 -- what means a literal is one
 pub literal_cases : (P : TokenKind → Type 0) (kind : TokenKind) (text : List ℕ) (literal : Literal) → ((it : LiteralKind) → (start : ℕ) → P (kinds.Literal it start)) → MeansLiteral kind text literal → P kind
