@@ -21,6 +21,7 @@ import mutants_of_rules
 import mutants_of_stored
 import mutants_of_texts
 import mutants_of_trees
+import mutants_of_written
 from random_scripts import SCRIPTS, expected_answers
 from script_maker import Script
 
@@ -28,7 +29,7 @@ HERE = Path(__file__).parent
 # The files of the plain machine, those first that others stand on.
 TABLES = {
     "plain_trees": mutants_of_trees, "plain_lists": mutants_of_lists, "plain_stored": mutants_of_stored,
-    "plain_pieces": mutants_of_pieces, "plain_text": mutants_of_texts, "plain_rules": mutants_of_rules,
+    "plain_pieces": mutants_of_pieces, "plain_text": mutants_of_texts, "plain_written": mutants_of_written, "plain_rules": mutants_of_rules,
     "plain_machine": mutants_of_machine,
 }
 # What stands for an answer that a turned machine does not give.

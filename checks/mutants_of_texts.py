@@ -3,6 +3,9 @@ COUNTED = 'raise Wrong("several characters" if count else "empty character")'
 JOINT = 'char in PUNCTS and two not in ("//", "/*", \'#"\', "##")'
 NAMES = [
     ("a raw name keeps its prefix", 'Ident("raw", span_of(start, end), text[start + 2:end])', 'Ident("raw", span_of(start, end), text[start:end])'),
+    ("a raw name may be any", 'check_raw(text[start + 2:end])', "pass"),
+    ("a raw lifetime may have any name", "        check_raw(text[name:end])", "        pass"),
+    ("a raw name may be `super`", '"self", "super", "Self"', '"self", "Self"'),
     ("a raw name is plain", 'return end, [Ident("raw",', 'return end, [Ident("plain",'),
     ("a name may stand before a quote", "if text[end:end + 1] in ('\"', \"'\", \"#\"):", "if text[end:end + 1] == '#':"),
     ("a name may stand before a hash", "if text[end:end + 1] in ('\"', \"'\", \"#\"):", "if text[end:end + 1] in ('\"', \"'\"):"),
@@ -24,12 +27,19 @@ NUMBERS = [
     ("a base has one digit more", "DECIMAL[base:] for digit", "DECIMAL[base + 1:] for digit"),
     ("digits end at `_`", 'text[at] in digits + "_"', "text[at] in digits"),
     ("a suffix `_` counts", 'if suffix == "_":', 'if suffix == "__":'),
-    ("a suffix counts its characters", "len(suffix.encode())", "len(suffix) % 2"),
+    ("a suffix counts its characters", "Literal(kind, len(suffix.encode())", "Literal(kind, len(suffix) % 2"),
+    ("a suffix may be of any length", 'raise Wrong("suffix too long")', "pass"),
+    ("a suffix counts its characters for its length", "len(suffix.encode()) > MOST_SUFFIX_BYTES", "len(suffix) > MOST_SUFFIX_BYTES"),
+    ("a suffix has a byte less", "MOST_SUFFIX_BYTES = 255", "MOST_SUFFIX_BYTES = 254"),
     ("what is no number may have a suffix", 'if suffix and kind not in ("int", "float"):', 'if suffix and kind == "byte":'),
 ]
 QUOTED = [
     ("an escape takes nothing along", 'while text[at:at + 1] != quote:\n        if at >= len(text):\n            raise Wrong("unterminated literal")\n        at += 2 if text[at] == "\\\\" else 1', 'while text[at:at + 1] != quote:\n        if at >= len(text):\n            raise Wrong("unterminated literal")\n        at += 1'),
     ("a raw literal ends at the first quote", 'closing = \'"\' + "#" * hashes', "closing = '\"'"),
+    ("a raw literal needs no quote", 'raise Wrong("raw literal without a quote")', 'raise Wrong("unterminated literal")'),
+    ("a raw literal may have a hash more", "MOST_HASHES = 255", "MOST_HASHES = 256"),
+    ("a raw literal may have a hash less", "MOST_HASHES = 255", "MOST_HASHES = 254"),
+    ("a raw literal of more hashes is unterminated", '    if hashes > MOST_HASHES:\n        raise Wrong("too many hashes")\n    if end', '    if hashes > MOST_HASHES:\n        raise Wrong("unterminated literal")\n    if end'),
     ("a raw literal of too many hashes", 'f"{kind}:{hashes}"', 'f"{kind}:{min(hashes, 1)}"'),
     ("an escape that there is not", 'raise Wrong("unknown escape")', "return at + 2"),
     ("`\\x` has one digit", "if len(digits) < 2 or any", "if any"),
@@ -56,6 +66,7 @@ COMMENTS = [
     ("`/**/` documents", r'r"/\*\*(?![*/])"', r'r"/\*\*(?![*])"'),
     ("an inner comment has no `!`", '"#!" if inner else "#"', '"#"'),
     ("a comment's text has one hash", 'default=0)\n', 'default=0) and 1\n'),
+    ("a comment's text may want any number of hashes", '    if hashes > MOST_HASHES:\n        raise Wrong("too many hashes")\n    attribute', '    attribute'),
     ("a comment's text takes a hash more", 'default=0)\n', 'default=0) + 1\n'),
     ("a comment's last carriage return is bare", 'inside = inside.removesuffix("\\r")', "pass"),
     ("a comment loses all carriage returns at its end", 'inside.removesuffix("\\r")', 'inside.rstrip("\\r")'),

@@ -20,6 +20,8 @@ QUOTED = (
     ('c"', "cstr", False), ('"', "str", False),
 )
 MOST_HASHES = 255
+MOST_SUFFIX_BYTES = 255
+NEVER_RAW = ("_", "crate", "self", "super", "Self")
 
 
 class WrongText(Exception):
@@ -137,6 +139,8 @@ def literal(span_of, text, start, end, kind, value):
     suffix = text[end:behind]
     if suffix == "_":
         suffix = ""
+    if kind in ("int", "float") and len(suffix.encode()) > MOST_SUFFIX_BYTES:
+        raise Wrong("suffix too long")
     if suffix and kind not in ("int", "float"):
         return behind, [Literal("err", 0, span_of(start, behind), text[start:behind])]
     return behind, [Literal(kind, len(suffix.encode()), span_of(start, behind), value + suffix)]
@@ -159,8 +163,12 @@ def raw(span_of, text, start, kind, at):
     opening = at + hashes + 1
     closing = '"' + "#" * hashes
     end = text.find(closing, opening)
-    if text[opening - 1:opening] != '"' or end < 0 or hashes > MOST_HASHES:
-        raise Wrong("bad raw literal")
+    if text[opening - 1:opening] != '"':
+        raise Wrong("raw literal without a quote")
+    if hashes > MOST_HASHES:
+        raise Wrong("too many hashes")
+    if end < 0:
+        raise Wrong("unterminated literal")
     check_quoted(kind, text[opening:end])
     return literal(span_of, text, start, end + len(closing), f"{kind}:{hashes}", text[opening:end])
 
@@ -223,6 +231,8 @@ def apostrophe(span_of, text, start):
 def lifetime(span_of, start, end, is_raw, text):
     """A quote and a name."""
     name = start + 3 if is_raw == "raw" else start + 1
+    if is_raw == "raw":
+        check_raw(text[name:end])
     return end, [Punct("joint", span_of(start, start + 1), "'"), Ident(is_raw, span_of(start + 1, end), text[name:end])]
 
 
@@ -271,15 +281,24 @@ def comment(span_of, text, start):
     check_returns(inside)
     span = span_of(start, end)
     hashes = max((len(run) for run in re.findall('"#*', inside)), default=0)
+    if hashes > MOST_HASHES:
+        raise Wrong("too many hashes")
     attribute = (Ident("plain", span, "doc"), Punct("alone", span, "="), Literal(f"rstr:{hashes}", 0, span, inside))
     marks = [Punct("alone", span, char) for char in ("#!" if inner else "#")]
     return end, [*marks, Subtree("bracket", span, span, attribute)]
+
+
+def check_raw(name):
+    """A name behind `r#`."""
+    if name in NEVER_RAW:
+        raise Wrong("name that is never raw")
 
 
 def word(span_of, text, start):
     """A name."""
     if text.startswith("r#", start) and begins_name(text[start + 2:start + 3]):
         end = name_end(text, start + 2)
+        check_raw(text[start + 2:end])
         return end, [Ident("raw", span_of(start, end), text[start + 2:end])]
     end = name_end(text, start)
     if text[end:end + 1] in ('"', "'", "#"):

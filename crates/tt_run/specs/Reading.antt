@@ -24,7 +24,10 @@ line_part = record { anchor = record { file_id = record { 0 = 0 }; ast_id = reco
 abbrev pub bad_words : BadToken → List ℕ
 bad_words bad.UnterminatedComment = codes "unterminated comment"
 bad_words bad.UnterminatedLiteral = codes "unterminated literal"
-bad_words bad.BadRawLiteral = codes "bad raw literal"
+bad_words bad.RawWithoutQuote = codes "raw literal without a quote"
+bad_words bad.TooManyHashes = codes "too many hashes"
+bad_words bad.SuffixTooLong = codes "suffix too long"
+bad_words bad.NeverRaw = codes "name that is never raw"
 bad_words bad.UnknownCharacter = codes "unknown character"
 bad_words bad.UnknownPrefix = codes "unknown prefix"
 bad_words bad.InvalidIdent = codes "invalid identifier"

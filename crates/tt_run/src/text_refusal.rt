@@ -16,7 +16,10 @@ fn bad_words(why: BadToken) -> &'static str
     match why {
         BadToken::UnterminatedComment => "unterminated comment",
         BadToken::UnterminatedLiteral => "unterminated literal",
-        BadToken::BadRawLiteral => "bad raw literal",
+        BadToken::RawWithoutQuote => "raw literal without a quote",
+        BadToken::TooManyHashes => "too many hashes",
+        BadToken::SuffixTooLong => "suffix too long",
+        BadToken::NeverRaw => "name that is never raw",
         BadToken::UnknownCharacter => "unknown character",
         BadToken::UnknownPrefix => "unknown prefix",
         BadToken::InvalidIdent => "invalid identifier",

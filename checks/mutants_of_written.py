@@ -1,0 +1,28 @@
+"""Definitions of plain_written.py turned: what is turned, the text that is replaced, and the text in its place."""
+MUTANTS = [
+    ("a leaf may be the front of its text", "return trees if text and end == len(text) else None", "return trees"),
+    ("a punct is any punct", "isinstance(tree, Punct) and tree.char == leaf.char", "isinstance(tree, Punct)"),
+    ("a leaf may read as another", "not isinstance(tree, Subtree) and tree == leaf._replace(span=None)", "not isinstance(tree, Subtree)"),
+    ("a leaf may read as several", "len(trees) == 1 and same_leaf", "same_leaf"),
+    ("a quote may stand before any name", "return isinstance(leaf, Ident) and len(read_alone(QUOTE + leaf_text(leaf)) or ()) == 2", "return isinstance(leaf, Ident)"),
+    ("an invisible subtree is one tree", 'if isinstance(tree, Subtree) and tree.kind == "invisible":', "if False:"),
+    ("places count no header", "yield from marks(tree.children, place + 1)", "yield from marks(tree.children, place)"),
+    ("places count a header alone", "place += size((tree,))", "place += 1"),
+    ("an opaque subtree has no parentheses", '"paren" if tree.kind == "opaque" and several else tree.kind', '"invisible" if tree.kind == "opaque" else tree.kind'),
+    ("an opaque subtree of one tree has parentheses", "several = len(list(shown(tree.children))) > 1", "several = True"),
+    ("a quote may stand before anything", "return is_lifetime(leaf)", "return True"),
+    ("`//` may be made", 'not in ("//", "/*", "##")', 'not in ("/*", "##")'),
+    ("`/*` may be made", 'not in ("//", "/*", "##")', 'not in ("//", "##")'),
+    ("`##` may be made", 'not in ("//", "/*", "##")', 'not in ("//", "/*")'),
+    ("a slash that is alone makes a comment", 'and before.spacing != "alone" else ""', 'else ""'),
+    ("a space stands behind an opening bracket", 'before in ("(", "{", "[") or', 'before in ("(", "{") or'),
+    ("a space stands before a closing bracket", 'mark in (")", "}", "]")', 'mark in (")", "}")'),
+    ("a space stands behind a joint punct", 'before.char == QUOTE or before.spacing != "alone"', "before.char == QUOTE"),
+    ("a space stands behind a quote", '(before.char == QUOTE or before.spacing != "alone")', 'before.spacing != "alone"'),
+    ("a string touches a `#`", 'return before.char == "#" and is_string', "return False"),
+    ("a string is set apart from any punct", 'return before.char == "#" and is_string', "return is_string"),
+    ("a quote may stand at the end", "before.char != QUOTE", "True"),
+    ("the leaf behind a quote is told", "raise NotWritable(last)", "raise NotWritable(last + 1)"),
+    ("the last leaf is told for the next", "raise NotWritable(place)", "raise NotWritable(last)"),
+]
+HELPERS = ""
