@@ -18,7 +18,7 @@ mod word;
 use crate::digits::Digits;
 use crate::many::Many;
 use crate::slot::Slot;
-use crate::texts::Texts;
+use tt_texts::Texts;
 pub use action::Action;
 use front::after_item;
 use part::Part;

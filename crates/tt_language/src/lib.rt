@@ -7,11 +7,10 @@ mod digits;
 mod many;
 mod slot;
 mod spelling;
-mod texts;
 
 pub use command::{Action, Command, View};
 pub use digits::Digits;
 pub use many::Many;
 pub use slot::Slot;
 pub use spelling::{Spelled, kind_name};
-pub use texts::Texts;
+pub use tt_texts::Texts;

@@ -12,9 +12,10 @@ ghost use Rattle.tt_text.specs.declared.role.Role.TheVariants.{Leaf as IsLeaf};
 use crate::doc::{add_doc, block_text, line_text};
 use crate::leaves::{behind_apostrophe, punct_char, scan_of, spacing_before, span_at};
 use std::alloc::Global;
-use tt_base::{Ident, Leaf, Punct, Spacing, Span, SpanPart, TtFault, token_to_literal};
+use tt_base::{Ident, IdentIsRaw, Leaf, Punct, Spacing, Span, SpanPart, TtFault, token_to_literal};
 use tt_flat::FlatBuilder;
 use tt_lex::{LiteralKind, TokenKind};
+use tt_texts::Texts;
 
 /// Puts a leaf at the end.
 #[tactic(auto, using(crate::proofs::StackFacts::adds_leaf, crate::proofs::LimitFacts::leaf_fault))]
@@ -28,7 +29,7 @@ pub fn add_leaf(builder: &mut FlatBuilder, leaf: Leaf) -> Result<(), TtFault>
 
 /// Puts the name that a text spells at the end.
 pub fn add_name(
-    alloc: Global,
+    texts: &mut Texts,
     builder: &mut FlatBuilder,
     text: &str,
     span: Span,
@@ -36,8 +37,9 @@ pub fn add_name(
     ensures err { IfErr result (IsAddFault (at_span (name_of text.now) span ∷ []) builder.old) }
     ensures ok { OnOk result (Adds (at_span (name_of text.now) span ∷ []) builder.old builder.new) }
 {
-    let ident = Ident::new(alloc, text, span)?;
-    add_leaf(builder, Leaf::Ident(ident))
+    let (is_raw, name) = IdentIsRaw::split_from_symbol(text);
+    let sym = texts.symbol(name)?;
+    add_leaf(builder, Leaf::Ident(Ident { sym, span, is_raw }))
 }
 
 /// Puts a punct at the end.
@@ -81,7 +83,7 @@ fn add_literal(
 
 // Puts the quote of a lifetime and its name at the end.
 fn add_lifetime(
-    alloc: Global,
+    texts: &mut Texts,
     builder: &mut FlatBuilder,
     part: SpanPart,
     start: u32,
@@ -100,7 +102,7 @@ fn add_lifetime(
         span_at(part, start, start + 1),
     )?;
     add_name(
-        alloc,
+        texts,
         builder,
         behind_apostrophe(text),
         span_at(part, start + 1, end),
@@ -123,7 +125,7 @@ pub struct Placed<'a> {
 /// Puts the leaves of a token at the end.
 #[tactic(auto, using(crate::proofs::Hashes::block_few, crate::proofs::Hashes::short_suffix))]
 pub fn add_leaves(
-    alloc: Global,
+    texts: &mut Texts,
     builder: &mut FlatBuilder,
     part: SpanPart,
     token: Placed,
@@ -139,19 +141,19 @@ pub fn add_leaves(
     let at = token.at;
     let span = span_at(part, at, at + text.len() as u32);
     match token.kind {
-        TokenKind::Lifetime { .. } => add_lifetime(alloc, builder, part, at, text),
-        TokenKind::RawLifetime => add_lifetime(alloc, builder, part, at, text),
+        TokenKind::Lifetime { .. } => add_lifetime(texts, builder, part, at, text),
+        TokenKind::RawLifetime => add_lifetime(texts, builder, part, at, text),
         TokenKind::LineComment {
             doc_style: Some(style),
-        } => add_doc(alloc, builder, style, line_text(style, text), span),
+        } => add_doc(texts, builder, style, line_text(style, text), span),
         TokenKind::BlockComment {
             doc_style: Some(style),
             ..
-        } => add_doc(alloc, builder, style, block_text(style, text), span),
-        TokenKind::Ident => add_name(alloc, builder, text, span),
-        TokenKind::RawIdent => add_name(alloc, builder, text, span),
+        } => add_doc(texts, builder, style, block_text(style, text), span),
+        TokenKind::Ident => add_name(texts, builder, text, span),
+        TokenKind::RawIdent => add_name(texts, builder, text, span),
         TokenKind::Literal { kind, suffix_start } => {
-            add_literal(alloc, builder, kind, suffix_start, text, span)
+            add_literal(texts.alloc(), builder, kind, suffix_start, text, span)
         }
         _ => match punct_char(token.kind) {
             Some(char) => add_punct(builder, char, spacing_before(token.next), span),

@@ -7,10 +7,10 @@ ghost use Rattle.tt_text.specs.Pieces.{attribute, doc, inside, signs};
 ghost use Rattle.tt_text.specs.Spelled.{all_at};
 
 use crate::add::{add_leaf, add_name, add_punct};
-use std::alloc::Global;
 use tt_base::{DelimiterKind, Leaf, LitKind, Literal, Spacing, Span, TtFault};
 use tt_flat::FlatBuilder;
 use tt_lex::DocStyle;
+use tt_texts::Texts;
 
 // The text behind the signs that open a comment of one line.
 fn behind_line_opening(style: DocStyle, text: &str) -> &str
@@ -109,7 +109,7 @@ pub fn hashes_wanted(text: &str) -> usize
 
 // Puts `doc = text` at the end.
 fn add_inside(
-    alloc: Global,
+    texts: &mut Texts,
     builder: &mut FlatBuilder,
     text: &str,
     span: Span,
@@ -119,16 +119,16 @@ fn add_inside(
     ensures ok { OnOk result (Adds (all_at span (inside text.now)) builder.old builder.new) }
 {
     let hashes = hashes_wanted(text) as u8;
-    add_name(alloc, builder, "doc", span)?;
+    add_name(texts, builder, "doc", span)?;
     add_punct(builder, '=', Spacing::Alone, span)?;
-    let literal = Literal::new_no_suffix(alloc, text, span, LitKind::StrRaw(hashes))?;
+    let literal = Literal::new_no_suffix(texts.alloc(), text, span, LitKind::StrRaw(hashes))?;
     add_leaf(builder, Leaf::Literal(literal))?;
     Ok(())
 }
 
 // Puts `[doc = text]` at the end.
 fn add_brackets(
-    alloc: Global,
+    texts: &mut Texts,
     builder: &mut FlatBuilder,
     text: &str,
     span: Span,
@@ -138,7 +138,7 @@ fn add_brackets(
     ensures ok { OnOk result (Adds (all_at span (attribute text.now)) builder.old builder.new) }
 {
     builder.open(DelimiterKind::Bracket, span)?;
-    add_inside(alloc, builder, text, span)?;
+    add_inside(texts, builder, text, span)?;
     builder.close(span);
     Ok(())
 }
@@ -160,7 +160,7 @@ fn add_signs(builder: &mut FlatBuilder, style: DocStyle, span: Span) -> Result<(
 
 /// Puts the attribute at the end that a comment of that text stands for.
 pub fn add_doc(
-    alloc: Global,
+    texts: &mut Texts,
     builder: &mut FlatBuilder,
     style: DocStyle,
     text: &str,
@@ -171,6 +171,6 @@ pub fn add_doc(
     ensures ok { OnOk result (Adds (all_at span (doc style text.now)) builder.old builder.new) }
 {
     add_signs(builder, style, span)?;
-    add_brackets(alloc, builder, text, span)?;
+    add_brackets(texts, builder, text, span)?;
     Ok(())
 }

@@ -12,6 +12,7 @@ use std::alloc::Global;
 use tt_base::{DelimSpan, Delimiter, SpanAnchor, SpanPart, SyntaxContext};
 use tt_flat::FlatBuilder;
 use tt_lex::{MOST_TEXT_BYTES, Token, TokenKind, first_token};
+use tt_texts::Texts;
 use tt_view::TopSubtree;
 
 // A token of source has more bytes than that on average, white space counted.
@@ -77,6 +78,7 @@ pub fn parse_to_token_tree(
     let part = SpanPart { anchor, ctx };
     let top = top_of(part, text.len() as u32);
     let mut builder = FlatBuilder::with_capacity(alloc, top, room_for(text))?;
+    let mut texts = Texts::of_source(alloc, text.len());
     let mut open: Vec<Open> = Vec::new(alloc);
     let mut at = 0;
     let mut rest = text;
@@ -90,7 +92,7 @@ pub fn parse_to_token_tree(
             at,
             text: word,
         };
-        if let Some(fault) = take(alloc, &mut builder, &mut open, part, placed)? {
+        if let Some(fault) = take(&mut texts, &mut builder, &mut open, part, placed)? {
             return Err(TextFault::Syntax(fault));
         }
         at += token.len;

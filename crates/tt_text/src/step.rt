@@ -14,13 +14,13 @@ use crate::bracket::same_bracket;
 use crate::fault::{Open, SyntaxFault};
 use crate::leaves::span_at;
 use crate::role::{Role, role_in};
-use std::alloc::Global;
 use tt_base::{SpanPart, TtFault};
 use tt_flat::FlatBuilder;
+use tt_texts::Texts;
 
 /// Takes one token, and puts its pieces at the end of what the builder holds, or says why it cannot stand there.
 pub fn take(
-    alloc: Global,
+    texts: &mut Texts,
     builder: &mut FlatBuilder,
     opens: &mut Vec<Open>,
     part: SpanPart,
@@ -45,7 +45,7 @@ pub fn take(
         Role::Bad(why) => Ok(Some(SyntaxFault::BadToken { why, at })),
         Role::Nothing => Ok(None),
         Role::Leaf => {
-            add_leaves(alloc, builder, part, token)?;
+            add_leaves(texts, builder, part, token)?;
             Ok(None)
         }
         Role::Opens(bracket) => {

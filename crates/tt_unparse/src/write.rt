@@ -13,7 +13,7 @@ use crate::brackets::brackets_of;
 use crate::fault::WriteFault;
 use crate::reads::{may_follow, reads_alone};
 use std::alloc::{AllocError, Global};
-use tt_base::{Ident, Leaf};
+use tt_base::{Ident, IdentIsRaw, Leaf};
 use tt_lex::MOST_TEXT_BYTES;
 use tt_text::Bracket;
 use tt_view::text::{closing, opening, space};
@@ -53,6 +53,24 @@ fn put_text(text: &mut String, leaf: &Leaf) -> Result<(), AllocError>
     }
 }
 
+// The text of the leaf: of a plain ident as it stands, and else put in the room.
+fn text_in<'a>(room: &'a mut String, leaf: &'a Leaf) -> Result<&'a str, AllocError>
+    ensures { IfOk result (λ text. text.now ≡ leaf_text leaf.now) }
+{
+    if let Leaf::Ident(
+        Ident {
+            sym,
+            is_raw: IdentIsRaw::No,
+            ..
+        },
+    ) = leaf
+    {
+        return Ok(sym.as_str());
+    }
+    put_text(room, leaf)?;
+    Ok(room.as_str())
+}
+
 // Adds the leaf behind what was written last, if both can be written; `room` is for its text.
 #[tactic(auto, using(crate::proofs::WriteFacts::writes_leaf, crate::proofs::WriteFacts::leaf_within))]
 fn write_leaf(
@@ -66,18 +84,18 @@ fn write_leaf(
     ensures ok { IfOk result (λ next. Writes (string_bytes text.old) last (word at leaf.now ∷ []) (string_bytes text.new) next) }
     ensures err { IfErr result (IsFaultBefore last (word at leaf.now ∷ [])) }
 {
-    put_text(room, leaf)?;
-    if room.len() >= MOST_TEXT_BYTES {
+    let leaf_text = text_in(room, leaf)?;
+    if leaf_text.len() >= MOST_TEXT_BYTES {
         return Err(WriteFault::TooLong);
     }
     if !may_follow(alloc, last.behind, leaf)? {
         return Err(WriteFault::NotWritable { at: last.at });
     }
-    if !reads_alone(alloc, room.as_str(), leaf)? {
+    if !reads_alone(alloc, leaf_text, leaf)? {
         return Err(WriteFault::NotWritable { at });
     }
     text.push_str(space(wants_space(last.behind, leaf)))?;
-    text.push_str(room.as_str())?;
+    text.push_str(leaf_text)?;
     Ok(Last {
         at,
         behind: behind_leaf(leaf),

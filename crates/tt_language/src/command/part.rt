@@ -11,7 +11,7 @@ use crate::command::tokens::{character, leaf, token};
 use crate::command::word::{Word, next};
 use crate::digits::Digits;
 use crate::many::Many;
-use crate::texts::{Texts, new_symbol};
+use tt_texts::{Texts, new_symbol};
 use tt_base::{Leaf, Symbol, TokenTree, TtFault};
 
 /// Values that the pieces behind the first word of a line spell.

@@ -11,7 +11,7 @@ ghost use Rattle.tt_language.specs.Token.{placed_words, PlacedFits, punct_words,
 use crate::command::front::{after_ident, after_lit, after_punct, after_sub};
 use crate::command::numbers::number;
 use crate::command::word::Word;
-use crate::texts::Texts;
+use tt_texts::Texts;
 use std::str::from_utf8;
 use tt_base::{Delimiter, Ident, Leaf, Literal, Punct, Span, Subtree, Symbol, TokenTree, TtFault};
 
@@ -127,7 +127,7 @@ fn placed(texts: &mut Texts, text: &[u8]) -> Result<Option<(Span, Symbol)>, TtFa
     let Some((span, rest)) = Word::read_before_space(text) else {
         return Ok(None);
     };
-    let Some(symbol) = texts.symbol(rest)? else {
+    let Some(symbol) = texts.symbol_of_bytes(rest)? else {
         return Ok(None);
     };
     Ok(Some((span, symbol)))
