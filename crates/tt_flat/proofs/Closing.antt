@@ -1,5 +1,5 @@
 -- The innermost subtree is closed.
-use Rattle.std.proofs.Common.{◌≡◌, ℕ, suc, ◌+◌, ◌-◌, ◌<◌, ◌≤◌, List, [], ◌∷◌, ◌++◌, length, set, get_or, refl, ap, ap₂, sym, ◌∙◌, arith, length-append, length-set, append-nil}
+use Rattle.std.proofs.Common.{◌≡◌, ℕ, suc, ◌-◌, ◌<◌, List, [], ◌∷◌, ◌++◌, length, set, get_or, ap, ap₂, sym, ◌∙◌, arith, length-append, length-set, append-nil}
 use Rattle.std.proofs.Math.Seq.{set-append_seam, get_or-append_seam}
 use Rattle.tt_base.specs.Building.{Stack, above, append, lowest, tokens_held}
 use Rattle.tt_base.specs.Forest.{end, flat, header, node, size}

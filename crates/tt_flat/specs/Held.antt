@@ -1,5 +1,5 @@
 -- What a builder of a flat list holds, and what its calls make of that.
-use Rattle.std.specs.Prelude.{◌≡◌, ◌⊎◌, ℕ, ◌+◌, ◌<◌, refl}
+use Rattle.std.specs.Prelude.{◌≡◌, ◌⊎◌, ◌+◌, ◌<◌, refl}
 use Rattle.std.specs.Coded.{Coded, code_by, coded×}
 use Rattle.tt_base.specs.Building.{Stack, above, append, bottom, close_innermost, lowest, most_held, tokens_held, IsAbove}
 use Rattle.tt_base.specs.BuildingCode.{stack_code}

@@ -1,5 +1,5 @@
 -- The fields of a builder stand for one thing at most.
-use Rattle.std.specs.Prelude.{◌≡◌, ℕ, suc, ◌+◌, List, [], ◌∷◌, ◌++◌, length, refl}
+use Rattle.std.specs.Prelude.{◌≡◌, ℕ, suc, List, [], ◌∷◌, ◌++◌, length, refl}
 use Rattle.std.specs.Coded.{Coded-set, coded_list, coded_ℕ, le_prop}
 use mathlib.Core.HLevel.{Σ_prop_path}
 use Rattle.std.proofs.Common.{ap, ap₂, sym, ◌∙◌, subst, arith, length-append}

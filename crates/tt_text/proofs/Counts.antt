@@ -1,13 +1,11 @@
 -- How many tokens the pieces are that a builder holds.
-use Rattle.std.proofs.Common.{◌≡◌, ℕ, suc, ◌+◌, ◌≤◌, List, [], ◌∷◌, ◌++◌, refl, sym, ap, ◌∙◌, subst, arith}
+use Rattle.std.proofs.Common.{◌≡◌, ◌+◌, List, [], ◌∷◌, ◌++◌, refl, arith}
 use Rattle.tt_base.specs.Building.{Stack, above, lowest, tokens_held}
 use Rattle.tt_base.specs.Forest.{Forest, end, leaf, node, size}
-use Rattle.tt_base.specs.Span.{end_of, part_of, start_of}
-use Rattle.tt_base.specs.Token.{leaf_span}
 use Rattle.tt_base.specs.declared.leaf.Leaf.{Leaf}
 use Rattle.tt_base.specs.declared.leaf.Leaf.TheVariants as leaf_of
 use Rattle.tt_text.specs.Limits.{token_count, tokens_of}
-use Rattle.tt_text.specs.Spelled.{Piece, at_span, closing, opening, piece_of, sort_of, spelled, spelled_so_far}
+use Rattle.tt_text.specs.Spelled.{Piece, at_span, closing, opening, sort_of, spelled, spelled_so_far}
 
 pub token_count-append : (ps qs : List Piece) → token_count (ps ++ qs) ≡ token_count ps + token_count qs
 token_count-append [] qs = omega arith

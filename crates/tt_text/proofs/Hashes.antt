@@ -1,5 +1,5 @@
 -- What is known of the text of a token in which nothing is wrong: its comment wants few hashes, its suffix is short.
-use Rattle.std.proofs.Common.{◌≡◌, ℕ, ◌+◌, ◌-◌, ◌<◌, ◌≤◌, Bool, true, false, ◌&&◌, ◌==◌, max, List, [], ◌∷◌, ◌++◌, length, drop, slice_range, Option, None, Some, refl, sym, ap, ◌∙◌, subst, arith, if◌then◌else◌}
+use Rattle.std.proofs.Common.{◌≡◌, ℕ, ◌+◌, ◌-◌, ◌<◌, ◌≤◌, Bool, true, false, ◌&&◌, ◌==◌, max, List, [], ◌∷◌, length, drop, slice_range, Option, None, Some, refl, arith, if◌then◌else◌}
 use Rattle.std.proofs.lemmas.Bool.{ltb-false}
 use Rattle.std.specs.Prelude.{nat_lt, codes, bytes_eq}
 use Rattle.tt_base.specs.Scan.{FitsText, IsScanFault, closing_len, is_number, kind_told, opening_len, parts_told, suffix_told, told}

@@ -1,6 +1,5 @@
 -- Which limits are passed where leaves are added, and where a tree is built.
-use Rattle.std.proofs.Common.{◌≡◌, ◌≢◌, ℕ, ◌+◌, ◌<◌, ◌≤◌, List, [], ◌∷◌, ◌++◌, Some, append_assoc, ap, ◌∙◌, ⊎_elim, sym, subst, arith}
-use Rattle.std.specs.Str.{chars}
+use Rattle.std.proofs.Common.{◌≡◌, ℕ, ◌<◌, List, [], ◌∷◌, ◌++◌, append_assoc, ap, ◌∙◌, ⊎_elim, sym, subst, arith}
 use Rattle.tt_base.specs.Building.{most_held}
 use Rattle.tt_flat.specs.Held.{Held, IsGrowthFault}
 use Rattle.tt_base.specs.Forest.{Root}
@@ -12,8 +11,8 @@ use Rattle.tt_base.specs.declared.span.Span.{Span}
 use Rattle.tt_base.specs.declared.span.SpanPart.{SpanPart}
 use Rattle.tt_text.proofs.Counts.{token_count-append, token_count-held, token_count-spelled, tokens_of-leaf}
 use Rattle.tt_text.specs.Limits.{HasManyTokens, IsAddFault, IsLimit, token_count}
-use Rattle.tt_text.specs.Parsed.{Adds, IsParse}
-use Rattle.tt_text.specs.Spelled.{Piece, at_span, opening, piece_of, spelled, spelled_so_far}
+use Rattle.tt_text.specs.Parsed.{IsParse}
+use Rattle.tt_text.specs.Spelled.{Piece, at_span, opening, piece_of, spelled_so_far}
 use Rattle.tt_view.specs.TreeFault.{IsTreeFault}
 
 -- want of memory, where whatever is added

@@ -16,7 +16,7 @@ use Rattle.tt_lex.specs.declared.token.LiteralKind.{LiteralKind}
 use Rattle.tt_lex.specs.declared.token.LiteralKind.TheVariants as literals
 use Rattle.tt_lex.specs.declared.token.TokenKind.{TokenKind}
 use Rattle.tt_lex.specs.declared.token.TokenKind.TheVariants as kinds
-use Rattle.tt_text.specs.Doc.{block_text, hashes_wanted, line_text, without_prefix}
+use Rattle.tt_text.specs.Doc.{block_text, hashes_wanted, line_text}
 use Rattle.tt_text.specs.RawName.{behind_apostrophe}
 use Rattle.tt_text.specs.Role.{kind_of, role_in}
 use Rattle.tt_text.specs.declared.role.Role.{Role}

@@ -1,5 +1,5 @@
 -- The Rust text of trees is that of Display where no space stands otherwise.
-use Rattle.std.proofs.Common.{◌≡◌, ℕ, ◌+◌, Bool, true, false, ◌==◌, ◌&&◌, IsTrue, List, [], ◌∷◌, ◌++◌, Some, refl, sym, ap, ap₂, ◌∙◌, subst, append_assoc, append-nil, if◌then◌else◌}
+use Rattle.std.proofs.Common.{◌≡◌, ℕ, ◌+◌, Bool, true, false, ◌==◌, ◌&&◌, IsTrue, List, [], ◌∷◌, ◌++◌, Some, refl, sym, ap, ap₂, ◌∙◌, append_assoc, append-nil, if◌then◌else◌}
 use Rattle.std.proofs.lemmas.Bool.{false≢true}
 use Rattle.tt_base.specs.Forest.{Forest, end, leaf, node, size}
 use Rattle.tt_base.specs.LeafText.{leaf_text}
@@ -12,7 +12,7 @@ use Rattle.tt_text.specs.Role.{kind_of}
 use Rattle.tt_text.specs.declared.bracket.Bracket.{Bracket}
 use Rattle.tt_text.specs.declared.bracket.Bracket.TheVariants.{Parenthesis, Brace, Square}
 use Rattle.tt_unparse.specs.Displayed.{IsDisplayed, has_brackets, is_lone_quote, touches_pound}
-use Rattle.tt_unparse.specs.Marks.{Mark, word, opening, closing, brackets_of, closes, marks, opens, shown}
+use Rattle.tt_unparse.specs.Marks.{Mark, closing, brackets_of, closes, marks, opens, shown}
 use Rattle.tt_unparse.specs.Text.{behind_leaf, opens_apart, text_of, wants_space, written}
 use Rattle.tt_unparse.specs.declared.behind.Behind.{Behind}
 use Rattle.tt_unparse.specs.declared.behind.Behind.TheVariants.{Opening, Apart, Joint, Slash, Pound, Quote}

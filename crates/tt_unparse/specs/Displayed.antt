@@ -1,5 +1,5 @@
 -- Trees whose Rust text is that of Display.
-use Rattle.std.specs.Prelude.{◌≡◌, ℕ, Bool, true, false, ◌==◌, ◌&&◌, IsTrue}
+use Rattle.std.specs.Prelude.{◌≡◌, Bool, true, false, ◌==◌, ◌&&◌, IsTrue}
 use Rattle.tt_base.specs.Forest.{Forest, end, leaf, node}
 use Rattle.tt_base.specs.TreeText.{is_alone}
 use Rattle.tt_base.specs.declared.delimiter.DelimiterKind.{DelimiterKind}

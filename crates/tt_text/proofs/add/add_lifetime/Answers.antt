@@ -4,7 +4,7 @@ use Rattle.tt_text.proofs.LimitFacts.{more_fault}
 use Rattle.tt_text.proofs.StackFacts.{at_piece}
 use Rattle.tt_text.proofs.add.add_lifetime.Goals as goal
 use Rattle.tt_text.specs.Limits.{IsAddFault}
-use Rattle.tt_text.specs.Pieces.{lifetime, name_of, piece}
+use Rattle.tt_text.specs.Pieces.{name_of, piece}
 use Rattle.tt_text.specs.RawName.{behind_apostrophe}
 use Rattle.tt_text.specs.Spelled.{sign}
 

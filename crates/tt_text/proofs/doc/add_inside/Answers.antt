@@ -1,15 +1,10 @@
-use Rattle.std.proofs.Common.{◌≡◌, [], ◌∷◌, ◌++◌, codes, Err, rules, ap, sym, subst, ◌∙◌}
-use Rattle.tt_base.specs.declared.delimiter.DelimiterKind.TheVariants.{Bracket}
+use Rattle.std.proofs.Common.{◌≡◌, [], ◌∷◌, codes, Err, rules}
 use Rattle.tt_base.specs.declared.ident.IdentIsRaw.TheVariants.{No}
 use Rattle.tt_base.specs.declared.literal.LitKind.TheVariants.{StrRaw}
 use Rattle.tt_base.specs.declared.punct.Spacing.TheVariants.{Alone}
-use Rattle.tt_text.proofs.LimitFacts.{behind_fault, more_fault, open_fault}
-use Rattle.tt_text.proofs.StackFacts.{adds_both, adds_brackets, all_at-append}
+use Rattle.tt_text.proofs.LimitFacts.{behind_fault, more_fault}
 use Rattle.tt_text.specs.Doc.{hashes_wanted}
-use Rattle.tt_text.specs.Limits.{IsAddFault}
-use Rattle.tt_text.specs.Parsed.{Adds}
-use Rattle.tt_text.specs.Pieces.{attribute, inside, signs}
-use Rattle.tt_text.specs.Spelled.{Piece, all_at, at_span, closing, name, opening, sign, spelled_so_far, value}
+use Rattle.tt_text.specs.Spelled.{Piece, at_span, name, sign, value}
 use Rattle.tt_text.proofs.doc.add_inside.Goals as goal
 
 pub returns-in_err-add_name-clause-err : goal.returns-in_err-add_name-clause-err

@@ -1,4 +1,4 @@
-use Rattle.std.proofs.Common.{◌≡◌, ◌-◌, length, sym, ◌∙◌}
+use Rattle.std.proofs.Common.{◌≡◌, sym, ◌∙◌}
 use Rattle.tt_base.specs.Forest.{flat_root, header}
 use Rattle.tt_base.specs.Unflat.{flat_root-injective}
 use Rattle.tt_flat.proofs.Built.{built_list, counted_first, few_below, some_token}

@@ -1,6 +1,6 @@
 use Rattle.std.proofs.Common.{◌≡◌, ◌++◌, ◌∷◌, [], refl, rules}
 use Rattle.tt_base.specs.Forest.{header}
-use Rattle.tt_flat.proofs.Closing.{closed_fields, place_within, some_header}
+use Rattle.tt_flat.proofs.Closing.{closed_fields, place_within}
 use Rattle.tt_flat.proofs.builder.FlatBuilder.close.Goals as goal
 use Rattle.tt_flat.specs.Held.{closed}
 use Rattle.tt_flat.specs.OneHeld.{held_is, seen}
