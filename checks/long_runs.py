@@ -24,6 +24,7 @@ NAMES = 100_000
 BUILT_TOKENS = 600_000
 RULE_LEVELS = 200
 POINTS = 1_000
+BRACKETS = 1_000_000
 # A span of zeros.
 ZERO = "0:0@0..0#0"
 
@@ -344,9 +345,22 @@ def many_points(program):
     wants("answers", answers_of(program, commands), expected)
 
 
+def brackets_of_a_text(program):
+    """Texts of many brackets, one in the other: they match, or what is open is not closed, or closed by another."""
+    left, right = "(" * BRACKETS, ")" * BRACKETS
+    commands = [
+        f"read 0 {left}{right}", "text 0", f"read 1 {left}", f"read 1 {left}]", f"read 1 {left}{right})", "text 1",
+        "read 1 " + "[{(" * BRACKETS + ")}]" * BRACKETS,
+    ]
+    wants("answers", answers_of(program, commands), [
+        "ok", left + right, f"text {BRACKETS - 1} unclosed (", f"text {BRACKETS} ] for ( at {BRACKETS - 1}",
+        f"text {2 * BRACKETS} unopened )", "empty", "ok",
+    ])
+
+
 RUNS = (
     long_list, deep_nest, deepest_nest, debug_of_a_nest, replaced_leaves, long_line, all_slots, counts_of_many, many_names,
-    large_tree, deep_rule, many_points,
+    large_tree, deep_rule, many_points, brackets_of_a_text,
 )
 
 

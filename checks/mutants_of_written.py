@@ -1,7 +1,6 @@
 """Definitions of plain_written.py turned: what is turned, the text that is replaced, and the text in its place."""
 MUTANTS = [
     ("a leaf may be the front of its text", "return trees if text and end == len(text) else None", "return trees"),
-    ("a punct is any punct", "isinstance(tree, Punct) and tree.char == leaf.char", "isinstance(tree, Punct)"),
     ("a leaf may read as another", "not isinstance(tree, Subtree) and tree == leaf._replace(span=None)", "not isinstance(tree, Subtree)"),
     ("a leaf may read as several", "len(trees) == 1 and same_leaf", "same_leaf"),
     ("a quote may stand before any name", "return isinstance(leaf, Ident) and len(read_alone(QUOTE + leaf_text(leaf)) or ()) == 2", "return isinstance(leaf, Ident)"),

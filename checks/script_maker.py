@@ -22,12 +22,14 @@ SHOWN = "show pretty debug flat siblings walk glue bytes parts symbols save text
 STORED = "bytes parts symbols".split()
 # How often each command, or some that belong together, come among others.
 WEIGHTS = {
-    "tree": 4, "spoiled_list": 1, "mended_list": 1, "rule": 5, "spoiled_rule": 1, "edge": 1, "table": 0.5, "joined": 3,
+    "tree": 4, "spoiled_list": 1, "mended_list": 1, "rule": 8, "spoiled_rule": 1, "edge": 1, "table": 0.5, "joined": 3,
     "new": 2, "open": 11, "push": 14, "close": 10, "append": 3, "alone": 3, "ends_alone": 1, "unwrap": 4, "marked": 3,
     "point": 4, "restore": 4, "points": 0.3, "many": 0.1, "expected": 1, "counts": 4, "build": 2, "skip": 2, "skipped": 1,
-    "copy": 2, "kind": 2, "spans": 2, "set": 3, "ids": 2, "rewrite": 4, "expand": 1, "equal": 2, "nearly_equal": 1,
-    "split": 4, "shown": 10, "load": 8, "read": 30,
+    "copy": 2, "kind": 2, "spans": 2, "set": 3, "ids": 2, "rewrite": 4, "expand": 1.5, "equal": 2, "nearly_equal": 1,
+    "split": 4, "shown": 13, "load": 13, "read": 30, "written": 10,
 }
+# Signs that make a comment, a prefix or a lifetime with what they touch, and others.
+TOUCHING = "//**##''-:="
 
 
 class Script(Rules, Texts):
@@ -332,6 +334,25 @@ class Script(Rules, Texts):
         self.add("read", slot, self.rust_text(self.pick((1, 2, 3, 6, 12, 40))))
         self.add("flat", slot)
         self.add("text", slot)
+
+    def add_written(self):
+        """A tree of few leaves, most of which can be written, and its text."""
+        slot = self.slot()
+        trees = [self.written_tree() for _ in range(self.pick((1, 2, 2, 3, 3, 5)))]
+        self.add_list(self.tokens_of([self.subtree(trees)]), slot)
+        self.add("text", slot)
+
+    def written_tree(self):
+        """A sign, a name, a literal, or a subtree of few leaves."""
+        if self.happens(0.45):
+            return Punct(self.pick(("joint", "joint", "hidden", "alone")), self.span(), self.pick(TOUCHING))
+        if self.happens(0.25):
+            inside = self.subtree([self.written_tree() for _ in range(self.pick((0, 1, 1, 2)))])
+            return inside._replace(kind=self.pick((inside.kind, "opaque", "invisible")))
+        if self.happens(0.5):
+            return Ident(self.pick(("plain", "plain", "raw")), self.span(), self.pick(("a", "b", "crate", "_", "a b", "1", "r#a", "fn")))
+        kind, text = self.pick((("str", "x"), ("str", 'x"'), ("err", '"x"y'), ("int", "1"), ("int", "-1"), ("char", "x"), ("char", ""), ("rstr:1", "x"), ("err", "a")))
+        return Literal(kind, 0, self.span(), text)
 
     def add_split(self):
         self.add("split", self.slot(), self.pick(CUTS))

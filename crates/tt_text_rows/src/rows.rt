@@ -1,7 +1,7 @@
 //! Texts, each with the Debug of its tree or with why it is refused.
 use std::alloc::Global;
 use std::test::Fail;
-use tt::{ErasedFileAstId, FileId, SpanAnchor, SyntaxContext, TtFault, debug_text};
+use tt::{ErasedFileAstId, FileId, SpanAnchor, SyntaxContext, TopSubtree, TtFault, debug_text};
 use tt_text::{TextFault, parse_to_token_tree};
 
 // Texts that are read.
@@ -61,7 +61,7 @@ const READ: [(&str, &str); 11] = [
 ];
 
 // Texts that are refused, with their first fault.
-const REFUSED: [(&str, &str); 29] = [
+const REFUSED: [(&str, &str); 35] = [
     ("é )", "unopened ')' at 3"),
     ("日 [(]", "']' at 6 does not close the '(' at 5"),
     ("é ([{}", "unclosed '[' at 4"),
@@ -70,10 +70,13 @@ const REFUSED: [(&str, &str); 29] = [
     ("é /* /* */", "unterminated comment at 3"),
     ("é \"a", "unterminated literal at 3"),
     ("日 b'", "unterminated literal at 4"),
-    (
-        "é r#\"a\"",
-        "raw literal that is not closed, or has more than 255 hashes at 3",
-    ),
+    ("é r#\"a\"", "unterminated literal at 3"),
+    ("日 br##a", "raw literal without a quote at 4"),
+    ("é r#crate", "name that is never raw at 3"),
+    ("日 r#_", "name that is never raw at 4"),
+    ("é 'r#Self", "name that is never raw at 3"),
+    ("é r#self r#crate", "name that is never raw at 3"),
+    ("é (r#super)", "name that is never raw at 4"),
     ("é \\", "unknown character at 3"),
     ("é a\"b\"", "unknown prefix at 3"),
     ("日 'a#", "unknown prefix at 4"),
@@ -148,13 +151,54 @@ const ESCAPES: [(&str, &str); 5] = [
     ),
 ];
 
-// The Debug of the text's tree, or why it is refused.
-fn told(alloc: Global, text: &str) -> Result<String, TtFault> {
+// What stands before and behind one sign over and over, how many of these, and what is told of it.
+const MANY: [(&str, &str, usize, &str, &str); 8] = [
+    ("é 1", "u", 255, "", ""),
+    ("é 1", "u", 256, "", "suffix of more than 255 bytes at 3"),
+    ("é 1.5", "é", 128, "", "suffix of more than 255 bytes at 3"),
+    ("é /// \"", "#", 254, "", ""),
+    ("日 /// \"", "#", 255, "", "more than 255 hashes at 4"),
+    ("é /*! \"", "#", 255, "*/", "more than 255 hashes at 3"),
+    ("日 r", "#", 255, "\"", "unterminated literal at 4"),
+    ("日 r", "#", 256, "\"", "more than 255 hashes at 4"),
+];
+
+// Whether each text of many signs is told so; one that is read has an empty answer here.
+fn are_many_told(alloc: Global) -> Result<bool, TtFault> {
+    for (before, sign, count, behind, wanted) in &MANY {
+        let mut text = String::from_str(alloc, before)?;
+        for _ in 0..*count {
+            text.push_str(sign)?;
+        }
+        text.push_str(behind)?;
+        let found = refusal(alloc, text.as_str())?;
+        if found.as_str() != *wanted {
+            return Ok(false);
+        }
+    }
+    Ok(true)
+}
+
+// Why the text is refused; empty where it is read.
+fn refusal(alloc: Global, text: &str) -> Result<String, TtFault> {
+    match read(alloc, text) {
+        Ok(_tree) => Ok(String::new(alloc)),
+        Err(fault) => Ok(format!(in alloc; "{fault}")?),
+    }
+}
+
+// The tree of the text.
+fn read(alloc: Global, text: &str) -> Result<TopSubtree, TextFault> {
     let anchor = SpanAnchor {
         file_id: FileId(0),
         ast_id: ErasedFileAstId(0),
     };
-    match parse_to_token_tree(alloc, anchor, SyntaxContext(0), text) {
+    parse_to_token_tree(alloc, anchor, SyntaxContext(0), text)
+}
+
+// The Debug of the text's tree, or why it is refused.
+fn told(alloc: Global, text: &str) -> Result<String, TtFault> {
+    match read(alloc, text) {
         Ok(tree) => debug_text(alloc, tree.token_trees()),
         Err(fault) => Ok(format!(in alloc; "{fault}")?),
     }
@@ -188,6 +232,11 @@ fn texts_that_are_read(rt: HostRuntime) -> Result<(), Fail> {
 #[test]
 fn texts_that_are_refused(rt: HostRuntime) -> Result<(), Fail> {
     holds(are_told(rt.alloc(), &REFUSED))
+}
+
+#[test]
+fn texts_of_many_signs(rt: HostRuntime) -> Result<(), Fail> {
+    holds(are_many_told(rt.alloc()))
 }
 
 #[test]
