@@ -28,13 +28,13 @@ BETWEEN_TEXTS = "\x01"
 SHEBANG = re.compile(r"#!(?!\s*\[)")
 # Classes of texts that one of both refuses alone: who does, and by which words (docs/DIFFERENCES.md).
 CLASSES = {
-    "a raw identifier of a keyword": ("rustc", "cannot be a raw identifier"),
+    "a suffix of more than 255 bytes": ("ours", "suffix of more than 255 bytes"),
+    "a comment whose text wants more than 255 hashes": ("ours", "more than 255 hashes"),
     "a suffix that is `_`": ("rustc", "underscore literal suffix"),
     "emoji in an identifier, which rustc tells later": ("ours", "invalid identifier"),
     "emoji in an identifier, told of another text": ("rustc", "identifiers cannot contain emoji"),
     "emoji in an identifier, told of another text too": ("rustc", "Ferris cannot be used as an identifier"),
     "a lifetime that begins with a digit, which rustc tells later": ("ours", "lifetime that begins with a digit"),
-    "a raw lifetime of a keyword": ("rustc", "cannot be a raw lifetime"),
     "a raw lifetime right before a quote": ("rustc", "character literal may only contain one codepoint"),
     "a carriage return at the end, in a comment that documents something": ("rustc", "bare CR not allowed in doc-comment"),
     "a character that came with a later version of Unicode": ("rustc", "unknown start of token"),
