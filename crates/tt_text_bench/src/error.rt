@@ -3,16 +3,20 @@ use std::io;
 use thiserror::Error;
 use tt::TtFault;
 use tt_text::TextFault;
+use tt_unparse::WriteFault;
 
 /// Why nothing was measured or shown.
 #[derive(Debug, Drop, Error)]
 pub enum BenchError {
     /// The arguments ask for nothing that there is.
-    #[error("usage: tt_text_bench time ROUNDS < TEXT, or tt_text_bench show < TEXT")]
+    #[error("usage: tt_text_bench time|write|display ROUNDS < TEXT, or tt_text_bench show < TEXT")]
     Usage,
     /// A text that is to be timed has no tree.
     #[error("{0}")]
     Refused(TextFault),
+    /// The tree of a text that is to be written cannot be.
+    #[error("{0}")]
+    NotWritten(WriteFault),
     /// Memory for what is shown was refused.
     #[error("{0}")]
     Show(TtFault),

@@ -1,8 +1,9 @@
 //! Reads the text on standard input into a tree, to measure that or to compare it with what another reader makes of it:
-//! `tt_text_bench time ROUNDS < TEXT`, `tt_text_bench show < TEXT`.
+//! `tt_text_bench time|write|display ROUNDS < TEXT`, `tt_text_bench show < TEXT`.
 //!
 //! `time` prints one line: the nanoseconds of processor time that a round took, the bytes of the text and the tokens of its
-//! tree. `show` prints the Debug text of the tree, or why the text has none. The character U+0001 parts a text from the next
+//! tree. So do `write` and `display`, which read it once and write the tree in each round, as Rust text or as Display does.
+//! `show` prints the Debug text of the tree, or why the text has none. The character U+0001 parts a text from the next
 //! one, and a line of it is printed behind each.
 #![tactic(auto)]
 
@@ -34,8 +35,8 @@ fn run(rt: &HostRuntime) -> Result<(), BenchError> {
     let mut text = String::new(alloc);
     rt.stdin().read_to_string(&mut text)?;
     match job {
-        Job::Time(rounds) => {
-            let timed = timing::time(rt, alloc, text.as_str(), rounds)?;
+        Job::Time(timing, rounds) => {
+            let timed = timing::time(rt, alloc, text.as_str(), timing, rounds)?;
             println!(rt; "{timed}")?;
         }
         Job::Show => {
