@@ -1,6 +1,6 @@
 //! Whole tokens that name values, these values, and how often each is used.
 ghost use Rattle.std.specs.Prelude.{◌≡◌, length};
-ghost use Rattle.tt_interned.specs.Counted.{IsListOf};
+ghost use Rattle.tt_interned.specs.Counted.{AreOf, IsListOf};
 ghost use Rattle.tt_interned.specs.OneList.{IsListOf-prop};
 
 use crate::token::InternedToken;
@@ -21,6 +21,27 @@ pub struct CountedTokens<'a> {
 
 impl<'a> CountedTokens<'a> {
     ghost use Rattle.tt_interned.specs.ListOf.{list_of, tokens_of, parts_of, part_uses_of, symbols_of, symbol_uses_of};
+
+    /// Tokens, values and numbers of uses from elsewhere, which mean a list.
+    #[inline(always)]
+    pub fn new(
+        tokens: &'a [InternedToken],
+        parts: &'a [SpanPart],
+        part_uses: &'a [usize],
+        symbols: &'a [Symbol],
+        symbol_uses: &'a [usize],
+    ) -> CountedTokens<'a>
+        requires { IsListOf tokens.now parts.now part_uses.now symbols.now symbol_uses.now }
+        ensures { AreOf tokens.entry.now parts.entry.now part_uses.entry.now symbols.entry.now symbol_uses.entry.now (list_of result) }
+    {
+        CountedTokens {
+            tokens,
+            parts,
+            part_uses,
+            symbols,
+            symbol_uses,
+        }
+    }
 
     /// How many tokens there are.
     #[inline(always)]
