@@ -1,0 +1,7 @@
+use Rattle.std.proofs.Common.{rules, ◌≡◌, ◌+◌, arith}
+use Rattle.tt_bytes.proofs.Spans.{span_used}
+use Rattle.tt_bytes.proofs.uses.use_span.Goals as goal
+
+pub returns : goal.returns
+returns c before are added =
+    span_used _ _ _ _ before are (omega (arith, c.if-index-parts.false)) (search (rules, arith)) (search (rules, arith)) (c.add_use.ensures added)
