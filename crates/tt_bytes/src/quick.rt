@@ -1,9 +1,14 @@
-//! The tree of tables and packed bytes, made by the places of values; of which nothing is promised but that it is a tree.
+//! The tree of a piece, made by the places of values. It is taken only where its own bytes are those of the piece, so what is
+//! read of the piece before that has to be some tree, whichever.
 ghost use Rattle.std.specs.List.{IsDistinct};
-ghost use Rattle.std.specs.Prelude.{bytes_eq};
+ghost use Rattle.std.specs.Prelude.{◌≡◌, bytes_eq, IfOk, IfSome};
+ghost use Rattle.tt_base.specs.Forest.{Root};
+ghost use Rattle.tt_bytes.specs.Format.{AreBytesOf};
 ghost use Rattle.tt_tables.specs.Uses.{same_part};
 
+use crate::compare::are_bytes_of;
 use crate::distinct::all_differ;
+use crate::piece::Piece;
 use crate::taking::Taking;
 use crate::whole::are_whole;
 use std::alloc::{AllocError, Global};
@@ -71,8 +76,8 @@ fn tree_of_tokens(
     }
 }
 
-/// The tree of packed bytes under these tables, if each table has different values, and what is read is a tree.
-pub(crate) fn quick_tree(
+// The tree of packed bytes under these tables, if each table has different values, and what is read is a tree.
+fn quick_tree(
     alloc: Global,
     parts: &[SpanPart],
     symbols: &[Symbol],
@@ -94,4 +99,22 @@ pub(crate) fn quick_tree(
     }
     let taking = take_tokens(alloc, tables, count, rest)?;
     tree_of_tokens(alloc, top.delimiter, &taking)
+}
+
+/// The tree of a piece, where these are its bytes. There may be none also where they are those of a tree.
+pub(crate) fn stored_tree(
+    alloc: Global,
+    piece: &Piece<'_>,
+    bytes: &[u8],
+) -> Result<Option<TopSubtree>, AllocError>
+    ensures is { IfOk result (λ found. IfSome found (λ tree. AreBytesOf tree bytes.now)) }
+    ensures only { IfOk result (λ found. IfSome found (λ tree. (other : Root) → AreBytesOf other bytes.now → other ≡ tree)) }
+{
+    let Some(tree) = quick_tree(alloc, &piece.parts, &piece.symbols, piece.packed)? else {
+        return Ok(None);
+    };
+    if are_bytes_of(&tree, bytes) {
+        return Ok(Some(tree));
+    }
+    Ok(None)
 }
