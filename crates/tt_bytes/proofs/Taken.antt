@@ -1,5 +1,5 @@
 -- One more token that names values by places, and the list that is meant then.
-use Rattle.std.proofs.Common.{◌≡◌, ℕ, ◌+◌, ◌<◌, ◌^◌, bytes_eq, List, [], ◌∷◌, ◌++◌, Some, map, slice_get, append_assoc, append-nil, refl, ap, sym, subst, ◌∙◌}
+use Rattle.std.proofs.Common.{◌≡◌, ℕ, ◌+◌, ◌<◌, ◌^◌, bytes_eq, List, [], ◌∷◌, ◌++◌, Some, length, map, slice_get, append_assoc, append-nil, refl, ap, sym, subst, ◌∙◌}
 use Rattle.std.proofs.lemmas.List.{map-append}
 use Rattle.std.specs.Char.{IsScalar}
 use Rattle.std.specs.List.{IsDistinct}
@@ -100,27 +100,29 @@ taken_header tokens more parts counts counts_mid counts_now order numbers entry 
     (record { opening = opening.found order; closing = closing.found order; kind = refl; len = refl }, (opening.range, closing.range))
 
 -- What symbols are used.
-symbols_used : (table : List (List ℕ)) (old : SymbolUses) (tokens : List InternedToken) (parts : List SpanPart) (counts : List ℕ) (list : List TokenTree) → IsDistinct bytes_eq table
+symbols_used : (table : List (List ℕ)) (old : SymbolUses) (tokens : List InternedToken) (parts : List SpanPart) (counts : List ℕ) (list : List TokenTree) → IsDistinct bytes_eq table → length old.places.items ≡ length table
     → ArePlaced table old.places.items old.order.items → AreOf tokens parts counts old.order.items old.numbers.items list → HaveUses table old (symbol_uses list)
-symbols_used table old tokens parts counts list distinct placed are = record { distinct = distinct; placed = placed; in_order = are.in_order; counted = are.symbols_counted }
+symbols_used table old tokens parts counts list distinct long placed are = record { distinct = distinct; long = long; placed = placed; in_order = are.in_order; counted = are.symbols_counted }
 
 -- the list that is meant now, and where symbols stand
 abbrev pub IsTaken : (more : List InternedToken) (parts : List SpanPart) (counts : List ℕ) (table : List (List ℕ)) (new : SymbolUses) → Type 0
-IsTaken more parts counts table new = IsListOf more parts counts new.order.items new.numbers.items × ArePlaced table new.places.items new.order.items
+IsTaken more parts counts table new =
+    IsListOf more parts counts new.order.items new.numbers.items × (length new.places.items ≡ length table) × ArePlaced table new.places.items new.order.items
 
 -- An ident.
 pub taken_ident : (tokens more : List InternedToken) (parts : List SpanPart) (counts counts_now : List ℕ) (table : List (List ℕ)) (old new : SymbolUses) (symbol place : ℕ) (raw : IdentIsRaw) (span : SpanNumbers)
-    → IsDistinct bytes_eq table → ArePlaced table old.places.items old.order.items → IsListOf tokens parts counts old.order.items old.numbers.items
+    → IsDistinct bytes_eq table → length old.places.items ≡ length table → ArePlaced table old.places.items old.order.items → IsListOf tokens parts counts old.order.items old.numbers.items
     → ((before : List SpanPart) → AreUsed parts counts before → UsesSpan parts span counts_now before)
     → ((before : List (List ℕ)) → HaveUses table old before → UsesSymbol table symbol place old new before)
     → more ≡ tokens ++ interned.Leaf (ident place raw span) ∷ [] → IsTaken more parts counts_now table new
-taken_ident tokens more parts counts counts_now table old new symbol place raw span distinct placed (list, are) uses names grown =
+taken_ident tokens more parts counts counts_now table old new symbol place raw span distinct long placed (list, are) uses names grown =
     let part = uses (part_uses list) (parts_used tokens parts counts old.order.items old.numbers.items list are) in
-    let one = names (symbol_uses list) (symbols_used table old tokens parts counts list distinct placed are) in
+    let one = names (symbol_uses list) (symbols_used table old tokens parts counts list distinct long placed are) in
     let it : Ident = record { sym = one.text; span = part.span; is_raw = raw } in
     (
       taken tokens more parts counts counts_now old.order.items new.order.items old.numbers.items new.numbers.items list _ (token.Leaf (leaf.Ident it)) are grown part.used
       one.used.in_order one.used.counted one.stay ((part.found new.order.items, one.stands, refl), part.range),
+      one.used.long,
       one.used.placed,
     )
 
@@ -131,16 +133,16 @@ IsLiteralOf parts table symbol kind suffix_len span it = IsLeaf (tables_from par
 -- A literal.
 pub taken_literal : (tokens more : List InternedToken) (parts : List SpanPart) (counts counts_now : List ℕ) (table : List (List ℕ)) (old new : SymbolUses) (symbol place : ℕ) (kind : LitKind) (suffix_len : ℕ) (span : SpanNumbers)
     (it : TokenTree) → IsLiteralOf parts table symbol kind suffix_len span it
-    → IsDistinct bytes_eq table → ArePlaced table old.places.items old.order.items → IsListOf tokens parts counts old.order.items old.numbers.items
+    → IsDistinct bytes_eq table → length old.places.items ≡ length table → ArePlaced table old.places.items old.order.items → IsListOf tokens parts counts old.order.items old.numbers.items
     → ((before : List SpanPart) → AreUsed parts counts before → UsesSpan parts span counts_now before)
     → ((before : List (List ℕ)) → HaveUses table old before → UsesSymbol table symbol place old new before)
     → more ≡ tokens ++ interned.Leaf (literal place kind suffix_len span) ∷ [] → IsTaken more parts counts_now table new
-taken_literal tokens more parts counts counts_now table old new symbol place kind suffix_len span (token.Subtree it) is distinct placed has uses names grown = absurd is
-taken_literal tokens more parts counts counts_now table old new symbol place kind suffix_len span (token.Leaf (leaf.Punct it)) is distinct placed has uses names grown = absurd is
-taken_literal tokens more parts counts counts_now table old new symbol place kind suffix_len span (token.Leaf (leaf.Ident it)) is distinct placed has uses names grown = absurd is
-taken_literal tokens more parts counts counts_now table old new symbol place kind suffix_len span (token.Leaf (leaf.Literal it)) is distinct placed (list, are) uses names grown =
+taken_literal tokens more parts counts counts_now table old new symbol place kind suffix_len span (token.Subtree it) is distinct long placed has uses names grown = absurd is
+taken_literal tokens more parts counts counts_now table old new symbol place kind suffix_len span (token.Leaf (leaf.Punct it)) is distinct long placed has uses names grown = absurd is
+taken_literal tokens more parts counts counts_now table old new symbol place kind suffix_len span (token.Leaf (leaf.Ident it)) is distinct long placed has uses names grown = absurd is
+taken_literal tokens more parts counts counts_now table old new symbol place kind suffix_len span (token.Leaf (leaf.Literal it)) is distinct long placed (list, are) uses names grown =
     let part = uses (part_uses list) (parts_used tokens parts counts old.order.items old.numbers.items list are) in
-    let one = names (symbol_uses list) (symbols_used table old tokens parts counts list distinct placed are) in
+    let one = names (symbol_uses list) (symbols_used table old tokens parts counts list distinct long placed are) in
     let found = part.found table in
     let same_span : part.span ≡ span_of it =
     span_from part.span (span_of it) (one_there parts span.part (part_of part.span) (part_of (span_of it)) found.part is.0.part) (sym found.start ∙ is.0.start) (sym found.length ∙ is.0.length) in
@@ -152,6 +154,7 @@ taken_literal tokens more parts counts counts_now table old new symbol place kin
     (
       taken tokens more parts counts counts_now old.order.items new.order.items old.numbers.items new.numbers.items list _ (token.Leaf (leaf.Literal it)) are grown used
       symbols.in_order symbols.counted one.stay ((finds, stands, is.2, is.3), subst SpanInRange same_span part.range),
+      one.used.long,
       one.used.placed,
     )
 

@@ -1,6 +1,6 @@
 -- How often values of a table are used, where uses come one after the other.
 use Rattle.std.specs.List.{IsDistinct, list_any}
-use Rattle.std.specs.Prelude.{◌≡◌, ℕ, ◌+◌, ◌<◌, ◌≤◌, false, bytes_eq, List, [], ◌∷◌, ◌++◌, Some, map, set, slice_get}
+use Rattle.std.specs.Prelude.{◌≡◌, ℕ, ◌+◌, ◌<◌, ◌≤◌, false, bytes_eq, List, [], ◌∷◌, ◌++◌, Some, length, map, set, slice_get}
 use Rattle.tt_base.specs.declared.span.Span.{Span}
 use Rattle.tt_base.specs.declared.span.SpanPart.{SpanPart}
 use Rattle.tt_base.specs.Fits.{SpanInRange}
@@ -45,6 +45,7 @@ ArePlaced table places order =
 -- the table's symbols differ, and those that are used stand by first use, each with its number of uses
 pub record HaveUses (table : List (List ℕ)) (it : SymbolUses) (uses : List (List ℕ)) : Type 0 where
   pub distinct : IsDistinct bytes_eq table
+  pub long : length it.places.items ≡ length table
   pub placed : ArePlaced table it.places.items it.order.items
   pub in_order : it.order.items ≡ different bytes_eq uses
   pub counted : it.numbers.items ≡ map (uses_of bytes_eq uses) it.order.items

@@ -7,7 +7,7 @@ use std::alloc::{AllocError, Global};
 use std::hash::Hash;
 
 // Up to so many values are compared with each other; of more a set is made.
-const FEW_VALUES: usize = 24;
+const FEW_VALUES: usize = 8;
 
 // Whether few values differ: each is compared with all behind it.
 fn few_differ<T: Eq>(values: &[T]) -> bool

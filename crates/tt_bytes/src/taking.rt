@@ -1,5 +1,5 @@
 //! Tokens that are taken from packed bytes one after the other.
-ghost use Rattle.std.specs.Prelude.{◌≡◌, ◌++◌, ◌∷◌, [], false, bytes_eq, IsTrue};
+ghost use Rattle.std.specs.Prelude.{◌≡◌, ◌++◌, ◌∷◌, [], false, bytes_eq, length, IsTrue};
 ghost use Rattle.std.proofs.Props.{props};
 ghost use Rattle.std.specs.List.{IsDistinct};
 ghost use Rattle.tt_bytes.specs.Uses.{ArePlaced};
@@ -25,6 +25,7 @@ pub(crate) struct Taking<'a> {
     /// Whether one did not fit.
     pub(crate) failed: bool,
     pub ghost list: { failed ≡ false → IsListOf tokens.items tables.parts.now part_uses.items symbols.order.items symbols.numbers.items } by { λ a b i e. IsListOf-prop tokens.items tables.parts.now part_uses.items symbols.order.items symbols.numbers.items (a e) (b e) i },
+    pub ghost long: { failed ≡ false → length symbols.places.items ≡ length tables.symbols.now },
     pub ghost placed: { failed ≡ false → ArePlaced tables.symbols.now symbols.places.items symbols.order.items },
     pub ghost distinct: { IsDistinct bytes_eq tables.symbols.now } by { Prim.hlevel props },
 }
@@ -103,7 +104,7 @@ impl<'a> Visitor<'a> for Taking<'a> {
 
     #[inline(always)]
     fn visit_ident(&mut self, symbol: u32, is_raw: IdentIsRaw, span: SpanNumbers, rest: &'a [u8]) {
-        if !use_span(self.tables.parts, &mut self.part_uses, span) {
+        if !use_span(&mut self.part_uses, span) {
             self.failed = true;
             return;
         }
@@ -121,7 +122,7 @@ impl<'a> Visitor<'a> for Taking<'a> {
 
     #[inline(always)]
     fn visit_punct(&mut self, char: char, spacing: Spacing, span: SpanNumbers, rest: &'a [u8]) {
-        if !use_span(self.tables.parts, &mut self.part_uses, span) {
+        if !use_span(&mut self.part_uses, span) {
             self.failed = true;
             return;
         }
@@ -146,7 +147,7 @@ impl<'a> Visitor<'a> for Taking<'a> {
             self.failed = true;
             return;
         };
-        if !use_span(self.tables.parts, &mut self.part_uses, span) {
+        if !use_span(&mut self.part_uses, span) {
             self.failed = true;
             return;
         }
@@ -164,11 +165,11 @@ impl<'a> Visitor<'a> for Taking<'a> {
 
     #[inline(always)]
     fn visit_header(&mut self, header: HeaderEntry, rest: &'a [u8]) {
-        if !use_span(self.tables.parts, &mut self.part_uses, header.opening) {
+        if !use_span(&mut self.part_uses, header.opening) {
             self.failed = true;
             return;
         }
-        if !use_span(self.tables.parts, &mut self.part_uses, header.closing) {
+        if !use_span(&mut self.part_uses, header.closing) {
             self.failed = true;
             return;
         }

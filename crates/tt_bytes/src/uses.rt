@@ -6,7 +6,7 @@ ghost use Rattle.tt_bytes.specs.Uses.{no_place, IsOneMoreAt, AreUsed, UsesSpan, 
 ghost use Rattle.tt_tables.specs.Uses.{same_part};
 
 use std::alloc::{AllocError, Global};
-use tt::{SpanPart, Symbol};
+use tt::Symbol;
 use tt_codec::SpanNumbers;
 
 // What stands for a place that no symbol has yet.
@@ -47,17 +47,13 @@ pub(crate) fn no_part_uses(alloc: Global, len: usize) -> Result<Vec<usize>, Allo
 
 /// One more use of the part of a span, if the numbers name one.
 #[inline(always)]
-pub(crate) fn use_span(parts: &[SpanPart], counts: &mut Vec<usize>, numbers: SpanNumbers) -> bool
-    ensures { (before : List Part) → AreUsed parts.now counts.old.items before → IsTrue result → UsesSpan parts.now numbers counts.new.items before }
+pub(crate) fn use_span(counts: &mut Vec<usize>, numbers: SpanNumbers) -> bool
+    ensures { (parts before : List Part) → AreUsed parts counts.old.items before → IsTrue result → UsesSpan parts numbers counts.new.items before }
 {
-    let index = numbers.part as usize;
-    if index >= parts.len() {
+    if numbers.start.checked_add(numbers.length).is_none() {
         return false;
     }
-    let Some(_end) = numbers.start.checked_add(numbers.length) else {
-        return false;
-    };
-    add_use(counts, index)
+    add_use(counts, numbers.part as usize)
 }
 
 impl SymbolUses {
@@ -101,7 +97,7 @@ impl SymbolUses {
         ensures { (before : List (List ℕ)) → HaveUses table.now self.old before → IfSome result (λ place. UsesSymbol table.now symbol place self.old self.new before) }
     {
         let index = symbol as usize;
-        if index >= self.places.len() || index >= table.len() {
+        if index >= self.places.len() {
             return None;
         }
         let place = self.places[index];

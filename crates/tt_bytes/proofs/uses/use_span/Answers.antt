@@ -3,5 +3,4 @@ use Rattle.tt_bytes.proofs.Spans.{span_used}
 use Rattle.tt_bytes.proofs.uses.use_span.Goals as goal
 
 pub returns : goal.returns
-returns c before are added =
-    span_used _ _ _ _ before are (omega (arith, c.if-index-parts.false)) (search (rules, arith)) (search (rules, arith)) (c.add_use.ensures added)
+returns c parts before are added = span_used parts _ _ _ before are (search (rules, arith)) (search (rules, arith)) (c.add_use.ensures added)

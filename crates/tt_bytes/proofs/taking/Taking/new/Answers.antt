@@ -9,6 +9,7 @@ invariant_of-result c =
     let have : HaveUses c.args.tables.symbols.now c.in_ok-new.field-0 [] = search (rules, c.in_ok-new.ensures, c.requires.symbols) in
     record {
       list = λ e. none_taken _ _ _ _ c.in_ok-new.field-0 c.in_ok-with_capacity.ensures.items used have;
+      long = λ e. have.long;
       placed = λ e. have.placed;
       distinct = c.requires.symbols;
     }

@@ -9,4 +9,4 @@ returns c before are =
     let within : c.args.symbol < length c.args.self.now.places.items = search (rules, arith) in
     let noted : slice_get c.args.self.now.places.items c.args.symbol ≡ Some c.index-place.result.now =
     slice_get_read c.args.self.now.places.items _ c.args.symbol c.index-place.result.now refl within read in
-    used_again _ _ _ _ _ before are (omega (arith, c.if-index-table.false)) noted (search (rules, arith)) (search (rules, c.add_use.ensures)) refl refl
+    used_again _ _ _ _ _ before are noted (search (rules, arith)) (search (rules, c.add_use.ensures)) refl refl
