@@ -1,5 +1,5 @@
 -- Where symbols stand among those that are used.
-use Rattle.std.proofs.Common.{◌≡◌, ℕ, zero, suc, ◌+◌, ◌<◌, ◌≤◌, ◌⊎◌, inl, inr, Bool, true, false, ◌||◌, bytes_eq, List, [], ◌∷◌, ◌++◌, Some, length, set, slice_get, refl, ap, sym, subst, ◌∙◌, arith}
+use Rattle.std.proofs.Common.{◌≡◌, ℕ, zero, suc, ◌<◌, ◌≤◌, ◌⊎◌, inl, inr, Bool, true, false, ◌||◌, bytes_eq, List, [], ◌∷◌, ◌++◌, Some, length, set, slice_get, refl, ap, sym, ◌∙◌, arith}
 use Rattle.std.specs.List.{IsDistinct, list_any}
 use Rattle.tt_base.specs.contracts.symbol.SymbolEq.TheImpl.Laws as symbol_eq
 use Rattle.tt_bytes.specs.Uses.{no_place, ArePlaced}
@@ -59,14 +59,12 @@ placed_more table places order i m before text distinct placed there at last few
     by_place (inl e) =
         let noted : m ≡ n = set_there places i m before n at (ap (slice_get (set places i m)) (sym e) ∙ at_places) in
         let both : Some text ≡ Some other = sym there ∙ ap (slice_get table) (sym e) ∙ at_table in
-        let is : text ≡ other = cc both in
-        (
+        let is : text ≡ other = cc both in (
           λ small. stands_last order text n (sym noted ∙ last) ∙ ap Some is,
           λ large. absurd (omega (arith, noted, few, large)),
         )
     by_place (inr apart) =
-        let old = placed j n other at_table (sym (set_elsewhere places i j m apart) ∙ at_places) in
-        (
+        let old = placed j n other at_table (sym (set_elsewhere places i j m apart) ∙ at_places) in (
           λ small. keeps_front order (text ∷ []) n other (old.0 small),
           λ large. none_more other text order (old.1 large) (apart_at bytes_eq symbol_eq.lawful.laws text_sound table j i other text distinct at_table there apart),
         )

@@ -1,5 +1,5 @@
 -- One more use of a symbol of a table.
-use Rattle.std.proofs.Common.{◌≡◌, ℕ, ◌+◌, ◌<◌, ◌≤◌, false, bytes_eq, List, [], ◌∷◌, ◌++◌, Some, map, length, set, slice_get, refl, ap, sym, subst, ◌∙◌, arith}
+use Rattle.std.proofs.Common.{◌≡◌, ℕ, ◌<◌, false, bytes_eq, List, [], ◌∷◌, ◌++◌, Some, map, length, set, slice_get, ap, sym, subst, ◌∙◌, arith}
 use Rattle.std.proofs.lemmas.List.{length-set}
 use Rattle.std.proofs.lemmas.Option.{slice_get_within}
 use Rattle.std.specs.List.{list_any}
@@ -12,7 +12,7 @@ use Rattle.tt_bytes.proofs.Spans.{something_at}
 use Rattle.tt_interned.proofs.Naming.{keeps_front}
 use Rattle.tt_tables.proofs.Used.{distinct-different}
 use Rattle.tt_tables.proofs.TokenTables.{text_sound}
-use Rattle.tt_tables.specs.TableOrder.{different, uses_of}
+use Rattle.tt_tables.specs.TableOrder.{uses_of}
 use Rattle.std.specs.List.{IsDistinct}
 
 -- One that has a place.

@@ -1,5 +1,5 @@
 -- One more token that names values by places, and the list that is meant then.
-use Rattle.std.proofs.Common.{◌≡◌, ℕ, ◌+◌, ◌<◌, ◌^◌, bytes_eq, List, [], ◌∷◌, ◌++◌, Some, length, map, slice_get, append_assoc, append-nil, refl, ap, sym, subst, ◌∙◌}
+use Rattle.std.proofs.Common.{◌≡◌, ℕ, bytes_eq, List, [], ◌∷◌, ◌++◌, Some, length, map, slice_get, append_assoc, append-nil, refl, ap, sym, subst, ◌∙◌}
 use Rattle.std.proofs.lemmas.List.{map-append}
 use Rattle.std.specs.Char.{IsScalar}
 use Rattle.std.specs.List.{IsDistinct}
@@ -8,15 +8,13 @@ use Rattle.tt_base.specs.declared.ident.Ident.{Ident}
 use Rattle.tt_base.specs.declared.ident.IdentIsRaw.{IdentIsRaw}
 use Rattle.tt_base.specs.declared.leaf.Leaf.TheVariants as leaf
 use Rattle.tt_base.specs.declared.literal.LitKind.{LitKind}
-use Rattle.tt_base.specs.declared.literal.Literal.{Literal}
 use Rattle.tt_base.specs.declared.punct.Punct.{Punct}
 use Rattle.tt_base.specs.declared.punct.Spacing.{Spacing}
-use Rattle.tt_base.specs.declared.span.Span.{Span}
 use Rattle.tt_base.specs.declared.span.SpanPart.{SpanPart}
 use Rattle.tt_base.specs.declared.token_tree.TokenTree.{TokenTree}
 use Rattle.tt_base.specs.declared.token_tree.TokenTree.TheVariants as token
 use Rattle.tt_base.specs.Fits.{SpanInRange}
-use Rattle.tt_base.specs.Literal.{symbol_of, span_of, kind_of, suffix_len_of}
+use Rattle.tt_base.specs.Literal.{symbol_of, span_of}
 use Rattle.tt_base.specs.Span.{part_of}
 use Rattle.tt_bytes.specs.declared.uses.SymbolUses.{SymbolUses}
 use Rattle.tt_bytes.specs.Uses.{ArePlaced, AreUsed, UsesSpan, HaveUses, UsesSymbol, Stay}
@@ -31,9 +29,9 @@ use Rattle.tt_interned.specs.Names.{Names, AllName}
 use Rattle.tt_interned.proofs.Naming.{all_stay, keep_all, named-push}
 use Rattle.tt_interned.proofs.Using.{uses_pushed}
 use Rattle.tt_tables.proofs.Lookups.{span_from}
-use Rattle.tt_tables.specs.Searches.{FindsSpan, FindsLeaf, IsLeaf}
+use Rattle.tt_tables.specs.Searches.{FindsSpan, IsLeaf}
 use Rattle.tt_tables.specs.TableOrder.{different, uses_of}
-use Rattle.tt_tables.specs.Tables.{Tables, tables_from}
+use Rattle.tt_tables.specs.Tables.{tables_from}
 use Rattle.tt_tables.specs.Uses.{same_part, token_parts, token_symbols, part_uses, symbol_uses}
 
 -- What is there at a place is one value.
@@ -118,10 +116,9 @@ pub taken_ident : (tokens more : List InternedToken) (parts : List SpanPart) (co
 taken_ident tokens more parts counts counts_now table old new symbol place raw span distinct long placed (list, are) uses names grown =
     let part = uses (part_uses list) (parts_used tokens parts counts old.order.items old.numbers.items list are) in
     let one = names (symbol_uses list) (symbols_used table old tokens parts counts list distinct long placed are) in
-    let it : Ident = record { sym = one.text; span = part.span; is_raw = raw } in
-    (
+    let it : Ident = record { sym = one.text; span = part.span; is_raw = raw } in (
       taken tokens more parts counts counts_now old.order.items new.order.items old.numbers.items new.numbers.items list _ (token.Leaf (leaf.Ident it)) are grown part.used
-      one.used.in_order one.used.counted one.stay ((part.found new.order.items, one.stands, refl), part.range),
+          one.used.in_order one.used.counted one.stay ((part.found new.order.items, one.stands, refl), part.range),
       one.used.long,
       one.used.placed,
     )
@@ -150,10 +147,9 @@ taken_literal tokens more parts counts counts_now table old new symbol place kin
     let used = subst (λ s. AreUsed parts counts_now (part_uses list ++ part_of s ∷ [])) same_span part.used in
     let symbols = subst (λ t. HaveUses table new (symbol_uses list ++ t ∷ [])) same_text one.used in
     let stands : slice_get new.order.items place ≡ Some (symbol_of it) = one.stands ∙ ap Some same_text in
-    let finds : FindsSpan (tables_from parts new.order.items) span (span_of it) = subst (FindsSpan (tables_from parts new.order.items) span) same_span (part.found new.order.items) in
-    (
+    let finds : FindsSpan (tables_from parts new.order.items) span (span_of it) = subst (FindsSpan (tables_from parts new.order.items) span) same_span (part.found new.order.items) in (
       taken tokens more parts counts counts_now old.order.items new.order.items old.numbers.items new.numbers.items list _ (token.Leaf (leaf.Literal it)) are grown used
-      symbols.in_order symbols.counted one.stay ((finds, stands, is.2, is.3), subst SpanInRange same_span part.range),
+          symbols.in_order symbols.counted one.stay ((finds, stands, is.2, is.3), subst SpanInRange same_span part.range),
       one.used.long,
       one.used.placed,
     )

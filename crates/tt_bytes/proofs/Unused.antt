@@ -1,5 +1,5 @@
 -- Values before their first use.
-use Rattle.std.proofs.Common.{◌≡◌, ℕ, zero, suc, ◌<◌, ◌≤◌, false, bytes_eq, List, [], ◌∷◌, Some, map, length, replicate, slice_get, refl, ap, sym, subst, ◌∙◌, arith}
+use Rattle.std.proofs.Common.{◌≡◌, ℕ, zero, suc, bytes_eq, List, [], ◌∷◌, Some, map, length, replicate, slice_get, refl, ap, sym, ◌∙◌, arith}
 use Rattle.std.specs.List.{IsDistinct, list_any}
 use Rattle.std.specs.Prelude.{Bool}
 use Rattle.tt_base.specs.declared.span.SpanPart.{SpanPart}
@@ -25,8 +25,7 @@ same_each (suc n) (suc i) x y at = same_each n i x y at
 -- No symbol has a place.
 pub no_places : (table : List (List ℕ)) (places : List ℕ) (order : List (List ℕ)) (n : ℕ) → places ≡ replicate n no_place → order ≡ [] → ArePlaced table places order
 no_places table places order n are none i place text at_table at =
-    let noted : no_place ≡ place = same_each n i no_place place (ap (λ l. slice_get l i) (sym are) ∙ at) in
-    (
+    let noted : no_place ≡ place = same_each n i no_place place (ap (λ l. slice_get l i) (sym are) ∙ at) in (
       λ small. absurd (omega (arith, noted, small)),
       λ large. ap (list_any (bytes_eq text)) none,
     )

@@ -11,12 +11,6 @@ use crate::write::MARK;
 use std::alloc::Global;
 use tt::{SpanPart, Symbol};
 
-// Room is made at once for so many symbols at most, so that a list of more is not asked for in one large block before the
-// blocks of the symbols.
-const MOST_AT_FIRST: usize = 64;
-// A symbol takes so many bytes at least, those of its length.
-const LEAST_SYMBOL_BYTES: usize = 4;
-
 /// What stands behind the mark.
 pub(crate) fn behind_mark(bytes: &[u8]) -> Result<&[u8], BytesFault>
     ensures value { MatchResult result (λ behind. behind_mark 0 mark bytes.now ≡ Ok behind.now) (λ fault. behind_mark 0 mark bytes.now ≡ Err fault) }
@@ -92,8 +86,7 @@ pub(crate) fn split_symbols(
         (λ fault. (fault ≡ Memory) ⊎ (texts_from all count from.now ≡ Err fault)) }
     ensures len { IfOk result (λ found. length found.1.now ≤ length from.now) }
 {
-    let few = (from.len() / LEAST_SYMBOL_BYTES).min(MOST_AT_FIRST);
-    let mut symbols = Vec::with_capacity(alloc, few.min(count as usize))?;
+    let mut symbols = Vec::new(alloc);
     let mut rest = from;
     for _ in 0..count {
         let (symbol, behind) = split_symbol(alloc, all, rest)?;

@@ -1,4 +1,4 @@
-use Rattle.std.proofs.Common.{rules, ◌≡◌, ◌∷◌, [], false, sym, ap, subst, ◌∙◌}
+use Rattle.std.proofs.Common.{rules, ◌≡◌, ◌∷◌, false, sym, subst}
 use Rattle.std.specs.List.{IsDistinct, list_any}
 use Rattle.tt_bytes.proofs.Apartness.{one_apart, none_apart}
 use Rattle.tt_bytes.proofs.distinct.few_differ.Goals as goal

@@ -1,4 +1,4 @@
-use Rattle.std.proofs.Common.{rules, ◌≡◌, true, map, subst, sym, ap, arith}
+use Rattle.std.proofs.Common.{rules, map, subst, sym, arith}
 use Rattle.std.specs.Prelude.{IsTrue}
 use Rattle.tt_interned.specs.Held.{whole}
 use Rattle.tt_interned.specs.ListOf.{list_of}

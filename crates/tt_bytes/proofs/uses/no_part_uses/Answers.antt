@@ -1,4 +1,4 @@
-use Rattle.std.proofs.Common.{rules, ◌≡◌, ap, sym, ◌∙◌}
+use Rattle.std.proofs.Common.{rules}
 use Rattle.tt_bytes.proofs.Unused.{no_uses}
 use Rattle.tt_bytes.proofs.uses.no_part_uses.Goals as goal
 

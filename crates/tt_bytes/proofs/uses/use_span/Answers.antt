@@ -1,4 +1,4 @@
-use Rattle.std.proofs.Common.{rules, ◌≡◌, ◌+◌, arith}
+use Rattle.std.proofs.Common.{rules, arith}
 use Rattle.tt_bytes.proofs.Spans.{span_used}
 use Rattle.tt_bytes.proofs.uses.use_span.Goals as goal
 

@@ -15,7 +15,6 @@ loop-index-init c =
       leaf = (_, refl);
     }
 
-
 pub loop-index-preserved : goal.loop-index-preserved
 loop-index-preserved c =
     let there : slice_get c.args.tokens.now c.loop-index.index ≡ Some c.in-Some.token.now =

@@ -1,4 +1,4 @@
-use Rattle.std.proofs.Common.{◌≡◌, subst}
+use Rattle.std.proofs.Common.{subst}
 use Rattle.tt_base.specs.Levels.{open_levels}
 use Rattle.tt_interned.specs.Held.{whole}
 use Rattle.tt_interned.specs.Names.{Names}

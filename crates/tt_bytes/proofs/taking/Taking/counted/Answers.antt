@@ -1,4 +1,4 @@
-use Rattle.std.proofs.Common.{◌≡◌, refl, sym}
+use Rattle.std.proofs.Common.{refl, sym}
 use Rattle.tt_interned.proofs.Packing.{counted_from}
 use Rattle.tt_bytes.proofs.taking.Taking.counted.Goals as goal
 

@@ -1,4 +1,4 @@
-use Rattle.std.proofs.Common.{rules, ◌≡◌, [], length}
+use Rattle.std.proofs.Common.{rules, []}
 use Rattle.tt_bytes.specs.Uses.{AreUsed, HaveUses}
 use Rattle.tt_bytes.proofs.Taken.{none_taken}
 use Rattle.tt_bytes.proofs.taking.Taking.new.Goals as goal

@@ -1,5 +1,4 @@
-use Rattle.std.proofs.Common.{rules, ◌≡◌, ◌++◌, ◌∷◌, [], Some, refl}
-use Rattle.tt_codec.specs.declared.entry.LeafEntry.TheVariants.{Punct as punct, Ident as ident, Literal as literal}
+use Rattle.std.proofs.Common.{rules, ◌≡◌, ◌++◌, ◌∷◌, []}
 use Rattle.tt_interned.specs.declared.token.InternedToken.TheVariants as interned
 use Rattle.tt_bytes.proofs.Taken.{taken_header}
 use Rattle.tt_bytes.proofs.taking.TakingVisitor.visit_header.Goals as goal
