@@ -11,3 +11,11 @@ pub mod Marks
 pub mod Reading
 pub mod Refusing
 pub mod Standing
+pub mod Counting
+pub mod Placed
+pub mod Spans
+pub mod SymbolsUsed
+pub mod Unused
+pub mod Taken
+pub mod Shaped
+pub mod Apartness

@@ -3,3 +3,6 @@ pub mod Decoding
 pub mod Faults
 pub mod Format
 pub mod Front
+pub mod Uses
+pub mod TakesAny
+pub mod Shape

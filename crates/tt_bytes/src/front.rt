@@ -11,6 +11,20 @@ use crate::write::MARK;
 use std::alloc::Global;
 use tt::{SpanPart, Symbol};
 
+// There is room at once for so many symbols at most. A list of more grows, so that no large block is asked for before their own.
+const FEW_SYMBOLS: usize = 64;
+// A symbol takes so many bytes at least, those of its length.
+const LEAST_SYMBOL_BYTES: usize = 4;
+
+// For how many symbols room is made at first, of so many that are told and as many bytes as are there.
+fn first_room(count: u32, bytes: usize) -> usize {
+    let room = (count as usize).min(bytes / LEAST_SYMBOL_BYTES);
+    if room > FEW_SYMBOLS {
+        return 0;
+    }
+    room
+}
+
 /// What stands behind the mark.
 pub(crate) fn behind_mark(bytes: &[u8]) -> Result<&[u8], BytesFault>
     ensures value { MatchResult result (λ behind. behind_mark 0 mark bytes.now ≡ Ok behind.now) (λ fault. behind_mark 0 mark bytes.now ≡ Err fault) }
@@ -86,7 +100,7 @@ pub(crate) fn split_symbols(
         (λ fault. (fault ≡ Memory) ⊎ (texts_from all count from.now ≡ Err fault)) }
     ensures len { IfOk result (λ found. length found.1.now ≤ length from.now) }
 {
-    let mut symbols = Vec::new(alloc);
+    let mut symbols = Vec::with_capacity(alloc, first_room(count, from.len()))?;
     let mut rest = from;
     for _ in 0..count {
         let (symbol, behind) = split_symbol(alloc, all, rest)?;

@@ -3,12 +3,17 @@
 
 mod compare;
 mod decode;
+mod distinct;
 mod fault;
 mod front;
 pub mod laws;
 mod numbers;
 mod piece;
+mod quick;
 mod read;
+mod taking;
+mod uses;
+mod whole;
 mod write;
 
 pub use fault::BytesFault;

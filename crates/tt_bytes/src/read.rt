@@ -9,6 +9,7 @@ use crate::compare::{are_bytes_of, common_length};
 use crate::decode::tokens_of;
 use crate::fault::BytesFault;
 use crate::piece::Piece;
+use crate::quick::stored_tree;
 use crate::write::to_bytes;
 use std::alloc::Global;
 use tt::{TopSubtree, TtFault};
@@ -33,6 +34,9 @@ pub fn from_bytes(alloc: Global, bytes: &[u8]) -> Result<TopSubtree, BytesFault>
     ensures none { IfErr result (λ fault. (fault ≡ Memory) ⊎ AreBytesOfNone bytes.now) }
 {
     let piece = Piece::read(alloc, bytes)?;
+    if let Some(tree) = stored_tree(alloc, &piece, bytes)? {
+        return Ok(tree);
+    }
     let end = bytes.len() - piece.behind.len();
     let tables = Tables::new(piece.parts.as_slice(), piece.symbols.as_slice());
     let tokens = tokens_of(alloc, tables, end - piece.packed.len(), piece.packed)?;

@@ -1,4 +1,4 @@
-use Rattle.std.proofs.Common.{rules, ◌≡◌, ◌⊎◌, inl, inr, length, ap, sym, subst, ◌∙◌, arith}
+use Rattle.std.proofs.Common.{rules, ◌≡◌, ◌⊎◌, inl, inr, length, ap, ap₂, sym, subst, ◌∙◌, arith}
 use Rattle.tt_base.specs.Unflat.{flat_root-injective}
 use Rattle.tt_bytes.specs.declared.fault.BytesFault.TheVariants.{Memory}
 use Rattle.tt_bytes.specs.Decoding.{Stand}
@@ -8,6 +8,7 @@ use Rattle.tt_bytes.specs.Front.{held_in}
 use Rattle.tt_bytes.proofs.Faults.{is_memory, packs}
 use Rattle.tt_bytes.proofs.Holding.{ahead_of, none_held}
 use Rattle.tt_bytes.proofs.Refusing.{stopped, of_none, none_packed, none_written, is_want}
+use Rattle.tt_tables.specs.Searches.{first_entries}
 use Rattle.tt_tables.specs.TablesOf.{tables_of}
 use Rattle.tt_bytes.proofs.read.from_bytes.Goals as goal
 
@@ -22,7 +23,7 @@ returns-in_err-piece-clause-none c =
 
 pub returns-in_err-tokens-clause-err : goal.returns-in_err-tokens-clause-err
 returns-in_err-tokens-clause-err c =
-    let same : tables_of c.new-tables.result ≡ tables_in (held_in c.in_ok-piece.piece) = search rules in
+    let same : tables_of c.new-tables.result ≡ tables_in (held_in c.in_ok-piece.piece) = c.new-tables.ensures ∙ ap₂ first_entries c.as_slice.ensures.value c.as_slice-2.ensures.value in
     let fault : IsFaultOf c.args.bytes.now c.in_err-tokens.field-0.0 =
     stopped c.args.bytes.now (held_in c.in_ok-piece.piece) (tables_of c.new-tables.result) _ c.in_err-tokens.field-0.0 c.in_ok-piece.ensures.value same
     (omega (arith, c.in_ok-piece.ensures.len)) c.in_err-tokens.ensures.stand in
@@ -30,7 +31,7 @@ returns-in_err-tokens-clause-err c =
 
 pub returns-in_err-tokens-clause-none : goal.returns-in_err-tokens-clause-none
 returns-in_err-tokens-clause-none c =
-    let same : tables_of c.new-tables.result ≡ tables_in (held_in c.in_ok-piece.piece) = search rules in
+    let same : tables_of c.new-tables.result ≡ tables_in (held_in c.in_ok-piece.piece) = c.new-tables.ensures ∙ ap₂ first_entries c.as_slice.ensures.value c.as_slice-2.ensures.value in
     let none : (c.in_err-tokens.field-0.0 ≡ Memory) ⊎ AreBytesOfNone c.args.bytes.now =
     elim (is_want c.in_err-tokens.field-0.0) [
       | inl memory ↦ inl memory
@@ -41,7 +42,7 @@ returns-in_err-tokens-clause-none c =
 
 pub returns-in-Err-clause-err : goal.returns-in-Err-clause-err
 returns-in-Err-clause-err c =
-    let same : tables_of c.new-tables.result ≡ tables_in (held_in c.in_ok-piece.piece) = search rules in
+    let same : tables_of c.new-tables.result ≡ tables_in (held_in c.in_ok-piece.piece) = c.new-tables.ensures ∙ ap₂ first_entries c.as_slice.ensures.value c.as_slice-2.ensures.value in
     elim (is_memory c.in-Err.refused.fault) [
       | inl memory ↦ inl (c.fault_of.ensures.memory memory)
       | inr other ↦
@@ -52,7 +53,7 @@ returns-in-Err-clause-err c =
 
 pub returns-in-Err-clause-none : goal.returns-in-Err-clause-none
 returns-in-Err-clause-none c =
-    let same : tables_of c.new-tables.result ≡ tables_in (held_in c.in_ok-piece.piece) = search rules in
+    let same : tables_of c.new-tables.result ≡ tables_in (held_in c.in_ok-piece.piece) = c.new-tables.ensures ∙ ap₂ first_entries c.as_slice.ensures.value c.as_slice-2.ensures.value in
     elim (is_memory c.in-Err.refused.fault) [
       | inl memory ↦ inl (c.fault_of.ensures.memory memory)
       | inr other ↦
@@ -63,7 +64,7 @@ returns-in-Err-clause-none c =
 
 pub returns-in-Err-to_bytes-clause-err : goal.returns-in-Err-to_bytes-clause-err
 returns-in-Err-to_bytes-clause-err c =
-    let same : tables_of c.new-tables.result ≡ tables_in (held_in c.in_ok-piece.piece) = search rules in
+    let same : tables_of c.new-tables.result ≡ tables_in (held_in c.in_ok-piece.piece) = c.new-tables.ensures ∙ ap₂ first_entries c.as_slice.ensures.value c.as_slice-2.ensures.value in
     elim (is_memory c.in-Err-to_bytes.fault) [
       | inl memory ↦ inl (c.fault_of-in-Err-to_bytes.ensures.memory memory)
       | inr other ↦
@@ -75,7 +76,7 @@ returns-in-Err-to_bytes-clause-err c =
 
 pub returns-in-Err-to_bytes-clause-none : goal.returns-in-Err-to_bytes-clause-none
 returns-in-Err-to_bytes-clause-none c =
-    let same : tables_of c.new-tables.result ≡ tables_in (held_in c.in_ok-piece.piece) = search rules in
+    let same : tables_of c.new-tables.result ≡ tables_in (held_in c.in_ok-piece.piece) = c.new-tables.ensures ∙ ap₂ first_entries c.as_slice.ensures.value c.as_slice-2.ensures.value in
     elim (is_memory c.in-Err-to_bytes.fault) [
       | inl memory ↦ inl (c.fault_of-in-Err-to_bytes.ensures.memory memory)
       | inr other ↦
@@ -86,7 +87,7 @@ returns-in-Err-to_bytes-clause-none c =
 
 pub returns-clause-err : goal.returns-clause-err
 returns-clause-err c =
-    let same : tables_of c.new-tables.result ≡ tables_in (held_in c.in_ok-piece.piece) = search rules in
+    let same : tables_of c.new-tables.result ≡ tables_in (held_in c.in_ok-piece.piece) = c.new-tables.ensures ∙ ap₂ first_entries c.as_slice.ensures.value c.as_slice-2.ensures.value in
     let apart : AreBytesOf c.in-Ok.tree c.args.bytes.now → ⊥ = λ are. search (rules, are) in
     let compared : c.common_length-at.result ≡ common_length c.args.bytes.now c.in-Ok-to_bytes.written.items = search rules in
     let stored : IsStoredOtherwise c.args.bytes.now (held_in c.in_ok-piece.piece) c.common_length-at.result =
@@ -102,7 +103,7 @@ returns-clause-err c =
 
 pub returns-clause-none : goal.returns-clause-none
 returns-clause-none c =
-    let same : tables_of c.new-tables.result ≡ tables_in (held_in c.in_ok-piece.piece) = search rules in
+    let same : tables_of c.new-tables.result ≡ tables_in (held_in c.in_ok-piece.piece) = c.new-tables.ensures ∙ ap₂ first_entries c.as_slice.ensures.value c.as_slice-2.ensures.value in
     let apart : AreBytesOf c.in-Ok.tree c.args.bytes.now → ⊥ = λ are. search (rules, are) in
     inr (λ root are.
     let tokens = c.in_ok-tokens.ensures.list root (ahead_of root c.args.bytes.now (held_in c.in_ok-piece.piece) _ are c.in_ok-piece.ensures.value same) in
@@ -111,6 +112,6 @@ returns-clause-none c =
 
 pub returns-then-are_bytes_of-clause-only : goal.returns-then-are_bytes_of-clause-only
 returns-then-are_bytes_of-clause-only c other are =
-    let same : tables_of c.new-tables.result ≡ tables_in (held_in c.in_ok-piece.piece) = search rules in
+    let same : tables_of c.new-tables.result ≡ tables_in (held_in c.in_ok-piece.piece) = c.new-tables.ensures ∙ ap₂ first_entries c.as_slice.ensures.value c.as_slice-2.ensures.value in
     let tokens = c.in_ok-tokens.ensures.list other (ahead_of other c.args.bytes.now (held_in c.in_ok-piece.piece) _ are c.in_ok-piece.ensures.value same) in
     flat_root-injective other c.in-Ok.tree (sym tokens ∙ c.in-Ok.ensures.ok)

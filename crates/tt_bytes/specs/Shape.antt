@@ -1,0 +1,9 @@
+-- Tokens of which nothing but the kind is asked.
+use Rattle.std.specs.Prelude.{◌≡◌}
+use Rattle.tt_base.specs.declared.leaf.Leaf.{Leaf}
+use Rattle.tt_base.specs.declared.token_tree.TokenTree.{TokenTree}
+use Rattle.tt_base.specs.declared.token_tree.TokenTree.TheVariants as token
+
+-- the token is a leaf
+abbrev pub IsALeaf : TokenTree → Type 0
+IsALeaf it = (leaf : Leaf) × (it ≡ token.Leaf leaf)

@@ -1,0 +1,120 @@
+//! The tree of a piece, made by the places of values. It is taken only where its own bytes are those of the piece, so what is
+//! read of the piece before that has to be some tree, whichever.
+ghost use Rattle.std.specs.List.{IsDistinct};
+ghost use Rattle.std.specs.Prelude.{◌≡◌, bytes_eq, IfOk, IfSome};
+ghost use Rattle.tt_base.specs.Forest.{Root};
+ghost use Rattle.tt_bytes.specs.Format.{AreBytesOf};
+ghost use Rattle.tt_tables.specs.Uses.{same_part};
+
+use crate::compare::are_bytes_of;
+use crate::distinct::all_differ;
+use crate::piece::Piece;
+use crate::taking::Taking;
+use crate::whole::are_whole;
+use std::alloc::{AllocError, Global};
+use tt::{Delimiter, SpanPart, Subtree, Symbol, TokenTree, TopSubtree, TtFault};
+use tt_codec::Entry;
+use tt_interned::CountedTokens;
+use tt_tables::Tables;
+
+// A token takes so many bytes at least.
+const LEAST_TOKEN_BYTES: usize = 5;
+// The last parts are those of the top.
+const TOP_PARTS: usize = 2;
+
+// The header that packed bytes begin with, and the bytes behind it.
+fn split_top<'a>(
+    parts: &[SpanPart],
+    symbols: &[Symbol],
+    packed: &'a [u8],
+) -> Option<(Subtree, &'a [u8])> {
+    let Some((Entry::Header(header), rest)) = Entry::read(packed) else {
+        return None;
+    };
+    match Tables::new(parts, symbols).subtree(header) {
+        Some(TokenTree::Subtree(top)) => Some((top, rest)),
+        _ => None,
+    }
+}
+
+// So many tokens that stand at the front of the bytes, up to one that does not fit.
+fn take_tokens<'a>(
+    alloc: Global,
+    tables: Tables<'a>,
+    count: usize,
+    from: &'a [u8],
+) -> Result<Taking<'a>, AllocError>
+    requires parts { IsDistinct same_part tables.parts.now }
+    requires symbols { IsDistinct bytes_eq tables.symbols.now }
+{
+    let mut taking = Taking::new(alloc, tables, count, from)?;
+    for _ in 0..count {
+        taking.take_next();
+        if taking.failed {
+            return Ok(taking);
+        }
+    }
+    Ok(taking)
+}
+
+// The tree of the tokens under such a top, if they are those of a tree.
+fn tree_of_tokens(
+    alloc: Global,
+    top: Delimiter,
+    taking: &Taking<'_>,
+) -> Result<Option<TopSubtree>, AllocError> {
+    if taking.failed || taking.tokens.len() > u32::MAX as usize {
+        return Ok(None);
+    }
+    if !are_whole(alloc, top, &taking.tokens)? {
+        return Ok(None);
+    }
+    match TopSubtree::from_interned(alloc, top, taking.counted()) {
+        Ok(tree) => Ok(Some(tree)),
+        Err(TtFault::Memory) => Err(AllocError),
+        Err(_) => Ok(None),
+    }
+}
+
+// The tree of packed bytes under these tables, if each table has different values, and what is read is a tree.
+fn quick_tree(
+    alloc: Global,
+    parts: &[SpanPart],
+    symbols: &[Symbol],
+    packed: &[u8],
+) -> Result<Option<TopSubtree>, AllocError> {
+    let Some(below) = parts.len().checked_sub(TOP_PARTS) else {
+        return Ok(None);
+    };
+    let tables = Tables::new(&parts[..below], symbols);
+    if !all_differ(alloc, tables.parts)? || !all_differ(alloc, tables.symbols)? {
+        return Ok(None);
+    }
+    let Some((top, rest)) = split_top(parts, symbols, packed) else {
+        return Ok(None);
+    };
+    let count = top.len as usize;
+    if count > rest.len() / LEAST_TOKEN_BYTES {
+        return Ok(None);
+    }
+    let taking = take_tokens(alloc, tables, count, rest)?;
+    tree_of_tokens(alloc, top.delimiter, &taking)
+}
+
+/// The tree of a piece, where these are its bytes. There may be none also where they are those of a tree.
+pub(crate) fn stored_tree(
+    alloc: Global,
+    piece: &Piece<'_>,
+    bytes: &[u8],
+) -> Result<Option<TopSubtree>, AllocError>
+    ensures is { IfOk result (λ found. IfSome found (λ tree. AreBytesOf tree bytes.now)) }
+    ensures only { IfOk result (λ found. IfSome found (λ tree. (other : Root) → AreBytesOf other bytes.now → other ≡ tree)) }
+{
+    let Some(tree) = quick_tree(alloc, &piece.parts, &piece.symbols, piece.packed)? else {
+        return Ok(None);
+    };
+    if are_bytes_of(&tree, bytes) {
+        return Ok(Some(tree));
+    }
+    Ok(None)
+}
