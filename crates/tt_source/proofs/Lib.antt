@@ -1,0 +1,3 @@
+-- Lemmas on places and marks.
+pub mod MarkFacts
+pub mod PlaceFacts

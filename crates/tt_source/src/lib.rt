@@ -1,0 +1,14 @@
+//! Where a byte of a text stands, and what is told of it: lines, columns and diagnostics.
+#![tactic(auto)]
+
+mod diagnostic;
+mod line;
+mod mark;
+mod place;
+mod places;
+
+pub use diagnostic::{Diagnostic, Spot, diagnostic_text};
+pub use line::line_of;
+pub use mark::add_indent;
+pub use place::{Place, place_of};
+pub use places::Places;
