@@ -3,3 +3,4 @@ pub mod Diagnostic
 pub mod Mark
 pub mod Marks
 pub mod Place
+pub mod Source
