@@ -1,3 +1,4 @@
--- Lemmas on places and marks.
+-- Lemmas on characters, places and marks.
+pub mod CharFacts
 pub mod MarkFacts
 pub mod PlaceFacts

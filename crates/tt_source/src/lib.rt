@@ -2,6 +2,7 @@
 #![tactic(auto)]
 
 mod diagnostic;
+pub mod laws;
 mod line;
 mod mark;
 mod place;
