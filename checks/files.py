@@ -195,7 +195,7 @@ def try_bad_pieces(files):
     files.gives(b"", "pack", "-", "-o", piece, given=b"fn main() {}")
     whole = pathlib.Path(piece).read_bytes()
     for end in range(len(whole)):
-        status, written, told = files.run("unpack", given=whole[:end])
+        status, written, told = files.run("unpack", "-", given=whole[:end])
         wants("a piece that was cut", (status, written), (1, b""))
         if not told.startswith(b"error: <stdin>: ") or told.count(b"\n") != 1:
             raise Wrong(f"of a piece that was cut it is told: {told[:200]}")
