@@ -1,0 +1,325 @@
+#!/usr/bin/env python3
+"""The program `cuvolemin` over files: files.py PROGRAM
+
+Each command over each file of examples/rust, and over files, pipes and arguments that are made here. What must be written
+stands beside the examples, or is worked out here from how the text was made. A line is printed for each thing that is tried,
+`ok NAME` or `FAILED NAME: WHY`; the status is 1 where one failed.
+"""
+import pathlib
+import re
+import subprocess
+import sys
+import tempfile
+
+EXAMPLES = pathlib.Path(__file__).resolve().parent.parent / "examples" / "rust"
+DEPTH = 100_000
+# The tree's lines are indented by all levels above them.
+TREE_DEPTH = 1_000
+WORDS = 100_000
+SECONDS = 60
+# A pipe holds less.
+FIRST_BYTES = 300
+
+
+class Wrong(Exception):
+    """What a run did, and should not have."""
+
+
+def wants(what, found, expected):
+    """Refuses a value that is not the expected one."""
+    if found != expected:
+        raise Wrong(f"{what}: {str(found)[:200]} in place of {str(expected)[:200]}")
+
+
+class Files:
+    """A program, and a folder for files that are made."""
+
+    def __init__(self, program, room):
+        self.program = program
+        self.room = pathlib.Path(room)
+
+    def made(self, name, contents):
+        """The name of a new file that holds these bytes."""
+        path = self.room / name
+        path.write_bytes(contents)
+        return str(path)
+
+    def run(self, *words, given=b""):
+        """The status of a run, what it wrote, and its errors."""
+        done = subprocess.run(
+            [self.program, *words], input=given, capture_output=True, timeout=SECONDS, check=False
+        )
+        return done.returncode, done.stdout, done.stderr
+
+    def gives(self, expected, *words, given=b""):
+        """Refuses a run that does not write just that, with status 0."""
+        wants("the run", self.run(*words, given=given), (0, expected, b""))
+
+    def tells(self, expected, *words, given=b""):
+        """Refuses a run that does not tell just that, with status 1."""
+        wants("the run", self.run(*words, given=given), (1, b"", expected.encode()))
+
+    def mistake(self, *words):
+        """Refuses a run that does not tell of a mistake in the arguments."""
+        status, written, told = self.run(*words)
+        wants("the status", status, 2)
+        wants("what is written", written, b"")
+        if b"cuvolemin" not in told or b"Usage:" not in told:
+            raise Wrong(f"the usage is not told: {told[:200]}")
+
+
+def without_spans(lines):
+    """The lines of a tree without the places in it."""
+    return re.sub(rb" \d+:\d+\.\.\d+:\d+", b"", lines)
+
+
+# ---- the examples
+
+def try_tokens(files, example):
+    """Its tokens are those that stand beside it, from a file and from standard input."""
+    expected = example.with_suffix(".tokens").read_bytes()
+    files.gives(expected, "tokens", str(example))
+    files.gives(expected, "tokens", "-", given=example.read_bytes())
+    files.gives(expected, "tokens", given=example.read_bytes())
+
+
+def try_tree(files, example):
+    """Its tree is the one that stands beside it."""
+    expected = example.with_suffix(".tree").read_bytes()
+    files.gives(expected, "tree", str(example))
+    files.gives(expected, "tree", "-", given=example.read_bytes())
+    files.gives(expected, "tree", given=example.read_bytes())
+
+
+def try_pieces(files, example):
+    """It is packed, and what comes back is the text beside it, and reads as the same tree."""
+    piece = str(files.room / "piece")
+    pathlib.Path(piece).unlink(missing_ok=True)
+    files.gives(b"", "pack", str(example), "-o", piece)
+    expected = example.with_suffix(".text").read_bytes()
+    files.gives(expected, "unpack", piece)
+    files.gives(expected, "unpack", "-", given=pathlib.Path(piece).read_bytes())
+    status, again, told = files.run("tree", given=expected)
+    wants("what comes back", (status, told), (0, b""))
+    wants("the tree of it", without_spans(again), without_spans(example.with_suffix(".tree").read_bytes()))
+
+
+def try_fault(files, example):
+    """What is told of it stands beside it, and nothing is packed."""
+    told = example.with_suffix(".err").read_text(encoding="utf-8")
+    files.tells(told.replace("FILE", str(example)), "tree", str(example))
+    files.tells(told.replace("FILE", "<stdin>"), "tree", given=example.read_bytes())
+    out = files.made("kept", b"kept")
+    files.tells(told.replace("FILE", str(example)), "pack", str(example), "-o", out)
+    wants("the file", pathlib.Path(out).read_bytes(), b"kept")
+
+
+# ---- other files
+
+def try_missing(files):
+    """A file that is not there, and one that cannot be written."""
+    for command in ("tokens", "tree", "unpack"):
+        files.tells("error: couldn't read /no/file: No such file or directory (os error 2)\n", command, "/no/file")
+    files.tells("error: couldn't read /no/file: No such file or directory (os error 2)\n", "pack", "/no/file", "-o", "/no/out")
+    files.tells("error: couldn't write /no/out: No such file or directory (os error 2)\n", "pack", "-", "-o", "/no/out")
+
+
+def try_folder(files):
+    """A folder in place of a file."""
+    for command in ("tokens", "tree", "unpack"):
+        files.tells("error: couldn't read /: Is a directory (os error 21)\n", command, "/")
+
+
+def try_unreadable(files):
+    """A file that may not be read: one of another process's memory, of which even an administrator reads nothing at 0."""
+    status, written, told = files.run("tokens", "/proc/self/mem")
+    wants("the run", (status, written), (1, b""))
+    if not told.startswith(b"error: couldn't read /proc/self/mem: "):
+        raise Wrong(f"it is told: {told[:200]}")
+
+
+def try_empty(files):
+    """An empty file has no token and an empty tree."""
+    empty = files.made("empty", b"")
+    piece = str(files.room / "piece")
+    files.gives(b"", "tokens", empty)
+    files.gives(b"", "tree", empty)
+    files.gives(b"", "pack", empty, "-o", piece)
+    files.gives(b"", "unpack", piece)
+
+
+def try_no_utf8(files):
+    """Bytes that are no UTF-8, of which the first is told."""
+    for bytes_, at in ((b"fn \xff", 3), ("é".encode() + b"\xe6\x97", 2), (b"\x80", 0), (b"\xef\xbb\xbf\xff", 3)):
+        name = files.made("bytes", bytes_)
+        for words in (("tokens", name), ("tree", name), ("pack", name, "-o", "/no/out")):
+            files.tells(f"error: {name} is not UTF-8 at byte {at}\n", *words)
+
+
+def try_mark(files):
+    """A byte order mark in front is no part of the text; a second one is no token of Rust."""
+    files.gives(b'0..1 Ident "a"\n', "tokens", files.made("mark", b"\xef\xbb\xbfa"))
+    files.gives(b"IDENT   a 1:1..1:2\n", "tree", files.made("mark", b"\xef\xbb\xbfa"))
+    files.gives(b"", "tree", files.made("mark", b"\xef\xbb\xbf"))
+    twice = files.made("mark", b"\xef\xbb\xbf\xef\xbb\xbf)")
+    status, _, told = files.run("tree", twice)
+    wants("the status", status, 1)
+    wants("what is told", told.split(b"\n")[:2], [b"error: unknown character", f" --> {twice}:1:1".encode()])
+
+
+def try_faults(files):
+    """What is told of faults, with their marks: at the end, behind tabs, behind characters that are wide or have no width."""
+    for text, line, column, mark, message in (
+        ("a ]", 1, 3, "  ^", "unopened ']'"),
+        ("'", 1, 1, "^", "unterminated literal"),
+        ("x \"", 1, 3, "  ^", "unterminated literal"),
+        ("\n\n/* é", 3, 1, "^", "unterminated comment"),
+        ("漢\t字 (", 1, 5, "  \t   ^", "unclosed '('"),
+        ("e\u0301 \u0000", 1, 4, "  ^", "unknown character"),
+        ("a\r\nb {\r\n", 2, 3, "  ^", "unclosed '{'"),
+        ("a\n(\n\n", 2, 1, "^", "unclosed '('"),
+        ("0b", 1, 1, "^", "number with no digits"),
+    ):
+        shown = text.replace("\r\n", "\n").split("\n")[line - 1]
+        files.tells(
+            f"error: {message}\n --> <stdin>:{line}:{column}\n  |\n{line} | {shown}\n  | {mark}\n", "tree", given=text.encode()
+        )
+
+
+def try_bad_pieces(files):
+    """Bytes that are no tree's."""
+    for bytes_, what in ((b"", "too short at 0"), (b"fn main() {}", "another format at 0")):
+        name = files.made("bytes", bytes_)
+        files.tells(f"error: {name}: {what}\n", "unpack", name)
+    piece = str(files.room / "piece")
+    files.gives(b"", "pack", "-", "-o", piece, given=b"fn main() {}")
+    whole = pathlib.Path(piece).read_bytes()
+    for end in range(len(whole)):
+        status, written, told = files.run("unpack", "-", given=whole[:end])
+        wants("a piece that was cut", (status, written), (1, b""))
+        if not told.startswith(b"error: <stdin>: ") or told.count(b"\n") != 1:
+            raise Wrong(f"of a piece that was cut it is told: {told[:200]}")
+
+
+# ---- arguments and pipes
+
+def try_help(files):
+    """`--help` tells each command, of the program and of a command."""
+    status, written, told = files.run("--help")
+    wants("the run", (status, told), (0, b""))
+    for word in (b"Usage: cuvolemin", b"tokens", b"tree", b"unpack", b"--version"):
+        if word not in written:
+            raise Wrong(f"{word} is not told")
+    for command in ("tokens", "tree", "pack", "unpack"):
+        status, written, told = files.run(command, "--help")
+        wants("the run", (status, told), (0, b""))
+        if f"Usage: cuvolemin {command}".encode() not in written:
+            raise Wrong(f"the usage of {command} is not told")
+
+
+def try_version(files):
+    """`--version` is one line."""
+    files.gives(b"cuvolemin 0.1.0\n", "--version")
+
+
+def try_mistakes(files):
+    """Arguments that ask for nothing that there is."""
+    files.mistake()
+    files.mistake("frobnicate")
+    files.mistake("tokens", "--no-such")
+    files.mistake("tree", "a", "b")
+    files.mistake("pack", "-")
+    files.mistake("pack", "-o", "/no/out")
+    files.mistake("unpack")
+
+
+def reads_some(files, *words, given):
+    """The first bytes that a run writes, and what it tells where the pipe is closed then."""
+    name = files.made("given", given)
+    started = subprocess.Popen([files.program, *words, name], stdout=subprocess.PIPE, stderr=subprocess.PIPE)
+    first = started.stdout.read(FIRST_BYTES)
+    started.stdout.close()
+    told = started.stderr.read()
+    started.stderr.close()
+    started.wait(timeout=SECONDS)
+    return first, told
+
+
+def try_closed_pipe(files):
+    """Who closes the pipe has read enough: nothing is told."""
+    first, told = reads_some(files, "tokens", given=b"a " * WORDS)
+    wants("the first line", first.split(b"\n")[0], b'0..1 Ident "a"')
+    wants("what is told", told, b"")
+    first, told = reads_some(files, "tree", given=b"(" * DEPTH + b")" * DEPTH)
+    wants("the first line", first.split(b"\n")[0], f"SUBTREE () 1:1..1:2 1:{2 * DEPTH}..1:{2 * DEPTH + 1}".encode())
+    wants("what is told", told, b"")
+
+
+# ---- long and deep texts
+
+def try_deep(files):
+    """Brackets that stand in one another: their tokens, their piece, and where one is left open."""
+    text = b"(" * DEPTH + b")" * DEPTH
+    name = files.made("deep", text)
+    opens = "".join(f'{at}..{at + 1} OpenParen "("\n' for at in range(DEPTH))
+    closes = "".join(f'{at}..{at + 1} CloseParen ")"\n' for at in range(DEPTH, 2 * DEPTH))
+    files.gives((opens + closes).encode(), "tokens", name)
+    piece = str(files.room / "piece")
+    files.gives(b"", "pack", name, "-o", piece)
+    files.gives(text + b"\n", "unpack", piece)
+    line = "(" * DEPTH + ")" * (DEPTH - 1)
+    files.tells(
+        f"error: unclosed '('\n --> <stdin>:1:1\n  |\n1 | {line}\n  | ^\n", "tree", given=line.encode()
+    )
+
+
+def try_deep_tree(files):
+    """The tree of such a text."""
+    lines = "".join(
+        f"{'  ' * at}SUBTREE () 1:{at + 1}..1:{at + 2} 1:{2 * TREE_DEPTH - at}..1:{2 * TREE_DEPTH - at + 1}\n"
+        for at in range(TREE_DEPTH)
+    )
+    files.gives(lines.encode(), "tree", given=b"(" * TREE_DEPTH + b")" * TREE_DEPTH)
+
+
+def try_long(files):
+    """Many tokens in one line, and in as many lines."""
+    lines = "".join(f"IDENT   é {1}:{2 * at + 1}..1:{2 * at + 2}\n" for at in range(WORDS))
+    files.gives(lines.encode(), "tree", given="é ".encode() * WORDS)
+    lines = "".join(f"IDENT   é {at + 1}:1..{at + 1}:2\n" for at in range(WORDS))
+    files.gives(lines.encode(), "tree", given="é\n".encode() * WORDS)
+
+
+def tried(files):
+    """Each thing that is tried, by its name."""
+    for example in sorted(EXAMPLES.glob("*.rs")):
+        yield f"tokens of {example.name}", lambda example=example: try_tokens(files, example)
+        if example.with_suffix(".err").exists():
+            yield f"fault of {example.name}", lambda example=example: try_fault(files, example)
+        else:
+            yield f"tree of {example.name}", lambda example=example: try_tree(files, example)
+            yield f"piece of {example.name}", lambda example=example: try_pieces(files, example)
+    for try_one in (
+        try_missing, try_folder, try_unreadable, try_empty, try_no_utf8, try_mark, try_faults, try_bad_pieces, try_help,
+        try_version, try_mistakes, try_closed_pipe, try_deep, try_deep_tree, try_long,
+    ):
+        yield try_one.__name__.removeprefix("try_").replace("_", " "), lambda try_one=try_one: try_one(files)
+
+
+def main():
+    """Tries all, and says of each how it went."""
+    failed = False
+    with tempfile.TemporaryDirectory() as room:
+        for name, run in tried(Files(sys.argv[1], room)):
+            try:
+                run()
+                print(f"ok {name}", flush=True)
+            except (Wrong, OSError, subprocess.TimeoutExpired) as why:
+                failed = True
+                line = str(why).replace("\n", " ")
+                print(f"FAILED {name}: {line}", flush=True)
+    return int(failed)
+
+
+if __name__ == "__main__":
+    sys.exit(main())

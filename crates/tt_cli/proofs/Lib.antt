@@ -1,0 +1,2 @@
+-- What is left of a walk.
+pub mod TokensLeft

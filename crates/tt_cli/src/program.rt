@@ -1,0 +1,69 @@
+//! What the program does.
+use crate::arguments::{file_of, out_of, parse};
+use crate::failure::Failure;
+use crate::fault::told;
+use crate::input::Input;
+use crate::packing::{pack, unpack};
+use crate::token_lines::write_tokens;
+use crate::tree_lines::{tree_of, write_tree};
+use clap::ArgMatches;
+use std::env;
+use std::io::{BufWriter, Write};
+use std::process::ExitCode;
+use tt_lex::MOST_TEXT_BYTES;
+use tt_text::TextFault;
+
+/// Does what the arguments ask for, and gives the exit status.
+pub fn run(rt: &HostRuntime) -> Result<ExitCode, Failure> {
+    let words: Vec<String> = env::args(rt)?.collect(rt.alloc())?;
+    match parse(rt.alloc(), words.as_slice()) {
+        Ok(matches) => {
+            run_command(rt, &matches)?;
+            Ok(ExitCode::SUCCESS)
+        }
+        Err(error) => {
+            error.print(rt)?;
+            let mistake = error.use_stderr();
+            Ok(ExitCode::from(if mistake { 2 } else { 0 }))
+        }
+    }
+}
+
+// Does what a command of that name does.
+fn run_command(rt: &HostRuntime, matches: &ArgMatches<'_>) -> Result<(), Failure> {
+    let Some((name, given)) = matches.subcommand() else {
+        return Ok(());
+    };
+    let input = Input::new(file_of(given));
+    match name {
+        "tokens" => tokens(rt, input),
+        "tree" => tree(rt, input),
+        "pack" => pack(rt, input, out_of(given)),
+        "unpack" => unpack(rt, input),
+        _ => Ok(()),
+    }
+}
+
+// Writes the tokens of a text.
+fn tokens(rt: &HostRuntime, input: Input<'_>) -> Result<(), Failure> {
+    let bytes = input.bytes(rt)?;
+    let text = input.text(rt, bytes.as_slice())?;
+    if text.len() > MOST_TEXT_BYTES {
+        return Err(told(rt.alloc(), input.name(), text, TextFault::TooLong));
+    }
+    let mut out = BufWriter::new(rt.alloc(), rt.stdout())?;
+    write_tokens(&mut out, text)?;
+    out.flush()?;
+    Ok(())
+}
+
+// Writes the tree of a text.
+fn tree(rt: &HostRuntime, input: Input<'_>) -> Result<(), Failure> {
+    let bytes = input.bytes(rt)?;
+    let text = input.text(rt, bytes.as_slice())?;
+    let tree = tree_of(rt.alloc(), input.name(), text)?;
+    let mut out = BufWriter::new(rt.alloc(), rt.stdout())?;
+    write_tree(&mut out, rt.alloc(), text, &tree)?;
+    out.flush()?;
+    Ok(())
+}

@@ -1,0 +1,4 @@
+-- Lemmas on characters, places and marks.
+pub mod CharFacts
+pub mod MarkFacts
+pub mod PlaceFacts
