@@ -12,11 +12,12 @@ use Rattle.tt_matcher.specs.Asks as ask
 use Rattle.tt_matcher.specs.declared.places.Place.{Place}
 use Rattle.tt_matcher.specs.Compiled.{Stand, separator_count, place_count, entries, again, separator_stops, stops}
 use Rattle.tt_matcher.specs.Fragments.{taken, left_by}
+use Rattle.tt_matcher.specs.Paths.{shift, firsts, entry_count, path_of, path_of_others}
 use Rattle.tt_matcher.specs.Patterns.{Pattern, nothing, variable, token, subtree, repetition, may_be_empty, may_be_none, may_be_more, IsFull}
 use Rattle.tt_matcher.specs.Places.{Reads, is_leave, Passes}
 use Rattle.tt_matcher.specs.Readings.{Reading, done, took, held, round, over, Takes, AreOtherRounds, Separates}
-use Rattle.tt_matcher.proofs.Compiling.{length-stops, length-separator, entries_full, firsts, entry_count, path_of, path_of_others}
-use Rattle.tt_matcher.proofs.Via.{shift, Via, stand_left, stand_right, via_split, via_none, via_one, comes_by}
+use Rattle.tt_matcher.proofs.Compiling.{length-stops, length-separator, entries_full}
+use Rattle.tt_matcher.proofs.Via.{Via, stand_left, stand_right, via_split, via_none, via_one, comes_by}
 
 -- A path is as long however late its first turn is.
 length-shift : (n : ℕ) (path : List ℕ) → length (shift n path) ≡ length path

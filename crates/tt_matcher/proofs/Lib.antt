@@ -16,12 +16,17 @@ pub mod OneReading
 pub mod Reaching
 pub mod PartSteps
 pub mod Passing
-pub mod ReadingParts
+pub mod PathsBack
 pub mod ReadingSteps
 pub mod Results
 pub mod Standing
 pub mod Stepping
+pub mod StepsMade
 pub mod Telling
 pub mod Told
 pub mod Via
+pub mod WalkEnds
+pub mod WalkLeft
+pub mod WalkSteps
+pub mod Walked
 mod Rows

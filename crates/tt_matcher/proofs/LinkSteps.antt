@@ -19,7 +19,7 @@ abbrev pub made_before : (at : ℕ) → Pattern → Made → Made
 made_before at pattern made = record { stops = stops at pattern made.edges ++ made.stops; edges = entries at pattern made.edges; around = made.around }
 
 -- Where a round may go on.
-again_same : (at : ℕ) (inner : Pattern) (separator : List Leaf) (op : RepeatKind)
+pub again_same : (at : ℕ) (inner : Pattern) (separator : List Leaf) (op : RepeatKind)
     → again_from (at + place_count inner) separator (may_be_more op) (entries at inner []) ≡ again at inner separator op
 again_same at inner separator repeat.ZeroOrOne = refl
 again_same at inner [] repeat.ZeroOrMore = refl

@@ -11,9 +11,9 @@ use tt::{DelimiterKind, TtIter};
 /// A turn of a path: the number of the edge that it takes, and that of the turn before it. Turns are numbered from 1, and 0 is
 /// none.
 #[derive(Clone, Copy)]
-pub struct Turn {
-    pub edge: usize,
-    pub before: usize,
+pub(crate) struct Turn {
+    pub(crate) edge: usize,
+    pub(crate) before: usize,
 }
 
 /// The place of a path, how many trees are passed before it stands there, whether other paths lead there too, and its last turn.

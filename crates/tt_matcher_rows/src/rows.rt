@@ -21,7 +21,7 @@ fn ways(alloc: Global, pattern: &str, input: &str) -> Option<usize> {
     let input = tree_of(alloc, input)?;
     match matcher.read(alloc, input.token_trees().iter()) {
         Ok(Found::Nothing) => Some(0),
-        Ok(Found::One(_, _)) => Some(1),
+        Ok(Found::One(_)) => Some(1),
         Ok(Found::Many) => Some(2),
         Err(_) => None,
     }

@@ -4,7 +4,11 @@ use Rattle.tt_matcher.specs.Compiled.{all_stops, starts_of}
 use Rattle.tt_matcher.specs.Linking.{Made, made_of, made_by, nothing_made, stop_of}
 use Rattle.tt_matcher.specs.Spelling.{pattern_of}
 use Rattle.tt_matcher.proofs.LinkSteps.{made_whole}
+use Rattle.tt_matcher.specs.Pieces.{bit_of}
+use Rattle.tt_matcher.specs.Stepping.{taken_of, nothing_taken}
+use Rattle.tt_matcher.specs.Steps.{steps_of}
 use Rattle.tt_matcher.proofs.Standing.{stand_as}
+use Rattle.tt_matcher.proofs.StepsMade.{taken_whole}
 use Rattle.tt_matcher.proofs.matcher.Matcher.new.Goals as goal
 
 pub returns-clause-ok : goal.returns-clause-ok
@@ -16,5 +20,7 @@ returns-clause-ok c =
     let whole : Made = record { stops = all_stops pattern; edges = starts_of pattern; around = [] } in
     let made : made_by linked ≡ whole = c.in_ok-places.ensures ∙ ap (λ bits. made_of bits nothing_made) pieces.0 ∙ made_whole pattern in
     let turned : places ≡ reverse linked.places.items = search rules in
+    let here : c.deref.result.now ≡ c.in_ok-pieces.pieces.items = search rules in
+    let steps : c.in_ok-steps.steps.items ≡ steps_of pattern = c.in_ok-steps.ensures ∙ ap (λ its. (taken_of (map bit_of its) nothing_taken).steps) here ∙ ap (λ bits. (taken_of bits nothing_taken).steps) pieces.0 ∙ taken_whole pattern in
     let stops : map stop_of places ≡ all_stops pattern = ap (map stop_of) turned ∙ ap (λ m. m.stops) made in
-    record { full = pieces.1; stand = stand_as places (all_stops pattern) stops; starts = ap (λ m. m.edges) made }
+    record { full = pieces.1; stand = stand_as places (all_stops pattern) stops; starts = ap (λ m. m.edges) made; steps = steps }

@@ -1,0 +1,57 @@
+-- The steps that are made of pieces, from the last.
+use Rattle.std.specs.Prelude.{ℕ, List, [], ◌∷◌, length, reverse}
+use Rattle.tt_matcher.specs.declared.steps.End.{End}
+use Rattle.tt_matcher.specs.declared.steps.Step.{Step}
+use Rattle.tt_matcher.specs.declared.steps.Step.TheVariants as step
+use Rattle.tt_matcher.specs.declared.steps.Stepped.{Stepped}
+use Rattle.tt_matcher.specs.Asks.{Ask}
+use Rattle.tt_matcher.specs.Asks as ask
+use Rattle.tt_matcher.specs.Linking.{again_from}
+use Rattle.tt_matcher.specs.Patterns.{may_be_more}
+use Rattle.tt_matcher.specs.Pieces.{Bit, begin, close, place}
+use Rattle.tt_matcher.specs.Steps.{with_begin}
+
+-- steps that were made, and the repetitions whose beginning is still to come
+pub record Taken : Type 0 where
+  pub steps : List Step
+  pub ends : List End
+
+-- the step of what a place asks
+abbrev pub step_of : Ask → Step
+step_of (ask.take which) = step.Take which
+step_of (ask.same its) = step.Pass (length its)
+step_of (ask.enter kind) = step.Enter
+step_of ask.leave = step.Leave
+
+-- the beginning of the innermost repetition that is open
+abbrev pub with_beginning : List End → Taken → Taken
+with_beginning [] taken = taken
+with_beginning (it ∷ others) taken = record { steps = with_begin it.ways it.separator it.behind taken.steps; ends = others }
+
+-- the end of a repetition, into which so many edges lead, and to another round of which so many
+abbrev pub closed_with : (ways separator again : ℕ) → Taken → Taken
+closed_with ways separator again taken =
+    record {
+      steps = step.Close again ∷ taken.steps;
+      ends = record { ways = ways; separator = separator; behind = length taken.steps } ∷ taken.ends;
+    }
+
+-- one piece more, from the last
+abbrev pub taken_with : Bit → Taken → Taken
+taken_with (place at asked) taken = record { steps = step_of asked ∷ taken.steps; ends = taken.ends }
+taken_with begin taken = with_beginning taken.ends taken
+taken_with (close at separator kind its) taken =
+    closed_with (length its) (length separator) (length (again_from at separator (may_be_more kind) its)) taken
+
+-- all of them
+abbrev pub taken_of : List Bit → Taken → Taken
+taken_of [] taken = taken
+taken_of (it ∷ others) taken = taken_with it (taken_of others taken)
+
+-- none was made
+abbrev pub nothing_taken : Taken
+nothing_taken = record { steps = []; ends = [] }
+
+-- what was made, of which the last stands last
+abbrev pub taken_by : Stepped → Taken
+taken_by stepped = record { steps = reverse stepped.steps.items; ends = reverse stepped.ends.items }
