@@ -159,7 +159,7 @@ module _ (places : List Place) where
       → Via places (entries at pattern behind) (input ∷ outer) (path_of at pattern reading tail)
   from_reading at nothing behind input reading rest outer tail full stand takes via = subst (λ r. Via places behind (r ∷ outer) tail) takes.1 via
   from_reading at (variable it others) behind input reading rest outer tail full stand (more, is, taken, takes) via =
-      goes_by places (input ∷ outer) at (record { asked = ask.take it.fragment; edges = entries (suc at) others behind }) stand.0
+      goes_by places (input ∷ outer) at (record { asked = ask.take it; edges = entries (suc at) others behind }) stand.0
       (path_of (suc at) others (more_of reading) tail) taken
       (subst (λ r. Via places (entries (suc at) others behind) (left_by it.fragment input ∷ outer) (path_of (suc at) others (more_of r) tail)) (sym is)
       (from_reading (suc at) others behind (left_by it.fragment input) more rest outer tail full stand.1 takes via))

@@ -232,8 +232,8 @@ module _ (places : List Place) where
       first (via_one places (input ∷ outer) at path via) (λ more v. to_reading (suc at) others behind outer (left_by it.fragment input) more full stand.1 v)
     where
       by : (more : List ℕ) → path ≡ 0 ∷ more
-          → ((is_leave (ask.take it.fragment) ≡ true) × (input ∷ outer ≡ end ∷ []) × (more ≡ []))
-          ⊎ (Passes (ask.take it.fragment) (input ∷ outer) × Via places (entries (suc at) others behind) (left_by it.fragment input ∷ outer) more)
+          → ((is_leave (ask.take it) ≡ true) × (input ∷ outer ≡ end ∷ []) × (more ≡ []))
+          ⊎ (Passes (ask.take it) (input ∷ outer) × Via places (entries (suc at) others behind) (left_by it.fragment input ∷ outer) more)
           → ((more : List ℕ) → Via places (entries (suc at) others behind) (left_by it.fragment input ∷ outer) more → Read (suc at) others behind outer (left_by it.fragment input) more)
           → Read at (variable it others) behind outer input path
       by more same (inl e) further = absurd (cc e.0)
@@ -254,7 +254,7 @@ module _ (places : List Place) where
           → ((more : List ℕ) → Via places (entries (suc at) others behind) (left_by it.fragment input ∷ outer) more → Read (suc at) others behind outer (left_by it.fragment input) more)
           → Read at (variable it others) behind outer input path
       first (more, same, reads) further =
-          by more same (comes_by places (input ∷ outer) at (record { asked = ask.take it.fragment; edges = entries (suc at) others behind }) stand.0 more reads) further
+          by more same (comes_by places (input ∷ outer) at (record { asked = ask.take it; edges = entries (suc at) others behind }) stand.0 more reads) further
   to_reading at (token it others) behind outer input path full stand via =
       first (via_one places (input ∷ outer) at path via) (λ more v. to_reading (suc at) others behind outer (after_trees (length it) input) more full stand.1 v)
     where

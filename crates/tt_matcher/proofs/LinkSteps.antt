@@ -43,7 +43,7 @@ separated (it ∷ more) its others = refl
 -- The pieces of a pattern make its places.
 pub made_pattern : (at : ℕ) (pattern : Pattern) (behind : List Bit) (made : Made) → made_of (bits_of at pattern behind) made ≡ made_before at pattern (made_of behind made)
 made_pattern at nothing behind made = refl
-made_pattern at (variable it others) behind made = ap (made_with (place at (ask.take it.fragment))) (made_pattern (suc at) others behind made)
+made_pattern at (variable it others) behind made = ap (made_with (place at (ask.take it))) (made_pattern (suc at) others behind made)
 made_pattern at (token its others) behind made = ap (made_with (place at (ask.same its))) (made_pattern (suc at) others behind made)
 made_pattern at (subtree kind inner others) behind made =
     let leave = suc at + place_count inner in

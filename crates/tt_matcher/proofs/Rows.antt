@@ -149,7 +149,7 @@ listed_starts : starts_of (pattern_of listed) ≡ 0 ∷ 2 ∷ 3 ∷ []
 listed_starts = refl
 
 listed_stops : all_stops (pattern_of listed)
-    ≡ record { asked = ask.take fragment.Ident; edges = 1 ∷ 2 ∷ 3 ∷ [] }
+    ≡ record { asked = ask.take (record { name = Some (codes "x"); fragment = fragment.Ident }); edges = 1 ∷ 2 ∷ 3 ∷ [] }
     ∷ record { asked = ask.same (punct 44 Joint ∷ []); edges = 0 ∷ [] }
     ∷ record { asked = ask.same (punct 44 Alone ∷ []); edges = 3 ∷ [] }
     ∷ record { asked = ask.leave; edges = [] }

@@ -19,7 +19,7 @@ taken_before at pattern taken = record { steps = steps_before at pattern taken.s
 -- The pieces of a pattern make its steps.
 pub taken_pattern : (at : ℕ) (pattern : Pattern) (behind : List Bit) (taken : Taken) → taken_of (bits_of at pattern behind) taken ≡ taken_before at pattern (taken_of behind taken)
 taken_pattern at nothing behind taken = refl
-taken_pattern at (variable it others) behind taken = ap (taken_with (place at (ask.take it.fragment))) (taken_pattern (suc at) others behind taken)
+taken_pattern at (variable it others) behind taken = ap (taken_with (place at (ask.take it))) (taken_pattern (suc at) others behind taken)
 taken_pattern at (token its others) behind taken = ap (taken_with (place at (ask.same its))) (taken_pattern (suc at) others behind taken)
 taken_pattern at (subtree kind inner others) behind taken =
     let leave = suc at + place_count inner in

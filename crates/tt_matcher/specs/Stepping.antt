@@ -18,7 +18,7 @@ pub record Taken : Type 0 where
 
 -- the step of what a place asks
 abbrev pub step_of : Ask → Step
-step_of (ask.take which) = step.Take which
+step_of (ask.take which) = step.Take which.fragment
 step_of (ask.same its) = step.Pass (length its)
 step_of (ask.enter kind) = step.Enter
 step_of ask.leave = step.Leave

@@ -91,7 +91,7 @@ threads_spread wait is_many before turn (to ∷ others) threads =
 
 -- what is asked is there, as the input goes on
 abbrev pub IsMoved : Move → Ask → Type 0
-IsMoved (move.Passes trees) (ask.take which) = takes which (rest_of trees) ≡ true
+IsMoved (move.Passes trees) (ask.take which) = takes which.fragment (rest_of trees) ≡ true
 IsMoved (move.Passes trees) (ask.same its) = IsUnitLike its (rest_of trees)
 IsMoved (move.Passes trees) (ask.enter kind) = ⊥
 IsMoved (move.Passes trees) ask.leave = ⊥
@@ -106,7 +106,7 @@ IsMoved move.Ends ask.leave = Unit {0}
 
 -- for how many trees behind the first the thread then waits
 abbrev pub wait_of : Move → Ask → ℕ
-wait_of (move.Passes trees) (ask.take which) = reach which (rest_of trees) - 1
+wait_of (move.Passes trees) (ask.take which) = reach which.fragment (rest_of trees) - 1
 wait_of (move.Passes trees) (ask.same its) = length its - 1
 wait_of (move.Passes trees) (ask.enter kind) = 0
 wait_of (move.Passes trees) ask.leave = 0

@@ -51,7 +51,7 @@ fn step_of(atom: &Atom) -> Step
     ensures { result ≡ step_of (ask_of atom.now) }
 {
     match atom {
-        Atom::Take(fragment) => Step::Take(*fragment),
+        Atom::Take(variable) => Step::Take(variable.fragment),
         Atom::Same(leaves) => Step::Pass(leaves.len()),
         Atom::Enter(_) => Step::Enter,
         Atom::Leave => Step::Leave,

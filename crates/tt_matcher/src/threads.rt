@@ -41,9 +41,9 @@ fn moved(by: &Move<'_>, atom: &Atom) -> Option<usize>
     ensures { MatchOption result (IsMoved by.now (ask_of atom.now) → ⊥) (λ wait. IsMoved by.now (ask_of atom.now) × (wait ≡ wait_of by.now (ask_of atom.now))) }
 {
     match (by, atom) {
-        (Move::Passes(trees), Atom::Take(fragment)) => {
-            if takes(*fragment, trees.remaining().iter()) {
-                Some(reach(*fragment, trees.remaining().iter()).saturating_sub(1))
+        (Move::Passes(trees), Atom::Take(variable)) => {
+            if takes(variable.fragment, trees.remaining().iter()) {
+                Some(reach(variable.fragment, trees.remaining().iter()).saturating_sub(1))
             } else {
                 None
             }
