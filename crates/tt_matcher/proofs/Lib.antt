@@ -1,4 +1,6 @@
 pub mod Adding
+pub mod BindRounds
+pub mod Binds
 pub mod Compiling
 pub mod CutLevels
 pub mod CutSteps
@@ -8,6 +10,7 @@ pub mod Ending
 pub mod FirstTrees
 pub mod Leading
 pub mod LeafSteps
+pub mod GroupSteps
 pub mod LevelSteps
 pub mod Levelling
 pub mod LinkSteps

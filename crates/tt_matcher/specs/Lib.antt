@@ -1,8 +1,10 @@
 -- What a pattern is, when trees are an instance of it, and how its places read them.
 pub mod Asks
+pub mod Bindings
 pub mod Compiled
 pub mod Cutting
 pub mod Fragments
+pub mod Grouping
 pub mod Levels
 pub mod Linking
 pub mod Marks
