@@ -1,10 +1,12 @@
 use Rattle.std.proofs.Common.{rules, ◌≡◌, ◌∷◌, [], List, map, reverse, ap, sym, subst, ◌∙◌}
 use Rattle.tt.specs.Iters.{rest_of}
+use Rattle.tt_matcher.specs.Grouping.{variables_of, binding_by}
 use Rattle.tt_matcher.specs.Marks.{Note, note_of, notes_of}
 use Rattle.tt_matcher.specs.Paths.{path_of}
 use Rattle.tt_matcher.specs.Steps.{steps_of}
 use Rattle.tt_matcher.specs.Threads.{path_to}
 use Rattle.tt_matcher.specs.Walking.{Notes, started}
+use Rattle.tt_matcher.proofs.BindRounds.{binds}
 use Rattle.tt_matcher.proofs.Told.{as_one}
 use Rattle.tt_matcher.proofs.Walked.{walked_whole}
 use Rattle.tt_matcher.proofs.binding.found_by.Goals as goal
@@ -20,10 +22,9 @@ returns-in_ok-marks-in-One c pattern full steps_are told =
     let back : reverse path ≡ path_to c.deref.result.now c.in-One.last = search rules in
     let one = as_one c.args.paths c.in-One.log c.in-One.last pattern input c.in-One.is told in
     let same : reverse path ≡ path_of 0 pattern one.0 (0 ∷ []) = back ∙ ap (λ log. path_to log c.in-One.last) here ∙ one.2 in
-    let walk : Notes (started (steps_of pattern) (path_of 0 pattern one.0 (0 ∷ [])) input) (notes_of pattern one.0) = walked_whole pattern input one.0 full one.1.holds in (
-      one.0,
-      one.1,
-      along (notes_of pattern one.0)
-          (subst (λ s. Notes (started s (reverse path) input) (notes_of pattern one.0)) (sym steps_are)
-          (subst (λ p. Notes (started (steps_of pattern) p input) (notes_of pattern one.0)) (sym same) walk)),
-    )
+    let walk : Notes (started (steps_of pattern) (path_of 0 pattern one.0 (0 ∷ [])) input) (notes_of pattern one.0) = walked_whole pattern input one.0 full one.1.holds in
+    let noted : map note_of marks ≡ notes_of pattern one.0 =
+    along (notes_of pattern one.0)
+    (subst (λ s. Notes (started s (reverse path) input) (notes_of pattern one.0)) (sym steps_are)
+    (subst (λ p. Notes (started (steps_of pattern) p input) (notes_of pattern one.0)) (sym same) walk)) in
+    (one.0, one.1, noted, ap (binding_by (variables_of pattern 1)) noted ∙ binds pattern input one.0 one.1.holds)
