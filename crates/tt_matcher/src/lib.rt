@@ -23,4 +23,5 @@ pub use binding::{Binding, Found};
 pub use error::PatternError;
 pub use matcher::Matcher;
 pub use pattern::{Fragment, RepeatKind, Variable};
+pub use steps::Binder;
 pub use walking::Mark;

@@ -12,7 +12,7 @@ use crate::error::PatternError;
 use crate::linking::{Linked, link};
 use crate::places::Place;
 use crate::reading::read_all;
-use crate::steps::{Step, steps_of};
+use crate::steps::{Binder, Step, Stepped, step_by_step};
 use std::alloc::{AllocError, Global};
 use tt::TtIter;
 
@@ -22,6 +22,7 @@ pub struct Matcher {
     places: Vec<Place>,
     starts: Vec<usize>,
     steps: Vec<Step>,
+    binders: Vec<Binder>,
 }
 
 impl Matcher {
@@ -35,7 +36,13 @@ impl Matcher {
         ensures err { IfErr result (IsPatternError (pattern_of (rest_of pattern.entry))) }
     {
         let pieces = cut(alloc, pattern)?;
-        let steps = steps_of(alloc, &pieces)?;
+        let Stepped {
+            mut steps,
+            mut binders,
+            ..
+        } = step_by_step(alloc, &pieces)?;
+        steps.reverse();
+        binders.reverse();
         let Linked {
             mut places,
             edges: starts,
@@ -46,6 +53,7 @@ impl Matcher {
             places,
             starts,
             steps,
+            binders,
         })
     }
 

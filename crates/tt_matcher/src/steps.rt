@@ -5,13 +5,14 @@ ghost use Rattle.tt_matcher.specs.Linking.{again_from};
 ghost use Rattle.tt_matcher.specs.Marks.{pass_count};
 ghost use Rattle.tt_matcher.specs.Patterns.{may_be_more};
 ghost use Rattle.tt_matcher.specs.Pieces.{bit_of};
-ghost use Rattle.tt_matcher.specs.Stepping.{step_of, taken_with, closed_with, with_beginning, taken_of, taken_by, nothing_taken};
+ghost use Rattle.tt_matcher.specs.Stepping.{number_of, step_of, bound_with, placed_with, taken_with, closed_with, with_beginning, taken_of, taken_by, nothing_taken};
 
-use crate::pattern::{Fragment, RepeatKind};
+use crate::pattern::{Fragment, RepeatKind, Variable};
 use crate::pieces::Piece;
 use crate::places::Atom;
 use crate::signs::Tail;
 use std::alloc::{AllocError, Global};
+use tt::Symbol;
 
 /// A step of a walk through a pattern.
 #[derive(Clone, Copy)]
@@ -39,11 +40,20 @@ pub(crate) struct End {
     behind: usize,
 }
 
-/// The steps so far, the last first, and the repetitions that are open.
+/// A variable of a pattern: its name, if it has one, its number, and those of the repetitions that it stands in, the outermost first.
+#[derive(Drop)]
+pub struct Binder {
+    pub name: Option<Symbol>,
+    pub number: usize,
+    pub nest: Vec<usize>,
+}
+
+/// The steps and the variables so far, the last first, and the repetitions that are open.
 #[derive(Drop)]
 pub(crate) struct Stepped {
-    steps: Vec<Step>,
+    pub(crate) steps: Vec<Step>,
     ends: Vec<End>,
+    pub(crate) binders: Vec<Binder>,
 }
 
 // The step of a place.
@@ -81,7 +91,49 @@ fn pass_count(separator: usize) -> usize
     if separator > 0 { 1 } else { 0 }
 }
 
+// A name once more.
+fn name_again(name: &Option<Symbol>) -> Result<Option<Symbol>, AllocError>
+    ensures { IfOk result (λ again. again ≡ name.now) }
+{
+    match name {
+        None => Ok(None),
+        Some(text) => Ok(Some(text.clone()?)),
+    }
+}
+
+// The numbers of the repetitions that are open, the outermost first.
+fn nest_of(alloc: Global, ends: &[End]) -> Result<Vec<usize>, AllocError>
+    ensures { IfOk result (λ nest. nest.items ≡ map number_of ends.now) }
+{
+    let mut nest = Vec::new(alloc);
+    for end in ends {
+        nest.push(end.behind)?;
+    }
+    Ok(nest)
+}
+
 impl Stepped {
+    // A variable, before its step.
+    fn bind(&mut self, alloc: Global, variable: &Variable) -> Result<(), AllocError>
+        ensures { OnOk result (taken_by self.new ≡ bound_with variable.now (taken_by self.old)) }
+    {
+        Ok(self.binders.push(Binder {
+            name: name_again(&variable.name)?,
+            number: self.steps.len(),
+            nest: nest_of(alloc, &self.ends)?,
+        })?)
+    }
+
+    // A place.
+    fn place(&mut self, alloc: Global, atom: &Atom) -> Result<(), AllocError>
+        ensures { OnOk result (taken_by self.new ≡ placed_with (ask_of atom.now) (taken_by self.old)) }
+    {
+        if let Atom::Take(variable) = atom {
+            self.bind(alloc, variable)?;
+        }
+        Ok(self.steps.push(step_of(atom))?)
+    }
+
     // The beginning of the innermost repetition that is open.
     fn begin(&mut self) -> Result<(), AllocError>
         ensures { OnOk result (taken_by self.new ≡ with_beginning (taken_by self.old).ends (taken_by self.old)) }
@@ -112,11 +164,11 @@ impl Stepped {
     }
 
     // One piece more, from the last.
-    fn add(&mut self, piece: &Piece) -> Result<(), AllocError>
+    fn add(&mut self, alloc: Global, piece: &Piece) -> Result<(), AllocError>
         ensures { OnOk result (taken_by self.new ≡ taken_with (bit_of piece.now) (taken_by self.old)) }
     {
         match piece {
-            Piece::Place(_, atom) => Ok(self.steps.push(step_of(atom))?),
+            Piece::Place(_, atom) => self.place(alloc, atom),
             Piece::Begin => self.begin(),
             Piece::Close(at, tail, entries) => {
                 let again = again_count(tail, entries, *at);
@@ -126,19 +178,19 @@ impl Stepped {
     }
 }
 
-/// The steps that are made of pieces.
-pub(crate) fn steps_of(alloc: Global, pieces: &[Piece]) -> Result<Vec<Step>, AllocError>
-    ensures { IfOk result (λ steps. steps.items ≡ (taken_of (map bit_of pieces.now) nothing_taken).steps) }
+/// The steps and the variables that are made of pieces, the last first.
+pub(crate) fn step_by_step(alloc: Global, pieces: &[Piece]) -> Result<Stepped, AllocError>
+    ensures { IfOk result (λ stepped. taken_by stepped ≡ taken_of (map bit_of pieces.now) nothing_taken) }
 {
     let mut stepped = Stepped {
         steps: Vec::new(alloc),
         ends: Vec::new(alloc),
+        binders: Vec::new(alloc),
     };
     let mut left = pieces.len();
     while left > 0 {
         left -= 1;
-        stepped.add(&pieces[left])?;
+        stepped.add(alloc, &pieces[left])?;
     }
-    stepped.steps.reverse();
-    Ok(stepped.steps)
+    Ok(stepped)
 }

@@ -2,7 +2,7 @@
 use Rattle.std.proofs.Common.{◌≡◌, ◌≤◌, drop, length, map}
 use Rattle.tt_matcher.specs.Pieces.{bit_of}
 use Rattle.tt_matcher.specs.Stepping.{taken_of, taken_by, nothing_taken}
-use Rattle.tt_matcher.proofs.steps.steps_of.Given as goal
+use Rattle.tt_matcher.proofs.steps.step_by_step.Given as goal
 
 abbrev pub invariant-loop-left : goal.invariant-loop-left
 invariant-loop-left l =
