@@ -11,12 +11,12 @@ use Rattle.tt.specs.Types.Leaf.{Leaf}
 use Rattle.tt_matcher.specs.declared.pattern.RepeatKind.{RepeatKind}
 use Rattle.tt_matcher.specs.Bindings.{Bound, one, none, first, Named, Binding, names_of, unbound, joined, of_rounds, behind_rounds, binding_of}
 use Rattle.tt_matcher.specs.Fragments.{left_by, taken as trees_of_fragment}
-use Rattle.tt_matcher.specs.Grouping.{Where, held_in, variables_of, taken_by, counts_by, listed, grouped, bounds_by, first_bound, named_by, binding_by}
+use Rattle.tt_matcher.specs.Grouping.{Where, held_in, variables_of, taken_by, counted, counts_by, listed, grouped, bounds_by, first_bound, named_by, binding_by}
 use Rattle.tt_matcher.specs.Marks.{Note, taken, begun, ended, step_count, notes_of_rounds, notes_before, notes_of}
 use Rattle.tt_matcher.specs.Patterns.{Pattern, nothing, variable, token, subtree, repetition}
 use Rattle.tt_matcher.specs.Readings.{Reading, done, took, held, round, over, trees_taken, inside_of, more_of, Takes, AreRounds, AreOtherRounds, IsInstance}
 use Rattle.tt_matcher.proofs.Binds.{AreFrom, NestFrom, VariablesFrom, variables_from, variables_wider, notes_wider, notes_both, rounds_only, rounds_from, rounds_split, behind_all, notes_split, notes_from, differ, lacks_apart, lacks_all, Agrees, AllAgree, agree_both, agree_behind, agree_before, held_from}
-use Rattle.tt_matcher.proofs.GroupSteps.{total, counted, Lacks, LacksAll, IsWhole, counts-append, counts-lacks, counted-append, counted-lacks, bounds-append, whole-append, whole-lacks, bounds-lacks, bounds_behind_others, taken-lacks}
+use Rattle.tt_matcher.proofs.GroupSteps.{total, Lacks, LacksAll, IsWhole, counts-append, counts-lacks, counted-append, counted-lacks, bounds-append, whole-append, whole-lacks, bounds-lacks, bounds_behind_others, taken-lacks}
 
 -- A number is itself.
 same_number : (n : ℕ) → nat_eq n n ≡ true
@@ -184,20 +184,21 @@ pub all_agree : (pattern : Pattern) (behind : ℕ) (input : Forest) (reading : R
 all_agree nothing behind input reading rest takes = tt
 all_agree (variable it others) behind input reading rest (more, is, takes, further) =
     let number = step_count others + behind in
-    subst (λ r. AllAgree (variables_of (variable it others) behind) (taken number (trees_taken r) ∷ notes_before others behind (more_of r) []) (binding_of (variable it others) r)) (sym is)
-    (record {
-      name = refl;
-      bounds =
-          ap (λ b. map one (cond b (trees_taken (took (trees_of_fragment it.fragment input) more) ∷ taken_by number (notes_before others behind more [])) (taken_by number (notes_before others behind more [])))) (same_number number)
-          ∙ ap (λ l. one (trees_of_fragment it.fragment input) ∷ map one l)
-          (taken-lacks number (notes_before others behind more [])
-          (lacks_apart number (suc number) behind number (inr (omega arith)) number (notes_before others behind more []) (omega arith) (omega arith)
-          (notes_from others behind behind number more [] (omega arith) (omega arith) tt)));
-      whole = tt;
-    },
-    agree_behind behind number number (suc number) (inl (omega arith)) (notes_before others behind more []) (taken number (trees_of_fragment it.fragment input) ∷ [])
-    ((omega arith, omega arith), tt) (variables_of others behind) (binding_of others more) (variables_from others behind)
-    (all_agree others behind (left_by it.fragment input) more rest further))
+    subst (λ r. AllAgree (variables_of (variable it others) behind) (taken number (trees_taken r) ∷ notes_before others behind (more_of r) []) (binding_of (variable it others) r)) (sym is) (
+      record {
+        name = refl;
+        bounds =
+            ap (λ b. map one (cond b (trees_taken (took (trees_of_fragment it.fragment input) more) ∷ taken_by number (notes_before others behind more [])) (taken_by number (notes_before others behind more [])))) (same_number number)
+            ∙ ap (λ l. one (trees_of_fragment it.fragment input) ∷ map one l)
+            (taken-lacks number (notes_before others behind more [])
+            (lacks_apart number (suc number) behind number (inr (omega arith)) number (notes_before others behind more []) (omega arith) (omega arith)
+            (notes_from others behind behind number more [] (omega arith) (omega arith) tt)));
+        whole = tt;
+      },
+      agree_behind behind number number (suc number) (inl (omega arith)) (notes_before others behind more []) (taken number (trees_of_fragment it.fragment input) ∷ [])
+          ((omega arith, omega arith), tt) (variables_of others behind) (binding_of others more) (variables_from others behind)
+          (all_agree others behind (left_by it.fragment input) more rest further),
+    )
 all_agree (token its others) behind input reading rest takes = all_agree others behind (after_trees (length its) input) reading rest takes.1
 all_agree (subtree kind inner others) behind input reading rest (inside, more, is, node, takes, further) =
     let number = suc (step_count others + behind) in

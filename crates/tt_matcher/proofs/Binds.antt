@@ -15,7 +15,7 @@ use Rattle.tt_matcher.specs.Grouping.{Where, held_in, variables_of, taken_by, co
 use Rattle.tt_matcher.specs.Marks.{Note, taken, begun, ended, pass_count, step_count, notes_of_rounds, notes_before, notes_of}
 use Rattle.tt_matcher.specs.Patterns.{Pattern, nothing, variable, token, subtree, repetition}
 use Rattle.tt_matcher.specs.Readings.{Reading, done, took, held, round, over, trees_taken, inside_of, more_of, Takes, AreRounds, AreOtherRounds, IsInstance}
-use Rattle.tt_matcher.proofs.GroupSteps.{number_of, total, counted, Lacks, LacksAll, IsWhole, counts-append, counts-lacks, counted-append, counted-lacks, bounds-append, whole-append, whole-lacks, bounds-lacks, bounds_behind_others, bounds_before_others, taken-lacks}
+use Rattle.tt_matcher.proofs.GroupSteps.{number_of, total, Lacks, LacksAll, IsWhole, counts-append, counts-lacks, counted-append, counted-lacks, bounds-append, whole-append, whole-lacks, bounds-lacks, bounds_behind_others, bounds_before_others, taken-lacks}
 
 -- each number is between these
 abbrev pub AreFrom : (lo hi : ℕ) → List Note → Type 0
@@ -188,10 +188,11 @@ notes_from (repetition inner separator op others) behind lo hi reading left l h 
     by in_round further done = tt
     by in_round further (took trees more) = tt
     by in_round further (held inside more) = tt
-    by in_round further (round this more) =
-        ((omega (arith, l), omega (arith, h)),
-        in_round this (notes_of_rounds (step_count others + behind) (notes_before inner (suc (step_count others + behind))) (λ more. notes_before others behind more left) more)
-        (by in_round further more))
+    by in_round further (round this more) = (
+      (omega (arith, l), omega (arith, h)),
+      in_round this (notes_of_rounds (step_count others + behind) (notes_before inner (suc (step_count others + behind))) (λ more. notes_before others behind more left) more)
+          (by in_round further more),
+    )
     by in_round further (over more) = ((omega (arith, l), omega (arith, h)), further more)
 
 -- Numbers that lie apart differ.

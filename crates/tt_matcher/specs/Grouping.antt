@@ -38,6 +38,13 @@ counts_by number so_far (taken other trees ∷ more) = counts_by number so_far m
 counts_by number so_far (begun other ∷ more) = if nat_eq other number then counts_by number (suc so_far) more else counts_by number so_far more
 counts_by number so_far (ended other ∷ more) = if nat_eq other number then so_far ∷ counts_by number 0 more else counts_by number so_far more
 
+-- how many rounds were counted and not told yet, behind the notes
+abbrev pub counted : (number : ℕ) → (so_far : ℕ) → List Note → ℕ
+counted number so_far [] = so_far
+counted number so_far (taken other trees ∷ more) = counted number so_far more
+counted number so_far (begun other ∷ more) = if nat_eq other number then counted number (suc so_far) more else counted number so_far more
+counted number so_far (ended other ∷ more) = if nat_eq other number then counted number 0 more else counted number so_far more
+
 -- a list of what rounds bind
 abbrev pub listed : List Bound → Bound
 listed [] = none

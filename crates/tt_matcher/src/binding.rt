@@ -1,6 +1,9 @@
 //! What an input binds, where it is an instance of a pattern in one way.
-ghost use Rattle.std.specs.Prelude.{◌≡◌, IfOk, reverse};
+ghost use Rattle.std.specs.Prelude.{◌≡◌, ◌<◌, ◌++◌, ◌∷◌, [], map, IfOk, OnOk, reverse};
 ghost use Rattle.tt.specs.Iters.{rest_of};
+ghost use Rattle.tt.specs.Views.{trees_of};
+ghost use Rattle.tt_matcher.specs.Grouping.{taken_by, counted, counts_by};
+ghost use Rattle.tt_matcher.specs.Marks.{note_of};
 ghost use Rattle.tt_matcher.specs.Patterns.{Pattern, IsFull};
 ghost use Rattle.tt_matcher.specs.Steps.{steps_of};
 ghost use Rattle.tt_matcher.specs.Threads.{path_to, earlier};
@@ -11,7 +14,7 @@ use crate::steps::Step;
 use crate::threads::Turn;
 use crate::walking::{Mark, marks_along};
 use std::alloc::{AllocError, Global};
-use tt::TtIter;
+use tt::{TokenTreesView, TtIter};
 
 /// What the one reading of an input binds.
 #[derive(Drop)]
@@ -36,6 +39,68 @@ impl<'i> Binding<'i> {
         ensures { result.now ≡ self.now.marks.items }
     {
         &self.marks
+    }
+
+    /// The trees that the variable of that number took, each time.
+    ///
+    /// Time is in proportion to the length of the input. It is refused only where memory is.
+    pub fn trees(&self, alloc: Global, number: usize) -> Result<Vec<TokenTreesView<'i>>, AllocError>
+        ensures { IfOk result (λ trees. map trees_of trees.items ≡ taken_by number (map note_of self.now.marks.items)) }
+    {
+        let mut trees = Vec::new(alloc);
+        for mark in &self.marks {
+            add_taken(mark, number, &mut trees)?;
+        }
+        Ok(trees)
+    }
+
+    /// How many rounds the repetition of that number had, each time.
+    ///
+    /// Time is in proportion to the length of the input. It is refused only where memory is.
+    pub fn counts(&self, alloc: Global, number: usize) -> Result<Vec<usize>, AllocError>
+        ensures { IfOk result (λ counts. counts.items ≡ counts_by number 0 (map note_of self.now.marks.items)) }
+    {
+        let mut counts = Vec::new(alloc);
+        let mut so_far = 0;
+        for mark in &self.marks {
+            so_far = count_on(mark, number, so_far, &mut counts)?;
+        }
+        Ok(counts)
+    }
+}
+
+// Adds the trees of a mark that tells what the variable of that number took.
+fn add_taken<'i>(
+    mark: &Mark<'i>,
+    number: usize,
+    trees: &mut Vec<TokenTreesView<'i>>,
+) -> Result<(), AllocError>
+    ensures { OnOk result (map trees_of trees.new.items ≡ map trees_of trees.old.items ++ taken_by number (note_of mark.now ∷ [])) }
+{
+    match mark {
+        Mark::Took(other, view) if *other == number => Ok(trees.push(*view)?),
+        Mark::Took(..) | Mark::Round(_) | Mark::Over(_) => Ok(()),
+    }
+}
+
+// Counts a round of the repetition of that number, or adds the count where it has no further round: how many are counted then.
+fn count_on(
+    mark: &Mark<'_>,
+    number: usize,
+    so_far: usize,
+    counts: &mut Vec<usize>,
+) -> Result<usize, AllocError>
+    requires { so_far < 18446744073709551615 }
+    ensures count { IfOk result (λ next. next ≡ counted number so_far (note_of mark.now ∷ [])) }
+    ensures counts { OnOk result (counts.new.items ≡ counts.old.items ++ counts_by number so_far (note_of mark.now ∷ [])) }
+{
+    match mark {
+        Mark::Round(other) if *other == number => Ok(so_far + 1),
+        Mark::Over(other) if *other == number => {
+            counts.push(so_far)?;
+            Ok(0)
+        }
+        Mark::Took(..) | Mark::Round(_) | Mark::Over(_) => Ok(so_far),
     }
 }
 

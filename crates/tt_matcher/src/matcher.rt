@@ -1,5 +1,5 @@
 //! The matcher of a pattern, by which any number of inputs is read.
-ghost use Rattle.std.specs.Prelude.{IfOk, IfErr};
+ghost use Rattle.std.specs.Prelude.{◌≡◌, IfOk, IfErr};
 ghost use Rattle.tt.specs.Iters.{rest_of};
 ghost use Rattle.tt_matcher.specs.Told.{Tells};
 ghost use Rattle.tt_matcher.specs.Matchers.{IsMatcherOf, IsPatternError};
@@ -55,6 +55,13 @@ impl Matcher {
             steps,
             binders,
         })
+    }
+
+    /// The variables of the pattern, in reading order.
+    pub fn binders(&self) -> &[Binder]
+        ensures { result.now ≡ self.now.binders.items }
+    {
+        &self.binders
     }
 
     /// In how many ways the input is an instance of the pattern: in none, in one and no other, with what it binds, or in two and

@@ -117,11 +117,13 @@ impl Stepped {
     fn bind(&mut self, alloc: Global, variable: &Variable) -> Result<(), AllocError>
         ensures { OnOk result (taken_by self.new ≡ bound_with variable.now (taken_by self.old)) }
     {
-        Ok(self.binders.push(Binder {
-            name: name_again(&variable.name)?,
-            number: self.steps.len(),
-            nest: nest_of(alloc, &self.ends)?,
-        })?)
+        Ok(
+            self.binders.push(Binder {
+                name: name_again(&variable.name)?,
+                number: self.steps.len(),
+                nest: nest_of(alloc, &self.ends)?,
+            })?,
+        )
     }
 
     // A place.
