@@ -1,22 +1,22 @@
 -- What rounds bind, and so what a whole reading does.
-use Rattle.std.proofs.Common.{◌≡◌, inl, inr, ◌+◌, ◌<◌, ◌≤◌, ◌∙◌, ℕ, suc, zero, Bool, true, false, List, [], ◌∷◌, ◌++◌, map, length, take, refl, ap, ap₂, sym, subst, arith, cond, append_assoc}
+use Rattle.std.proofs.Common.{◌≡◌, inl, inr, ◌+◌, ◌<◌, ◌≤◌, ◌∙◌, ℕ, suc, true, List, [], ◌∷◌, ◌++◌, map, length, refl, ap, ap₂, sym, subst, arith, cond}
 use Rattle.std.proofs.lemmas.Bool.Decides.{nat_tests}
 use Rattle.std.proofs.Math.Seq.{take-length}
-use Rattle.std.specs.Prelude.{◌⊎◌, nat_eq, Option}
+use Rattle.std.specs.Prelude.{nat_eq, Option}
 use Rattle.tt.specs.Forest.{Forest, end}
 use Rattle.tt.specs.Gluing.{after_trees}
 use Rattle.tt.specs.Moves.{after_tree}
 use Rattle.tt.specs.Siblings.{children_of}
 use Rattle.tt.specs.Types.Leaf.{Leaf}
 use Rattle.tt_matcher.specs.declared.pattern.RepeatKind.{RepeatKind}
-use Rattle.tt_matcher.specs.Bindings.{Bound, one, none, first, Named, Binding, names_of, unbound, joined, of_rounds, behind_rounds, binding_of}
+use Rattle.tt_matcher.specs.Bindings.{Bound, one, first, Named, Binding, names_of, unbound, joined, of_rounds, behind_rounds, binding_of}
 use Rattle.tt_matcher.specs.Fragments.{left_by, taken as trees_of_fragment}
-use Rattle.tt_matcher.specs.Grouping.{Where, held_in, variables_of, taken_by, counted, counts_by, listed, grouped, bounds_by, first_bound, named_by, binding_by}
-use Rattle.tt_matcher.specs.Marks.{Note, taken, begun, ended, step_count, notes_of_rounds, notes_before, notes_of}
+use Rattle.tt_matcher.specs.Grouping.{Where, held_in, variables_of, taken_by, counts_by, listed, grouped, bounds_by, first_bound, binding_by}
+use Rattle.tt_matcher.specs.Marks.{Note, taken, begun, ended, step_count, notes_before, notes_of}
 use Rattle.tt_matcher.specs.Patterns.{Pattern, nothing, variable, token, subtree, repetition}
 use Rattle.tt_matcher.specs.Readings.{Reading, done, took, held, round, over, trees_taken, inside_of, more_of, Takes, AreRounds, AreOtherRounds, IsInstance}
-use Rattle.tt_matcher.proofs.Binds.{AreFrom, NestFrom, VariablesFrom, variables_from, variables_wider, notes_wider, notes_both, rounds_only, rounds_from, rounds_split, behind_all, notes_split, notes_from, differ, lacks_apart, lacks_all, Agrees, AllAgree, agree_both, agree_behind, agree_before, held_from}
-use Rattle.tt_matcher.proofs.GroupSteps.{total, Lacks, LacksAll, IsWhole, counts-append, counts-lacks, counted-append, counted-lacks, bounds-append, whole-append, whole-lacks, bounds-lacks, bounds_behind_others, taken-lacks}
+use Rattle.tt_matcher.proofs.Binds.{AreFrom, NestFrom, VariablesFrom, variables_from, variables_wider, rounds_only, rounds_from, rounds_split, behind_all, notes_split, notes_from, lacks_apart, lacks_all, AllAgree, agree_both, agree_behind, agree_before, held_from}
+use Rattle.tt_matcher.proofs.GroupSteps.{total, counted, Lacks, LacksAll, IsWhole, counts-append, counts-lacks, counted-append, counted-lacks, bounds-append, whole-append, whole-lacks, bounds-lacks, bounds_behind_others, taken-lacks}
 
 -- A number is itself.
 same_number : (n : ℕ) → nat_eq n n ≡ true

@@ -1,21 +1,20 @@
 -- The notes of a reading bind to the variables of a pattern what the reading does.
-use Rattle.std.proofs.Common.{◌≡◌, inl, inr, ◌+◌, ◌<◌, ◌≤◌, ◌∙◌, ℕ, suc, zero, Bool, true, false, List, [], ◌∷◌, ◌++◌, map, length, take, refl, ap, ap₂, sym, subst, arith, cond, append_assoc}
+use Rattle.std.proofs.Common.{◌≡◌, inl, inr, ◌+◌, ◌<◌, ◌≤◌, ◌∙◌, ℕ, suc, false, List, [], ◌∷◌, ◌++◌, map, length, refl, ap, sym, subst, arith, append_assoc}
 use Rattle.std.proofs.lemmas.Bool.Decides.{nat_tests}
-use Rattle.std.proofs.Math.Seq.{take-length}
-use Rattle.std.specs.Prelude.{◌⊎◌, nat_eq, Option}
+use Rattle.std.specs.Prelude.{◌⊎◌, nat_eq}
 use Rattle.tt.specs.Forest.{Forest, end}
 use Rattle.tt.specs.Gluing.{after_trees}
 use Rattle.tt.specs.Moves.{after_tree}
 use Rattle.tt.specs.Siblings.{children_of}
 use Rattle.tt_matcher.specs.declared.pattern.RepeatKind.{RepeatKind}
 use Rattle.tt.specs.Types.Leaf.{Leaf}
-use Rattle.tt_matcher.specs.Bindings.{Bound, one, none, first, Named, Binding, names_of, unbound, joined, of_rounds, behind_rounds, binding_of}
+use Rattle.tt_matcher.specs.Bindings.{Named, Binding, behind_rounds}
 use Rattle.tt_matcher.specs.Fragments.{left_by}
-use Rattle.tt_matcher.specs.Grouping.{Where, held_in, variables_of, taken_by, counts_by, listed, grouped, bounds_by, first_bound, named_by, binding_by}
-use Rattle.tt_matcher.specs.Marks.{Note, taken, begun, ended, pass_count, step_count, notes_of_rounds, notes_before, notes_of}
+use Rattle.tt_matcher.specs.Grouping.{Where, held_in, variables_of, bounds_by}
+use Rattle.tt_matcher.specs.Marks.{Note, taken, begun, ended, step_count, notes_of_rounds, notes_before}
 use Rattle.tt_matcher.specs.Patterns.{Pattern, nothing, variable, token, subtree, repetition}
-use Rattle.tt_matcher.specs.Readings.{Reading, done, took, held, round, over, trees_taken, inside_of, more_of, Takes, AreRounds, AreOtherRounds, IsInstance}
-use Rattle.tt_matcher.proofs.GroupSteps.{number_of, total, Lacks, LacksAll, IsWhole, counts-append, counts-lacks, counted-append, counted-lacks, bounds-append, whole-append, whole-lacks, bounds-lacks, bounds_behind_others, bounds_before_others, taken-lacks}
+use Rattle.tt_matcher.specs.Readings.{Reading, done, took, held, round, over, trees_taken, inside_of, more_of, Takes, AreRounds, AreOtherRounds}
+use Rattle.tt_matcher.proofs.GroupSteps.{number_of, Lacks, LacksAll, IsWhole, whole-append, whole-lacks, bounds_behind_others, bounds_before_others}
 
 -- each number is between these
 abbrev pub AreFrom : (lo hi : ℕ) → List Note → Type 0

@@ -1,11 +1,9 @@
 -- What notes bind to a variable, part by part.
-use Rattle.std.proofs.Common.{◌≡◌, inl, inr, ◌+◌, ◌<◌, ◌≤◌, ◌∙◌, ℕ, suc, zero, Bool, true, false, List, [], ◌∷◌, ◌++◌, map, length, take, drop, refl, ap, ap₂, sym, subst, arith, cond, length-append}
-use Rattle.std.proofs.lemmas.Bool.Decides.{nat_tests}
+use Rattle.std.proofs.Common.{◌≡◌, ◌+◌, ◌≤◌, ◌∙◌, ℕ, suc, zero, Bool, true, false, List, [], ◌∷◌, ◌++◌, map, length, take, drop, refl, ap, ap₂, sym, arith, cond, length-append}
 use Rattle.std.proofs.lemmas.List.{append-nil, map-append}
-use Rattle.std.specs.Prelude.{◌⊎◌, nat_eq}
-use Rattle.tt.specs.Forest.{Forest}
+use Rattle.std.specs.Prelude.{nat_eq}
 use Rattle.tt_matcher.specs.Bindings.{Bound, one}
-use Rattle.tt_matcher.specs.Grouping.{taken_by, counted, counts_by, listed, grouped, bounds_by}
+use Rattle.tt_matcher.specs.Grouping.{taken_by, counts_by, listed, grouped, bounds_by}
 use Rattle.tt_matcher.specs.Marks.{Note, taken, begun, ended}
 
 -- the number of a note
@@ -22,6 +20,13 @@ total (n ∷ others) = n + total others
 total-append : (ns ms : List ℕ) → total (ns ++ ms) ≡ total ns + total ms
 total-append [] ms = omega arith
 total-append (n ∷ ns) ms = omega (arith, total-append ns ms)
+
+-- how many rounds were counted and not told yet, behind the notes
+abbrev pub counted : (number : ℕ) → (so_far : ℕ) → List Note → ℕ
+counted number so_far [] = so_far
+counted number so_far (taken other trees ∷ more) = counted number so_far more
+counted number so_far (begun other ∷ more) = cond (nat_eq other number) (counted number (suc so_far) more) (counted number so_far more)
+counted number so_far (ended other ∷ more) = cond (nat_eq other number) (counted number 0 more) (counted number so_far more)
 
 -- no note has that number
 abbrev pub Lacks : ℕ → List Note → Type 0

@@ -6,6 +6,7 @@ pub mod CutLevels
 pub mod CutSteps
 pub mod CutWhole
 pub mod Decompiling
+pub mod EndSteps
 pub mod Ending
 pub mod FirstTrees
 pub mod Leading

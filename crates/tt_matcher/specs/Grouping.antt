@@ -1,5 +1,5 @@
 -- What marks bind to the variables of a pattern.
-use Rattle.std.specs.Prelude.{ℕ, zero, suc, ◌+◌, Bool, List, [], ◌∷◌, ◌++◌, map, length, take, drop, nat_eq, Option, if◌then◌else◌}
+use Rattle.std.specs.Prelude.{ℕ, suc, ◌+◌, List, [], ◌∷◌, ◌++◌, map, take, drop, nat_eq, Option, if◌then◌else◌}
 use Rattle.tt.specs.Forest.{Forest}
 use Rattle.tt_matcher.specs.Bindings.{Bound, one, none, first, Named, Binding}
 use Rattle.tt_matcher.specs.Marks.{Note, taken, begun, ended, step_count}
@@ -37,13 +37,6 @@ counts_by number so_far [] = []
 counts_by number so_far (taken other trees ∷ more) = counts_by number so_far more
 counts_by number so_far (begun other ∷ more) = if nat_eq other number then counts_by number (suc so_far) more else counts_by number so_far more
 counts_by number so_far (ended other ∷ more) = if nat_eq other number then so_far ∷ counts_by number 0 more else counts_by number so_far more
-
--- how many rounds were counted and not told yet, behind the notes
-abbrev pub counted : (number : ℕ) → (so_far : ℕ) → List Note → ℕ
-counted number so_far [] = so_far
-counted number so_far (taken other trees ∷ more) = counted number so_far more
-counted number so_far (begun other ∷ more) = if nat_eq other number then counted number (suc so_far) more else counted number so_far more
-counted number so_far (ended other ∷ more) = if nat_eq other number then counted number 0 more else counted number so_far more
 
 -- a list of what rounds bind
 abbrev pub listed : List Bound → Bound

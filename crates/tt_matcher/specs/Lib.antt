@@ -3,6 +3,7 @@ pub mod Asks
 pub mod Bindings
 pub mod Compiled
 pub mod Cutting
+pub mod Ends
 pub mod Fragments
 pub mod Grouping
 pub mod Levels

@@ -2,7 +2,8 @@
 ghost use Rattle.std.specs.Prelude.{◌≡◌, ◌<◌, ◌++◌, ◌∷◌, [], map, IfOk, OnOk, reverse};
 ghost use Rattle.tt.specs.Iters.{rest_of};
 ghost use Rattle.tt.specs.Views.{trees_of};
-ghost use Rattle.tt_matcher.specs.Grouping.{taken_by, counted, counts_by};
+ghost use Rattle.tt_matcher.specs.Ends.{counted_on, ends_with, sums};
+ghost use Rattle.tt_matcher.specs.Grouping.{taken_by, counts_by};
 ghost use Rattle.tt_matcher.specs.Marks.{note_of};
 ghost use Rattle.tt_matcher.specs.Patterns.{Pattern, IsFull};
 ghost use Rattle.tt_matcher.specs.Steps.{steps_of};
@@ -54,18 +55,19 @@ impl<'i> Binding<'i> {
         Ok(trees)
     }
 
-    /// How many rounds the repetition of that number had, each time.
+    /// How many rounds the repetition of that number had up to the end of each time, so how many rounds all times before had too: the
+    /// rounds of one time are those from the end before it on.
     ///
     /// Time is in proportion to the length of the input. It is refused only where memory is.
-    pub fn counts(&self, alloc: Global, number: usize) -> Result<Vec<usize>, AllocError>
-        ensures { IfOk result (λ counts. counts.items ≡ counts_by number 0 (map note_of self.now.marks.items)) }
+    pub fn ends(&self, alloc: Global, number: usize) -> Result<Vec<usize>, AllocError>
+        ensures { IfOk result (λ ends. ends.items ≡ sums 0 (counts_by number 0 (map note_of self.now.marks.items))) }
     {
-        let mut counts = Vec::new(alloc);
+        let mut ends = Vec::new(alloc);
         let mut so_far = 0;
         for mark in &self.marks {
-            so_far = count_on(mark, number, so_far, &mut counts)?;
+            so_far = count_on(mark, number, so_far, &mut ends)?;
         }
-        Ok(counts)
+        Ok(ends)
     }
 }
 
@@ -83,22 +85,22 @@ fn add_taken<'i>(
     }
 }
 
-// Counts a round of the repetition of that number, or adds the count where it has no further round: how many are counted then.
+// Counts a round of the repetition of that number, or adds how many were counted where it has no further round: how many are then.
 fn count_on(
     mark: &Mark<'_>,
     number: usize,
     so_far: usize,
-    counts: &mut Vec<usize>,
+    ends: &mut Vec<usize>,
 ) -> Result<usize, AllocError>
     requires { so_far < 18446744073709551615 }
-    ensures count { IfOk result (λ next. next ≡ counted number so_far (note_of mark.now ∷ [])) }
-    ensures counts { OnOk result (counts.new.items ≡ counts.old.items ++ counts_by number so_far (note_of mark.now ∷ [])) }
+    ensures count { IfOk result (λ next. next ≡ counted_on number so_far (note_of mark.now)) }
+    ensures ends { OnOk result (ends.new.items ≡ ends.old.items ++ ends_with number so_far (note_of mark.now) []) }
 {
     match mark {
         Mark::Round(other) if *other == number => Ok(so_far + 1),
         Mark::Over(other) if *other == number => {
-            counts.push(so_far)?;
-            Ok(0)
+            ends.push(so_far)?;
+            Ok(so_far)
         }
         Mark::Took(..) | Mark::Round(_) | Mark::Over(_) => Ok(so_far),
     }
