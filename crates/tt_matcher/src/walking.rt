@@ -202,7 +202,7 @@ impl<'s, 'i> Walk<'s, 'i> {
 
     // Into a round of a repetition, or past it.
     fn begin(
-        self,
+        mut self,
         rest: &'s [Step],
         turn: usize,
         ways: usize,
@@ -211,38 +211,18 @@ impl<'s, 'i> Walk<'s, 'i> {
     ) -> Result<Walk<'s, 'i>, AllocError>
         ensures { IfOk result (λ next. IsWalked (begun turn ways first size rest.now (spot_of self.entry)) (begin_notes turn ways size rest.now) self.entry next) }
     {
-        let Walk {
-            mut path,
-            levels,
-            mut opened,
-            is_back,
-            mut marks,
-            ..
-        } = self;
         let past = behind(rest, size);
         if turn < ways {
-            marks.push(Mark::Round(past.len()))?;
-            path.push(turn)?;
-            opened.push(rest)?;
-            return Ok(Walk {
-                here: behind(rest, first),
-                path,
-                levels,
-                opened,
-                is_back,
-                marks,
-            });
+            self.marks.push(Mark::Round(past.len()))?;
+            self.path.push(turn)?;
+            self.opened.push(rest)?;
+            self.here = behind(rest, first);
+            return Ok(self);
         }
-        marks.push(Mark::Over(past.len()))?;
-        path.push(turn - ways)?;
-        Ok(Walk {
-            here: past,
-            path,
-            levels,
-            opened,
-            is_back,
-            marks,
-        })
+        self.marks.push(Mark::Over(past.len()))?;
+        self.path.push(turn - ways)?;
+        self.here = past;
+        Ok(self)
     }
 
     // Back to a round of a repetition, or out of it.
