@@ -11,11 +11,11 @@ use Rattle.tt_matcher.specs.Asks as ask
 use Rattle.tt_matcher.specs.declared.places.Place.{Place}
 use Rattle.tt_matcher.specs.Compiled.{Stop, Stand, separator_count, place_count, entries, again, separator_stops, stops}
 use Rattle.tt_matcher.specs.Fragments.{left_by}
+use Rattle.tt_matcher.specs.Paths.{firsts, entry_count, path_of, path_of_others, path_of_rounds}
 use Rattle.tt_matcher.specs.Patterns.{Pattern, nothing, variable, token, subtree, repetition, may_be_empty, may_be_more, IsFull}
 use Rattle.tt_matcher.specs.Places.{Reads}
-use Rattle.tt_matcher.specs.Readings.{Reading, done, took, held, round, over, Takes, AreRounds, AreOtherRounds, Separates}
-use Rattle.tt_matcher.proofs.ReadingParts.{inside_of, more_of}
-use Rattle.tt_matcher.proofs.Via.{shift, Via, stand_left, stand_right, via_left, via_right, goes_by}
+use Rattle.tt_matcher.specs.Readings.{Reading, done, took, held, round, over, inside_of, more_of, Takes, AreRounds, AreOtherRounds, Separates}
+use Rattle.tt_matcher.proofs.Via.{Via, stand_left, stand_right, via_left, via_right, goes_by}
 
 -- So many places a pattern has.
 pub length-separator : (separator : List Leaf) (behind : List ℕ) → length (separator_stops separator behind) ≡ separator_count separator
@@ -56,42 +56,6 @@ entries_full at (repetition inner separator repeat.ZeroOrMore others) behind ful
     ap (λ l. entries at inner [] ++ l) (entries_full (at + place_count inner + separator_count separator) others behind full all.2)
 entries_full at (repetition inner separator repeat.ZeroOrOne others) behind full all =
     ap (λ l. entries at inner [] ++ l) (entries_full (at + place_count inner + separator_count separator) others behind full all.2)
-
--- the turn behind a separator, if there is one
-abbrev pub firsts : List Leaf → List ℕ → List ℕ
-firsts [] path = path
-firsts (it ∷ others) path = 0 ∷ path
-
--- how many edges lead into a repetition, before those that lead past it
-abbrev pub entry_count : (at : ℕ) → Pattern → ℕ
-entry_count at inner = length (entries at inner [])
-
--- the path of rounds behind a round, where a round is read so and the parts behind so
-abbrev pub path_of_others : (separator : List Leaf) → (again_count : ℕ) → (One : Reading → List ℕ → List ℕ) → (Behind : Reading → List ℕ) → Reading → List ℕ
-path_of_others separator count One Behind done = []
-path_of_others separator count One Behind (took trees more) = []
-path_of_others separator count One Behind (held inside more) = []
-path_of_others separator count One Behind (round this others) = firsts separator (One this (path_of_others separator count One Behind others))
-path_of_others separator count One Behind (over more) = shift count (Behind more)
-
--- and of all rounds
-abbrev pub path_of_rounds : (separator : List Leaf) → (count again_count : ℕ) → (One : Reading → List ℕ → List ℕ) → (Behind : Reading → List ℕ) → Reading → List ℕ
-path_of_rounds separator first_count count One Behind done = []
-path_of_rounds separator first_count count One Behind (took trees more) = []
-path_of_rounds separator first_count count One Behind (held inside more) = []
-path_of_rounds separator first_count count One Behind (round this others) = One this (path_of_others separator count One Behind others)
-path_of_rounds separator first_count count One Behind (over more) = shift first_count (Behind more)
-
--- the path of a reading, where that is the path behind it
-abbrev pub path_of : (at : ℕ) → Pattern → Reading → (tail : List ℕ) → List ℕ
-path_of at nothing reading tail = tail
-path_of at (variable it others) reading tail = 0 ∷ path_of (suc at) others (more_of reading) tail
-path_of at (token it others) reading tail = 0 ∷ path_of (suc at) others reading tail
-path_of at (subtree kind inner others) reading tail =
-    0 ∷ path_of (suc at) inner (inside_of reading) (0 ∷ path_of (suc (suc at + place_count inner)) others (more_of reading) tail)
-path_of at (repetition inner separator op others) reading tail =
-    path_of_rounds separator (entry_count at inner) (length (again at inner separator op)) (path_of at inner)
-    (λ more. path_of (at + place_count inner + separator_count separator) others more tail) reading
 
 module _ (places : List Place) where
   -- A separator leads to a round.
@@ -195,7 +159,7 @@ module _ (places : List Place) where
       → Via places (entries at pattern behind) (input ∷ outer) (path_of at pattern reading tail)
   from_reading at nothing behind input reading rest outer tail full stand takes via = subst (λ r. Via places behind (r ∷ outer) tail) takes.1 via
   from_reading at (variable it others) behind input reading rest outer tail full stand (more, is, taken, takes) via =
-      goes_by places (input ∷ outer) at (record { asked = ask.take it.fragment; edges = entries (suc at) others behind }) stand.0
+      goes_by places (input ∷ outer) at (record { asked = ask.take it; edges = entries (suc at) others behind }) stand.0
       (path_of (suc at) others (more_of reading) tail) taken
       (subst (λ r. Via places (entries (suc at) others behind) (left_by it.fragment input ∷ outer) (path_of (suc at) others (more_of r) tail)) (sym is)
       (from_reading (suc at) others behind (left_by it.fragment input) more rest outer tail full stand.1 takes via))

@@ -37,10 +37,10 @@ module _ (at : ℕ) (others : Pattern) (closing : Option Tail) (so_far : List �
 
   -- A variable or a token is a place.
   pub left_variable : (it : Variable) → bits_left at (level (variable it others) closing so_far is_open ∷ outer)
-      ≡ place at (ask.take it.fragment) ∷ bits_left (suc at) (marked at (level others closing so_far is_open) ∷ outer)
+      ≡ place at (ask.take it) ∷ bits_left (suc at) (marked at (level others closing so_far is_open) ∷ outer)
   left_variable it =
       let next : at + suc (place_count others) ≡ suc at + place_count others = omega arith in
-      ap₂ (λ n e. place at (ask.take it.fragment) ∷ bits_of (suc at) others (bits_behind n closing e outer)) next (variable_entries it is_open)
+      ap₂ (λ n e. place at (ask.take it) ∷ bits_of (suc at) others (bits_behind n closing e outer)) next (variable_entries it is_open)
 
   pub left_token : (its : List Leaf) → bits_left at (level (token its others) closing so_far is_open ∷ outer)
       ≡ place at (ask.same its) ∷ bits_left (suc at) (marked at (level others closing so_far is_open) ∷ outer)

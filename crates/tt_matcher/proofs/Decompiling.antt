@@ -12,11 +12,12 @@ use Rattle.tt_matcher.specs.Asks as ask
 use Rattle.tt_matcher.specs.declared.places.Place.{Place}
 use Rattle.tt_matcher.specs.Compiled.{Stand, separator_count, place_count, entries, again, separator_stops, stops}
 use Rattle.tt_matcher.specs.Fragments.{taken, left_by}
+use Rattle.tt_matcher.specs.Paths.{shift, firsts, entry_count, path_of, path_of_others}
 use Rattle.tt_matcher.specs.Patterns.{Pattern, nothing, variable, token, subtree, repetition, may_be_empty, may_be_none, may_be_more, IsFull}
 use Rattle.tt_matcher.specs.Places.{Reads, is_leave, Passes}
 use Rattle.tt_matcher.specs.Readings.{Reading, done, took, held, round, over, Takes, AreOtherRounds, Separates}
-use Rattle.tt_matcher.proofs.Compiling.{length-stops, length-separator, entries_full, firsts, entry_count, path_of, path_of_others}
-use Rattle.tt_matcher.proofs.Via.{shift, Via, stand_left, stand_right, via_split, via_none, via_one, comes_by}
+use Rattle.tt_matcher.proofs.Compiling.{length-stops, length-separator, entries_full}
+use Rattle.tt_matcher.proofs.Via.{Via, stand_left, stand_right, via_split, via_none, via_one, comes_by}
 
 -- A path is as long however late its first turn is.
 length-shift : (n : ℕ) (path : List ℕ) → length (shift n path) ≡ length path
@@ -231,8 +232,8 @@ module _ (places : List Place) where
       first (via_one places (input ∷ outer) at path via) (λ more v. to_reading (suc at) others behind outer (left_by it.fragment input) more full stand.1 v)
     where
       by : (more : List ℕ) → path ≡ 0 ∷ more
-          → ((is_leave (ask.take it.fragment) ≡ true) × (input ∷ outer ≡ end ∷ []) × (more ≡ []))
-          ⊎ (Passes (ask.take it.fragment) (input ∷ outer) × Via places (entries (suc at) others behind) (left_by it.fragment input ∷ outer) more)
+          → ((is_leave (ask.take it) ≡ true) × (input ∷ outer ≡ end ∷ []) × (more ≡ []))
+          ⊎ (Passes (ask.take it) (input ∷ outer) × Via places (entries (suc at) others behind) (left_by it.fragment input ∷ outer) more)
           → ((more : List ℕ) → Via places (entries (suc at) others behind) (left_by it.fragment input ∷ outer) more → Read (suc at) others behind outer (left_by it.fragment input) more)
           → Read at (variable it others) behind outer input path
       by more same (inl e) further = absurd (cc e.0)
@@ -253,7 +254,7 @@ module _ (places : List Place) where
           → ((more : List ℕ) → Via places (entries (suc at) others behind) (left_by it.fragment input ∷ outer) more → Read (suc at) others behind outer (left_by it.fragment input) more)
           → Read at (variable it others) behind outer input path
       first (more, same, reads) further =
-          by more same (comes_by places (input ∷ outer) at (record { asked = ask.take it.fragment; edges = entries (suc at) others behind }) stand.0 more reads) further
+          by more same (comes_by places (input ∷ outer) at (record { asked = ask.take it; edges = entries (suc at) others behind }) stand.0 more reads) further
   to_reading at (token it others) behind outer input path full stand via =
       first (via_one places (input ∷ outer) at path via) (λ more v. to_reading (suc at) others behind outer (after_trees (length it) input) more full stand.1 v)
     where

@@ -44,14 +44,14 @@ passed_end n outer = ap (λ t. t ∷ outer) (after_end n)
 
 -- Nothing passes where no level is left.
 passes_none : (it : Ask) → Passes it [] → ⊥
-passes_none (ask.take which) p = takes_none which p
+passes_none (ask.take which) p = takes_none which.fragment p
 passes_none (ask.same its) p = no_unit its p
 passes_none (ask.enter kind) p = p
 passes_none ask.leave p = p
 
 -- At the end of the outermost level only the end passes.
 passes_last : (it : Ask) → Passes it (end ∷ []) → onward it (end ∷ []) ≡ []
-passes_last (ask.take which) p = absurd (takes_none which p)
+passes_last (ask.take which) p = absurd (takes_none which.fragment p)
 passes_last (ask.same its) p = absurd (no_unit its p)
 passes_last (ask.enter kind) p = absurd p
 passes_last ask.leave p = refl

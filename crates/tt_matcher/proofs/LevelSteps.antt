@@ -230,7 +230,7 @@ module _ (places : List Place) (Whole : List ℕ → Type 0) where
       nearer view old olds waits told = absurd (cc waits)
 
       complete : (it : Ask) → Passes it levels → IsMoved move.Ends it
-      complete (ask.take which) p = takes_none which (subst (λ t. takes which t ≡ true) is.is_ended p)
+      complete (ask.take which) p = takes_none which.fragment (subst (λ t. takes which.fragment t ≡ true) is.is_ended p)
       complete (ask.same its) p = no_unit its (subst (IsUnitLike its) is.is_ended p)
       complete (ask.enter kind) p = subst (IsNodeOf kind) is.is_ended p
       complete ask.leave p = tt
@@ -253,7 +253,7 @@ module _ (places : List Place) (Whole : List ℕ → Type 0) where
       goes_on place ends = leaf_no_end level.trees (after_tree level.trees) is.it is.first (heads level.trees end (levels_of outer) [] ends.1)
 
       sound : (it : Ask) → IsMoved (move.Passes is.before) it → Passes it levels × (onward it levels ≡ passed (wait_of (move.Passes is.before) it) further)
-      sound (ask.take which) m = (subst (λ t. takes which t ≡ true) is.before_is m, take_onward which level.trees (rest_of is.before) (levels_of outer) is.before_is)
+      sound (ask.take which) m = (subst (λ t. takes which.fragment t ≡ true) is.before_is m, take_onward which.fragment level.trees (rest_of is.before) (levels_of outer) is.before_is)
       sound (ask.same its) m =
           let like : IsUnitLike its level.trees = subst (IsUnitLike its) is.before_is m in
           (like, same_onward its level.trees (levels_of outer) like)
@@ -269,7 +269,7 @@ module _ (places : List Place) (Whole : List ℕ → Type 0) where
           told_nearer places Whole levels goes_on further view old olds (goes_nearer is.before level.trees (levels_of outer) view.wait waits) told
 
       complete : (it : Ask) → Passes it levels → IsMoved (move.Passes is.before) it
-      complete (ask.take which) p = subst (λ t. takes which t ≡ true) (sym is.before_is) p
+      complete (ask.take which) p = subst (λ t. takes which.fragment t ≡ true) (sym is.before_is) p
       complete (ask.same its) p = subst (IsUnitLike its) (sym is.before_is) p
       complete (ask.enter kind) p = subst (IsNodeOf kind) is.first p
       complete ask.leave p = leaf_no_end level.trees (after_tree level.trees) is.it is.first p
@@ -308,7 +308,7 @@ module _ (places : List Place) (Whole : List ℕ → Type 0) where
       goes_on place ends = node_no_end level.trees is.children (after_tree level.trees) is.delimiter is.first (heads level.trees end (levels_of outer) [] ends.1)
 
       pass_sound : (it : Ask) → IsMoved (move.Passes is.before) it → Passes it levels × (onward it levels ≡ passed (wait_of (move.Passes is.before) it) behind)
-      pass_sound (ask.take which) m = (subst (λ t. takes which t ≡ true) is.before_is m, take_onward which level.trees (rest_of is.before) (levels_of outer) is.before_is)
+      pass_sound (ask.take which) m = (subst (λ t. takes which.fragment t ≡ true) is.before_is m, take_onward which.fragment level.trees (rest_of is.before) (levels_of outer) is.before_is)
       pass_sound (ask.same its) m =
           let like : IsUnitLike its level.trees = subst (IsUnitLike its) is.before_is m in
           (like, same_onward its level.trees (levels_of outer) like)
@@ -322,7 +322,7 @@ module _ (places : List Place) (Whole : List ℕ → Type 0) where
       enter_sound ask.leave m = absurd m
 
       complete : (it : Ask) → Passes it levels → IsMoved (move.Passes is.before) it ⊎ IsMoved (move.Enters is.delimiter.kind) it
-      complete (ask.take which) p = inl (subst (λ t. takes which t ≡ true) (sym is.before_is) p)
+      complete (ask.take which) p = inl (subst (λ t. takes which.fragment t ≡ true) (sym is.before_is) p)
       complete (ask.same its) p = inl (subst (IsUnitLike its) (sym is.before_is) p)
       complete (ask.enter kind) p = inr (subst (IsNodeOf kind) is.first p)
       complete ask.leave p = absurd (node_no_end level.trees is.children (after_tree level.trees) is.delimiter is.first p)

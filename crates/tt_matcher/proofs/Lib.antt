@@ -1,13 +1,17 @@
 pub mod Adding
+pub mod BindRounds
+pub mod Binds
 pub mod Compiling
 pub mod CutLevels
 pub mod CutSteps
 pub mod CutWhole
 pub mod Decompiling
+pub mod EndSteps
 pub mod Ending
 pub mod FirstTrees
 pub mod Leading
 pub mod LeafSteps
+pub mod GroupSteps
 pub mod LevelSteps
 pub mod Levelling
 pub mod LinkSteps
@@ -16,12 +20,17 @@ pub mod OneReading
 pub mod Reaching
 pub mod PartSteps
 pub mod Passing
-pub mod ReadingParts
+pub mod PathsBack
 pub mod ReadingSteps
 pub mod Results
 pub mod Standing
 pub mod Stepping
+pub mod StepsMade
 pub mod Telling
 pub mod Told
 pub mod Via
+pub mod WalkEnds
+pub mod WalkLeft
+pub mod WalkSteps
+pub mod Walked
 mod Rows

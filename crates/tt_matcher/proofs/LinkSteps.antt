@@ -19,7 +19,7 @@ abbrev pub made_before : (at : ℕ) → Pattern → Made → Made
 made_before at pattern made = record { stops = stops at pattern made.edges ++ made.stops; edges = entries at pattern made.edges; around = made.around }
 
 -- Where a round may go on.
-again_same : (at : ℕ) (inner : Pattern) (separator : List Leaf) (op : RepeatKind)
+pub again_same : (at : ℕ) (inner : Pattern) (separator : List Leaf) (op : RepeatKind)
     → again_from (at + place_count inner) separator (may_be_more op) (entries at inner []) ≡ again at inner separator op
 again_same at inner separator repeat.ZeroOrOne = refl
 again_same at inner [] repeat.ZeroOrMore = refl
@@ -43,7 +43,7 @@ separated (it ∷ more) its others = refl
 -- The pieces of a pattern make its places.
 pub made_pattern : (at : ℕ) (pattern : Pattern) (behind : List Bit) (made : Made) → made_of (bits_of at pattern behind) made ≡ made_before at pattern (made_of behind made)
 made_pattern at nothing behind made = refl
-made_pattern at (variable it others) behind made = ap (made_with (place at (ask.take it.fragment))) (made_pattern (suc at) others behind made)
+made_pattern at (variable it others) behind made = ap (made_with (place at (ask.take it))) (made_pattern (suc at) others behind made)
 made_pattern at (token its others) behind made = ap (made_with (place at (ask.same its))) (made_pattern (suc at) others behind made)
 made_pattern at (subtree kind inner others) behind made =
     let leave = suc at + place_count inner in

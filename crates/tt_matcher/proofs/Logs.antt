@@ -14,7 +14,7 @@ not_next : (k n : ℕ) → k ≤ n → nat_eq k (suc n) ≡ false
 not_next k n le = grind (arith, nat_tests, le)
 
 -- Newer turns change no path of an older one.
-path_older : (newer older : List Turn) (k : ℕ) → k ≤ length older → path_in (newer ++ older) k ≡ path_in older k
+pub path_older : (newer older : List Turn) (k : ℕ) → k ≤ length older → path_in (newer ++ older) k ≡ path_in older k
 path_older [] older k le = refl
 path_older (turn ∷ newer) older k le =
     let more : k ≤ length (newer ++ older) = omega (arith, length-append newer older, le) in

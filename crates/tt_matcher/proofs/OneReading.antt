@@ -8,13 +8,11 @@ use Rattle.tt.specs.Siblings.{children_of}
 use Rattle.tt.specs.Types.Leaf.{Leaf}
 use Rattle.tt_matcher.specs.declared.pattern.RepeatKind.{RepeatKind}
 use Rattle.tt_matcher.specs.declared.pattern.RepeatKind.TheVariants as repeat
-use Rattle.tt_matcher.proofs.ReadingParts.{inside_of, more_of}
 use Rattle.tt_matcher.specs.Compiled.{separator_count, place_count, entries, again}
 use Rattle.tt_matcher.specs.Fragments.{taken, left_by}
+use Rattle.tt_matcher.specs.Paths.{shift, firsts, entry_count, path_of, path_of_others, path_of_rounds}
 use Rattle.tt_matcher.specs.Patterns.{Pattern, nothing, variable, token, subtree, repetition, may_be_empty, may_be_more, IsFull}
-use Rattle.tt_matcher.specs.Readings.{Reading, done, took, held, round, over, Takes, AreRounds, AreOtherRounds, Separates}
-use Rattle.tt_matcher.proofs.Compiling.{firsts, entry_count, path_of, path_of_others, path_of_rounds}
-use Rattle.tt_matcher.proofs.Via.{shift}
+use Rattle.tt_matcher.specs.Readings.{Reading, done, took, held, round, over, inside_of, more_of, Takes, AreRounds, AreOtherRounds, Separates}
 
 -- the first turn is below a number
 abbrev pub Below : ℕ → List ℕ → Type 0
@@ -106,7 +104,7 @@ below_entries at (repetition inner separator repeat.OneOrMore others) input (rou
 below_entries at (repetition inner separator repeat.OneOrMore others) input (over more) rest tail full some (none, takes) = absurd (cc none)
 
 -- The first turn of a further round is one that leads to another.
-below_again : (at : ℕ) (inner : Pattern) (separator : List Leaf) (op : RepeatKind) (path : List ℕ) → may_be_more op ≡ true → Below (entry_count at inner) path
+pub below_again : (at : ℕ) (inner : Pattern) (separator : List Leaf) (op : RepeatKind) (path : List ℕ) → may_be_more op ≡ true → Below (entry_count at inner) path
     → Below (length (again at inner separator op)) (firsts separator path)
 below_again at inner separator repeat.ZeroOrOne path more b = absurd (cc more)
 below_again at inner [] repeat.ZeroOrMore path more b = b

@@ -8,7 +8,12 @@ use Rattle.tt.specs.Types.Spacing.TheVariants.{Alone, Joint}
 use Rattle.tt_base.proofs.Samples.{span, punct, ident, subtree}
 use Rattle.tt_matcher.specs.declared.pattern.Fragment.TheVariants as fragment
 use Rattle.tt_matcher.specs.declared.pattern.RepeatKind.TheVariants as repeat
+use Rattle.tt_matcher.specs.declared.steps.Step.TheVariants as step
 use Rattle.tt_matcher.specs.Asks as ask
+use Rattle.tt_matcher.specs.Bindings.{one, none, first, binding_of, bound_to}
+use Rattle.tt_matcher.specs.Grouping.{variables_of, binding_by}
+use Rattle.tt_matcher.specs.Marks.{taken as took_by, begun, ended, notes_of}
+use Rattle.tt_matcher.specs.Steps.{steps_of}
 use Rattle.tt_matcher.specs.Compiled.{starts_of, all_stops}
 use Rattle.tt_matcher.specs.Fragments.{takes, taken}
 use Rattle.tt_matcher.specs.Patterns.{Pattern, nothing, variable, token, subtree as held_by, repetition, may_be_empty}
@@ -144,12 +149,69 @@ a_b_reading = round (took (word (codes "a") end) done) (round (took (word (codes
 listed_instance : IsInstance (pattern_of listed) a_b a_b_reading
 listed_instance = (_, (done, refl, refl, (refl, refl)), (_, _, refl, ((refl, (refl, tt)), refl), (done, refl, refl, (refl, refl)), (_, ((refl, (refl, tt)), (refl, refl)), (refl, refl))))
 
+-- It binds to `x` the list of both.
+listed_binds : binding_of (pattern_of listed) a_b_reading ≡ record { name = Some (codes "x"); bound = first (one (word (codes "a") end)) (first (one (word (codes "b") end)) none) } ∷ []
+listed_binds = refl
+
+-- What is noted of it: two rounds of the first repetition, behind which 4 steps stand, and one of the other, behind which one stands.
+listed_notes : notes_of (pattern_of listed) a_b_reading
+    ≡ begun 4 ∷ took_by 5 (word (codes "a") end) ∷ begun 4 ∷ took_by 5 (word (codes "b") end) ∷ ended 4 ∷ begun 1 ∷ ended 1 ∷ []
+listed_notes = refl
+
+listed_variables : variables_of (pattern_of listed) 1 ≡ record { name = Some (codes "x"); number = 5; nest = 4 ∷ [] } ∷ []
+listed_variables = refl
+
+-- Its steps: the first repetition with its separator, its variable and its end, the other, and the end of all.
+listed_steps : steps_of (pattern_of listed)
+    ≡ step.Begin 1 1 3 ∷ step.Pass 1 ∷ step.Take fragment.Ident ∷ step.Close 1
+    ∷ step.Begin 1 0 2 ∷ step.Pass 1 ∷ step.Close 0
+    ∷ step.Leave ∷ []
+listed_steps = refl
+
+-- Where there is no round an empty list is bound.
+listed_none : binding_of (pattern_of listed) (over (over done)) ≡ record { name = Some (codes "x"); bound = none } ∷ []
+listed_none = refl
+
+-- A variable in a subtree, and one that is written `_`.
+abbrev in_brace : Pattern
+in_brace = pattern_of (join (subtree Brace (var (codes "x") (codes "tt") end)) (var (codes "_") (codes "tt") end))
+
+brace_binds : binding_of in_brace (held (took (arrow end) done) (took (life end) done))
+    ≡ record { name = Some (codes "x"); bound = one (arrow end) } ∷ record { name = None; bound = one (life end) } ∷ []
+brace_binds = refl
+
+-- A list in a list: `$( $($x:ident)+ );*` on `a b; c` binds `a` and `b` in the first round, and `c` in the second.
+abbrev nested : Pattern
+nested = pattern_of (rounds (rounds (var (codes "x") (codes "ident") end) (alone 43 end)) (joint 59 (alone 42 end)))
+
+abbrev nested_reading : Reading
+nested_reading =
+    round (round (took (word (codes "a") end) done) (round (took (word (codes "b") end) done) (over done))) (round (round (took (word (codes "c") end) done) (over done)) (over done))
+
+nested_binds : binding_of nested nested_reading
+    ≡ record {
+      name = Some (codes "x");
+      bound = first (first (one (word (codes "a") end)) (first (one (word (codes "b") end)) none)) (first (first (one (word (codes "c") end)) none) none);
+    } ∷ []
+nested_binds = refl
+
+nested_noted : binding_by (variables_of nested 1) (notes_of nested nested_reading) ≡ binding_of nested nested_reading
+nested_noted = refl
+
+-- Of two variables of one name the first is found, and of an unknown name none is.
+twice_bound : bound_to (codes "x")
+    (record { name = None; bound = none } ∷ record { name = Some (codes "x"); bound = one end } ∷ record { name = Some (codes "x"); bound = none } ∷ []) ≡ Some (one end)
+twice_bound = refl
+
+none_bound : bound_to (codes "y") (record { name = Some (codes "x"); bound = one end } ∷ []) ≡ None
+none_bound = refl
+
 -- Its places: the variable, its comma, the other comma, the end. It begins with a name, with the other comma, or ends at once.
 listed_starts : starts_of (pattern_of listed) ≡ 0 ∷ 2 ∷ 3 ∷ []
 listed_starts = refl
 
 listed_stops : all_stops (pattern_of listed)
-    ≡ record { asked = ask.take fragment.Ident; edges = 1 ∷ 2 ∷ 3 ∷ [] }
+    ≡ record { asked = ask.take (record { name = Some (codes "x"); fragment = fragment.Ident }); edges = 1 ∷ 2 ∷ 3 ∷ [] }
     ∷ record { asked = ask.same (punct 44 Joint ∷ []); edges = 0 ∷ [] }
     ∷ record { asked = ask.same (punct 44 Alone ∷ []); edges = 3 ∷ [] }
     ∷ record { asked = ask.leave; edges = [] }
@@ -219,10 +281,10 @@ twice_ambiguous =
 -- No two of the three answers can hold of one input.
 module _ (pattern : Pattern) (input : Forest) where
   none_or_one : IsNoInstance pattern input → (reading : Reading) → IsReadBy pattern input reading → ⊥
-  none_or_one none reading one = none reading one.holds
+  none_or_one never reading by = never reading by.holds
 
   none_or_two : IsNoInstance pattern input → IsAmbiguous pattern input → ⊥
-  none_or_two none two = none two.one two.one_holds
+  none_or_two never two = never two.one two.one_holds
 
   one_or_two : (reading : Reading) → IsReadBy pattern input reading → IsAmbiguous pattern input → ⊥
-  one_or_two reading one two = two.differ (one.alone two.one two.one_holds ∙ sym (one.alone two.other two.other_holds))
+  one_or_two reading by two = two.differ (by.alone two.one two.one_holds ∙ sym (by.alone two.other two.other_holds))

@@ -1,18 +1,23 @@
 -- What the places of a pattern tell of an input.
 use Rattle.std.proofs.Common.{◌≡◌, inl, inr, ℕ, true, List, [], ◌∷◌, refl, ap, sym, subst, ◌∙◌, arith}
 use Rattle.std.specs.Prelude.{◌⊎◌}
+use Rattle.std.specs.Global.{Global}
+use Rattle.std.specs.Prelude.{Vec}
 use Rattle.tt.specs.Forest.{Forest, end}
 use Rattle.tt_matcher.specs.Asks as ask
 use Rattle.tt_matcher.specs.declared.places.Place.{Place}
 use Rattle.tt_matcher.specs.Compiled.{Stand, place_count, stops, all_stops, starts_of}
-use Rattle.tt_matcher.specs.declared.reading.Found.{Found}
-use Rattle.tt_matcher.specs.declared.reading.Found.TheVariants as found
-use Rattle.tt_matcher.specs.Levels.{AreTwo, IsOnly, Finds, Tells}
+use Rattle.tt_matcher.specs.declared.reading.Paths.{Paths}
+use Rattle.tt_matcher.specs.declared.reading.Paths.TheVariants as paths
+use Rattle.tt_matcher.specs.Levels.{AreTwo, IsOnly, Finds}
+use Rattle.tt_matcher.specs.Paths.{path_of}
 use Rattle.tt_matcher.specs.Patterns.{Pattern, IsFull}
 use Rattle.tt_matcher.specs.Places.{ReadsAll, Reads, Passes, is_leave}
 use Rattle.tt_matcher.specs.Readings.{Reading, Takes, IsInstance, IsNoInstance, IsReadBy, IsAmbiguous}
+use Rattle.tt_matcher.specs.declared.threads.Turn.{Turn}
 use Rattle.tt_matcher.specs.Threads.{path_to}
-use Rattle.tt_matcher.proofs.Compiling.{length-stops, path_of, from_reading}
+use Rattle.tt_matcher.specs.Told.{TellsPaths}
+use Rattle.tt_matcher.proofs.Compiling.{length-stops, from_reading}
 use Rattle.tt_matcher.proofs.Decompiling.{Read, to_reading}
 use Rattle.tt_matcher.proofs.OneReading.{same_reading}
 use Rattle.tt_matcher.proofs.Via.{Via, stand_left, stand_right, via_none, via_one, comes_by, ends_by}
@@ -103,7 +108,12 @@ module _ (places : List Place) (pattern : Pattern) (full : IsFull pattern) (stan
       }
 
   -- What was found of the paths is so of the readings.
-  pub tells : (it : Found) → Finds (ReadsAll places (starts_of pattern) input) it → Tells pattern input it
-  tells found.Nothing finds = no_instance finds
-  tells (found.One log last) finds = let one = one_instance (path_to log.items last) finds in (one.0, one.1)
-  tells found.Many finds = two_instances finds
+  pub tells : (it : Paths) → Finds (ReadsAll places (starts_of pattern) input) it → TellsPaths pattern input it
+  tells paths.Nothing finds = no_instance finds
+  tells (paths.One log last) finds = let one = one_instance (path_to log.items last) finds in (one.0, one.1, one.2)
+  tells paths.Many finds = two_instances finds
+
+-- Where the paths are one, so it is told.
+pub as_one : (it : Paths) (log : Vec Turn Global) (newest : Turn) (pattern : Pattern) (input : Forest) → it ≡ paths.One log newest → TellsPaths pattern input it
+    → TellsPaths pattern input (paths.One log newest)
+as_one it log newest pattern input is told = subst (TellsPaths pattern input) is told

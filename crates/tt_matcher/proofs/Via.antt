@@ -4,12 +4,8 @@ use Rattle.std.specs.Prelude.{◌⊎◌, slice_get, Option}
 use Rattle.tt.specs.Forest.{Forest, end}
 use Rattle.tt_matcher.specs.declared.places.Place.{Place}
 use Rattle.tt_matcher.specs.Compiled.{Stop, IsStop, Stand}
+use Rattle.tt_matcher.specs.Paths.{shift}
 use Rattle.tt_matcher.specs.Places.{Passes, onward, OnEdge, Ends, GoesOn, Reads, is_leave}
-
--- a path whose first turn is that much later
-abbrev pub shift : ℕ → List ℕ → List ℕ
-shift n [] = []
-shift n (turn ∷ more) = (n + turn) ∷ more
 
 module _ (places : List Place) where
   -- the path leads on by one of the edges

@@ -2,13 +2,13 @@
 use Rattle.std.specs.Prelude.{List}
 use Rattle.tt.specs.Types.DelimiterKind.{DelimiterKind}
 use Rattle.tt.specs.Types.Leaf.{Leaf}
-use Rattle.tt_matcher.specs.declared.pattern.Fragment.{Fragment}
+use Rattle.tt_matcher.specs.declared.pattern.Variable.{Variable}
 use Rattle.tt_matcher.specs.declared.places.Atom.{Atom}
 use Rattle.tt_matcher.specs.declared.places.Atom.TheVariants as atom
 
--- what a fragment takes, a token of these leaves, a subtree of a kind, or the end of a subtree
+-- what a variable takes, a token of these leaves, a subtree of a kind, or the end of a subtree
 pub data Ask : Type 0 where
-  take : Fragment → Ask
+  take : Variable → Ask
   same : List Leaf → Ask
   enter : DelimiterKind → Ask
   leave : Ask

@@ -54,7 +54,7 @@ separator_stops (it ∷ others) behind = record { asked = ask.same (it ∷ other
 -- the places of a pattern, the first of which has that number, where those edges lead to what comes behind
 abbrev pub stops : (at : ℕ) → Pattern → (behind : List ℕ) → List Stop
 stops at nothing behind = []
-stops at (variable it others) behind = record { asked = ask.take it.fragment; edges = entries (suc at) others behind } ∷ stops (suc at) others behind
+stops at (variable it others) behind = record { asked = ask.take it; edges = entries (suc at) others behind } ∷ stops (suc at) others behind
 stops at (token its others) behind = record { asked = ask.same its; edges = entries (suc at) others behind } ∷ stops (suc at) others behind
 stops at (subtree kind inner others) behind =
     record { asked = ask.enter kind; edges = entries (suc at) inner ((suc at + place_count inner) ∷ []) }

@@ -120,7 +120,7 @@ opened at level outer = record { bits = begin ∷ []; count = at; levels = level
 -- a part of a level, behind which that is left
 abbrev pub stepped : Part → (at : ℕ) → LevelLeft → (outer : List LevelLeft) → Step
 stepped part.End at level outer = ended at level.closing level.entries outer
-stepped (part.Variable it) at level outer = placed at (ask.take it.fragment) level outer
+stepped (part.Variable it) at level outer = placed at (ask.take it) level outer
 stepped (part.Token leaves) at level outer = placed at (ask.same leaves.items) level outer
 stepped (part.Subtree kind inner) at level outer =
     record { bits = place at (ask.enter kind) ∷ []; count = suc at; levels = fresh_level (pattern_of (rest_of inner)) None ∷ marked at level ∷ outer }

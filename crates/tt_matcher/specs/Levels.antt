@@ -11,16 +11,14 @@ use Rattle.tt.specs.Types.TtIter.{TtIter}
 use Rattle.tt_matcher.specs.declared.places.Place.{Place}
 use Rattle.tt_matcher.specs.declared.reading.Choice.{Choice}
 use Rattle.tt_matcher.specs.declared.reading.Choice.TheVariants as choice
-use Rattle.tt_matcher.specs.declared.reading.Found.{Found}
-use Rattle.tt_matcher.specs.declared.reading.Found.TheVariants as found
+use Rattle.tt_matcher.specs.declared.reading.Paths.{Paths}
+use Rattle.tt_matcher.specs.declared.reading.Paths.TheVariants as paths
 use Rattle.tt_matcher.specs.declared.reading.Level.{Level}
 use Rattle.tt_matcher.specs.declared.threads.Move.TheVariants as move
 use Rattle.tt_matcher.specs.declared.threads.Thread.{Thread}
 use Rattle.tt_matcher.specs.declared.threads.Turn.{Turn}
 use Rattle.tt_matcher.specs.Asks.{ask_of}
-use Rattle.tt_matcher.specs.Patterns.{Pattern}
 use Rattle.tt_matcher.specs.Places.{is_leave}
-use Rattle.tt_matcher.specs.Readings.{Reading, IsNoInstance, IsReadBy, IsAmbiguous}
 use Rattle.tt_matcher.specs.Threads.{View, views_of, path_to, AreWithin, AllStep}
 
 -- what is left of a level, and what its threads stand for
@@ -103,10 +101,10 @@ pub record IsOnly (Whole : List ℕ → Type 0) (path : List ℕ) : Type 0 where
   pub alone : (other : List ℕ) → Whole other → other ≡ path
 
 -- what was found is so
-abbrev pub Finds : (Whole : List ℕ → Type 0) → Found → Type 0
-Finds Whole found.Nothing = (path : List ℕ) → Whole path → ⊥
-Finds Whole (found.One log last) = IsOnly Whole (path_to log.items last)
-Finds Whole found.Many = AreTwo Whole
+abbrev pub Finds : (Whole : List ℕ → Type 0) → Paths → Type 0
+Finds Whole paths.Nothing = (path : List ℕ) → Whole path → ⊥
+Finds Whole (paths.One log last) = IsOnly Whole (path_to log.items last)
+Finds Whole paths.Many = AreTwo Whole
 
 -- the outermost level is at its end, and its threads are these
 pub record IsEndedWith (level : LevelView) (outer : List LevelView) (views : List View) : Type 0 where
@@ -132,13 +130,7 @@ choice_of places so_far (thread ∷ others) =
     choice_of places (if is_leave_at (slice_get places thread.at) then with_thread so_far thread else so_far) others
 
 -- what is found where the choice is made in that log
-abbrev pub found_of : Choice → Vec Turn Global → Found
-found_of choice.Nothing log = found.Nothing
-found_of (choice.One last) log = found.One log last
-found_of choice.Many log = found.Many
-
--- what was found of an input: no reading, one and no other, or two
-abbrev pub Tells : Pattern → (input : Forest) → Found → Type 0
-Tells pattern input found.Nothing = IsNoInstance pattern input
-Tells pattern input (found.One log last) = (reading : Reading) × IsReadBy pattern input reading
-Tells pattern input found.Many = IsAmbiguous pattern input
+abbrev pub found_of : Choice → Vec Turn Global → Paths
+found_of choice.Nothing log = paths.Nothing
+found_of (choice.One last) log = paths.One log last
+found_of choice.Many log = paths.Many

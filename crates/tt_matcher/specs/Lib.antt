@@ -1,16 +1,25 @@
 -- What a pattern is, when trees are an instance of it, and how its places read them.
 pub mod Asks
+pub mod Bindings
 pub mod Compiled
 pub mod Cutting
+pub mod Ends
 pub mod Fragments
+pub mod Grouping
 pub mod Levels
 pub mod Linking
+pub mod Marks
 pub mod Matchers
+pub mod Paths
 pub mod Patterns
 pub mod Pieces
 pub mod Places
 pub mod Readings
 pub mod Signs
 pub mod Spelling
+pub mod Stepping
+pub mod Steps
 pub mod Threads
+pub mod Told
 pub mod Units
+pub mod Walking

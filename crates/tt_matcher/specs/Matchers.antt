@@ -1,16 +1,21 @@
 -- When a pattern has a matcher, and which it is.
-use Rattle.std.specs.Prelude.{◌≡◌}
+use Rattle.std.specs.Prelude.{◌≡◌, map}
 use Rattle.tt_matcher.specs.declared.error.PatternError.{PatternError}
 use Rattle.tt_matcher.specs.declared.error.PatternError.TheVariants as error
 use Rattle.tt_matcher.specs.declared.matcher.Matcher.{Matcher}
 use Rattle.tt_matcher.specs.Compiled.{Stand, all_stops, starts_of}
+use Rattle.tt_matcher.specs.Grouping.{variables_of}
 use Rattle.tt_matcher.specs.Patterns.{Pattern, IsFull}
+use Rattle.tt_matcher.specs.Stepping.{where_of}
+use Rattle.tt_matcher.specs.Steps.{steps_of}
 
 -- a matcher of the pattern, each repetition of which holds a tree at least
 pub record IsMatcherOf (pattern : Pattern) (matcher : Matcher) : Type 0 where
   pub full : IsFull pattern
   pub stand : Stand matcher.places.items 0 (all_stops pattern)
   pub starts : matcher.starts.items ≡ starts_of pattern
+  pub steps : matcher.steps.items ≡ steps_of pattern
+  pub variables : map where_of matcher.binders.items ≡ variables_of pattern 1
 
 -- why a pattern has no matcher
 abbrev pub IsPatternError : Pattern → PatternError → Type 0

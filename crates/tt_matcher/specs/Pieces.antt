@@ -24,7 +24,7 @@ bit_of (piece.Close at tail entries) = close at tail.separator.items tail.kind e
 -- the pieces of a pattern whose places begin there, before others
 abbrev pub bits_of : (at : ℕ) → Pattern → (behind : List Bit) → List Bit
 bits_of at nothing behind = behind
-bits_of at (variable it others) behind = place at (ask.take it.fragment) ∷ bits_of (suc at) others behind
+bits_of at (variable it others) behind = place at (ask.take it) ∷ bits_of (suc at) others behind
 bits_of at (token its others) behind = place at (ask.same its) ∷ bits_of (suc at) others behind
 bits_of at (subtree kind inner others) behind =
     place at (ask.enter kind) ∷ bits_of (suc at) inner (place (suc at + place_count inner) ask.leave ∷ bits_of (suc (suc at + place_count inner)) others behind)

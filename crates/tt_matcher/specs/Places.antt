@@ -22,7 +22,7 @@ IsEnded (trees ∷ outer) = trees ≡ end
 
 -- what is asked of the levels that are left, the innermost first, is there
 abbrev pub Passes : Ask → List Forest → Type 0
-Passes (ask.take which) levels = takes which (front levels) ≡ true
+Passes (ask.take which) levels = takes which.fragment (front levels) ≡ true
 Passes (ask.same its) levels = IsUnitLike its (front levels)
 Passes (ask.enter kind) levels = IsNodeOf kind (front levels)
 Passes ask.leave levels = IsEnded levels
@@ -44,7 +44,7 @@ left (trees ∷ outer) = outer
 
 -- the levels behind what was asked
 abbrev pub onward : Ask → List Forest → List Forest
-onward (ask.take which) levels = passed (reach which (front levels)) levels
+onward (ask.take which) levels = passed (reach which.fragment (front levels)) levels
 onward (ask.same its) levels = passed (length its) levels
 onward (ask.enter kind) levels = entered levels
 onward ask.leave levels = left levels

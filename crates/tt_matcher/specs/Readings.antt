@@ -19,6 +19,30 @@ pub data Reading : Type 0 where
   round : Reading → Reading → Reading
   over : Reading → Reading
 
+-- what a variable that comes first took
+abbrev pub trees_taken : Reading → Forest
+trees_taken done = end
+trees_taken (took trees more) = trees
+trees_taken (held inside more) = end
+trees_taken (round this others) = end
+trees_taken (over more) = end
+
+-- how the inside of a subtree that comes first is read
+abbrev pub inside_of : Reading → Reading
+inside_of done = done
+inside_of (took trees more) = done
+inside_of (held inside more) = inside
+inside_of (round this others) = done
+inside_of (over more) = done
+
+-- how what is behind the first part is read
+abbrev pub more_of : Reading → Reading
+more_of done = done
+more_of (took trees more) = more
+more_of (held inside more) = more
+more_of (round this others) = others
+more_of (over more) = more
+
 -- the separator, if there is one, stands before the rest
 abbrev pub Separates : (separator : List Leaf) → (input rest : Forest) → Type 0
 Separates [] input rest = rest ≡ input

@@ -1,5 +1,5 @@
 -- Threads: the places at which paths are.
-use Rattle.std.specs.Prelude.{◌≡◌, ◌⊎◌, ◌≤◌, ◌-◌, ◌&&◌, ℕ, zero, suc, Bool, true, false, List, [], ◌∷◌, ◌++◌, map, length, reverse, Option, None, Some, slice_get, if◌then◌else◌, nat_eq}
+use Rattle.std.specs.Prelude.{◌≡◌, ◌⊎◌, ◌≤◌, ◌-◌, ◌&&◌, ℕ, zero, suc, Bool, true, false, List, [], ◌∷◌, ◌++◌, map, length, reverse, Option, None, Some, slice_get, if◌then◌else◌, nat_eq, nat_lt}
 use Rattle.tt.specs.Iters.{rest_of}
 use Rattle.tt_matcher.specs.declared.places.Place.{Place}
 use Rattle.tt_matcher.specs.declared.threads.Move.{Move}
@@ -26,6 +26,10 @@ path_in (turn ∷ older) number = if nat_eq number (suc (length older)) then pat
 -- the path up to a turn behind those of the log
 abbrev pub path_to : (log : List Turn) → Turn → List ℕ
 path_to log turn = path_in (reverse log) turn.before ++ turn.edge ∷ []
+
+-- the number of the turn before one of that number, or none where the log is not in order
+abbrev pub earlier : Turn → (number : ℕ) → ℕ
+earlier turn number = if nat_lt turn.before number then turn.before else 0
 
 -- what a thread stands for
 abbrev pub view_of : (log : List Turn) → Thread → View
@@ -87,7 +91,7 @@ threads_spread wait is_many before turn (to ∷ others) threads =
 
 -- what is asked is there, as the input goes on
 abbrev pub IsMoved : Move → Ask → Type 0
-IsMoved (move.Passes trees) (ask.take which) = takes which (rest_of trees) ≡ true
+IsMoved (move.Passes trees) (ask.take which) = takes which.fragment (rest_of trees) ≡ true
 IsMoved (move.Passes trees) (ask.same its) = IsUnitLike its (rest_of trees)
 IsMoved (move.Passes trees) (ask.enter kind) = ⊥
 IsMoved (move.Passes trees) ask.leave = ⊥
@@ -102,7 +106,7 @@ IsMoved move.Ends ask.leave = Unit {0}
 
 -- for how many trees behind the first the thread then waits
 abbrev pub wait_of : Move → Ask → ℕ
-wait_of (move.Passes trees) (ask.take which) = reach which (rest_of trees) - 1
+wait_of (move.Passes trees) (ask.take which) = reach which.fragment (rest_of trees) - 1
 wait_of (move.Passes trees) (ask.same its) = length its - 1
 wait_of (move.Passes trees) (ask.enter kind) = 0
 wait_of (move.Passes trees) ask.leave = 0

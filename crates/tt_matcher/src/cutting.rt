@@ -261,9 +261,7 @@ fn take_part<'p>(
 {
     match part {
         Part::End => end_level(cutting, level),
-        Part::Variable(variable) => {
-            Ok(add_place(cutting, Atom::Take(variable.fragment), level)?)
-        }
+        Part::Variable(variable) => { Ok(add_place(cutting, Atom::Take(variable), level)?) }
         Part::Token(leaves) => Ok(add_place(cutting, Atom::Same(leaves), level)?),
         Part::Subtree(kind, inner) => Ok(enter_subtree(alloc, cutting, level, kind, inner)?),
         Part::Repetition(inner, tail) => Ok(enter_repetition(alloc, cutting, level, inner, tail)?),

@@ -4,6 +4,7 @@
 #![tactic(auto)]
 
 mod asks;
+mod binding;
 mod cutting;
 mod error;
 mod linking;
@@ -14,10 +15,13 @@ mod pieces;
 mod places;
 mod reading;
 mod signs;
+mod steps;
 mod threads;
+mod walking;
 
+pub use binding::{Binding, Found};
 pub use error::PatternError;
 pub use matcher::Matcher;
 pub use pattern::{Fragment, RepeatKind, Variable};
-pub use reading::Found;
-pub use threads::Turn;
+pub use steps::Binder;
+pub use walking::Mark;

@@ -1,16 +1,18 @@
 //! The matcher of a pattern, by which any number of inputs is read.
-ghost use Rattle.std.specs.Prelude.{IfOk, IfErr};
+ghost use Rattle.std.specs.Prelude.{◌≡◌, IfOk, IfErr};
 ghost use Rattle.tt.specs.Iters.{rest_of};
-ghost use Rattle.tt_matcher.specs.Levels.{Tells};
+ghost use Rattle.tt_matcher.specs.Told.{Tells};
 ghost use Rattle.tt_matcher.specs.Matchers.{IsMatcherOf, IsPatternError};
 ghost use Rattle.tt_matcher.specs.Patterns.{Pattern};
 ghost use Rattle.tt_matcher.specs.Spelling.{pattern_of};
 
+use crate::binding::{Found, found_by};
 use crate::cutting::cut;
 use crate::error::PatternError;
 use crate::linking::{Linked, link};
 use crate::places::Place;
-use crate::reading::{Found, read};
+use crate::reading::read_all;
+use crate::steps::{Binder, Step, Stepped, step_by_step};
 use std::alloc::{AllocError, Global};
 use tt::TtIter;
 
@@ -19,6 +21,8 @@ use tt::TtIter;
 pub struct Matcher {
     places: Vec<Place>,
     starts: Vec<usize>,
+    steps: Vec<Step>,
+    binders: Vec<Binder>,
 }
 
 impl Matcher {
@@ -32,22 +36,43 @@ impl Matcher {
         ensures err { IfErr result (IsPatternError (pattern_of (rest_of pattern.entry))) }
     {
         let pieces = cut(alloc, pattern)?;
+        let Stepped {
+            mut steps,
+            mut binders,
+            ..
+        } = step_by_step(alloc, &pieces)?;
+        steps.reverse();
+        binders.reverse();
         let Linked {
             mut places,
             edges: starts,
             ..
         } = link(alloc, pieces)?;
         places.reverse();
-        Ok(Matcher { places, starts })
+        Ok(Matcher {
+            places,
+            starts,
+            steps,
+            binders,
+        })
     }
 
-    /// In how many ways the input is an instance of the pattern: in none, in one and no other, or in two and maybe more.
+    /// The variables of the pattern, in reading order.
+    pub fn binders(&self) -> &[Binder]
+        ensures { result.now ≡ self.now.binders.items }
+    {
+        &self.binders
+    }
+
+    /// In how many ways the input is an instance of the pattern: in none, in one and no other, with what it binds, or in two and
+    /// maybe more.
     ///
     /// Time is in proportion to the length of the input times the number of edges that are taken at a tree, and memory to how many
     /// places are passed. It is refused only where memory is.
-    pub fn read(&self, alloc: Global, input: TtIter<'_>) -> Result<Found, AllocError>
+    pub fn read<'i>(&self, alloc: Global, input: TtIter<'i>) -> Result<Found<'i>, AllocError>
         ensures { IfOk result (λ found. (pattern : Pattern) → IsMatcherOf pattern self.now → Tells pattern (rest_of input.entry) found) }
     {
-        read(alloc, &self.places, &self.starts, input)
+        let paths = read_all(alloc, &self.places, &self.starts, input.remaining().iter())?;
+        found_by(alloc, &self.steps, paths, input)
     }
 }

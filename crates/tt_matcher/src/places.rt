@@ -1,12 +1,12 @@
 //! A pattern as places: what each asks of the trees, and the places that may come next.
-use crate::pattern::Fragment;
+use crate::pattern::Variable;
 use tt::{DelimiterKind, Leaf};
 
 /// What a place asks of what is left of an input.
 #[derive(Drop)]
 pub(crate) enum Atom {
-    /// What stands first is taken by the fragment.
-    Take(Fragment),
+    /// What stands first is taken by the variable.
+    Take(Variable),
     /// A token of these leaves stands first, spans and spacing put aside.
     Same(Vec<Leaf>),
     /// The first tree is a subtree of this kind, and is entered.

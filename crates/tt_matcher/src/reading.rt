@@ -1,9 +1,7 @@
 //! Reading an input: which paths lead through all of it.
 ghost use Rattle.std.specs.Prelude.{◌≡◌, [], OnOk, IfOk, MatchOption, reverse, slice_get};
 ghost use Rattle.tt.specs.Iters.{rest_of};
-ghost use Rattle.tt_matcher.specs.Levels.{Tells, level_view, level_views, AreLevelsWithin, Advances, IsEndedWith, Finds, is_leave_at, with_thread, choice_of, found_of};
-ghost use Rattle.tt_matcher.specs.Compiled.{Stand, all_stops, starts_of};
-ghost use Rattle.tt_matcher.specs.Patterns.{Pattern, IsFull};
+ghost use Rattle.tt_matcher.specs.Levels.{level_view, level_views, AreLevelsWithin, Advances, IsEndedWith, Finds, is_leave_at, with_thread, choice_of, found_of};
 ghost use Rattle.tt_matcher.specs.Places.{ReadsAll};
 ghost use Rattle.tt_matcher.specs.Threads.{views_of, AreWithin, IsGrown, AllStep};
 
@@ -19,14 +17,14 @@ pub(crate) struct Level<'i> {
     threads: Vec<Thread>,
 }
 
-/// In how many ways an input is an instance of a pattern.
+/// How many paths lead through an input.
 #[derive(Drop)]
-pub enum Found {
-    /// In none.
+pub(crate) enum Paths {
+    /// None.
     Nothing,
-    /// In one and no other: the turns of all ways that were tried, and the last turn of the one.
+    /// One and no other: the turns of all paths that were tried, and the last turn of the one.
     One(Vec<Turn>, Turn),
-    /// In two different ones, and maybe more.
+    /// Two different ones, and maybe more.
     Many,
 }
 
@@ -174,38 +172,26 @@ pub(crate) enum Choice {
 }
 
 // What is found where the choice is made in that log.
-fn find_by(choice: Choice, log: Vec<Turn>) -> Found
+fn find_by(choice: Choice, log: Vec<Turn>) -> Paths
     ensures { result ≡ found_of choice log }
 {
     match choice {
-        Choice::Nothing => Found::Nothing,
-        Choice::One(last) => Found::One(log, last),
-        Choice::Many => Found::Many,
+        Choice::Nothing => Paths::Nothing,
+        Choice::One(last) => Paths::One(log, last),
+        Choice::Many => Paths::Many,
     }
 }
 
-/// In how many ways the input is an instance of a pattern whose places these are, with the numbers of those where it may begin.
+/// Which paths lead through all of the input, of those that begin at the places with these numbers.
 ///
 /// Time is in proportion to the length of the input times the number of edges that are taken at a tree, and memory to how many
 /// places are passed. It is refused only where memory is.
-pub(crate) fn read(
+pub(crate) fn read_all(
     alloc: Global,
     places: &[Place],
     starts: &[usize],
     input: TtIter<'_>,
-) -> Result<Found, AllocError>
-    ensures { IfOk result (λ found. (pattern : Pattern) → IsFull pattern → Stand places.now 0 (all_stops pattern) → starts.now ≡ starts_of pattern → Tells pattern (rest_of input.entry) found) }
-{
-    read_all(alloc, places, starts, input)
-}
-
-// Which paths lead from the starts through all of the input.
-fn read_all(
-    alloc: Global,
-    places: &[Place],
-    starts: &[usize],
-    input: TtIter<'_>,
-) -> Result<Found, AllocError>
+) -> Result<Paths, AllocError>
     ensures { IfOk result (λ found. Finds (ReadsAll places.now starts.now (rest_of input.entry)) found) }
 {
     let mut log = Vec::new(alloc);
@@ -222,5 +208,5 @@ fn read_all(
             return Ok(find_by(choice, log));
         }
     }
-    Ok(Found::Nothing)
+    Ok(Paths::Nothing)
 }

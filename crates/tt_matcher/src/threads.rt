@@ -11,9 +11,9 @@ use tt::{DelimiterKind, TtIter};
 /// A turn of a path: the number of the edge that it takes, and that of the turn before it. Turns are numbered from 1, and 0 is
 /// none.
 #[derive(Clone, Copy)]
-pub struct Turn {
-    pub edge: usize,
-    pub before: usize,
+pub(crate) struct Turn {
+    pub(crate) edge: usize,
+    pub(crate) before: usize,
 }
 
 /// The place of a path, how many trees are passed before it stands there, whether other paths lead there too, and its last turn.
@@ -41,9 +41,9 @@ fn moved(by: &Move<'_>, atom: &Atom) -> Option<usize>
     ensures { MatchOption result (IsMoved by.now (ask_of atom.now) → ⊥) (λ wait. IsMoved by.now (ask_of atom.now) × (wait ≡ wait_of by.now (ask_of atom.now))) }
 {
     match (by, atom) {
-        (Move::Passes(trees), Atom::Take(fragment)) => {
-            if takes(*fragment, trees.remaining().iter()) {
-                Some(reach(*fragment, trees.remaining().iter()).saturating_sub(1))
+        (Move::Passes(trees), Atom::Take(variable)) => {
+            if takes(variable.fragment, trees.remaining().iter()) {
+                Some(reach(variable.fragment, trees.remaining().iter()).saturating_sub(1))
             } else {
                 None
             }

@@ -2,7 +2,7 @@
 use std::alloc::Global;
 use std::test::Fail;
 use tt::{ErasedFileAstId, FileId, SpanAnchor, SyntaxContext, TopSubtree};
-use tt_matcher::{Found, Matcher, PatternError};
+use tt_matcher::{Binder, Binding, Found, Matcher, PatternError};
 use tt_text::parse_to_token_tree;
 
 // The tree of a text, if it has one.
@@ -21,7 +21,7 @@ fn ways(alloc: Global, pattern: &str, input: &str) -> Option<usize> {
     let input = tree_of(alloc, input)?;
     match matcher.read(alloc, input.token_trees().iter()) {
         Ok(Found::Nothing) => Some(0),
-        Ok(Found::One(_, _)) => Some(1),
+        Ok(Found::One(_)) => Some(1),
         Ok(Found::Many) => Some(2),
         Err(_) => None,
     }
@@ -157,6 +157,138 @@ fn are_refused(alloc: Global) -> bool {
     true
 }
 
+// The idents that the variable of that number took, each with a space behind it.
+fn idents(alloc: Global, binding: &Binding<'_>, number: usize) -> Option<String> {
+    let mut names = String::new(alloc);
+    for trees in binding.trees(alloc, number).ok()?.iter() {
+        let ident = trees.iter().expect_ident().ok()?;
+        names.push_str(ident.sym.as_str()).ok()?;
+        names.push_str(" ").ok()?;
+    }
+    Some(names)
+}
+
+// Where the rounds of the innermost of these repetitions end, each time.
+fn ends(alloc: Global, binding: &Binding<'_>, nest: &[usize]) -> Option<Vec<usize>> {
+    match nest.last() {
+        Some(number) => binding.ends(alloc, *number).ok(),
+        None => Some(Vec::new(alloc)),
+    }
+}
+
+// Whether these are the idents that the variable took, and the ends of the rounds round it.
+fn is_bound(
+    alloc: Global,
+    binding: &Binding<'_>,
+    binder: &Binder,
+    names: &str,
+    wanted: &[usize],
+) -> bool {
+    let Some(found) = idents(alloc, binding, binder.number) else {
+        return false;
+    };
+    let Some(rounds) = ends(alloc, binding, &binder.nest) else {
+        return false;
+    };
+    found.as_str() == names && rounds.as_slice() == wanted
+}
+
+// Whether a variable has that name.
+fn is_named(binder: &Binder, name: &str) -> bool {
+    match &binder.name {
+        Some(text) => text.as_str() == name,
+        None => false,
+    }
+}
+
+// Whether the input is an instance in one way, which binds that to the variable of that name.
+fn binds(
+    alloc: Global,
+    matcher: &Matcher,
+    input: &TopSubtree,
+    name: &str,
+    names: &str,
+    wanted: &[usize],
+) -> bool {
+    let Ok(Found::One(binding)) = matcher.read(alloc, input.token_trees().iter()) else {
+        return false;
+    };
+    for binder in matcher.binders() {
+        if is_named(binder, name) {
+            return is_bound(alloc, &binding, binder, names, wanted);
+        }
+    }
+    false
+}
+
+// The matcher of a text.
+fn matcher_of(alloc: Global, pattern: &str) -> Option<Matcher> {
+    let pattern = tree_of(alloc, pattern)?;
+    Matcher::new(alloc, pattern.token_trees().iter()).ok()
+}
+
+// A pattern, an input, a name, the idents that are bound to it, and where rounds end round it: lists, empty ones, lists in lists, two
+// names beside each other, a subtree, and rounds in which something may be left out.
+const BOUND: [(&str, &str, &str, &str, &[usize]); 12] = [
+    ("$($x:ident),* $(,)?", "a, b,", "x", "a b ", &[2]),
+    ("$($x:ident),* $(,)?", ",", "x", "", &[0]),
+    ("$($x:ident),*", "", "x", "", &[0]),
+    ("$($($x:ident)+);*", "a b; c", "x", "a b c ", &[2, 3]),
+    (
+        "$([$($x:ident),*])*",
+        "[] [a] [b, c]",
+        "x",
+        "a b c ",
+        &[0, 1, 3],
+    ),
+    (
+        "$($($($x:ident),+);+)|+",
+        "a, b; c | d",
+        "x",
+        "a b c d ",
+        &[2, 3, 4],
+    ),
+    (
+        "$($x:ident => $y:ident),*",
+        "a => b, c => d",
+        "x",
+        "a c ",
+        &[2],
+    ),
+    (
+        "$($x:ident => $y:ident),*",
+        "a => b, c => d",
+        "y",
+        "b d ",
+        &[2],
+    ),
+    ("{ $x:ident } $y:ident", "{ a } b", "x", "a ", &[]),
+    ("{ $x:ident } $y:ident", "{ a } b", "y", "b ", &[]),
+    ("$($(;)? $x:ident b)*", "; c b d b", "x", "c d ", &[2]),
+    (
+        "$($x:ident)? ; $($y:ident)*",
+        "; a b c",
+        "y",
+        "a b c ",
+        &[3],
+    ),
+];
+
+fn are_bound(alloc: Global) -> bool {
+    for (pattern, input, name, names, wanted) in &BOUND {
+        let Some(matcher) = matcher_of(alloc, pattern) else {
+            return false;
+        };
+        let Some(input) = tree_of(alloc, input) else {
+            return false;
+        };
+        if !binds(alloc, &matcher, &input, name, names, wanted) {
+            return false;
+        }
+    }
+    true
+}
+
 // A test passes where what it asks is so.
 fn holds(is_so: bool) -> Result<(), Fail> {
     if is_so {
@@ -174,4 +306,9 @@ fn inputs_are_instances_in_so_many_ways(rt: HostRuntime) -> Result<(), Fail> {
 #[test]
 fn a_repetition_that_may_take_no_tree_is_refused(rt: HostRuntime) -> Result<(), Fail> {
     holds(are_refused(rt.alloc()))
+}
+
+#[test]
+fn names_are_bound_to_what_was_taken(rt: HostRuntime) -> Result<(), Fail> {
+    holds(are_bound(rt.alloc()))
 }

@@ -1,0 +1,30 @@
+use Rattle.std.proofs.Common.{rules, ◌≡◌, subst, ◌∙◌}
+use Rattle.std.specs.Prelude.{IfOk}
+use Rattle.tt.specs.Iters.{rest_of}
+use Rattle.tt_matcher.specs.Levels.{Finds}
+use Rattle.tt_matcher.specs.Patterns.{Pattern, IsFull}
+use Rattle.tt_matcher.specs.Places.{ReadsAll}
+use Rattle.tt_matcher.specs.Steps.{steps_of}
+use Rattle.tt_matcher.specs.Told.{Tells, TellsPaths}
+use Rattle.tt_matcher.proofs.Results.{if_ok}
+use Rattle.tt_matcher.proofs.Told.{tells}
+use Rattle.tt_matcher.proofs.matcher.Matcher.read.Goals as goal
+
+pub returns : goal.returns
+returns c =
+    let matcher = c.args.self.now in
+    let input = rest_of c.args.input in
+    let it = c.in_ok-paths.paths in
+    let places : c.deref.result.now ≡ matcher.places.items = search rules in
+    let starts : c.deref-2.result.now ≡ matcher.starts.items = search rules in
+    let steps : c.deref-3.result.now ≡ matcher.steps.items = search rules in
+    let same : rest_of c.iter.result ≡ input = search rules in
+    let found : Finds (ReadsAll c.deref.result.now c.deref-2.result.now (rest_of c.iter.result)) it = search rules in
+    let finds : Finds (ReadsAll matcher.places.items matcher.starts.items input) it =
+    subst (λ p. Finds (ReadsAll p matcher.starts.items input) it) places
+    (subst (λ s. Finds (ReadsAll c.deref.result.now s input) it) starts
+    (subst (λ t. Finds (ReadsAll c.deref.result.now c.deref-2.result.now t) it) same found)) in
+    let told : IfOk c.found_by.result (λ found. (pattern : Pattern) → IsFull pattern → c.deref-3.result.now ≡ steps_of pattern → TellsPaths pattern input it → Tells pattern input found) = search rules in
+    if_ok c.found_by.result
+    (λ found is pattern of. is pattern of.full (steps ∙ of.steps)
+    (tells matcher.places.items pattern of.full of.stand input it (subst (λ s. Finds (ReadsAll matcher.places.items s input) it) of.starts finds))) told
