@@ -11,9 +11,9 @@ ghost use Rattle.tt_language.specs.Token.{placed_words, PlacedFits, punct_words,
 use crate::command::front::{after_ident, after_lit, after_punct, after_sub};
 use crate::command::numbers::number;
 use crate::command::word::Word;
-use tt_texts::Texts;
 use std::str::from_utf8;
 use tt_base::{Delimiter, Ident, Leaf, Literal, Punct, Span, Subtree, Symbol, TokenTree, TtFault};
+use tt_texts::Texts;
 
 /// The token that the text spells.
 #[inline(always)]
