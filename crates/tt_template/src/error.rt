@@ -1,0 +1,41 @@
+//! Why trees are no template.
+ghost use Rattle.std.specs.Prelude.{◌≡◌};
+
+use std::alloc::{AllocError, AllocFailed};
+use thiserror::Error;
+use tt::Span;
+
+/// Why trees are no template.
+#[derive(Debug, Clone, Copy, PartialEq, Eq, Error)]
+pub enum TemplateError {
+    /// A variable is used in fewer repetitions than it stands in in its pattern. The span is that of the `$` of the use.
+    #[error("the variable repeats still")]
+    StillRepeats(Span),
+    /// No variable is used in a repetition that stands in as many, so none tells how many rounds it has. The span is that of the `$`
+    /// of the repetition.
+    #[error("nothing repeats in the repetition")]
+    NothingRepeats(Span),
+    /// Memory was refused.
+    #[error("out of memory")]
+    Memory,
+}
+
+impl From<AllocError> for TemplateError {
+    ghost use Rattle.tt_template.specs.declared.error.TemplateError.TheVariants.{Memory};
+
+    ghost from_gives = { λ _ fault. fault ≡ Memory };
+
+    fn from(_error: AllocError) -> TemplateError {
+        TemplateError::Memory
+    }
+}
+
+impl<T: Drop> From<AllocFailed<T>> for TemplateError {
+    ghost use Rattle.tt_template.specs.declared.error.TemplateError.TheVariants.{Memory};
+
+    ghost from_gives = { λ _ fault. fault ≡ Memory };
+
+    fn from(_failed: AllocFailed<T>) -> TemplateError {
+        TemplateError::Memory
+    }
+}

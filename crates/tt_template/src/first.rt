@@ -1,0 +1,123 @@
+//! A template's trees, part by part.
+ghost use Rattle.std.specs.Prelude.{◌≡◌, ◌∷◌, [], true, map, IfOk};
+ghost use Rattle.std.specs.List.{position};
+ghost use Rattle.tt.specs.Forest.{leaf};
+ghost use Rattle.tt.specs.Iters.{rest_of};
+ghost use Rattle.tt_matcher.specs.Spelling.{is_dollar};
+ghost use Rattle.tt_matcher.specs.Stepping.{where_of};
+ghost use Rattle.tt_template.specs.Spelling.{template_of, has_name, variable_in, mark_in};
+ghost use Rattle.tt_template.specs.Stepping.{IsFirst};
+ghost use Rattle.tt_template.specs.Marks.{mark_of};
+
+use std::alloc::{AllocError, Global};
+use tt::{Delimiter, Leaf, Span, Symbol, TtElement, TtIter};
+use tt_matcher::Binder;
+use tt_matcher::signs::{Tail, is_crate_in, is_dollar, pass, repetition_in};
+
+/// The part of a template that comes first.
+#[derive(Drop)]
+pub(crate) enum First<'t> {
+    /// There is none.
+    End,
+    Use(Span, usize),
+    Token(Leaf),
+    Subtree(Delimiter, TtIter<'t>),
+    Repetition(Span, TtIter<'t>, Tail),
+}
+
+/// What a `$` begins.
+#[derive(Drop)]
+pub(crate) enum Mark {
+    Use(usize),
+    Repetition(Tail),
+    Nothing,
+}
+
+// Whether it is the variable of that name.
+fn has_name(binder: &Binder, name: &Symbol) -> bool
+    ensures { result ≡ has_name name.now (where_of binder.now) }
+{
+    match &binder.name {
+        Some(other) => name.as_str() == other.as_str(),
+        None => false,
+    }
+}
+
+// The number of the first variable of that name.
+fn named(binders: &[Binder], name: &Symbol) -> Option<usize>
+    ensures { result ≡ position (has_name name.now) (map where_of binders.now) }
+{
+    binders.iter().position(|binder| has_name(binder, name))
+}
+
+// The number of the first variable whose name stands first.
+fn variable_in(binders: &[Binder], mut siblings: TtIter<'_>) -> Option<usize>
+    ensures { result ≡ variable_in (map where_of binders.now) (rest_of siblings.entry) }
+{
+    let ident = siblings.expect_ident().ok()?;
+    named(binders, &ident.sym)
+}
+
+// What a `$` before these siblings begins.
+fn mark_in(alloc: Global, binders: &[Binder], siblings: TtIter<'_>) -> Result<Mark, AllocError>
+    ensures { IfOk result (λ mark. mark_of mark ≡ mark_in (map where_of binders.now) (rest_of siblings.entry)) }
+{
+    if let Some(tail) = repetition_in(alloc, siblings.remaining().iter())? {
+        return Ok(Mark::Repetition(tail));
+    }
+    if is_crate_in(siblings.remaining().iter()) {
+        return Ok(Mark::Nothing);
+    }
+    match variable_in(binders, siblings) {
+        Some(number) => Ok(Mark::Use(number)),
+        None => Ok(Mark::Nothing),
+    }
+}
+
+// The part that a `$` begins, behind which the siblings stand.
+fn marked_part<'t>(
+    alloc: Global,
+    binders: &[Binder],
+    dollar: Leaf,
+    siblings: &mut TtIter<'t>,
+) -> Result<First<'t>, AllocError>
+    requires { is_dollar dollar ≡ true }
+    ensures { IfOk result (λ part. IsFirst (map where_of binders.now) (template_of (map where_of binders.now) (leaf dollar (rest_of siblings.old))) part (template_of (map where_of binders.now) (rest_of siblings.new))) }
+{
+    match mark_in(alloc, binders, siblings.remaining().iter())? {
+        Mark::Use(number) => {
+            siblings.next();
+            Ok(First::Use(*dollar.span(), number))
+        }
+        Mark::Repetition(tail) => match siblings.expect_subtree() {
+            Ok((_, inner)) => {
+                siblings.next();
+                pass(siblings, tail.separator.len());
+                Ok(First::Repetition(*dollar.span(), inner, tail))
+            }
+            Err(()) => unreachable!(),
+        },
+        Mark::Nothing => Ok(First::Token(dollar)),
+    }
+}
+
+/// The first part of the template that these trees spell, which is passed.
+pub(crate) fn next_part<'t>(
+    alloc: Global,
+    binders: &[Binder],
+    trees: &mut TtIter<'t>,
+) -> Result<First<'t>, AllocError>
+    ensures { IfOk result (λ part. IsFirst (map where_of binders.now) (template_of (map where_of binders.now) (rest_of trees.old)) part (template_of (map where_of binders.now) (rest_of trees.new))) }
+{
+    match trees.next() {
+        None => Ok(First::End),
+        Some(TtElement::Subtree(header, inner)) => Ok(First::Subtree(header.delimiter, inner)),
+        Some(TtElement::Leaf(leaf)) => {
+            if is_dollar(&leaf) {
+                let part = marked_part(alloc, binders, leaf, trees)?;
+                return Ok(part);
+            }
+            Ok(First::Token(leaf))
+        }
+    }
+}
