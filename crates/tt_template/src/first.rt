@@ -43,14 +43,14 @@ fn has_name(binder: &Binder, name: &Symbol) -> bool
     }
 }
 
-// The number of the first variable of that name.
+// The index of the first variable of that name.
 fn named(binders: &[Binder], name: &Symbol) -> Option<usize>
     ensures { result ≡ position (has_name name.now) (map where_of binders.now) }
 {
     binders.iter().position(|binder| has_name(binder, name))
 }
 
-// The number of the first variable whose name stands first.
+// The index of the first variable whose name stands first.
 fn variable_in(binders: &[Binder], mut siblings: TtIter<'_>) -> Option<usize>
     ensures { result ≡ variable_in (map where_of binders.now) (rest_of siblings.entry) }
 {

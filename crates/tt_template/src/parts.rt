@@ -5,7 +5,7 @@ use tt_matcher::signs::Tail;
 /// A part of a template.
 #[derive(Drop)]
 pub enum Part {
-    /// A use of the variable that is the binder of that number. The span is that of its `$`.
+    /// A use of a variable: the index of its binder among those that were given. The span is that of its `$`.
     Use(Span, usize),
     /// A token that stands for itself.
     Token(Leaf),
