@@ -58,33 +58,33 @@ module _ (variables : List Where) where
   -- The parts of a template, before others.
   pub judged_parts : (template : Template) (behind : List Bit) → judged_of variables (bits_of template behind) ≡ judged_on variables template (judged_of variables behind)
   judged_parts nothing behind = let it = judged_of variables behind in ap (judged it.fault) (sym (raised_none it.depths))
-  judged_parts (use_of span variable others) behind =
+  judged_parts (use_of at variable others) behind =
       let it = judged_of variables behind in
       let d = depth_of variables variable in
-      ap (used_with span d) (judged_parts others behind)
-      ∙ both (λ n. use_fault span n d) d (deepest variables others) (fault_at variables (length it.depths) others) it
+      ap (used_with at d) (judged_parts others behind)
+      ∙ both (λ n. use_fault at n d) d (deepest variables others) (fault_at variables (length it.depths) others) it
   judged_parts (token it others) behind = judged_parts others behind
   judged_parts (subtree delimiter inner others) behind =
       let it = judged_of variables behind in
       judged_parts inner (leave ∷ bits_of others behind)
       ∙ ap (judged_on variables inner) (judged_parts others behind)
       ∙ both (λ n. fault_at variables n inner) (deepest variables inner) (deepest variables others) (fault_at variables (length it.depths) others) it
-  judged_parts (repetition span inner separator kind others) behind =
+  judged_parts (repetition at inner separator kind others) behind =
       let it = judged_of variables behind in
       let d = deepest variables inner in
-      let here : ℕ → Option TemplateError = λ n. or_else (round_fault span n d) (fault_at variables (suc n) inner) in
-      let opened : Judged → Judged = λ j. begun span (greater d 0 ∷ j.depths) (or_else (fault_at variables (suc (length j.depths)) inner) j.fault) in
-      let closed : Judged → Judged = λ j. judged (or_else (round_fault span (length j.depths) d) (or_else (fault_at variables (suc (length j.depths)) inner) j.fault)) (raised d j.depths) in
+      let here : ℕ → Option TemplateError = λ n. or_else (round_fault at n d) (fault_at variables (suc n) inner) in
+      let opened : Judged → Judged = λ j. begun at (greater d 0 ∷ j.depths) (or_else (fault_at variables (suc (length j.depths)) inner) j.fault) in
+      let closed : Judged → Judged = λ j. judged (or_else (round_fault at (length j.depths) d) (or_else (fault_at variables (suc (length j.depths)) inner) j.fault)) (raised d j.depths) in
       let same : (j : Judged) → opened j ≡ closed j = λ j.
-      ap (λ n. judged (or_else (round_fault span (length j.depths) n) (or_else (fault_at variables (suc (length j.depths)) inner) j.fault)) (raised n j.depths)) (greater_none d) in
+      ap (λ n. judged (or_else (round_fault at (length j.depths) n) (or_else (fault_at variables (suc (length j.depths)) inner) j.fault)) (raised n j.depths)) (greater_none d) in
       let rest = judged_on variables others it in
-      ap (judged_with variables (begin span)) (judged_parts inner (close separator kind ∷ bits_of others behind))
+      ap (judged_with variables (begin at)) (judged_parts inner (close separator kind ∷ bits_of others behind))
       ∙ ap opened (judged_parts others behind)
       ∙ same rest
-      ∙ ap (λ f. judged f (raised d rest.depths)) (or_else_more (round_fault span (length rest.depths) d) (fault_at variables (suc (length rest.depths)) inner) rest.fault)
+      ∙ ap (λ f. judged f (raised d rest.depths)) (or_else_more (round_fault at (length rest.depths) d) (fault_at variables (suc (length rest.depths)) inner) rest.fault)
       ∙ both here d (deepest variables others) (fault_at variables (length it.depths) others) it
       ∙ ap (λ f. judged f (raised (greater d (deepest variables others)) it.depths))
-      (ap (λ g. or_else g it.fault) (sym (or_else_more (round_fault span (length it.depths) d) (fault_at variables (suc (length it.depths)) inner) (fault_at variables (length it.depths) others))))
+      (ap (λ g. or_else g it.fault) (sym (or_else_more (round_fault at (length it.depths) d) (fault_at variables (suc (length it.depths)) inner) (fault_at variables (length it.depths) others))))
 
   -- Those of a whole template.
   pub judged_whole : (template : Template) → (judged_of variables (all_bits template)).fault ≡ template_fault variables template
@@ -93,5 +93,5 @@ module _ (variables : List Where) where
   -- That is why it is refused.
   pub is_error : (template : Template) (fault : TemplateError) → template_fault variables template ≡ Some fault → IsTemplateError variables template fault
   is_error template error.Memory is = tt
-  is_error template (error.StillRepeats span) is = is
-  is_error template (error.NothingRepeats span) is = is
+  is_error template (error.StillRepeats at) is = is
+  is_error template (error.NothingRepeats at) is = is

@@ -28,12 +28,9 @@ raw_word text rest = leaf (leaf_of.Ident (record { sym = text; span = span 0 1; 
 abbrev alone : ℕ → Forest → Forest
 alone char rest = leaf (punct char Alone) rest
 
--- `$` that stands there, and `$( .. )` before others
-abbrev dollar : ℕ → Forest → Forest
-dollar at rest = leaf (leaf_of.Punct (record { char = 36; spacing = Alone; span = span at 1 })) rest
-
-abbrev rounds : ℕ → Forest → Forest → Forest
-rounds at inside rest = dollar at (join (subtree Parenthesis inside) rest)
+-- `$( .. )` before others
+abbrev rounds : Forest → Forest → Forest
+rounds inside rest = alone 36 (join (subtree Parenthesis inside) rest)
 
 -- the names `x`, `y` and `z`
 abbrev x : List ℕ
@@ -53,52 +50,52 @@ abbrev variables : List Where
 variables = record { name = None; number = 0; nest = [] } ∷ variable x [] ∷ variable y (1 ∷ []) ∷ variable z (1 ∷ 2 ∷ []) ∷ []
 
 -- `$x` is a use, and `$r#x` too.
-use_spelled : template_of variables (dollar 7 (word x (alone 59 end))) ≡ use_of (span 7 1) 1 (token (punct 59 Alone) nothing)
+use_spelled : template_of variables (alone 36 (word x (alone 59 end))) ≡ use_of 0 1 (token (punct 59 Alone) nothing)
 use_spelled = refl
 
-raw_spelled : template_of variables (dollar 7 (raw_word x end)) ≡ use_of (span 7 1) 1 nothing
+raw_spelled : template_of variables (alone 36 (raw_word x end)) ≡ use_of 0 1 nothing
 raw_spelled = refl
 
 -- `$a`, `$crate` and `$_` stay as they are, and so does a `$` at the end.
-abbrev dollar_leaf : ℕ → Template → Template
-dollar_leaf at others = token (leaf_of.Punct (record { char = 36; spacing = Alone; span = span at 1 })) others
+abbrev dollar_leaf : Template → Template
+dollar_leaf others = token (punct 36 Alone) others
 
-unknown_stays : template_of variables (dollar 7 (word (codes "a") end)) ≡ dollar_leaf 7 (token (ident (codes "a")) nothing)
+unknown_stays : template_of variables (alone 36 (word (codes "a") end)) ≡ dollar_leaf (token (ident (codes "a")) nothing)
 unknown_stays = refl
 
-crate_stays : template_of variables (dollar 7 (word (codes "crate") end)) ≡ dollar_leaf 7 (token (ident (codes "crate")) nothing)
+crate_stays : template_of variables (alone 36 (word (codes "crate") end)) ≡ dollar_leaf (token (ident (codes "crate")) nothing)
 crate_stays = refl
 
-underscore_stays : template_of variables (dollar 7 (word (codes "_") end)) ≡ dollar_leaf 7 (token (ident (codes "_")) nothing)
+underscore_stays : template_of variables (alone 36 (word (codes "_") end)) ≡ dollar_leaf (token (ident (codes "_")) nothing)
 underscore_stays = refl
 
-last_stays : template_of variables (dollar 7 end) ≡ dollar_leaf 7 nothing
+last_stays : template_of variables (alone 36 end) ≡ dollar_leaf nothing
 last_stays = refl
 
 -- `$$x` is `$`, and a use.
-second_used : template_of variables (dollar 7 (dollar 8 (word x end))) ≡ dollar_leaf 7 (use_of (span 8 1) 1 nothing)
+second_used : template_of variables (alone 36 (alone 36 (word x end))) ≡ dollar_leaf (use_of 1 1 nothing)
 second_used = refl
 
 -- `$($y),*` and `$($y)+`; `$($y)` is no repetition, and neither is `$[$y]*`.
-list_spelled : template_of variables (rounds 7 (dollar 8 (word y end)) (alone 44 (alone 42 (word x end))))
-    ≡ repetition (span 7 1) (use_of (span 8 1) 2 nothing) (punct 44 Alone ∷ []) repeat.ZeroOrMore (token (ident x) nothing)
+list_spelled : template_of variables (rounds (alone 36 (word y end)) (alone 44 (alone 42 (word x end))))
+    ≡ repetition 0 (use_of 2 2 nothing) (punct 44 Alone ∷ []) repeat.ZeroOrMore (token (ident x) nothing)
 list_spelled = refl
 
-more_spelled : template_of variables (rounds 7 (dollar 8 (word y end)) (alone 43 end))
-    ≡ repetition (span 7 1) (use_of (span 8 1) 2 nothing) [] repeat.OneOrMore nothing
+more_spelled : template_of variables (rounds (alone 36 (word y end)) (alone 43 end))
+    ≡ repetition 0 (use_of 2 2 nothing) [] repeat.OneOrMore nothing
 more_spelled = refl
 
-no_tail : template_of variables (rounds 7 (dollar 8 (word y end)) end)
-    ≡ dollar_leaf 7 (held_by (delimiter Parenthesis (span 0 1) (span 1 1)) (use_of (span 8 1) 2 nothing) nothing)
+no_tail : template_of variables (rounds (alone 36 (word y end)) end)
+    ≡ dollar_leaf (held_by (delimiter Parenthesis (span 0 1) (span 1 1)) (use_of 2 2 nothing) nothing)
 no_tail = refl
 
-brace_stays : template_of variables (dollar 7 (join (subtree Brace end) (alone 42 end)))
-    ≡ dollar_leaf 7 (held_by (delimiter Brace (span 0 1) (span 1 1)) nothing (token (punct 42 Alone) nothing))
+brace_stays : template_of variables (alone 36 (join (subtree Brace end) (alone 42 end)))
+    ≡ dollar_leaf (held_by (delimiter Brace (span 0 1) (span 1 1)) nothing (token (punct 42 Alone) nothing))
 brace_stays = refl
 
 -- Its parts.
-list_parts : all_bits (template_of variables (rounds 7 (dollar 8 (word y end)) (alone 44 (alone 42 (word x end)))))
-    ≡ begin (span 7 1) ∷ uses (span 8 1) 2 ∷ close (punct 44 Alone ∷ []) repeat.ZeroOrMore ∷ same (ident x) ∷ leave ∷ []
+list_parts : all_bits (template_of variables (rounds (alone 36 (word y end)) (alone 44 (alone 42 (word x end)))))
+    ≡ begin 0 ∷ uses 2 2 ∷ close (punct 44 Alone ∷ []) repeat.ZeroOrMore ∷ same (ident x) ∷ leave ∷ []
 list_parts = refl
 
 -- what is wrong with trees as a template
@@ -106,31 +103,38 @@ abbrev fault_of : Forest → Option TemplateError
 fault_of trees = template_fault variables (template_of variables trees)
 
 -- `$x` may stand in any repetitions in which another repeats; `$y` in none repeats still, and so does `$z` in one.
-fine : fault_of (rounds 7 (dollar 8 (word x (dollar 9 (word y end)))) (alone 42 end)) ≡ None
+fine : fault_of (rounds (alone 36 (word x (alone 36 (word y end)))) (alone 42 end)) ≡ None
 fine = refl
 
-repeats_still : fault_of (dollar 7 (word x (dollar 8 (word y end)))) ≡ Some (error.StillRepeats (span 8 1))
+repeats_still : fault_of (alone 36 (word x (alone 36 (word y end)))) ≡ Some (error.StillRepeats 2)
 repeats_still = refl
 
-inner_repeats_still : fault_of (rounds 7 (dollar 8 (word z end)) (alone 42 end)) ≡ Some (error.StillRepeats (span 8 1))
+inner_repeats_still : fault_of (rounds (alone 36 (word z end)) (alone 42 end)) ≡ Some (error.StillRepeats 2)
 inner_repeats_still = refl
 
 -- `$($x)*` and `$( )*` have nothing that repeats, and in `$($($y)*)*` the inner one has not.
-nothing_repeats : fault_of (rounds 7 (dollar 8 (word x end)) (alone 42 end)) ≡ Some (error.NothingRepeats (span 7 1))
+nothing_repeats : fault_of (rounds (alone 36 (word x end)) (alone 42 end)) ≡ Some (error.NothingRepeats 0)
 nothing_repeats = refl
 
-empty_repeats : fault_of (rounds 7 end (alone 42 end)) ≡ Some (error.NothingRepeats (span 7 1))
+empty_repeats : fault_of (rounds end (alone 42 end)) ≡ Some (error.NothingRepeats 0)
 empty_repeats = refl
 
-inner_nothing : fault_of (rounds 7 (rounds 8 (dollar 9 (word y end)) (alone 42 end)) (alone 42 end)) ≡ Some (error.NothingRepeats (span 8 1))
+inner_nothing : fault_of (rounds (rounds (alone 36 (word y end)) (alone 42 end)) (alone 42 end)) ≡ Some (error.NothingRepeats 2)
 inner_nothing = refl
 
 -- The first counts: a repetition before what it holds, and what it holds before what is behind.
-outer_first : fault_of (rounds 7 (rounds 8 end (alone 42 end)) (alone 42 (dollar 9 (word y end)))) ≡ Some (error.NothingRepeats (span 7 1))
+outer_first : fault_of (rounds (rounds end (alone 42 end)) (alone 42 (alone 36 (word y end)))) ≡ Some (error.NothingRepeats 0)
 outer_first = refl
 
-inner_first : fault_of (rounds 7 (dollar 8 (word z end)) (alone 42 (dollar 9 (word y end)))) ≡ Some (error.StillRepeats (span 8 1))
+inner_first : fault_of (rounds (alone 36 (word z end)) (alone 42 (alone 36 (word y end)))) ≡ Some (error.StillRepeats 2)
 inner_first = refl
+
+-- What stands before it is counted at any depth, with brackets and tails.
+behind_subtree : fault_of (join (subtree Parenthesis (word x end)) (word x (alone 36 (word y end)))) ≡ Some (error.StillRepeats 3)
+behind_subtree = refl
+
+behind_repetition : fault_of (rounds (alone 36 (word y end)) (alone 44 (alone 42 (alone 36 (word y end))))) ≡ Some (error.StillRepeats 6)
+behind_repetition = refl
 
 -- what is bound: `a` to `$x`, trees to `$y` in two rounds, and to `$z` in two rounds, of which the second has none inside
 abbrev a_tree : Forest
@@ -152,18 +156,18 @@ abbrev becomes : Binding → Forest → Result Forest FillFault
 becomes bound trees = filled (template_of variables trees) bound
 
 -- `$x;`, `$($y),*` and `$($x $y)*`
-use_filled : becomes binding (dollar 7 (word x (alone 59 end))) ≡ Ok (word (codes "a") (alone 59 end))
+use_filled : becomes binding (alone 36 (word x (alone 59 end))) ≡ Ok (word (codes "a") (alone 59 end))
 use_filled = refl
 
-list_filled : becomes binding (rounds 7 (dollar 8 (word y end)) (alone 44 (alone 42 end))) ≡ Ok (word (codes "a") (alone 44 (word (codes "b") end)))
+list_filled : becomes binding (rounds (alone 36 (word y end)) (alone 44 (alone 42 end))) ≡ Ok (word (codes "a") (alone 44 (word (codes "b") end)))
 list_filled = refl
 
-outer_filled : becomes binding (rounds 7 (dollar 8 (word x (dollar 9 (word y end)))) (alone 42 end))
+outer_filled : becomes binding (rounds (alone 36 (word x (alone 36 (word y end)))) (alone 42 end))
     ≡ Ok (word (codes "a") (word (codes "a") (word (codes "a") (word (codes "b") end))))
 outer_filled = refl
 
 -- `$($y $($z)*)*`: `$y` is there in each round, and `$z` in the first.
-nested_filled : becomes binding (rounds 7 (dollar 8 (word y (rounds 9 (dollar 10 (word z end)) (alone 42 end)))) (alone 42 end))
+nested_filled : becomes binding (rounds (alone 36 (word y (rounds (alone 36 (word z end)) (alone 42 end)))) (alone 42 end))
     ≡ Ok (word (codes "a") (word (codes "a") (word (codes "b") end)))
 nested_filled = refl
 
@@ -171,11 +175,11 @@ nested_filled = refl
 abbrev empty : Binding
 empty = record { name = None; bound = one b_tree } ∷ bind x (one a_tree) ∷ bind y none ∷ bind z (first none none) ∷ []
 
-none_wanted : becomes empty (rounds 7 (dollar 8 (word y end)) (alone 43 end)) ≡ Err no_round
+none_wanted : becomes empty (rounds (alone 36 (word y end)) (alone 43 end)) ≡ Err no_round
 none_wanted = refl
 
-none_there : becomes empty (rounds 7 (dollar 8 (word y end)) (alone 42 end)) ≡ Ok end
+none_there : becomes empty (rounds (alone 36 (word y end)) (alone 42 end)) ≡ Ok end
 none_there = refl
 
-lengths_apart : becomes empty (rounds 7 (dollar 8 (word y (rounds 9 (dollar 10 (word z end)) (alone 42 end)))) (alone 42 end)) ≡ Err lengths_differ
+lengths_apart : becomes empty (rounds (alone 36 (word y (rounds (alone 36 (word z end)) (alone 42 end)))) (alone 42 end)) ≡ Err lengths_differ
 lengths_apart = refl

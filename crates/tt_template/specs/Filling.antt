@@ -16,10 +16,10 @@ pub data FillFault : Type 0 where
 -- the variables that it uses, at any depth
 abbrev pub used_in : Template → List ℕ
 used_in nothing = []
-used_in (use_of span variable others) = variable ∷ used_in others
+used_in (use_of at variable others) = variable ∷ used_in others
 used_in (token it others) = used_in others
 used_in (subtree delimiter inner others) = used_in inner ++ used_in others
-used_in (repetition span inner separator kind others) = used_in inner ++ used_in others
+used_in (repetition at inner separator kind others) = used_in inner ++ used_in others
 
 -- the number of rounds
 abbrev pub round_count : Bound → ℕ
@@ -109,8 +109,8 @@ in_subtree delimiter (Ok trees) = Ok (node delimiter trees end)
 -- the template in which each use is replaced, and each repetition filled once for each round, or its first fault
 abbrev pub filled : Template → Binding → Result Forest FillFault
 filled nothing binding = Ok end
-filled (use_of span variable others) binding = and_then (Ok (trees_of (slice_get binding variable))) (filled others binding)
+filled (use_of at variable others) binding = and_then (Ok (trees_of (slice_get binding variable))) (filled others binding)
 filled (token it others) binding = and_then (Ok (leaf it end)) (filled others binding)
 filled (subtree delimiter inner others) binding = and_then (in_subtree delimiter (filled inner binding)) (filled others binding)
-filled (repetition span inner separator kind others) binding =
+filled (repetition at inner separator kind others) binding =
     and_then (filled_if (filled inner) (leaves separator) (rounds_of kind (counts_of binding (used_in inner))) binding) (filled others binding)

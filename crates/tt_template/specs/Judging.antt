@@ -1,6 +1,5 @@
 -- What is wrong with a template, by its parts from the last.
 use Rattle.std.specs.Prelude.{ℕ, List, [], ◌∷◌, length, reverse, Option, None}
-use Rattle.tt.specs.Types.Span.{Span}
 use Rattle.tt_matcher.specs.Grouping.{Where}
 use Rattle.tt_template.specs.declared.error.TemplateError.{TemplateError}
 use Rattle.tt_template.specs.declared.judging.Judged as rust
@@ -19,22 +18,22 @@ raised depth [] = []
 raised depth (it ∷ outer) = greater depth it ∷ outer
 
 -- a use of a variable that stands in so many repetitions
-abbrev pub used_with : Span → ℕ → Judged → Judged
-used_with span depth judged =
-    record { fault = or_else (use_fault span (length judged.depths) depth) judged.fault; depths = raised depth judged.depths }
+abbrev pub used_with : (at depth : ℕ) → Judged → Judged
+used_with at depth judged =
+    record { fault = or_else (use_fault at (length judged.depths) depth) judged.fault; depths = raised depth judged.depths }
 
 -- the beginning of the innermost repetition that is open
-abbrev pub begun : Span → List ℕ → Option TemplateError → Judged
-begun span [] fault = record { fault = fault; depths = [] }
-begun span (it ∷ outer) fault = record { fault = or_else (round_fault span (length outer) it) fault; depths = raised it outer }
+abbrev pub begun : (at : ℕ) → List ℕ → Option TemplateError → Judged
+begun at [] fault = record { fault = fault; depths = [] }
+begun at (it ∷ outer) fault = record { fault = or_else (round_fault at (length outer) it) fault; depths = raised it outer }
 
 -- one part more, from the last
 abbrev pub judged_with : List Where → Bit → Judged → Judged
-judged_with variables (uses span variable) judged = used_with span (depth_of variables variable) judged
+judged_with variables (uses at variable) judged = used_with at (depth_of variables variable) judged
 judged_with variables (same it) judged = judged
 judged_with variables (enter delimiter) judged = judged
 judged_with variables leave judged = judged
-judged_with variables (begin span) judged = begun span judged.depths judged.fault
+judged_with variables (begin at) judged = begun at judged.depths judged.fault
 judged_with variables (close separator kind) judged = record { fault = judged.fault; depths = 0 ∷ judged.depths }
 
 -- nothing was judged

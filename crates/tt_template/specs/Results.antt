@@ -16,5 +16,5 @@ pub record IsTemplate (variables : List Where) (template : Template) (it : rust.
 -- why it is refused: memory is, or that is its first fault
 abbrev pub IsTemplateError : List Where → Template → TemplateError → Type 0
 IsTemplateError variables template error.Memory = Unit {0}
-IsTemplateError variables template (error.StillRepeats span) = template_fault variables template ≡ Some (error.StillRepeats span)
-IsTemplateError variables template (error.NothingRepeats span) = template_fault variables template ≡ Some (error.NothingRepeats span)
+IsTemplateError variables template (error.StillRepeats at) = template_fault variables template ≡ Some (error.StillRepeats at)
+IsTemplateError variables template (error.NothingRepeats at) = template_fault variables template ≡ Some (error.NothingRepeats at)

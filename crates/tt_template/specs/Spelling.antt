@@ -1,11 +1,10 @@
 -- What template trees spell.
-use Rattle.std.specs.Prelude.{ℕ, zero, suc, Bool, true, false, List, Option, None, Some, if◌then◌else◌}
+use Rattle.std.specs.Prelude.{◌-◌, ℕ, zero, suc, Bool, true, false, List, Option, None, Some, if◌then◌else◌}
 use Rattle.std.specs.List.{position}
 use Rattle.tt.specs.Expectations.{first_leaf_as, as_ident_or_underscore, unless_underscore}
-use Rattle.tt.specs.Forest.{Forest, end, leaf, node}
+use Rattle.tt.specs.Forest.{Forest, end, leaf, node, size}
 use Rattle.tt.specs.Types.Ident.{Ident}
 use Rattle.tt.specs.Types.Leaf.{Leaf}
-use Rattle.tt_base.specs.Token.{leaf_span}
 use Rattle.tt_matcher.specs.Bindings.{is_name}
 use Rattle.tt_matcher.specs.Grouping.{Where}
 use Rattle.tt_matcher.specs.Spelling.{Tail, tail_length, repetition_in, is_crate_in, is_dollar}
@@ -47,24 +46,29 @@ mark_length (use_of variable) = 1
 mark_length (repetition tail) = suc (tail_length tail)
 mark_length nothing = 0
 
--- the part that a `$` begins, before what is behind; where it begins nothing it stands for itself
-abbrev pub part_of : Leaf → Mark → (held others : Template) → Template
-part_of it (use_of variable) held others = template.use_of (leaf_span it) variable others
-part_of it (repetition tail) held others = template.repetition (leaf_span it) held tail.separator tail.kind others
-part_of it nothing held others = template.token it others
+-- the part that a `$` at that flat place begins, before what is behind; where it begins nothing it stands for itself
+abbrev pub part_of : (at : ℕ) → Leaf → Mark → (held others : Template) → Template
+part_of at it (use_of variable) held others = template.use_of at variable others
+part_of at it (repetition tail) held others = template.repetition at held tail.separator tail.kind others
+part_of at it nothing held others = template.token it others
 
--- the template that trees spell behind so many of them, which belong to a part before
-abbrev pub template_behind : List Where → ℕ → Forest → Template
-template_behind variables passed end = template.nothing
-template_behind variables zero (leaf it rest) =
+-- the template that trees spell behind so many of them, which belong to a part before; behind the last of all is that flat place
+abbrev pub template_behind : List Where → (until : ℕ) → (passed : ℕ) → Forest → Template
+template_behind variables until passed end = template.nothing
+template_behind variables until zero (leaf it rest) =
     if is_dollar it
-    then part_of it (mark_in variables rest) (inner_part (template_behind variables zero rest)) (template_behind variables (mark_length (mark_in variables rest)) rest)
-    else template.token it (template_behind variables zero rest)
-template_behind variables zero (node delimiter children rest) =
-    template.subtree delimiter (template_behind variables zero children) (template_behind variables zero rest)
-template_behind variables (suc passed) (leaf it rest) = template_behind variables passed rest
-template_behind variables (suc passed) (node delimiter children rest) = template_behind variables passed rest
+    then part_of (until - size (leaf it rest)) it (mark_in variables rest) (inner_part (template_behind variables until zero rest))
+    (template_behind variables until (mark_length (mark_in variables rest)) rest)
+    else template.token it (template_behind variables until zero rest)
+template_behind variables until zero (node delimiter children rest) =
+    template.subtree delimiter (template_behind variables (until - size rest) zero children) (template_behind variables until zero rest)
+template_behind variables until (suc passed) (leaf it rest) = template_behind variables until passed rest
+template_behind variables until (suc passed) (node delimiter children rest) = template_behind variables until passed rest
+
+-- the template that trees spell which end before that flat place
+abbrev pub template_until : List Where → (until : ℕ) → Forest → Template
+template_until variables until trees = template_behind variables until zero trees
 
 -- the template that trees spell, with those variables
 abbrev pub template_of : List Where → Forest → Template
-template_of variables trees = template_behind variables zero trees
+template_of variables trees = template_until variables (size trees) trees

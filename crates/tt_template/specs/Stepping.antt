@@ -8,18 +8,18 @@ use Rattle.tt_template.specs.declared.cutting.Level.{Level}
 use Rattle.tt_template.specs.declared.first.First.{First}
 use Rattle.tt_template.specs.declared.first.First.TheVariants as first
 use Rattle.tt_template.specs.Parts.{Bit, uses, same, enter, leave, begin, close, bits_of, bit_of}
-use Rattle.tt_template.specs.Spelling.{template_of}
+use Rattle.tt_template.specs.Spelling.{template_until}
 use Rattle.tt_template.specs.Templates.{Template}
 use Rattle.tt_template.specs.Templates as template
 
 -- the template begins with what was read, and the others are behind it
 abbrev pub IsFirst : List Where → Template → First → (others : Template) → Type 0
 IsFirst variables whole first.End others = whole ≡ template.nothing
-IsFirst variables whole (first.Use span variable) others = whole ≡ template.use_of span variable others
+IsFirst variables whole (first.Use at variable) others = whole ≡ template.use_of at variable others
 IsFirst variables whole (first.Token it) others = whole ≡ template.token it others
-IsFirst variables whole (first.Subtree delimiter inner) others = whole ≡ template.subtree delimiter (template_of variables (rest_of inner)) others
-IsFirst variables whole (first.Repetition span inner tail) others =
-    whole ≡ template.repetition span (template_of variables (rest_of inner)) tail.separator.items tail.kind others
+IsFirst variables whole (first.Subtree delimiter inner until) others = whole ≡ template.subtree delimiter (template_until variables until (rest_of inner)) others
+IsFirst variables whole (first.Repetition at inner until tail) others =
+    whole ≡ template.repetition at (template_until variables until (rest_of inner)) tail.separator.items tail.kind others
 
 -- what is left of a subtree or a repetition, and how it is closed
 pub record LevelLeft : Type 0 where
@@ -27,7 +27,7 @@ pub record LevelLeft : Type 0 where
   pub closing : Option Tail
 
 abbrev pub level_left : List Where → Level → LevelLeft
-level_left variables level = record { rest = template_of variables (rest_of level.rest); closing = level.closing }
+level_left variables level = record { rest = template_until variables level.until (rest_of level.rest); closing = level.closing }
 
 -- the levels that are left, the innermost first
 abbrev pub levels_left : List Where → List Level → List LevelLeft
@@ -55,12 +55,12 @@ level_of rest closing = record { rest = rest; closing = closing }
 -- what was read of a level, behind which that is left
 abbrev pub stepped : List Where → First → LevelLeft → (outer : List LevelLeft) → Step
 stepped variables first.End level outer = record { bit = end_bit level.closing; levels = outer }
-stepped variables (first.Use span variable) level outer = record { bit = uses span variable; levels = level ∷ outer }
+stepped variables (first.Use at variable) level outer = record { bit = uses at variable; levels = level ∷ outer }
 stepped variables (first.Token it) level outer = record { bit = same it; levels = level ∷ outer }
-stepped variables (first.Subtree delimiter inner) level outer =
-    record { bit = enter delimiter; levels = level_of (template_of variables (rest_of inner)) None ∷ level ∷ outer }
-stepped variables (first.Repetition span inner tail) level outer =
-    record { bit = begin span; levels = level_of (template_of variables (rest_of inner)) (Some tail) ∷ level ∷ outer }
+stepped variables (first.Subtree delimiter inner until) level outer =
+    record { bit = enter delimiter; levels = level_of (template_until variables until (rest_of inner)) None ∷ level ∷ outer }
+stepped variables (first.Repetition at inner until tail) level outer =
+    record { bit = begin at; levels = level_of (template_until variables until (rest_of inner)) (Some tail) ∷ level ∷ outer }
 
 -- the step is made
 pub record IsStepped (variables : List Where) (step : Step) (old next : Cutting) : Type 0 where

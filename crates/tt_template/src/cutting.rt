@@ -14,10 +14,11 @@ use tt::TtIter;
 use tt_matcher::Binder;
 use tt_matcher::signs::Tail;
 
-/// What is left of a subtree or a repetition, and the tail of a repetition.
+/// What is left of a subtree or a repetition, the flat place behind it, and the tail of a repetition.
 #[derive(Drop)]
 pub(crate) struct Level<'t> {
     pub(crate) rest: TtIter<'t>,
+    pub(crate) until: usize,
     pub(crate) closing: Option<Tail>,
 }
 
@@ -63,21 +64,23 @@ impl<'t> Cutting<'t> {
     {
         match first {
             First::End => Ok(self.parts.push(end_of(level.closing))?),
-            First::Use(span, number) => self.add(Part::Use(span, number), level),
+            First::Use(at, number) => self.add(Part::Use(at, number), level),
             First::Token(leaf) => self.add(Part::Token(leaf), level),
-            First::Subtree(delimiter, inner) => {
+            First::Subtree(delimiter, inner, until) => {
                 let inner = Level {
                     rest: inner,
+                    until,
                     closing: None,
                 };
                 self.enter(Part::Enter(delimiter), level, inner)
             }
-            First::Repetition(span, inner, tail) => {
+            First::Repetition(at, inner, until, tail) => {
                 let inner = Level {
                     rest: inner,
+                    until,
                     closing: Some(tail),
                 };
-                self.enter(Part::Begin(span), level, inner)
+                self.enter(Part::Begin(at), level, inner)
             }
         }
     }
@@ -91,17 +94,19 @@ pub(crate) fn cut(
 ) -> Result<Vec<Part>, AllocError>
     ensures { IfOk result (λ parts. map bit_of parts.items ≡ all_bits (template_of (map where_of binders.now) (rest_of trees.entry))) }
 {
+    let until = trees.remaining().len();
     let mut cutting = Cutting {
         parts: Vec::new(alloc),
         levels: Vec::new(alloc),
     };
     cutting.levels.push(Level {
         rest: trees,
+        until,
         closing: None,
     })?;
     while let Some(level) = cutting.levels.pop() {
         let mut level = level;
-        let first = next_part(alloc, binders, &mut level.rest)?;
+        let first = next_part(alloc, binders, level.until, &mut level.rest)?;
         cutting.take(level, first)?;
     }
     Ok(cutting.parts)

@@ -3,18 +3,18 @@ ghost use Rattle.std.specs.Prelude.{◌≡◌};
 
 use std::alloc::{AllocError, AllocFailed};
 use thiserror::Error;
-use tt::Span;
 
 /// Why trees are no template.
 #[derive(Debug, Clone, Copy, PartialEq, Eq, Error)]
 pub enum TemplateError {
-    /// A variable is used in fewer repetitions than it stands in in its pattern. The span is that of the `$` of the use.
+    /// A variable is used in fewer repetitions than it stands in in its pattern. The number is the flat place of the `$` of the use:
+    /// how many tokens stand before it, at any depth.
     #[error("the variable repeats still")]
-    StillRepeats(Span),
-    /// No variable is used in a repetition that stands in as many, so none tells how many rounds it has. The span is that of the `$`
-    /// of the repetition.
+    StillRepeats(usize),
+    /// No variable is used in a repetition that stands in more repetitions than there are round it, so none tells how many rounds it
+    /// has. The number is the flat place of the `$` of the repetition.
     #[error("nothing repeats in the repetition")]
-    NothingRepeats(Span),
+    NothingRepeats(usize),
     /// Memory was refused.
     #[error("out of memory")]
     Memory,

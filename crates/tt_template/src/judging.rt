@@ -8,7 +8,6 @@ ghost use Rattle.tt_template.specs.Templates.{depth_of, greater};
 use crate::error::TemplateError;
 use crate::parts::Part;
 use std::alloc::{AllocError, Global};
-use tt::Span;
 use tt_matcher::Binder;
 
 /// The first fault so far, and of each repetition that is open, the innermost last, in how many repetitions the variables of its uses
@@ -49,24 +48,24 @@ impl Judged {
     }
 
     // A use of a variable that stands in so many repetitions.
-    fn use_at(&mut self, span: Span, depth: usize) -> Result<(), AllocError>
-        ensures { OnOk result (judged_by self.new ≡ used_with span depth (judged_by self.old)) }
+    fn use_at(&mut self, at: usize, depth: usize) -> Result<(), AllocError>
+        ensures { OnOk result (judged_by self.new ≡ used_with at depth (judged_by self.old)) }
     {
         if self.depths.len() < depth {
-            self.fault = Some(TemplateError::StillRepeats(span));
+            self.fault = Some(TemplateError::StillRepeats(at));
         }
         self.raise(depth)
     }
 
     // The beginning of the innermost repetition that is open.
-    fn begin(&mut self, span: Span) -> Result<(), AllocError>
-        ensures { OnOk result (judged_by self.new ≡ begun span (judged_by self.old).depths (judged_by self.old).fault) }
+    fn begin(&mut self, at: usize) -> Result<(), AllocError>
+        ensures { OnOk result (judged_by self.new ≡ begun at (judged_by self.old).depths (judged_by self.old).fault) }
     {
         let Some(deepest) = self.depths.pop() else {
             return Ok(());
         };
         if self.depths.len() >= deepest {
-            self.fault = Some(TemplateError::NothingRepeats(span));
+            self.fault = Some(TemplateError::NothingRepeats(at));
         }
         self.raise(deepest)
     }
@@ -76,8 +75,8 @@ impl Judged {
         ensures { OnOk result (judged_by self.new ≡ judged_with (map where_of binders.now) (bit_of part.now) (judged_by self.old)) }
     {
         match part {
-            Part::Use(span, number) => self.use_at(*span, depth_of(binders, *number)),
-            Part::Begin(span) => self.begin(*span),
+            Part::Use(at, number) => self.use_at(*at, depth_of(binders, *number)),
+            Part::Begin(at) => self.begin(*at),
             Part::Close(_) => Ok(self.depths.push(0)?),
             Part::Token(_) | Part::Enter(_) | Part::Leave => Ok(()),
         }

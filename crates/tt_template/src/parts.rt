@@ -1,20 +1,20 @@
 //! A template as a flat list of parts.
-use tt::{Delimiter, Leaf, Span};
+use tt::{Delimiter, Leaf};
 use tt_matcher::signs::Tail;
 
 /// A part of a template.
 #[derive(Drop)]
 pub enum Part {
-    /// A use of a variable: the index of its binder among those that were given. The span is that of its `$`.
-    Use(Span, usize),
+    /// A use of a variable: the flat place of its `$`, and the index of the variable's binder among those that were given.
+    Use(usize, usize),
     /// A token that stands for itself.
     Token(Leaf),
     /// A subtree begins.
     Enter(Delimiter),
     /// A subtree, or all, is at its end.
     Leave,
-    /// A repetition begins. The span is that of its `$`.
-    Begin(Span),
+    /// A repetition begins: the flat place of its `$`.
+    Begin(usize),
     /// A repetition is at its end. It has this separator, and is of this kind.
     Close(Tail),
 }

@@ -1,7 +1,7 @@
 //! Templates, each with a pattern and its parts, or what is wrong with it and where.
 use std::alloc::Global;
 use std::test::Fail;
-use tt::{ErasedFileAstId, FileId, Span, SpanAnchor, SyntaxContext, TopSubtree};
+use tt::{ErasedFileAstId, FileId, SpanAnchor, SyntaxContext, TopSubtree};
 use tt_matcher::signs::Tail;
 use tt_matcher::{Binder, Matcher, RepeatKind};
 use tt_template::{Part, Template, TemplateError};
@@ -122,41 +122,42 @@ fn are_parts(alloc: Global) -> bool {
     true
 }
 
-// What is wrong: whether a variable repeats still, and where its `$` stands, or that of a repetition in which nothing repeats.
-fn fault_of(error: TemplateError) -> Option<(bool, Span)> {
+// What is wrong: whether a variable repeats still, and the flat place of its `$`, or of that of a repetition in which nothing repeats.
+fn fault_of(error: TemplateError) -> Option<(bool, usize)> {
     match error {
-        TemplateError::StillRepeats(span) => Some((true, span)),
-        TemplateError::NothingRepeats(span) => Some((false, span)),
+        TemplateError::StillRepeats(at) => Some((true, at)),
+        TemplateError::NothingRepeats(at) => Some((false, at)),
         TemplateError::Memory => None,
     }
 }
 
-// Whether that is wrong with a template, at that byte.
+// Whether that is wrong with a template, at that flat place.
 fn has_fault(
     alloc: Global,
     pattern: &str,
     template: &str,
     still_repeats: bool,
-    byte: u32,
+    place: usize,
 ) -> Option<bool> {
     let matcher = matcher_of(alloc, pattern)?;
     let trees = tree_of(alloc, template)?;
     let error = Template::new(alloc, matcher.binders(), trees.token_trees().iter()).err()?;
-    let (is_still, span) = fault_of(error)?;
-    Some((is_still == still_repeats) & (span.range.start().raw() == byte))
+    let (is_still, at) = fault_of(error)?;
+    Some((is_still == still_repeats) & (at == place))
 }
 
 // Uses in too few repetitions, and repetitions in which nothing repeats; the first of several.
-const FAULTS: [(&str, &str, bool, u32); 13] = [
+const FAULTS: [(&str, &str, bool, usize); 14] = [
     ("$($x:tt)*", "$x", true, 0),
-    ("$($x:tt)*", "a ($x)", true, 3),
+    ("$($x:tt)*", "a ($x)", true, 2),
+    ("$($x:tt)*", "(a [b] c) $($x) => * $x", true, 12),
     ("$($x:tt)?", "$x", true, 0),
     ("$($($x:tt)+);*", "$($x)*", true, 2),
     ("$x:tt", "$($x)*", false, 0),
-    ("$x:tt", "b $(a)*", false, 2),
+    ("$x:tt", "b $(a)*", false, 1),
     ("$x:tt", "$()*", false, 0),
     ("$($x:tt)*", "$($($x)*)*", false, 2),
-    ("$($x:tt)* ; $y:tt", "$($x $($y)*)*", false, 5),
+    ("$($x:tt)* ; $y:tt", "$($x $($y)*)*", false, 4),
     ("$($x:tt)*", "$($y)* $x", false, 0),
     ("$($x:tt)*", "$x $($y)*", true, 0),
     ("$($x:tt)*", "$($($x)* $x)* $x", false, 2),
@@ -164,8 +165,8 @@ const FAULTS: [(&str, &str, bool, u32); 13] = [
 ];
 
 fn are_faults(alloc: Global) -> bool {
-    for (pattern, template, still_repeats, byte) in &FAULTS {
-        if has_fault(alloc, pattern, template, *still_repeats, *byte) != Some(true) {
+    for (pattern, template, still_repeats, place) in &FAULTS {
+        if has_fault(alloc, pattern, template, *still_repeats, *place) != Some(true) {
             return false;
         }
     }
