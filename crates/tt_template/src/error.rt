@@ -11,8 +11,8 @@ pub enum TemplateError {
     /// how many tokens stand before it, at any depth.
     #[error("the variable repeats still")]
     StillRepeats(usize),
-    /// No variable is used in a repetition that stands in more repetitions than there are round it, so none tells how many rounds it
-    /// has. The number is the flat place of the `$` of the repetition.
+    /// A repetition uses no variable that stands in more repetitions than there are round it, so none tells how many rounds it has.
+    /// The number is the flat place of its `$`.
     #[error("nothing repeats in the repetition")]
     NothingRepeats(usize),
     /// Memory was refused.
