@@ -14,7 +14,7 @@ mod pattern;
 mod pieces;
 mod places;
 mod reading;
-mod signs;
+pub mod signs;
 mod steps;
 mod threads;
 mod walking;

@@ -14,9 +14,9 @@ use tt::{DelimiterKind, Ident, IdentIsRaw, Leaf, Symbol, TtElement, TtIter};
 
 /// What stands behind what a repetition holds: a separator or none, and its kind.
 #[derive(Drop)]
-pub(crate) struct Tail {
-    pub(crate) separator: Vec<Leaf>,
-    pub(crate) kind: RepeatKind,
+pub struct Tail {
+    pub separator: Vec<Leaf>,
+    pub kind: RepeatKind,
 }
 
 /// What a `$` begins.
@@ -30,7 +30,7 @@ pub(crate) enum Sign {
 }
 
 /// Whether the leaf is the punct `$`.
-pub(crate) fn is_dollar(leaf: &Leaf) -> bool
+pub fn is_dollar(leaf: &Leaf) -> bool
     ensures { result ≡ is_dollar leaf.now }
 {
     match leaf {
@@ -40,7 +40,7 @@ pub(crate) fn is_dollar(leaf: &Leaf) -> bool
 }
 
 /// Passes so many trees.
-pub(crate) fn pass(trees: &mut TtIter<'_>, count: usize)
+pub fn pass(trees: &mut TtIter<'_>, count: usize)
     ensures rest { rest_of trees.new ≡ after_trees count (rest_of trees.old) }
     ensures less { size (rest_of trees.new) ≤ size (rest_of trees.old) }
 {
@@ -164,8 +164,8 @@ fn tail_in(alloc: Global, mut siblings: TtIter<'_>) -> Result<Option<Tail>, Allo
     }
 }
 
-// Parentheses and a tail, if they stand first.
-fn repetition_in(alloc: Global, mut siblings: TtIter<'_>) -> Result<Option<Tail>, AllocError>
+/// Parentheses and a tail, if they stand first. It is refused only where memory is.
+pub fn repetition_in(alloc: Global, mut siblings: TtIter<'_>) -> Result<Option<Tail>, AllocError>
     ensures { IfOk result (λ tail. option_map tail_of tail ≡ repetition_in (rest_of siblings.entry)) }
 {
     match siblings.next() {
@@ -180,8 +180,8 @@ fn repetition_in(alloc: Global, mut siblings: TtIter<'_>) -> Result<Option<Tail>
     }
 }
 
-// Whether the plain ident `crate` stands first.
-fn is_crate_in(mut siblings: TtIter<'_>) -> bool
+/// Whether the plain ident `crate` stands first.
+pub fn is_crate_in(mut siblings: TtIter<'_>) -> bool
     ensures { result ≡ is_crate_in (rest_of siblings.entry) }
 {
     match siblings.expect_ident_or_underscore() {

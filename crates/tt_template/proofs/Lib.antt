@@ -1,0 +1,5 @@
+pub mod CutSteps
+pub mod FirstParts
+pub mod Judges
+pub mod Naming
+pub mod Rows

@@ -1,0 +1,185 @@
+-- Worked templates: each holds by computation.
+use Rattle.std.proofs.Common.{◌≡◌, ℕ, List, [], ◌∷◌, Option, None, Some, Result, Ok, Err, codes, refl}
+use Rattle.tt.specs.Forest.{Forest, end, leaf, join}
+use Rattle.tt.specs.Types.DelimiterKind.TheVariants.{Parenthesis, Brace}
+use Rattle.tt.specs.Types.IdentIsRaw.TheVariants.{Yes}
+use Rattle.tt.specs.Types.Leaf.TheVariants as leaf_of
+use Rattle.tt.specs.Types.Spacing.TheVariants.{Alone}
+use Rattle.tt_base.specs.Token.{delimiter}
+use Rattle.tt_base.proofs.Samples.{span, punct, ident, subtree}
+use Rattle.tt_matcher.specs.declared.pattern.RepeatKind.TheVariants as repeat
+use Rattle.tt_matcher.specs.Bindings.{Bound, one, none, first, Named, Binding}
+use Rattle.tt_matcher.specs.Grouping.{Where}
+use Rattle.tt_template.specs.declared.error.TemplateError.{TemplateError}
+use Rattle.tt_template.specs.declared.error.TemplateError.TheVariants as error
+use Rattle.tt_template.specs.Faults.{template_fault}
+use Rattle.tt_template.specs.Filling.{FillFault, filled, lengths_differ, no_round}
+use Rattle.tt_template.specs.Parts.{all_bits, uses, same, begin, close, leave}
+use Rattle.tt_template.specs.Spelling.{template_of}
+use Rattle.tt_template.specs.Templates.{Template, nothing, use_of, token, subtree as held_by, repetition}
+
+-- small trees: an ident, puncts that stand alone or joint, before others
+abbrev word : List ℕ → Forest → Forest
+word text rest = leaf (ident text) rest
+
+abbrev raw_word : List ℕ → Forest → Forest
+raw_word text rest = leaf (leaf_of.Ident (record { sym = text; span = span 0 1; is_raw = Yes })) rest
+
+abbrev alone : ℕ → Forest → Forest
+alone char rest = leaf (punct char Alone) rest
+
+-- `$( .. )` before others
+abbrev rounds : Forest → Forest → Forest
+rounds inside rest = alone 36 (join (subtree Parenthesis inside) rest)
+
+-- the names `x`, `y` and `z`
+abbrev x : List ℕ
+x = codes "x"
+
+abbrev y : List ℕ
+y = codes "y"
+
+abbrev z : List ℕ
+z = codes "z"
+
+-- variables of those names, in no repetition, in one, and in two; and one without a name
+abbrev variable : List ℕ → List ℕ → Where
+variable name nest = record { name = Some name; number = 0; nest = nest }
+
+abbrev variables : List Where
+variables = record { name = None; number = 0; nest = [] } ∷ variable x [] ∷ variable y (1 ∷ []) ∷ variable z (1 ∷ 2 ∷ []) ∷ []
+
+-- `$x` is a use, and `$r#x` too.
+use_spelled : template_of variables (alone 36 (word x (alone 59 end))) ≡ use_of 0 1 (token (punct 59 Alone) nothing)
+use_spelled = refl
+
+raw_spelled : template_of variables (alone 36 (raw_word x end)) ≡ use_of 0 1 nothing
+raw_spelled = refl
+
+-- `$a`, `$crate` and `$_` stay as they are, and so does a `$` at the end.
+abbrev dollar_leaf : Template → Template
+dollar_leaf others = token (punct 36 Alone) others
+
+unknown_stays : template_of variables (alone 36 (word (codes "a") end)) ≡ dollar_leaf (token (ident (codes "a")) nothing)
+unknown_stays = refl
+
+crate_stays : template_of variables (alone 36 (word (codes "crate") end)) ≡ dollar_leaf (token (ident (codes "crate")) nothing)
+crate_stays = refl
+
+underscore_stays : template_of variables (alone 36 (word (codes "_") end)) ≡ dollar_leaf (token (ident (codes "_")) nothing)
+underscore_stays = refl
+
+last_stays : template_of variables (alone 36 end) ≡ dollar_leaf nothing
+last_stays = refl
+
+-- `$$x` is `$`, and a use.
+second_used : template_of variables (alone 36 (alone 36 (word x end))) ≡ dollar_leaf (use_of 1 1 nothing)
+second_used = refl
+
+-- `$($y),*` and `$($y)+`; `$($y)` is no repetition, and neither is `$[$y]*`.
+list_spelled : template_of variables (rounds (alone 36 (word y end)) (alone 44 (alone 42 (word x end))))
+    ≡ repetition 0 (use_of 2 2 nothing) (punct 44 Alone ∷ []) repeat.ZeroOrMore (token (ident x) nothing)
+list_spelled = refl
+
+more_spelled : template_of variables (rounds (alone 36 (word y end)) (alone 43 end))
+    ≡ repetition 0 (use_of 2 2 nothing) [] repeat.OneOrMore nothing
+more_spelled = refl
+
+no_tail : template_of variables (rounds (alone 36 (word y end)) end)
+    ≡ dollar_leaf (held_by (delimiter Parenthesis (span 0 1) (span 1 1)) (use_of 2 2 nothing) nothing)
+no_tail = refl
+
+brace_stays : template_of variables (alone 36 (join (subtree Brace end) (alone 42 end)))
+    ≡ dollar_leaf (held_by (delimiter Brace (span 0 1) (span 1 1)) nothing (token (punct 42 Alone) nothing))
+brace_stays = refl
+
+-- Its parts.
+list_parts : all_bits (template_of variables (rounds (alone 36 (word y end)) (alone 44 (alone 42 (word x end)))))
+    ≡ begin 0 ∷ uses 2 2 ∷ close (punct 44 Alone ∷ []) repeat.ZeroOrMore ∷ same (ident x) ∷ leave ∷ []
+list_parts = refl
+
+-- what is wrong with trees as a template
+abbrev fault_of : Forest → Option TemplateError
+fault_of trees = template_fault variables (template_of variables trees)
+
+-- `$x` may stand in any repetitions in which another repeats; `$y` in none repeats still, and so does `$z` in one.
+fine : fault_of (rounds (alone 36 (word x (alone 36 (word y end)))) (alone 42 end)) ≡ None
+fine = refl
+
+repeats_still : fault_of (alone 36 (word x (alone 36 (word y end)))) ≡ Some (error.StillRepeats 2)
+repeats_still = refl
+
+inner_repeats_still : fault_of (rounds (alone 36 (word z end)) (alone 42 end)) ≡ Some (error.StillRepeats 2)
+inner_repeats_still = refl
+
+-- `$($x)*` and `$( )*` have nothing that repeats, and in `$($($y)*)*` the inner one has not.
+nothing_repeats : fault_of (rounds (alone 36 (word x end)) (alone 42 end)) ≡ Some (error.NothingRepeats 0)
+nothing_repeats = refl
+
+empty_repeats : fault_of (rounds end (alone 42 end)) ≡ Some (error.NothingRepeats 0)
+empty_repeats = refl
+
+inner_nothing : fault_of (rounds (rounds (alone 36 (word y end)) (alone 42 end)) (alone 42 end)) ≡ Some (error.NothingRepeats 2)
+inner_nothing = refl
+
+-- The first counts: a repetition before what it holds, and what it holds before what is behind.
+outer_first : fault_of (rounds (rounds end (alone 42 end)) (alone 42 (alone 36 (word y end)))) ≡ Some (error.NothingRepeats 0)
+outer_first = refl
+
+inner_first : fault_of (rounds (alone 36 (word z end)) (alone 42 (alone 36 (word y end)))) ≡ Some (error.StillRepeats 2)
+inner_first = refl
+
+-- What stands before it is counted at any depth, with brackets and tails.
+behind_subtree : fault_of (join (subtree Parenthesis (word x end)) (word x (alone 36 (word y end)))) ≡ Some (error.StillRepeats 3)
+behind_subtree = refl
+
+behind_repetition : fault_of (rounds (alone 36 (word y end)) (alone 44 (alone 42 (alone 36 (word y end))))) ≡ Some (error.StillRepeats 6)
+behind_repetition = refl
+
+-- what is bound: `a` to `$x`, trees to `$y` in two rounds, and to `$z` in two rounds, of which the second has none inside
+abbrev a_tree : Forest
+a_tree = word (codes "a") end
+
+abbrev b_tree : Forest
+b_tree = word (codes "b") end
+
+abbrev bind : List ℕ → Bound → Named
+bind name bound = record { name = Some name; bound = bound }
+
+abbrev binding : Binding
+binding =
+    record { name = None; bound = one b_tree } ∷ bind x (one a_tree) ∷ bind y (first (one a_tree) (first (one b_tree) none))
+    ∷ bind z (first (first (one a_tree) none) (first none none)) ∷ []
+
+-- what becomes of trees
+abbrev becomes : Binding → Forest → Result Forest FillFault
+becomes bound trees = filled (template_of variables trees) bound
+
+-- `$x;`, `$($y),*` and `$($x $y)*`
+use_filled : becomes binding (alone 36 (word x (alone 59 end))) ≡ Ok (word (codes "a") (alone 59 end))
+use_filled = refl
+
+list_filled : becomes binding (rounds (alone 36 (word y end)) (alone 44 (alone 42 end))) ≡ Ok (word (codes "a") (alone 44 (word (codes "b") end)))
+list_filled = refl
+
+outer_filled : becomes binding (rounds (alone 36 (word x (alone 36 (word y end)))) (alone 42 end))
+    ≡ Ok (word (codes "a") (word (codes "a") (word (codes "a") (word (codes "b") end))))
+outer_filled = refl
+
+-- `$($y $($z)*)*`: `$y` is there in each round, and `$z` in the first.
+nested_filled : becomes binding (rounds (alone 36 (word y (rounds (alone 36 (word z end)) (alone 42 end)))) (alone 42 end))
+    ≡ Ok (word (codes "a") (word (codes "a") (word (codes "b") end)))
+nested_filled = refl
+
+-- Where `+` wants a round there must be one; and `$y` and `$z` must have as many.
+abbrev empty : Binding
+empty = record { name = None; bound = one b_tree } ∷ bind x (one a_tree) ∷ bind y none ∷ bind z (first none none) ∷ []
+
+none_wanted : becomes empty (rounds (alone 36 (word y end)) (alone 43 end)) ≡ Err no_round
+none_wanted = refl
+
+none_there : becomes empty (rounds (alone 36 (word y end)) (alone 42 end)) ≡ Ok end
+none_there = refl
+
+lengths_apart : becomes empty (rounds (alone 36 (word y (rounds (alone 36 (word z end)) (alone 42 end)))) (alone 42 end)) ≡ Err lengths_differ
+lengths_apart = refl

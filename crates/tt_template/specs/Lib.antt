@@ -1,0 +1,10 @@
+-- What a template is, how trees spell it, what is wrong with it, and what becomes of it.
+pub mod Faults
+pub mod Filling
+pub mod Judging
+pub mod Marks
+pub mod Parts
+pub mod Results
+pub mod Spelling
+pub mod Stepping
+pub mod Templates
