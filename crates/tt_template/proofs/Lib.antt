@@ -1,5 +1,17 @@
 pub mod CutSteps
+pub mod Finishing
 pub mod FirstParts
+pub mod Going
+pub mod Growing
 pub mod Judges
+pub mod Measuring
 pub mod Naming
+pub mod Nesting
+pub mod Repeating
+pub mod Rounding
 pub mod Rows
+pub mod Scans
+pub mod Seeing
+pub mod Stepping
+pub mod Wholeness
+pub mod Writes

@@ -1,5 +1,5 @@
 -- Worked templates: each holds by computation.
-use Rattle.std.proofs.Common.{◌≡◌, ℕ, List, [], ◌∷◌, Option, None, Some, Result, Ok, Err, codes, refl}
+use Rattle.std.proofs.Common.{◌≡◌, ℕ, List, [], ◌∷◌, Option, None, Some, codes, refl}
 use Rattle.tt.specs.Forest.{Forest, end, leaf, join}
 use Rattle.tt.specs.Types.DelimiterKind.TheVariants.{Parenthesis, Brace}
 use Rattle.tt.specs.Types.IdentIsRaw.TheVariants.{Yes}
@@ -13,7 +13,7 @@ use Rattle.tt_matcher.specs.Grouping.{Where}
 use Rattle.tt_template.specs.declared.error.TemplateError.{TemplateError}
 use Rattle.tt_template.specs.declared.error.TemplateError.TheVariants as error
 use Rattle.tt_template.specs.Faults.{template_fault}
-use Rattle.tt_template.specs.Filling.{FillFault, filled, lengths_differ, no_round}
+use Rattle.tt_template.specs.Filling.{Filled, all_filled, filled, lengths_differ, no_round}
 use Rattle.tt_template.specs.Parts.{all_bits, uses, same, begin, close, leave}
 use Rattle.tt_template.specs.Spelling.{template_of}
 use Rattle.tt_template.specs.Templates.{Template, nothing, use_of, token, subtree as held_by, repetition}
@@ -152,34 +152,34 @@ binding =
     ∷ bind z (first (first (one a_tree) none) (first none none)) ∷ []
 
 -- what becomes of trees
-abbrev becomes : Binding → Forest → Result Forest FillFault
+abbrev becomes : Binding → Forest → Filled
 becomes bound trees = filled (template_of variables trees) bound
 
 -- `$x;`, `$($y),*` and `$($x $y)*`
-use_filled : becomes binding (alone 36 (word x (alone 59 end))) ≡ Ok (word (codes "a") (alone 59 end))
+use_filled : becomes binding (alone 36 (word x (alone 59 end))) ≡ all_filled (word (codes "a") (alone 59 end))
 use_filled = refl
 
-list_filled : becomes binding (rounds (alone 36 (word y end)) (alone 44 (alone 42 end))) ≡ Ok (word (codes "a") (alone 44 (word (codes "b") end)))
+list_filled : becomes binding (rounds (alone 36 (word y end)) (alone 44 (alone 42 end))) ≡ all_filled (word (codes "a") (alone 44 (word (codes "b") end)))
 list_filled = refl
 
 outer_filled : becomes binding (rounds (alone 36 (word x (alone 36 (word y end)))) (alone 42 end))
-    ≡ Ok (word (codes "a") (word (codes "a") (word (codes "a") (word (codes "b") end))))
+    ≡ all_filled (word (codes "a") (word (codes "a") (word (codes "a") (word (codes "b") end))))
 outer_filled = refl
 
 -- `$($y $($z)*)*`: `$y` is there in each round, and `$z` in the first.
 nested_filled : becomes binding (rounds (alone 36 (word y (rounds (alone 36 (word z end)) (alone 42 end)))) (alone 42 end))
-    ≡ Ok (word (codes "a") (word (codes "a") (word (codes "b") end)))
+    ≡ all_filled (word (codes "a") (word (codes "a") (word (codes "b") end)))
 nested_filled = refl
 
 -- Where `+` wants a round there must be one; and `$y` and `$z` must have as many.
 abbrev empty : Binding
 empty = record { name = None; bound = one b_tree } ∷ bind x (one a_tree) ∷ bind y none ∷ bind z (first none none) ∷ []
 
-none_wanted : becomes empty (rounds (alone 36 (word y end)) (alone 43 end)) ≡ Err no_round
+none_wanted : becomes empty (rounds (alone 36 (word y end)) (alone 43 end)) ≡ record { trees = end; fault = Some (no_round 0) }
 none_wanted = refl
 
-none_there : becomes empty (rounds (alone 36 (word y end)) (alone 42 end)) ≡ Ok end
+none_there : becomes empty (rounds (alone 36 (word y end)) (alone 42 end)) ≡ all_filled end
 none_there = refl
 
-lengths_apart : becomes empty (rounds (alone 36 (word y (rounds (alone 36 (word z end)) (alone 42 end)))) (alone 42 end)) ≡ Err lengths_differ
+lengths_apart : becomes empty (rounds (alone 36 (word y (rounds (alone 36 (word z end)) (alone 42 end)))) (alone 42 end)) ≡ record { trees = end; fault = Some (lengths_differ 0) }
 lengths_apart = refl

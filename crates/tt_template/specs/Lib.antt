@@ -1,10 +1,16 @@
 -- What a template is, how trees spell it, what is wrong with it, and what becomes of it.
+pub mod Counting
 pub mod Faults
 pub mod Filling
 pub mod Judging
 pub mod Marks
 pub mod Parts
 pub mod Results
+pub mod Rounds
 pub mod Spelling
+pub mod Standing
 pub mod Stepping
 pub mod Templates
+pub mod Wholes
+pub mod Working
+pub mod Writing

@@ -1,10 +1,19 @@
 -- When trees are a template, and which it is.
-use Rattle.std.specs.Prelude.{◌≡◌, List, map, None, Some}
+use Rattle.std.specs.Prelude.{◌≡◌, ◌≤◌, List, map, None, Some}
+use Rattle.tt.specs.Forest.{Root, size}
+use Rattle.tt.specs.Stored.{most_tokens}
+use Rattle.tt.specs.TreeFault.{IsTreeFault, under}
+use Rattle.tt.specs.Types.Delimiter.{Delimiter}
+use Rattle.tt.specs.Types.TtFault.{TtFault}
+use Rattle.tt.specs.Types.TtFault.TheVariants as limit
 use Rattle.tt_matcher.specs.Grouping.{Where}
 use Rattle.tt_template.specs.declared.error.TemplateError.{TemplateError}
 use Rattle.tt_template.specs.declared.error.TemplateError.TheVariants as error
 use Rattle.tt_template.specs.declared.template.Template as rust
+use Rattle.tt_template.specs.declared.fill_error.FillError.{FillError}
+use Rattle.tt_template.specs.declared.fill_error.FillError.TheVariants as refusal
 use Rattle.tt_template.specs.Faults.{template_fault}
+use Rattle.tt_template.specs.Filling.{Filled, lengths_differ, no_round}
 use Rattle.tt_template.specs.Parts.{bit_of, all_bits}
 use Rattle.tt_template.specs.Templates.{Template}
 
@@ -18,3 +27,20 @@ abbrev pub IsTemplateError : List Where → Template → TemplateError → Type 
 IsTemplateError variables template error.Memory = Unit {0}
 IsTemplateError variables template (error.StillRepeats at) = template_fault variables template ≡ Some (error.StillRepeats at)
 IsTemplateError variables template (error.NothingRepeats at) = template_fault variables template ≡ Some (error.NothingRepeats at)
+
+-- the tree is all that was filled, under that delimiter
+pub record IsFilled (delimiter : Delimiter) (it : Filled) (tree : Root) : Type 0 where
+  pub sound : it.fault ≡ None
+  pub is : tree ≡ under delimiter it.trees
+
+-- a limit is told of all that there is to fill, but for that of tokens
+abbrev pub IsToldOf : Filled → TtFault → Type 0
+IsToldOf it limit.Memory = Unit {0}
+IsToldOf it limit.TooManyTokens = Unit {0}
+IsToldOf it other = it.fault ≡ None
+
+-- why there is no such tree: that is the first fault, or what was filled up to it is past a limit, or memory is refused
+abbrev pub IsFillError : Delimiter → Filled → FillError → Type 0
+IsFillError delimiter it (refusal.LengthsDiffer at) = (it.fault ≡ Some (lengths_differ at)) × (size it.trees ≤ most_tokens)
+IsFillError delimiter it (refusal.NoRound at) = (it.fault ≡ Some (no_round at)) × (size it.trees ≤ most_tokens)
+IsFillError delimiter it (refusal.Tree fault) = IsToldOf it fault × IsTreeFault (under delimiter it.trees) fault

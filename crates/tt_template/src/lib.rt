@@ -3,13 +3,18 @@
 //! What contracts speak of stands in `specs/` of this crate.
 #![tactic(auto)]
 
+mod counting;
 mod cutting;
 mod error;
+mod fill_error;
+mod filling;
 mod first;
 mod judging;
 mod parts;
+mod taken;
 mod template;
 
 pub use error::TemplateError;
+pub use fill_error::FillError;
 pub use parts::Part;
 pub use template::Template;

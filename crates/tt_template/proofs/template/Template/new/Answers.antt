@@ -5,6 +5,7 @@ use Rattle.tt_template.specs.Judging.{judged_of}
 use Rattle.tt_template.specs.Parts.{bit_of}
 use Rattle.tt_template.specs.Spelling.{template_of}
 use Rattle.tt_template.proofs.Judges.{judged_whole, is_error}
+use Rattle.tt_template.proofs.Wholeness.{are_its}
 use Rattle.tt_template.proofs.template.Template.new.Goals as goal
 
 pub returns-in-Some-clause-err : goal.returns-in-Some-clause-err
@@ -26,3 +27,6 @@ returns-in-None-clause-ok c =
       parts = c.in_ok-parts.ensures;
       sound = sym (found ∙ ap (λ its. (judged_of variables (map bit_of its)).fault) here ∙ ap (λ bits. (judged_of variables bits).fault) c.in_ok-parts.ensures ∙ judged_whole variables template);
     }
+
+pub invariant_of-result : goal.invariant_of-result
+invariant_of-result c = record { whole = are_its c.in_ok-parts.parts.items (template_of (map where_of c.args.binders.now) (rest_of c.args.trees)) c.in_ok-parts.ensures }
