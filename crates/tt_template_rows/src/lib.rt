@@ -2,4 +2,8 @@
 #![tactic(auto)]
 
 #[cfg(test)]
+mod filled;
+#[cfg(test)]
 mod rows;
+#[cfg(test)]
+mod texts;

@@ -1,26 +1,11 @@
 //! Templates, each with a pattern and its parts, or what is wrong with it and where.
 use std::alloc::Global;
 use std::test::Fail;
-use tt::{ErasedFileAstId, FileId, SpanAnchor, SyntaxContext, TopSubtree};
 use tt_matcher::signs::Tail;
-use tt_matcher::{Binder, Matcher, RepeatKind};
+use tt_matcher::{Binder, RepeatKind};
 use tt_template::{Part, Template, TemplateError};
-use tt_text::parse_to_token_tree;
 
-// The tree of a text, if it has one.
-fn tree_of(alloc: Global, text: &str) -> Option<TopSubtree> {
-    let anchor = SpanAnchor {
-        file_id: FileId(0),
-        ast_id: ErasedFileAstId(0),
-    };
-    parse_to_token_tree(alloc, anchor, SyntaxContext(0), text).ok()
-}
-
-// The matcher of a text.
-fn matcher_of(alloc: Global, pattern: &str) -> Option<Matcher> {
-    let pattern = tree_of(alloc, pattern)?;
-    Matcher::new(alloc, pattern.token_trees().iter()).ok()
-}
+use crate::texts::{holds, matcher_of, tree_of};
 
 // The name of the variable of that number.
 fn name_of(binders: &[Binder], number: usize) -> Option<&str> {
@@ -171,15 +156,6 @@ fn are_faults(alloc: Global) -> bool {
         }
     }
     true
-}
-
-// A test passes where what it asks is so.
-fn holds(is_so: bool) -> Result<(), Fail> {
-    if is_so {
-        Ok(())
-    } else {
-        Err(Fail::new("a row is answered otherwise"))
-    }
 }
 
 #[test]
