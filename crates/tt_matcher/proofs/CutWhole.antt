@@ -2,16 +2,16 @@
 use Rattle.std.proofs.Common.{◌≡◌, ◌+◌, ◌*◌, ◌<◌, ℕ, suc, Bool, true, false, List, [], ◌∷◌, ◌++◌, Option, None, Some, refl, ap, sym, subst, ◌∙◌, arith, append_assoc, append-nil}
 use Rattle.std.specs.Prelude.{◌&&◌, ◌||◌, IsSome}
 use Rattle.tt.specs.Iters.{rest_of}
-use Rattle.tt_matcher.specs.declared.parts.Part.{Part}
-use Rattle.tt_matcher.specs.declared.parts.Part.TheVariants as part
-use Rattle.tt_matcher.specs.declared.signs.Tail.{Tail}
+use Rattle.tt_pattern.specs.declared.parts.Part.{Part}
+use Rattle.tt_pattern.specs.declared.parts.Part.TheVariants as part
+use Rattle.tt_pattern.specs.declared.signs.Tail.{Tail}
 use Rattle.tt_matcher.specs.Asks as ask
 use Rattle.tt_matcher.specs.Compiled.{separator_count, place_count}
-use Rattle.tt_matcher.specs.Patterns.{Pattern, nothing, variable, token, subtree, repetition, may_be_none, may_be_empty, IsFull}
+use Rattle.tt_pattern.specs.Patterns.{Pattern, nothing, variable, token, subtree, repetition, may_be_none, may_be_empty, IsFull}
 use Rattle.tt_matcher.specs.Cutting.{LevelLeft, AreFullLeft, AreFullBehind, IsEmptyEnd, bits_behind, bits_left, ended, entries_with, fresh_level, gained, stepped, with_rest}
 use Rattle.tt_matcher.specs.Pieces.{Bit, place, close, bits_of, all_bits}
-use Rattle.tt_matcher.specs.Signs.{IsPart}
-use Rattle.tt_matcher.specs.Spelling.{pattern_of}
+use Rattle.tt_pattern.specs.Signs.{IsPart}
+use Rattle.tt_pattern.specs.Spelling.{pattern_of}
 use Rattle.tt_matcher.proofs.CutSteps.{left_variable, left_token, left_subtree, left_repetition}
 
 -- how many parts a pattern has, at any depth

@@ -6,8 +6,8 @@ use Rattle.tt.specs.Types.IdentIsRaw.TheVariants.{Yes}
 use Rattle.tt.specs.Types.Leaf.TheVariants as leaf_of
 use Rattle.tt.specs.Types.Spacing.TheVariants.{Alone, Joint}
 use Rattle.tt_base.proofs.Samples.{span, punct, ident, subtree}
-use Rattle.tt_matcher.specs.declared.pattern.Fragment.TheVariants as fragment
-use Rattle.tt_matcher.specs.declared.pattern.RepeatKind.TheVariants as repeat
+use Rattle.tt_pattern.specs.declared.pattern.Fragment.TheVariants as fragment
+use Rattle.tt_pattern.specs.declared.pattern.RepeatKind.TheVariants as repeat
 use Rattle.tt_matcher.specs.declared.steps.Step.TheVariants as step
 use Rattle.tt_matcher.specs.Asks as ask
 use Rattle.tt_matcher.specs.Bindings.{one, none, first, binding_of, bound_to}
@@ -16,10 +16,10 @@ use Rattle.tt_matcher.specs.Marks.{taken as took_by, begun, ended, notes_of}
 use Rattle.tt_matcher.specs.Steps.{steps_of}
 use Rattle.tt_matcher.specs.Compiled.{starts_of, all_stops}
 use Rattle.tt_matcher.specs.Fragments.{takes, taken}
-use Rattle.tt_matcher.specs.Patterns.{Pattern, nothing, variable, token, subtree as held_by, repetition, may_be_empty}
+use Rattle.tt_pattern.specs.Patterns.{Pattern, nothing, variable, token, subtree as held_by, repetition, may_be_empty}
 use Rattle.tt_matcher.specs.Readings.{Reading, done, took, held, round, over, IsInstance, IsNoInstance, IsReadBy, IsAmbiguous}
-use Rattle.tt_matcher.specs.Spelling.{pattern_of}
-use Rattle.tt_matcher.specs.Units.{unit_size, IsUnitLike}
+use Rattle.tt_pattern.specs.Spelling.{pattern_of}
+use Rattle.tt_pattern.specs.Units.{unit_size, IsUnitLike}
 
 -- small trees: an ident, puncts that stand alone or joint, before others
 abbrev word : List ℕ → Forest → Forest

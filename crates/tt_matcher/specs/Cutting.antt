@@ -3,16 +3,16 @@ use Rattle.std.specs.Prelude.{◌≡◌, ℕ, suc, ◌+◌, ◌&&◌, Bool, true
 use Rattle.tt.specs.Iters.{rest_of}
 use Rattle.tt_matcher.specs.declared.error.PatternError.{PatternError}
 use Rattle.tt_matcher.specs.declared.error.PatternError.TheVariants as error
-use Rattle.tt_matcher.specs.declared.parts.Part.{Part}
-use Rattle.tt_matcher.specs.declared.parts.Part.TheVariants as part
+use Rattle.tt_pattern.specs.declared.parts.Part.{Part}
+use Rattle.tt_pattern.specs.declared.parts.Part.TheVariants as part
 use Rattle.tt_matcher.specs.declared.pieces.Cutting.{Cutting}
 use Rattle.tt_matcher.specs.declared.pieces.Level.{Level}
-use Rattle.tt_matcher.specs.declared.signs.Tail.{Tail}
+use Rattle.tt_pattern.specs.declared.signs.Tail.{Tail}
 use Rattle.tt_matcher.specs.Asks.{Ask, ask_of}
 use Rattle.tt_matcher.specs.Asks as ask
 use Rattle.tt_matcher.specs.Compiled.{separator_count, place_count, entries}
-use Rattle.tt_matcher.specs.Patterns.{Pattern, may_be_none, may_be_empty, IsFull}
-use Rattle.tt_matcher.specs.Spelling.{pattern_of}
+use Rattle.tt_pattern.specs.Patterns.{Pattern, may_be_none, may_be_empty, IsFull}
+use Rattle.tt_pattern.specs.Spelling.{pattern_of}
 use Rattle.tt_matcher.specs.Pieces.{Bit, begin, bit_of, bits_of, close, place}
 
 -- what is left of a subtree or a repetition, how it is closed, where it may begin, and whether no part of it was there so far that has to be

@@ -5,7 +5,7 @@ use Rattle.tt_matcher.specs.declared.error.PatternError.TheVariants as error
 use Rattle.tt_matcher.specs.declared.matcher.Matcher.{Matcher}
 use Rattle.tt_matcher.specs.Compiled.{Stand, all_stops, starts_of}
 use Rattle.tt_matcher.specs.Grouping.{variables_of}
-use Rattle.tt_matcher.specs.Patterns.{Pattern, IsFull}
+use Rattle.tt_pattern.specs.Patterns.{Pattern, IsFull}
 use Rattle.tt_matcher.specs.Stepping.{where_of}
 use Rattle.tt_matcher.specs.Steps.{steps_of}
 

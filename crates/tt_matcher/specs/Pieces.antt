@@ -1,13 +1,13 @@
 -- A pattern as a flat list of pieces.
 use Rattle.std.specs.Prelude.{◌≡◌, ℕ, suc, ◌+◌, List, [], ◌∷◌, map}
 use Rattle.tt.specs.Types.Leaf.{Leaf}
-use Rattle.tt_matcher.specs.declared.pattern.RepeatKind.{RepeatKind}
+use Rattle.tt_pattern.specs.declared.pattern.RepeatKind.{RepeatKind}
 use Rattle.tt_matcher.specs.declared.pieces.Piece.{Piece}
 use Rattle.tt_matcher.specs.declared.pieces.Piece.TheVariants as piece
 use Rattle.tt_matcher.specs.Asks.{Ask, ask_of}
 use Rattle.tt_matcher.specs.Asks as ask
 use Rattle.tt_matcher.specs.Compiled.{separator_count, place_count, entries}
-use Rattle.tt_matcher.specs.Patterns.{Pattern, nothing, variable, token, subtree, repetition, IsFull}
+use Rattle.tt_pattern.specs.Patterns.{Pattern, nothing, variable, token, subtree, repetition, IsFull}
 
 -- a place of that number, or the beginning or the end of a repetition, with the number of its separator and where a round may begin
 pub data Bit : Type 0 where

@@ -6,16 +6,14 @@ ghost use Rattle.tt_matcher.specs.Compiled.{separator_count};
 ghost use Rattle.tt_matcher.specs.Matchers.{IsPatternError};
 ghost use Rattle.tt_matcher.specs.Cutting.{marked, closed_in, level_left, levels_left, fresh_level, placed, entered, opened, ended, stepped, IsStepped, IsEmptyEnd, IsRefused};
 ghost use Rattle.tt_matcher.specs.Pieces.{AreAllPieces};
-ghost use Rattle.tt_matcher.specs.Spelling.{pattern_of};
+ghost use Rattle.tt_pattern.specs.Spelling.{pattern_of};
 
 use crate::error::PatternError;
-use crate::parts::{Part, next_part};
-use crate::pattern::RepeatKind;
 use crate::pieces::{Cutting, Level, Piece};
 use crate::places::Atom;
-use crate::signs::Tail;
 use std::alloc::{AllocError, Global};
 use tt::{DelimiterKind, Leaf, TtIter};
+use tt_pattern::{Part, RepeatKind, Tail, next_part};
 
 // A part that has to be there stands at that place.
 fn mark<'p>(level: Level<'p>, at: usize) -> Result<Level<'p>, AllocError>

@@ -3,8 +3,8 @@ ghost use Rattle.std.specs.Prelude.{◌≡◌, IfOk, IfErr};
 ghost use Rattle.tt.specs.Iters.{rest_of};
 ghost use Rattle.tt_matcher.specs.Told.{Tells};
 ghost use Rattle.tt_matcher.specs.Matchers.{IsMatcherOf, IsPatternError};
-ghost use Rattle.tt_matcher.specs.Patterns.{Pattern};
-ghost use Rattle.tt_matcher.specs.Spelling.{pattern_of};
+ghost use Rattle.tt_pattern.specs.Patterns.{Pattern};
+ghost use Rattle.tt_pattern.specs.Spelling.{pattern_of};
 
 use crate::binding::{Found, found_by};
 use crate::cutting::cut;

@@ -2,8 +2,8 @@
 use std::alloc::Global;
 use std::test::Fail;
 use tt::{ErasedFileAstId, FileId, SpanAnchor, SyntaxContext, TopSubtree};
-use tt_matcher::signs::Tail;
 use tt_matcher::{Binder, Matcher, RepeatKind};
+use tt_pattern::Tail;
 use tt_template::{Part, Template, TemplateError};
 use tt_text::parse_to_token_tree;
 

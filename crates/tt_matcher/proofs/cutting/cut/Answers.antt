@@ -2,7 +2,7 @@ use Rattle.std.proofs.Common.{rules, ◌≡◌, [], ◌∷◌, ◌++◌, map, ap
 use Rattle.tt.specs.Iters.{rest_of}
 use Rattle.tt_matcher.specs.Cutting.{level_left, levels_left, stepped, with_rest}
 use Rattle.tt_matcher.specs.Pieces.{bit_of}
-use Rattle.tt_matcher.specs.Spelling.{pattern_of}
+use Rattle.tt_pattern.specs.Spelling.{pattern_of}
 use Rattle.tt_matcher.proofs.CutLevels.{levels_last}
 use Rattle.tt_matcher.proofs.CutWhole.{Cut, cut_more, cut_same}
 use Rattle.tt_matcher.proofs.cutting.cut.Goals as goal

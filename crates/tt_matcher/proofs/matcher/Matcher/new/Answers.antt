@@ -3,7 +3,7 @@ use Rattle.tt.specs.Iters.{rest_of}
 use Rattle.tt_matcher.specs.Compiled.{all_stops, starts_of}
 use Rattle.tt_matcher.specs.Grouping.{variables_of}
 use Rattle.tt_matcher.specs.Linking.{Made, made_of, made_by, nothing_made, stop_of}
-use Rattle.tt_matcher.specs.Spelling.{pattern_of}
+use Rattle.tt_pattern.specs.Spelling.{pattern_of}
 use Rattle.tt_matcher.proofs.LinkSteps.{made_whole}
 use Rattle.tt_matcher.specs.Pieces.{bit_of}
 use Rattle.tt_matcher.specs.Stepping.{Taken, taken_of, taken_by, nothing_taken, where_of}

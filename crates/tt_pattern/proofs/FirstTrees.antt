@@ -1,7 +1,6 @@
 -- What stands first, from what was read.
-use Rattle.std.proofs.Common.{◌≡◌, ◌∙◌, ℕ, suc, zero, Some, None, refl, ap, ap₂, sym}
-use Rattle.tt.specs.Forest.{Forest, end, leaf, node, join}
-use Rattle.tt.specs.Gluing.{after_trees}
+use Rattle.std.proofs.Common.{◌≡◌, Some, None, refl, ap, ap₂, sym}
+use Rattle.tt.specs.Forest.{Forest, end, leaf, node}
 use Rattle.tt.specs.Iters.{rest_of, IsFirstElement}
 use Rattle.tt.specs.Moves.{after_tree}
 use Rattle.tt.specs.Siblings.{children_of}
@@ -9,8 +8,6 @@ use Rattle.tt.specs.Types.Leaf.{Leaf}
 use Rattle.tt.specs.Types.Subtree.{Subtree}
 use Rattle.tt.specs.Types.TtElement.TheVariants as element
 use Rattle.tt.specs.Types.TtIter.{TtIter}
-use Rattle.tt_base.proofs.Joins.{join-cancel}
-use Rattle.tt_matcher.specs.Fragments.{front_trees}
 
 -- Nothing is left.
 pub none_first : (trees : Forest) → IsFirstElement trees None → trees ≡ end
@@ -42,18 +39,3 @@ pub children_none : (trees : Forest) (it : Leaf) → IsFirstElement trees (Some 
 children_none end it p = absurd p
 children_none (leaf other rest) it p = refl
 children_none (node delimiter children rest) it p = absurd p
-
--- So many trees at the front, and then the others.
-none_behind : (n : ℕ) → after_trees n end ≡ end
-none_behind zero = refl
-none_behind (suc n) = none_behind n
-
-pub front_joined : (n : ℕ) (trees : Forest) → trees ≡ join (front_trees n trees) (after_trees n trees)
-front_joined zero trees = refl
-front_joined (suc n) end = sym (none_behind n)
-front_joined (suc n) (leaf it rest) = ap (leaf it) (front_joined n rest)
-front_joined (suc n) (node delimiter children rest) = ap (node delimiter children) (front_joined n rest)
-
--- What stands before the others are those.
-pub front_told : (n : ℕ) (trees given : Forest) → join given (after_trees n trees) ≡ trees → given ≡ front_trees n trees
-front_told n trees given is = join-cancel given (front_trees n trees) (after_trees n trees) (is ∙ front_joined n trees)

@@ -2,15 +2,15 @@
 use Rattle.std.specs.Prelude.{◌≡◌, ◌<◌, ℕ}
 use Rattle.tt.specs.Forest.{size}
 use Rattle.tt.specs.Iters.{rest_of}
-use Rattle.tt_matcher.specs.declared.parts.Part.{Part}
-use Rattle.tt_matcher.specs.declared.parts.Part.TheVariants as part
-use Rattle.tt_matcher.specs.declared.signs.Sign.{Sign}
-use Rattle.tt_matcher.specs.declared.signs.Sign.TheVariants as sign
-use Rattle.tt_matcher.specs.declared.signs.Tail.{Tail}
-use Rattle.tt_matcher.specs.Patterns.{Pattern}
-use Rattle.tt_matcher.specs.Patterns as pattern
-use Rattle.tt_matcher.specs.Spelling.{pattern_of}
-use Rattle.tt_matcher.specs.Spelling as spelling
+use Rattle.tt_pattern.specs.declared.parts.Part.{Part}
+use Rattle.tt_pattern.specs.declared.parts.Part.TheVariants as part
+use Rattle.tt_pattern.specs.declared.signs.Sign.{Sign}
+use Rattle.tt_pattern.specs.declared.signs.Sign.TheVariants as sign
+use Rattle.tt_pattern.specs.declared.signs.Tail.{Tail}
+use Rattle.tt_pattern.specs.Patterns.{Pattern}
+use Rattle.tt_pattern.specs.Patterns as pattern
+use Rattle.tt_pattern.specs.Spelling.{pattern_of}
+use Rattle.tt_pattern.specs.Spelling as spelling
 
 -- a tail
 abbrev pub tail_of : Tail → spelling.Tail

@@ -2,8 +2,8 @@
 ghost use Rattle.std.specs.Prelude.{◌≡◌, ◌≤◌, ◌+◌, ◌∷◌, [], true, IfOk};
 ghost use Rattle.tt.specs.Forest.{leaf, size};
 ghost use Rattle.tt.specs.Iters.{rest_of};
-ghost use Rattle.tt_matcher.specs.Signs.{IsPart, held_size, AreLess};
-ghost use Rattle.tt_matcher.specs.Spelling.{is_dollar, pattern_of};
+ghost use Rattle.tt_pattern.specs.Signs.{IsPart, held_size, AreLess};
+ghost use Rattle.tt_pattern.specs.Spelling.{is_dollar, pattern_of};
 
 use crate::pattern::Variable;
 use crate::signs::{Sign, Tail, first_unit, is_dollar, pass, sign_in};
@@ -12,7 +12,7 @@ use tt::{DelimiterKind, Leaf, TtElement, TtIter};
 
 /// The part of a pattern that comes first.
 #[derive(Drop)]
-pub(crate) enum Part<'p> {
+pub enum Part<'p> {
     /// There is none.
     End,
     Variable(Variable),
@@ -59,7 +59,7 @@ fn signed_part<'p>(
 }
 
 /// The first part of the pattern that these trees spell, which is passed.
-pub(crate) fn next_part<'p>(alloc: Global, trees: &mut TtIter<'p>) -> Result<Part<'p>, AllocError>
+pub fn next_part<'p>(alloc: Global, trees: &mut TtIter<'p>) -> Result<Part<'p>, AllocError>
     ensures part { IfOk result (λ part. IsPart (pattern_of (rest_of trees.old)) part (pattern_of (rest_of trees.new))) }
     ensures less { IfOk result (λ part. AreLess part (held_size part + size (rest_of trees.new)) (size (rest_of trees.old))) }
 {

@@ -2,8 +2,8 @@ use Rattle.std.proofs.Common.{rules, ◌≡◌, Some, length, ◌∙◌}
 use Rattle.tt.specs.Expectations.{first_leaf_as, as_punct}
 use Rattle.tt.specs.Gluing.{glued}
 use Rattle.tt.specs.Iters.{rest_of}
-use Rattle.tt_matcher.proofs.LeafSteps.{glued_size}
-use Rattle.tt_matcher.proofs.asks.unit_size.Goals as goal
+use Rattle.tt_pattern.proofs.GluedSizes.{glued_size}
+use Rattle.tt_pattern.proofs.units.unit_size.Goals as goal
 
 pub returns-in-Ok-expect_glued_punct : goal.returns-in-Ok-expect_glued_punct
 returns-in-Ok-expect_glued_punct c =

@@ -2,9 +2,9 @@ use Rattle.std.proofs.Common.{rules, ◌≡◌, ◌+◌, ◌-◌, ◌<◌, ◌++
 use Rattle.tt.specs.Expectations.{first_leaf_as, as_leaf}
 use Rattle.tt.specs.Iters.{rest_of}
 use Rattle.tt.specs.Moves.{after_tree}
-use Rattle.tt_matcher.specs.Units.{front_leaves}
-use Rattle.tt_matcher.proofs.Passing.{take_next, take_none}
-use Rattle.tt_matcher.proofs.signs.front_leaves.Goals as goal
+use Rattle.tt_pattern.specs.Units.{front_leaves}
+use Rattle.tt_pattern.proofs.Passing.{take_next, take_none}
+use Rattle.tt_pattern.proofs.signs.front_leaves.Goals as goal
 
 pub loop-preserved : goal.loop-preserved
 loop-preserved c =

@@ -1,6 +1,6 @@
 -- Which leaves at the front of trees stand as one token, and when they are those of a pattern.
 use Rattle.std.specs.Prelude.{◌≡◌, ◌==◌, ℕ, zero, suc, Bool, List, [], ◌∷◌, length, is_some, if◌then◌else◌}
-use Rattle.tt.specs.Expectations.{first_leaf_as, as_ident_or_underscore}
+use Rattle.tt.specs.Expectations.{first_leaf_as, as_punct, as_ident_or_underscore, is_punct_of}
 use Rattle.tt.specs.Forest.{Forest, end, leaf, node}
 use Rattle.tt.specs.Gluing.{glued_from}
 use Rattle.tt.specs.Moves.{after_tree}
@@ -16,6 +16,10 @@ quote = 39
 -- an ident stands first
 abbrev pub is_at_ident : Forest → Bool
 is_at_ident trees = is_some (first_leaf_as as_ident_or_underscore trees)
+
+-- a punct of that character stands first
+abbrev pub is_at_punct : (chars : List ℕ) → Forest → Bool
+is_at_punct chars trees = is_punct_of chars (first_leaf_as as_punct trees)
 
 -- how many leaves stand as one with a leaf, before these siblings: puncts that are glued, a `'` and its ident, or it alone
 abbrev pub unit_from : Leaf → (behind : Forest) → ℕ

@@ -3,12 +3,12 @@ use Rattle.tt.specs.Forest.{node, size}
 use Rattle.tt.specs.Gluing.{after_trees}
 use Rattle.tt.specs.Iters.{rest_of, IsFirstSubtree}
 use Rattle.tt.specs.Moves.{after_tree}
-use Rattle.tt_matcher.specs.Spelling.{is_dollar, sign_in}
-use Rattle.tt_matcher.specs.Spelling as spelling
-use Rattle.tt_matcher.proofs.FirstTrees.{node_before}
-use Rattle.tt_matcher.proofs.PartSteps.{signed_repetition}
-use Rattle.tt_matcher.proofs.Passing.{after_less}
-use Rattle.tt_matcher.proofs.parts.signed_part.Goals as goal
+use Rattle.tt_pattern.specs.Spelling.{is_dollar, sign_in}
+use Rattle.tt_pattern.specs.Spelling as spelling
+use Rattle.tt_pattern.proofs.FirstTrees.{node_before}
+use Rattle.tt_pattern.proofs.PartSteps.{signed_repetition}
+use Rattle.tt_pattern.proofs.Passing.{after_less}
+use Rattle.tt_pattern.proofs.parts.signed_part.Goals as goal
 
 pub returns-in-Ok-clause-part : goal.returns-in-Ok-clause-part
 returns-in-Ok-clause-part c =

@@ -9,17 +9,17 @@ use Rattle.tt.specs.Types.Punct.{Punct}
 use Rattle.tt.specs.Moves.{after_tree}
 use Rattle.tt.specs.Types.Delimiter.{Delimiter}
 use Rattle.tt.specs.Types.Leaf.{Leaf}
-use Rattle.tt_matcher.specs.declared.pattern.RepeatKind.{RepeatKind}
-use Rattle.tt_matcher.specs.declared.pattern.Variable.{Variable}
-use Rattle.tt_matcher.specs.declared.parts.Part.{Part}
-use Rattle.tt_matcher.specs.declared.parts.Part.TheVariants as part
-use Rattle.tt_matcher.specs.Patterns.{Pattern, inner_part}
-use Rattle.tt_matcher.specs.Signs.{AreLess}
-use Rattle.tt_matcher.specs.Patterns as pattern
-use Rattle.tt_matcher.specs.Spelling.{Tail, Sign, is_dollar, repetition_in, is_crate_in, variable_in, sign_from, sign_in, sign_length, tail_length, part_of, pattern_behind, pattern_of}
-use Rattle.tt_matcher.specs.Spelling as spelling
-use Rattle.tt_matcher.specs.Units.{quote, is_at_ident, unit_from, front_leaves, first_unit}
-use Rattle.tt_matcher.proofs.Ending.{after_end}
+use Rattle.tt_pattern.specs.declared.pattern.RepeatKind.{RepeatKind}
+use Rattle.tt_pattern.specs.declared.pattern.Variable.{Variable}
+use Rattle.tt_pattern.specs.declared.parts.Part.{Part}
+use Rattle.tt_pattern.specs.declared.parts.Part.TheVariants as part
+use Rattle.tt_pattern.specs.Patterns.{Pattern, inner_part}
+use Rattle.tt_pattern.specs.Signs.{AreLess}
+use Rattle.tt_pattern.specs.Patterns as pattern
+use Rattle.tt_pattern.specs.Spelling.{Tail, Sign, is_dollar, repetition_in, is_crate_in, variable_in, sign_from, sign_in, sign_length, tail_length, part_of, pattern_behind, pattern_of}
+use Rattle.tt_pattern.specs.Spelling as spelling
+use Rattle.tt_pattern.specs.Units.{quote, is_at_ident, unit_from, front_leaves, first_unit}
+use Rattle.tt_pattern.proofs.Passing.{after_end}
 
 -- Behind so many trees the pattern is that of what is left.
 pub behind_passed : (n : ℕ) (trees : Forest) → pattern_behind n trees ≡ pattern_of (after_trees n trees)

@@ -3,12 +3,12 @@ ghost use Rattle.std.specs.Prelude.{◌≡◌, ◌≤◌, IfOk, option_map};
 ghost use Rattle.tt.specs.Forest.{size};
 ghost use Rattle.tt.specs.Gluing.{after_trees};
 ghost use Rattle.tt.specs.Iters.{rest_of};
-ghost use Rattle.tt_matcher.specs.Signs.{tail_of, sign_of};
-ghost use Rattle.tt_matcher.specs.Spelling.{is_dollar, fragment_named, fragment_in, name_of, variable_in, repeat_kind_of, as_repeat_kind, is_separator, tail_in, is_parenthesis, repetition_in, is_crate_in, sign_in};
-ghost use Rattle.tt_matcher.specs.Units.{front_leaves, first_unit};
+ghost use Rattle.tt_pattern.specs.Signs.{tail_of, sign_of};
+ghost use Rattle.tt_pattern.specs.Spelling.{is_dollar, fragment_named, fragment_in, name_of, variable_in, repeat_kind_of, as_repeat_kind, is_separator, tail_in, is_parenthesis, repetition_in, is_crate_in, sign_in};
+ghost use Rattle.tt_pattern.specs.Units.{front_leaves, first_unit};
 
-use crate::asks::unit_size;
 use crate::pattern::{Fragment, RepeatKind, Variable};
+use crate::units::unit_size;
 use std::alloc::{AllocError, Global};
 use tt::{DelimiterKind, Ident, IdentIsRaw, Leaf, Symbol, TtElement, TtIter};
 

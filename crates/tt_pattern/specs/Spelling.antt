@@ -11,15 +11,14 @@ use Rattle.tt.specs.Types.IdentIsRaw.{IdentIsRaw}
 use Rattle.tt.specs.Types.IdentIsRaw.TheVariants.{No, Yes}
 use Rattle.tt.specs.Types.Leaf.{Leaf}
 use Rattle.tt.specs.Types.Leaf.TheVariants as leaf_of
-use Rattle.tt_matcher.specs.declared.pattern.Fragment.{Fragment}
-use Rattle.tt_matcher.specs.declared.pattern.Fragment.TheVariants as fragment
-use Rattle.tt_matcher.specs.declared.pattern.RepeatKind.{RepeatKind}
-use Rattle.tt_matcher.specs.declared.pattern.RepeatKind.TheVariants as repeat
-use Rattle.tt_matcher.specs.declared.pattern.Variable.{Variable}
-use Rattle.tt_matcher.specs.Fragments.{is_at_punct}
-use Rattle.tt_matcher.specs.Patterns.{Pattern, inner_part}
-use Rattle.tt_matcher.specs.Patterns as pattern
-use Rattle.tt_matcher.specs.Units.{unit_from, first_unit}
+use Rattle.tt_pattern.specs.declared.pattern.Fragment.{Fragment}
+use Rattle.tt_pattern.specs.declared.pattern.Fragment.TheVariants as fragment
+use Rattle.tt_pattern.specs.declared.pattern.RepeatKind.{RepeatKind}
+use Rattle.tt_pattern.specs.declared.pattern.RepeatKind.TheVariants as repeat
+use Rattle.tt_pattern.specs.declared.pattern.Variable.{Variable}
+use Rattle.tt_pattern.specs.Patterns.{Pattern, inner_part}
+use Rattle.tt_pattern.specs.Patterns as pattern
+use Rattle.tt_pattern.specs.Units.{is_at_punct, unit_from, first_unit}
 
 -- the leaf is the punct `$`
 abbrev pub is_dollar : Leaf → Bool

@@ -5,7 +5,7 @@ use Rattle.tt.specs.Forest.{Forest, end, leaf, node, size}
 use Rattle.tt.specs.Gluing.{after_trees}
 use Rattle.tt.specs.Moves.{after_tree}
 use Rattle.tt.specs.Types.Leaf.{Leaf}
-use Rattle.tt_matcher.specs.Units.{front_leaves}
+use Rattle.tt_pattern.specs.Units.{front_leaves}
 
 -- One tree more is passed.
 pub pass_next : (count i : ℕ) (trees : Forest) → i < count → after_trees (count - i) trees ≡ after_trees (count - (i + 1)) (after_tree trees)
@@ -18,6 +18,11 @@ pub pass_all : (count i : ℕ) (trees : Forest) → count ≤ i → after_trees 
 pass_all count i trees le =
     let none : count - i ≡ 0 = omega (arith, le) in
     ap (λ n. after_trees n trees) none
+
+-- Behind the end is the end.
+pub after_end : (n : ℕ) → after_trees n end ≡ end
+after_end zero = refl
+after_end (suc n) = after_end n
 
 -- What is left has no more tokens.
 pub after_less : (n : ℕ) (trees : Forest) → size (after_trees n trees) ≤ size trees

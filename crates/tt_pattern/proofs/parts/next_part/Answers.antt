@@ -4,13 +4,13 @@ use Rattle.tt.specs.Gluing.{after_trees}
 use Rattle.tt.specs.Iters.{rest_of, IsFirstElement}
 use Rattle.tt.specs.Moves.{after_tree}
 use Rattle.tt.specs.Types.TtElement.TheVariants as element
-use Rattle.tt_matcher.specs.Patterns as pattern
-use Rattle.tt_matcher.specs.Signs.{IsPart, held_size}
-use Rattle.tt_matcher.specs.Spelling.{is_dollar, pattern_of}
-use Rattle.tt_matcher.specs.Units.{unit_from, first_unit}
-use Rattle.tt_matcher.proofs.FirstTrees.{leaf_before}
-use Rattle.tt_matcher.proofs.PartSteps.{token_first, unit_length, are_less}
-use Rattle.tt_matcher.proofs.parts.next_part.Goals as goal
+use Rattle.tt_pattern.specs.Patterns as pattern
+use Rattle.tt_pattern.specs.Signs.{IsPart, held_size}
+use Rattle.tt_pattern.specs.Spelling.{is_dollar, pattern_of}
+use Rattle.tt_pattern.specs.Units.{unit_from, first_unit}
+use Rattle.tt_pattern.proofs.FirstTrees.{leaf_before}
+use Rattle.tt_pattern.proofs.PartSteps.{token_first, unit_length, are_less}
+use Rattle.tt_pattern.proofs.parts.next_part.Goals as goal
 
 pub returns-in_ok-token-in-Some-Leaf-clause-part : goal.returns-in_ok-token-in-Some-Leaf-clause-part
 returns-in_ok-token-in-Some-Leaf-clause-part c =

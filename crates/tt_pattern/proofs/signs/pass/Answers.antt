@@ -3,8 +3,8 @@ use Rattle.tt.specs.Forest.{size}
 use Rattle.tt.specs.Gluing.{after_trees}
 use Rattle.tt.specs.Iters.{rest_of}
 use Rattle.tt.specs.Moves.{after_tree}
-use Rattle.tt_matcher.proofs.Passing.{pass_next, pass_all, after_less}
-use Rattle.tt_matcher.proofs.signs.pass.Goals as goal
+use Rattle.tt_pattern.proofs.Passing.{pass_next, pass_all, after_less}
+use Rattle.tt_pattern.proofs.signs.pass.Goals as goal
 
 pub loop-preserved : goal.loop-preserved
 loop-preserved c =

@@ -1,0 +1,4 @@
+pub mod FirstTrees
+pub mod GluedSizes
+pub mod PartSteps
+pub mod Passing

@@ -1,0 +1,14 @@
+//! How the pattern of a macro with repetitions is spelled by trees.
+//!
+//! What contracts speak of stands in `specs/` of this crate.
+#![tactic(auto)]
+
+mod parts;
+mod pattern;
+mod signs;
+mod units;
+
+pub use parts::{Part, next_part};
+pub use pattern::{Fragment, RepeatKind, Variable};
+pub use signs::{Tail, is_crate_in, is_dollar, pass, repetition_in};
+pub use units::unit_size;
