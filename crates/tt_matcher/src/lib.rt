@@ -6,7 +6,6 @@
 mod asks;
 mod binding;
 mod cutting;
-mod error;
 mod linking;
 mod matcher;
 mod pieces;
@@ -17,8 +16,7 @@ mod threads;
 mod walking;
 
 pub use binding::{Binding, Found};
-pub use error::PatternError;
 pub use matcher::Matcher;
 pub use steps::Binder;
-pub use tt_pattern::{Fragment, RepeatKind, Variable};
+pub use tt_pattern::{Fragment, GrammarFragment, PatternError, RepeatKind, Variable};
 pub use walking::Mark;

@@ -33,3 +33,18 @@ pub enum RepeatKind {
     /// `?`: none or one.
     ZeroOrOne,
 }
+
+/// A fragment of Rust's grammar. None of them is supported yet.
+#[derive(Debug, Clone, Copy, PartialEq, Eq)]
+pub enum GrammarFragment {
+    Expr,
+    Expr2021,
+    Ty,
+    Pat,
+    PatParam,
+    Path,
+    Stmt,
+    Item,
+    Meta,
+    Vis,
+}
