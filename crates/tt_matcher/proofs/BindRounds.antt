@@ -8,12 +8,12 @@ use Rattle.tt.specs.Gluing.{after_trees}
 use Rattle.tt.specs.Moves.{after_tree}
 use Rattle.tt.specs.Siblings.{children_of}
 use Rattle.tt.specs.Types.Leaf.{Leaf}
-use Rattle.tt_matcher.specs.declared.pattern.RepeatKind.{RepeatKind}
+use Rattle.tt_pattern.specs.declared.pattern.RepeatKind.{RepeatKind}
 use Rattle.tt_matcher.specs.Bindings.{Bound, one, first, Named, Binding, names_of, unbound, joined, of_rounds, behind_rounds, binding_of}
 use Rattle.tt_matcher.specs.Fragments.{left_by, taken as trees_of_fragment}
 use Rattle.tt_matcher.specs.Grouping.{Where, held_in, variables_of, taken_by, counts_by, listed, grouped, bounds_by, first_bound, binding_by}
 use Rattle.tt_matcher.specs.Marks.{Note, taken, begun, ended, step_count, notes_before, notes_of}
-use Rattle.tt_matcher.specs.Patterns.{Pattern, nothing, variable, token, subtree, repetition}
+use Rattle.tt_pattern.specs.Patterns.{Pattern, nothing, variable, token, subtree, repetition}
 use Rattle.tt_matcher.specs.Readings.{Reading, done, took, held, round, over, trees_taken, inside_of, more_of, Takes, AreRounds, AreOtherRounds, IsInstance}
 use Rattle.tt_matcher.proofs.Binds.{AreFrom, NestFrom, VariablesFrom, variables_from, variables_wider, rounds_only, rounds_from, rounds_split, behind_all, notes_split, notes_from, lacks_apart, lacks_all, AllAgree, agree_both, agree_behind, agree_before, held_from}
 use Rattle.tt_matcher.proofs.GroupSteps.{total, counted, Lacks, LacksAll, IsWhole, counts-append, counts-lacks, counted-append, counted-lacks, bounds-append, whole-append, whole-lacks, bounds-lacks, bounds_behind_others, taken-lacks}

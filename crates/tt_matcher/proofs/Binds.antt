@@ -6,13 +6,13 @@ use Rattle.tt.specs.Forest.{Forest, end}
 use Rattle.tt.specs.Gluing.{after_trees}
 use Rattle.tt.specs.Moves.{after_tree}
 use Rattle.tt.specs.Siblings.{children_of}
-use Rattle.tt_matcher.specs.declared.pattern.RepeatKind.{RepeatKind}
+use Rattle.tt_pattern.specs.declared.pattern.RepeatKind.{RepeatKind}
 use Rattle.tt.specs.Types.Leaf.{Leaf}
 use Rattle.tt_matcher.specs.Bindings.{Named, Binding, behind_rounds}
 use Rattle.tt_matcher.specs.Fragments.{left_by}
 use Rattle.tt_matcher.specs.Grouping.{Where, held_in, variables_of, bounds_by}
 use Rattle.tt_matcher.specs.Marks.{Note, taken, begun, ended, step_count, notes_of_rounds, notes_before}
-use Rattle.tt_matcher.specs.Patterns.{Pattern, nothing, variable, token, subtree, repetition}
+use Rattle.tt_pattern.specs.Patterns.{Pattern, nothing, variable, token, subtree, repetition}
 use Rattle.tt_matcher.specs.Readings.{Reading, done, took, held, round, over, trees_taken, inside_of, more_of, Takes, AreRounds, AreOtherRounds}
 use Rattle.tt_matcher.proofs.GroupSteps.{number_of, Lacks, LacksAll, IsWhole, whole-append, whole-lacks, bounds_behind_others, bounds_before_others}
 

@@ -5,14 +5,14 @@ use Rattle.tt.specs.Gluing.{after_trees}
 use Rattle.tt.specs.Moves.{after_tree}
 use Rattle.tt.specs.Siblings.{children_of}
 use Rattle.tt.specs.Types.Leaf.{Leaf}
-use Rattle.tt_matcher.specs.declared.pattern.RepeatKind.{RepeatKind}
-use Rattle.tt_matcher.specs.declared.pattern.RepeatKind.TheVariants as repeat
+use Rattle.tt_pattern.specs.declared.pattern.RepeatKind.{RepeatKind}
+use Rattle.tt_pattern.specs.declared.pattern.RepeatKind.TheVariants as repeat
 use Rattle.tt_matcher.specs.Asks as ask
 use Rattle.tt_matcher.specs.declared.places.Place.{Place}
 use Rattle.tt_matcher.specs.Compiled.{Stop, Stand, separator_count, place_count, entries, again, separator_stops, stops}
 use Rattle.tt_matcher.specs.Fragments.{left_by}
 use Rattle.tt_matcher.specs.Paths.{firsts, entry_count, path_of, path_of_others, path_of_rounds}
-use Rattle.tt_matcher.specs.Patterns.{Pattern, nothing, variable, token, subtree, repetition, may_be_empty, may_be_more, IsFull}
+use Rattle.tt_pattern.specs.Patterns.{Pattern, nothing, variable, token, subtree, repetition, may_be_empty, may_be_more, IsFull}
 use Rattle.tt_matcher.specs.Places.{Reads}
 use Rattle.tt_matcher.specs.Readings.{Reading, done, took, held, round, over, inside_of, more_of, Takes, AreRounds, AreOtherRounds, Separates}
 use Rattle.tt_matcher.proofs.Via.{Via, stand_left, stand_right, via_left, via_right, goes_by}

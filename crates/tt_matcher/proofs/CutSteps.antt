@@ -3,13 +3,13 @@ use Rattle.std.proofs.Common.{◌≡◌, ◌+◌, ℕ, suc, Bool, true, false, L
 use Rattle.std.specs.Prelude.{◌&&◌}
 use Rattle.tt.specs.Types.DelimiterKind.{DelimiterKind}
 use Rattle.tt.specs.Types.Leaf.{Leaf}
-use Rattle.tt_matcher.specs.declared.pattern.RepeatKind.{RepeatKind}
-use Rattle.tt_matcher.specs.declared.pattern.RepeatKind.TheVariants as repeat
-use Rattle.tt_matcher.specs.declared.pattern.Variable.{Variable}
-use Rattle.tt_matcher.specs.declared.signs.Tail.{Tail}
+use Rattle.tt_pattern.specs.declared.pattern.RepeatKind.{RepeatKind}
+use Rattle.tt_pattern.specs.declared.pattern.RepeatKind.TheVariants as repeat
+use Rattle.tt_pattern.specs.declared.pattern.Variable.{Variable}
+use Rattle.tt_pattern.specs.declared.signs.Tail.{Tail}
 use Rattle.tt_matcher.specs.Asks as ask
 use Rattle.tt_matcher.specs.Compiled.{separator_count, place_count, entries}
-use Rattle.tt_matcher.specs.Patterns.{Pattern, variable, token, subtree, repetition, may_be_none}
+use Rattle.tt_pattern.specs.Patterns.{Pattern, variable, token, subtree, repetition, may_be_none}
 use Rattle.tt_matcher.specs.Cutting.{LevelLeft, entries_with, gained, bits_behind, bits_left, marked, fresh_level}
 use Rattle.tt_matcher.specs.Pieces.{place, begin, close, bits_of}
 

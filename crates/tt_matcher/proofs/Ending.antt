@@ -6,8 +6,8 @@ use Rattle.tt.specs.Gluing.{after_trees}
 use Rattle.tt.specs.Types.Leaf.{Leaf}
 use Rattle.tt_matcher.specs.Asks.{Ask, ask_of}
 use Rattle.tt_matcher.specs.Asks as ask
-use Rattle.tt_matcher.specs.declared.pattern.Fragment.{Fragment}
-use Rattle.tt_matcher.specs.declared.pattern.Fragment.TheVariants as fragment
+use Rattle.tt_pattern.specs.declared.pattern.Fragment.{Fragment}
+use Rattle.tt_pattern.specs.declared.pattern.Fragment.TheVariants as fragment
 use Rattle.tt_matcher.specs.declared.places.Place.{Place}
 use Rattle.tt_matcher.specs.declared.reading.Choice.{Choice}
 use Rattle.tt_matcher.specs.declared.reading.Choice.TheVariants as choice
@@ -17,9 +17,10 @@ use Rattle.tt_matcher.specs.Fragments.{takes}
 use Rattle.tt_matcher.specs.Levels.{AreTwo, IsOnly, is_leave_at, with_thread, choice_of}
 use Rattle.tt_matcher.specs.Places.{Passes, passed, onward, OnEdge, Ends, GoesOn, Reads, ReadsAll}
 use Rattle.tt_matcher.specs.Threads.{View, view_of, views_of, path_to, spread}
-use Rattle.tt_matcher.specs.Units.{IsUnitLike}
+use Rattle.tt_pattern.specs.Units.{IsUnitLike}
 use Rattle.tt_matcher.proofs.Leading.{Config, thread, fan, threads, IsMany, Leads, Has, HasMany, AreApart, Told, told_spread}
 use Rattle.tt_matcher.proofs.Telling as telling
+use Rattle.tt_pattern.proofs.Passing.{after_end}
 
 -- No fragment takes a tree where none is.
 pub takes_none : (which : Fragment) → takes which end ≡ true → ⊥
@@ -33,11 +34,6 @@ takes_none fragment.Tt t = cc t
 pub no_unit : (its : List Leaf) → IsUnitLike its end → ⊥
 no_unit [] u = cc u.0
 no_unit (it ∷ others) u = u.1.0
-
--- Behind the end is the end.
-pub after_end : (n : ℕ) → after_trees n end ≡ end
-after_end zero = refl
-after_end (suc n) = after_end n
 
 pub passed_end : (n : ℕ) (outer : List Forest) → passed n (end ∷ outer) ≡ end ∷ outer
 passed_end n outer = ap (λ t. t ∷ outer) (after_end n)

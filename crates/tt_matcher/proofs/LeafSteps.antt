@@ -10,7 +10,7 @@ use Rattle.tt.specs.Moves.{after_tree}
 use Rattle.tt.specs.Types.Leaf.{Leaf}
 use Rattle.tt.specs.Types.Leaf.TheVariants as leaf_of
 use Rattle.tt.specs.Types.Punct.{Punct}
-use Rattle.tt_matcher.specs.Units.{quote, is_at_ident, unit_size, IsLeafLike, AreLeavesLike}
+use Rattle.tt_pattern.specs.Units.{quote, is_at_ident, unit_size, IsLeafLike, AreLeavesLike}
 
 -- so far the leaves are like the trees just where those that are left are
 abbrev pub AreAlikeSoFar : List Leaf → (before : Forest) → ℕ → (now : Forest) → Type 0
@@ -31,18 +31,3 @@ module _ (leaves : List Leaf) (before now : Forest) (i : ℕ) (d : Leaf) (lt : i
 -- All are.
 pub leaves_there : (leaves : List Leaf) (before now : Forest) (i : ℕ) → length leaves ≤ i → AreAlikeSoFar leaves before i now → AreLeavesLike leaves before
 leaves_there leaves before now i le so_far = so_far.1 (subst (λ l. AreLeavesLike l now) (sym (drop_all i leaves le)) tt)
-
--- A punct that is no `'` stands with those that are glued to it.
-pub glued_size : (trees : Forest) (punct : Punct) (puncts : List Punct) → Some punct ≡ first_leaf_as as_punct trees → (punct.char ≡ quote → ⊥) → Some puncts ≡ glued trees
-    → length puncts ≡ unit_size trees
-glued_size end punct puncts first other is = absurd (cc first)
-glued_size (leaf (leaf_of.Literal it) rest) punct puncts first other is = absurd (cc first)
-glued_size (leaf (leaf_of.Ident it) rest) punct puncts first other is = absurd (cc first)
-glued_size (leaf (leaf_of.Punct it) rest) punct puncts first other is =
-    let same : punct ≡ it = cc first in
-    let size : puncts ≡ glued_from it rest = cc is in
-    ap length size ∙ sym (ap (λ b. cond b (cond (is_at_ident rest) 2 1) (length (glued_from it rest))) (differs it (λ e. other (ap (λ (p : Punct). p.char) same ∙ e))))
-  where
-    differs : (it : Punct) → (it.char ≡ quote → ⊥) → (it.char == quote) ≡ false
-    differs it apart = grind (arith, nat_tests, apart)
-glued_size (node delimiter children rest) punct puncts first other is = absurd (cc first)

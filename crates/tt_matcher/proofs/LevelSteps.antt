@@ -18,7 +18,7 @@ use Rattle.tt_matcher.specs.Fragments.{takes}
 use Rattle.tt_matcher.specs.Levels.{LevelView, IsLeft, IsPassed, IsEntered, IsSkipped, Advances}
 use Rattle.tt_matcher.specs.Places.{Passes, passed, onward, Ends}
 use Rattle.tt_matcher.specs.Threads.{View, delayed, added, spread, IsMoved, wait_of, IsMovedAt, wait_at, edges_of, is_waiting, waited, StepsOn, Steps, AllStep}
-use Rattle.tt_matcher.specs.Units.{IsUnitLike, IsNodeOf}
+use Rattle.tt_pattern.specs.Units.{IsUnitLike, IsNodeOf}
 use Rattle.tt_matcher.proofs.Ending.{takes_none, no_unit, passed_end}
 use Rattle.tt_matcher.proofs.Leading.{Config, thread, fan, threads, IsMany, Leads, Told, told_spread, told_added, becomes_nearer, becomes_fan, leads_nowhere}
 use Rattle.tt_matcher.proofs.Reaching.{take_onward, same_onward}

@@ -8,7 +8,7 @@ use Rattle.tt.specs.Types.Leaf.{Leaf}
 use Rattle.tt.specs.Types.Subtree.{Subtree}
 use Rattle.tt.specs.Types.TtElement.TheVariants as element
 use Rattle.tt.specs.Types.TtIter.{TtIter}
-use Rattle.tt_matcher.proofs.FirstTrees.{none_first, leaf_before, node_before}
+use Rattle.tt_pattern.proofs.FirstTrees.{none_first, leaf_before, node_before}
 use Rattle.tt_matcher.specs.declared.places.Place.{Place}
 use Rattle.tt_matcher.specs.declared.reading.Level.{Level}
 use Rattle.tt_matcher.specs.declared.threads.Move.TheVariants as move

@@ -8,7 +8,7 @@ pub mod CutWhole
 pub mod Decompiling
 pub mod EndSteps
 pub mod Ending
-pub mod FirstTrees
+pub mod FrontTrees
 pub mod Leading
 pub mod LeafSteps
 pub mod GroupSteps
@@ -18,8 +18,6 @@ pub mod LinkSteps
 pub mod Logs
 pub mod OneReading
 pub mod Reaching
-pub mod PartSteps
-pub mod Passing
 pub mod PathsBack
 pub mod ReadingSteps
 pub mod Results

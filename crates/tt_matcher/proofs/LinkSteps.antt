@@ -1,11 +1,11 @@
 -- What is made of pieces, piece by piece from the last, and what of a whole pattern.
 use Rattle.std.proofs.Common.{◌≡◌, ◌+◌, ℕ, suc, List, [], ◌∷◌, ◌++◌, refl, ap, ap₂, sym, ◌∙◌, append_assoc, cond}
 use Rattle.tt.specs.Types.Leaf.{Leaf}
-use Rattle.tt_matcher.specs.declared.pattern.RepeatKind.{RepeatKind}
-use Rattle.tt_matcher.specs.declared.pattern.RepeatKind.TheVariants as repeat
+use Rattle.tt_pattern.specs.declared.pattern.RepeatKind.{RepeatKind}
+use Rattle.tt_pattern.specs.declared.pattern.RepeatKind.TheVariants as repeat
 use Rattle.tt_matcher.specs.Asks as ask
 use Rattle.tt_matcher.specs.Compiled.{Stop, separator_count, place_count, entries, again, separator_stops, stops, all_stops, starts_of}
-use Rattle.tt_matcher.specs.Patterns.{Pattern, nothing, variable, token, subtree, repetition, may_be_none, may_be_more}
+use Rattle.tt_pattern.specs.Patterns.{Pattern, nothing, variable, token, subtree, repetition, may_be_none, may_be_more}
 use Rattle.tt_matcher.specs.Linking.{Made, again_from, with_separator, made_with, made_of, nothing_made}
 use Rattle.tt_matcher.specs.Pieces.{Bit, place, begin, close, bits_of, all_bits}
 

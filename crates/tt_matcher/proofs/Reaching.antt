@@ -6,12 +6,12 @@ use Rattle.tt.specs.Gluing.{first_punct, is_alone, is_joint, is_one_of, twos, th
 use Rattle.tt.specs.Moves.{after_tree}
 use Rattle.tt.specs.Types.Leaf.TheVariants as leaf_of
 use Rattle.tt.specs.Types.Punct.{Punct}
-use Rattle.tt_matcher.specs.declared.pattern.Fragment.{Fragment}
-use Rattle.tt_matcher.specs.declared.pattern.Fragment.TheVariants as fragment
+use Rattle.tt_pattern.specs.declared.pattern.Fragment.{Fragment}
+use Rattle.tt_pattern.specs.declared.pattern.Fragment.TheVariants as fragment
 use Rattle.tt.specs.Types.Leaf.{Leaf}
 use Rattle.tt_matcher.specs.Fragments.{is_at_negative, reach}
 use Rattle.tt_matcher.specs.Places.{passed}
-use Rattle.tt_matcher.specs.Units.{is_at_ident, unit_from, unit_size, quote, IsUnitLike}
+use Rattle.tt_pattern.specs.Units.{is_at_ident, unit_from, unit_size, quote, IsUnitLike}
 
 -- it is one at least
 abbrev pub IsSome : ℕ → Type 0

@@ -1,4 +1,4 @@
--- Worked patterns with repetitions: each holds by computation.
+-- Worked patterns with repetitions, and inputs: each holds by computation.
 use Rattle.std.proofs.Common.{◌≡◌, ℕ, true, false, List, [], ◌∷◌, None, Some, codes, refl, sym, ◌∙◌}
 use Rattle.tt.specs.Forest.{Forest, end, leaf, join}
 use Rattle.tt.specs.Types.DelimiterKind.TheVariants.{Parenthesis, Brace}
@@ -6,8 +6,8 @@ use Rattle.tt.specs.Types.IdentIsRaw.TheVariants.{Yes}
 use Rattle.tt.specs.Types.Leaf.TheVariants as leaf_of
 use Rattle.tt.specs.Types.Spacing.TheVariants.{Alone, Joint}
 use Rattle.tt_base.proofs.Samples.{span, punct, ident, subtree}
-use Rattle.tt_matcher.specs.declared.pattern.Fragment.TheVariants as fragment
-use Rattle.tt_matcher.specs.declared.pattern.RepeatKind.TheVariants as repeat
+use Rattle.tt_pattern.specs.declared.pattern.Fragment.TheVariants as fragment
+use Rattle.tt_pattern.specs.declared.pattern.RepeatKind.TheVariants as repeat
 use Rattle.tt_matcher.specs.declared.steps.Step.TheVariants as step
 use Rattle.tt_matcher.specs.Asks as ask
 use Rattle.tt_matcher.specs.Bindings.{one, none, first, binding_of, bound_to}
@@ -16,69 +16,10 @@ use Rattle.tt_matcher.specs.Marks.{taken as took_by, begun, ended, notes_of}
 use Rattle.tt_matcher.specs.Steps.{steps_of}
 use Rattle.tt_matcher.specs.Compiled.{starts_of, all_stops}
 use Rattle.tt_matcher.specs.Fragments.{takes, taken}
-use Rattle.tt_matcher.specs.Patterns.{Pattern, nothing, variable, token, subtree as held_by, repetition, may_be_empty}
+use Rattle.tt_pattern.specs.Patterns.{Pattern, nothing, variable, token, subtree as held_by, repetition, may_be_empty}
 use Rattle.tt_matcher.specs.Readings.{Reading, done, took, held, round, over, IsInstance, IsNoInstance, IsReadBy, IsAmbiguous}
-use Rattle.tt_matcher.specs.Spelling.{pattern_of}
-use Rattle.tt_matcher.specs.Units.{unit_size, IsUnitLike}
-
--- small trees: an ident, puncts that stand alone or joint, before others
-abbrev word : List ℕ → Forest → Forest
-word text rest = leaf (ident text) rest
-
-abbrev raw_word : List ℕ → Forest → Forest
-raw_word text rest = leaf (leaf_of.Ident (record { sym = text; span = span 0 1; is_raw = Yes })) rest
-
-abbrev alone : ℕ → Forest → Forest
-alone char rest = leaf (punct char Alone) rest
-
-abbrev joint : ℕ → Forest → Forest
-joint char rest = leaf (punct char Joint) rest
-
--- `=>`, `'a`, `,` and `-`
-abbrev arrow : Forest → Forest
-arrow rest = joint 61 (alone 62 rest)
-
-abbrev life : Forest → Forest
-life rest = joint 39 (word (codes "a") rest)
-
-abbrev comma : Forest → Forest
-comma rest = alone 44 rest
-
--- `$name:kind` and `$( .. )` before others
-abbrev var : (name kind : List ℕ) → Forest → Forest
-var name kind rest = alone 36 (word name (alone 58 (word kind rest)))
-
-abbrev rounds : Forest → Forest → Forest
-rounds inside rest = alone 36 (join (subtree Parenthesis inside) rest)
-
--- Tokens of several puncts, and lifetimes, are one; so is what stands alone.
-arrow_is_one : unit_size (arrow end) ≡ 2
-arrow_is_one = refl
-
-arrow_apart : unit_size (alone 61 (alone 62 end)) ≡ 1
-arrow_apart = refl
-
-range_is_one : unit_size (joint 46 (joint 46 (alone 61 end))) ≡ 3
-range_is_one = refl
-
-lifetime_is_one : unit_size (life (comma end)) ≡ 2
-lifetime_is_one = refl
-
-quote_alone : unit_size (joint 39 (comma end)) ≡ 1
-quote_alone = refl
-
-subtree_is_one : unit_size (join (subtree Brace (comma end)) (comma end)) ≡ 1
-subtree_is_one = refl
-
--- `==` is `==`, and neither `= =` nor `=`.
-equal_like : IsUnitLike (punct 61 Joint ∷ punct 61 Alone ∷ []) (joint 61 (joint 61 end))
-equal_like = (refl, (refl, (refl, tt)))
-
-equal_apart : IsUnitLike (punct 61 Joint ∷ punct 61 Alone ∷ []) (alone 61 (alone 61 end)) → ⊥
-equal_apart like = cc like.0
-
-equal_less : IsUnitLike (punct 61 Alone ∷ []) (joint 61 (alone 61 end)) → ⊥
-equal_less like = cc like.0
+use Rattle.tt_pattern.specs.Spelling.{pattern_of}
+use Rattle.tt_pattern.proofs.Rows.{word, raw_word, alone, joint, arrow, life, comma, var, rounds, listed, x_part}
 
 -- An ident takes an ident, raw or not, but `_`, and no lifetime.
 ident_takes : takes fragment.Ident (word (codes "a") end) ≡ true
@@ -128,18 +69,7 @@ life_taken = refl
 nothing_left : takes fragment.Tt end ≡ false
 nothing_left = refl
 
--- `$($x:ident),* $(,)?`
-abbrev listed : Forest
-listed = rounds (var (codes "x") (codes "ident") end) (joint 44 (alone 42 (rounds (comma end) (alone 63 end))))
-
-abbrev x_part : Pattern
-x_part = variable (record { name = Some (codes "x"); fragment = fragment.Ident }) nothing
-
-listed_spells : pattern_of listed
-    ≡ repetition x_part (punct 44 Joint ∷ []) repeat.ZeroOrMore (repetition (token (punct 44 Alone ∷ []) nothing) [] repeat.ZeroOrOne nothing)
-listed_spells = refl
-
--- `a, b,` is an instance of it; the last comma is the second repetition's.
+-- `a, b,` is an instance of `$($x:ident),* $(,)?`; the last comma is the second repetition's.
 abbrev a_b : Forest
 a_b = word (codes "a") (comma (word (codes "b") (comma end)))
 
@@ -217,41 +147,6 @@ listed_stops : all_stops (pattern_of listed)
     ∷ record { asked = ask.leave; edges = [] }
     ∷ []
 listed_stops = refl
-
--- A separator is a token, `=>` too, and so is a lifetime.
-arrow_separates : pattern_of (rounds (word (codes "a") end) (arrow (alone 43 end)))
-    ≡ repetition (token (ident (codes "a") ∷ []) nothing) (punct 61 Joint ∷ punct 62 Alone ∷ []) repeat.OneOrMore nothing
-arrow_separates = refl
-
-life_separates : pattern_of (rounds (word (codes "b") end) (life (alone 42 end)))
-    ≡ repetition (token (ident (codes "b") ∷ []) nothing) (punct 39 Joint ∷ ident (codes "a") ∷ []) repeat.ZeroOrMore nothing
-life_separates = refl
-
--- `$_:tt` has no name, and `$r#x:tt` that of `x`.
-underscore_spells : pattern_of (var (codes "_") (codes "tt") end) ≡ variable (record { name = None; fragment = fragment.Tt }) nothing
-underscore_spells = refl
-
-raw_spells : pattern_of (alone 36 (raw_word (codes "x") (alone 58 (word (codes "tt") end)))) ≡ variable (record { name = Some (codes "x"); fragment = fragment.Tt }) nothing
-raw_spells = refl
-
--- `$crate` stays, and so does a `$` that begins nothing.
-crate_stays : pattern_of (alone 36 (word (codes "crate") (comma end)))
-    ≡ token (punct 36 Alone ∷ []) (token (ident (codes "crate") ∷ []) (token (punct 44 Alone ∷ []) nothing))
-crate_stays = refl
-
-no_operator : pattern_of (rounds (comma end) end) ≡ token (punct 36 Alone ∷ []) (held_by Parenthesis (token (punct 44 Alone ∷ []) nothing) nothing)
-no_operator = refl
-
--- A token of a pattern is one part.
-arrow_spells : pattern_of (arrow (comma end)) ≡ token (punct 61 Joint ∷ punct 62 Alone ∷ []) (token (punct 44 Alone ∷ []) nothing)
-arrow_spells = refl
-
--- What may be empty.
-listed_empty : may_be_empty (pattern_of listed) ≡ true
-listed_empty = refl
-
-one_full : may_be_empty (pattern_of (rounds (comma end) (alone 43 end))) ≡ false
-one_full = refl
 
 -- `+` wants a round.
 abbrev plus : Pattern

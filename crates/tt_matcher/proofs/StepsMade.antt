@@ -10,7 +10,7 @@ use Rattle.tt_matcher.specs.Compiled.{separator_count, place_count, entries}
 use Rattle.tt_matcher.specs.Grouping.{Where, held_in, variables_of}
 use Rattle.tt_matcher.specs.Linking.{again_from}
 use Rattle.tt_matcher.specs.Marks.{pass_count, step_count}
-use Rattle.tt_matcher.specs.Patterns.{Pattern, nothing, variable, token, subtree, repetition, may_be_more}
+use Rattle.tt_pattern.specs.Patterns.{Pattern, nothing, variable, token, subtree, repetition, may_be_more}
 use Rattle.tt_matcher.specs.Pieces.{Bit, place, begin, close, bits_of, all_bits}
 use Rattle.tt_matcher.specs.Stepping.{Taken, number_of, taken_with, taken_of, nothing_taken}
 use Rattle.tt_matcher.specs.Steps.{with_pass, steps_before, steps_of}

@@ -11,7 +11,7 @@ use Rattle.tt_matcher.specs.declared.reading.Paths.{Paths}
 use Rattle.tt_matcher.specs.declared.reading.Paths.TheVariants as paths
 use Rattle.tt_matcher.specs.Levels.{AreTwo, IsOnly, Finds}
 use Rattle.tt_matcher.specs.Paths.{path_of}
-use Rattle.tt_matcher.specs.Patterns.{Pattern, IsFull}
+use Rattle.tt_pattern.specs.Patterns.{Pattern, IsFull}
 use Rattle.tt_matcher.specs.Places.{ReadsAll, Reads, Passes, is_leave}
 use Rattle.tt_matcher.specs.Readings.{Reading, Takes, IsInstance, IsNoInstance, IsReadBy, IsAmbiguous}
 use Rattle.tt_matcher.specs.declared.threads.Turn.{Turn}

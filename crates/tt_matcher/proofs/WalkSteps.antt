@@ -3,7 +3,7 @@ use Rattle.std.proofs.Common.{◌≡◌, ◌+◌, ◌-◌, ◌<◌, ℕ, suc, Bo
 use Rattle.std.proofs.lemmas.Bool.Decides.{nat_tests}
 use Rattle.std.specs.Prelude.{◌&&◌, drop, nat_lt}
 use Rattle.tt.specs.Forest.{Forest}
-use Rattle.tt_matcher.specs.declared.pattern.Fragment.{Fragment}
+use Rattle.tt_pattern.specs.declared.pattern.Fragment.{Fragment}
 use Rattle.tt_matcher.specs.declared.steps.Step.{Step}
 use Rattle.tt_matcher.specs.declared.steps.Step.TheVariants as step
 use Rattle.tt_matcher.specs.Fragments.{reach, taken}

@@ -6,7 +6,7 @@ use Rattle.tt.specs.Gluing.{after_trees}
 use Rattle.tt.specs.Moves.{after_tree}
 use Rattle.tt.specs.Siblings.{children_of}
 use Rattle.tt.specs.Types.Leaf.{Leaf}
-use Rattle.tt_matcher.specs.declared.pattern.RepeatKind.{RepeatKind}
+use Rattle.tt_pattern.specs.declared.pattern.RepeatKind.{RepeatKind}
 use Rattle.tt_matcher.specs.declared.steps.Step.{Step}
 use Rattle.tt_matcher.specs.declared.steps.Step.TheVariants as step
 use Rattle.tt_matcher.specs.Compiled.{separator_count, place_count, entries, again}
@@ -15,7 +15,7 @@ use Rattle.tt_matcher.specs.Linking.{again_from}
 use Rattle.tt_matcher.specs.Marks.{Note, pass_count, step_count, notes_of_rounds, notes_before, notes_of}
 use Rattle.tt_matcher.specs.Marks as note
 use Rattle.tt_matcher.specs.Paths.{shift, firsts, entry_count, path_of, path_of_others, path_of_rounds}
-use Rattle.tt_matcher.specs.Patterns.{Pattern, nothing, variable, token, subtree, repetition, may_be_none, may_be_empty, may_be_more, IsFull}
+use Rattle.tt_pattern.specs.Patterns.{Pattern, nothing, variable, token, subtree, repetition, may_be_none, may_be_empty, may_be_more, IsFull}
 use Rattle.tt_matcher.specs.Readings.{Reading, done, took, held, round, over, trees_taken, inside_of, more_of, Takes, AreRounds, AreOtherRounds, Separates, IsInstance}
 use Rattle.tt_matcher.specs.Steps.{with_pass, with_begin, steps_before, steps_of}
 use Rattle.tt_matcher.specs.Walking.{Notes, started}

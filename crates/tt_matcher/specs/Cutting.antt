@@ -1,18 +1,16 @@
 -- What is left of a pattern that is cut into pieces, part by part.
-use Rattle.std.specs.Prelude.{◌≡◌, ℕ, suc, ◌+◌, ◌&&◌, Bool, true, false, List, [], ◌∷◌, ◌++◌, map, reverse, Option, None, Some, IsSome}
+use Rattle.std.specs.Prelude.{◌≡◌, ℕ, suc, ◌+◌, ◌&&◌, Bool, true, false, List, [], ◌∷◌, ◌++◌, map, reverse, Option, None, Some}
 use Rattle.tt.specs.Iters.{rest_of}
-use Rattle.tt_matcher.specs.declared.error.PatternError.{PatternError}
-use Rattle.tt_matcher.specs.declared.error.PatternError.TheVariants as error
-use Rattle.tt_matcher.specs.declared.parts.Part.{Part}
-use Rattle.tt_matcher.specs.declared.parts.Part.TheVariants as part
+use Rattle.tt_pattern.specs.declared.parts.Part.{Part}
+use Rattle.tt_pattern.specs.declared.parts.Part.TheVariants as part
 use Rattle.tt_matcher.specs.declared.pieces.Cutting.{Cutting}
 use Rattle.tt_matcher.specs.declared.pieces.Level.{Level}
-use Rattle.tt_matcher.specs.declared.signs.Tail.{Tail}
+use Rattle.tt_pattern.specs.declared.signs.Tail.{Tail}
 use Rattle.tt_matcher.specs.Asks.{Ask, ask_of}
 use Rattle.tt_matcher.specs.Asks as ask
 use Rattle.tt_matcher.specs.Compiled.{separator_count, place_count, entries}
-use Rattle.tt_matcher.specs.Patterns.{Pattern, may_be_none, may_be_empty, IsFull}
-use Rattle.tt_matcher.specs.Spelling.{pattern_of}
+use Rattle.tt_pattern.specs.Patterns.{Pattern, may_be_none}
+use Rattle.tt_pattern.specs.Spelling.{pattern_of}
 use Rattle.tt_matcher.specs.Pieces.{Bit, begin, bit_of, bits_of, close, place}
 
 -- what is left of a subtree or a repetition, how it is closed, where it may begin, and whether no part of it was there so far that has to be
@@ -54,18 +52,6 @@ abbrev pub bits_left : (at : ℕ) → List LevelLeft → List Bit
 bits_left at [] = []
 bits_left at (level ∷ outer) =
     bits_of at level.rest (bits_behind (at + place_count level.rest) level.closing (entries_with at level.rest level.entries level.is_open) outer)
-
--- what each repetition holds takes a tree at least, of those that are open and to come
-abbrev pub AreFullBehind : (closing : Option Tail) → (is_empty : Bool) → (outer : List LevelLeft) → Type 0
-AreFullBehind None is_empty [] = Unit {0}
-AreFullBehind None is_empty (next ∷ outer) = IsFull next.rest × AreFullBehind next.closing (next.is_open && may_be_empty next.rest) outer
-AreFullBehind (Some tail) is_empty [] = is_empty ≡ false
-AreFullBehind (Some tail) is_empty (next ∷ outer) =
-    (is_empty ≡ false) × IsFull next.rest × AreFullBehind next.closing ((next.is_open && may_be_none tail.kind) && may_be_empty next.rest) outer
-
-abbrev pub AreFullLeft : List LevelLeft → Type 0
-AreFullLeft [] = Unit {0}
-AreFullLeft (level ∷ outer) = IsFull level.rest × AreFullBehind level.closing (level.is_open && may_be_empty level.rest) outer
 
 -- the levels that are left, the innermost first
 abbrev pub levels_left : List Level → List LevelLeft
@@ -132,16 +118,3 @@ pub record IsStepped (step : Step) (old next : Cutting) : Type 0 where
   pub bits : map bit_of next.pieces.items ≡ map bit_of old.pieces.items ++ step.bits
   pub count : next.count ≡ step.count
   pub levels : levels_left next.levels.items ≡ step.levels
-
--- a repetition is at its end, and no part of it has to be there
-abbrev pub IsEmptyEnd : Part → LevelLeft → Type 0
-IsEmptyEnd part.End level = IsSome level.closing × (level.is_open ≡ true)
-IsEmptyEnd (part.Variable it) level = ⊥
-IsEmptyEnd (part.Token leaves) level = ⊥
-IsEmptyEnd (part.Subtree kind inner) level = ⊥
-IsEmptyEnd (part.Repetition inner tail) level = ⊥
-
--- why a part is not taken: memory is refused, or a repetition may be empty
-abbrev pub IsRefused : Part → LevelLeft → PatternError → Type 0
-IsRefused found level error.Memory = Unit {0}
-IsRefused found level error.EmptyRepetition = IsEmptyEnd found level

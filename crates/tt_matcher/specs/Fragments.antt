@@ -12,13 +12,9 @@ use Rattle.tt.specs.Types.LitKind.{LitKind}
 use Rattle.tt.specs.Types.LitKind.TheVariants as literal
 use Rattle.tt.specs.Types.Leaf.{Leaf}
 use Rattle.tt.specs.Types.Leaf.TheVariants as leaf_of
-use Rattle.tt_matcher.specs.declared.pattern.Fragment.{Fragment}
-use Rattle.tt_matcher.specs.declared.pattern.Fragment.TheVariants as fragment
-use Rattle.tt_matcher.specs.Units.{is_at_ident, unit_size}
-
--- a punct of that character stands first
-abbrev pub is_at_punct : (chars : List ℕ) → Forest → Bool
-is_at_punct chars trees = is_punct_of chars (first_leaf_as as_punct trees)
+use Rattle.tt_pattern.specs.declared.pattern.Fragment.{Fragment}
+use Rattle.tt_pattern.specs.declared.pattern.Fragment.TheVariants as fragment
+use Rattle.tt_pattern.specs.Units.{is_at_ident, is_at_punct, unit_size}
 
 -- a literal, or a truth value, stands first
 abbrev pub is_at_literal : Forest → Bool

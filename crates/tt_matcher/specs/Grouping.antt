@@ -3,7 +3,7 @@ use Rattle.std.specs.Prelude.{ℕ, suc, ◌+◌, List, [], ◌∷◌, ◌++◌, 
 use Rattle.tt.specs.Forest.{Forest}
 use Rattle.tt_matcher.specs.Bindings.{Bound, one, none, first, Named, Binding}
 use Rattle.tt_matcher.specs.Marks.{Note, taken, begun, ended, step_count}
-use Rattle.tt_matcher.specs.Patterns.{Pattern, nothing, variable, token, subtree, repetition}
+use Rattle.tt_pattern.specs.Patterns.{Pattern, nothing, variable, token, subtree, repetition}
 
 -- a variable: its name, if it has one, its number, and those of the repetitions that it stands in, the outermost first
 pub record Where : Type 0 where

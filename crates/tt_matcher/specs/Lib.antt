@@ -1,4 +1,4 @@
--- What a pattern is, when trees are an instance of it, and how its places read them.
+-- When trees are an instance of a pattern, and how its places read them.
 pub mod Asks
 pub mod Bindings
 pub mod Compiled
@@ -11,15 +11,11 @@ pub mod Linking
 pub mod Marks
 pub mod Matchers
 pub mod Paths
-pub mod Patterns
 pub mod Pieces
 pub mod Places
 pub mod Readings
-pub mod Signs
-pub mod Spelling
 pub mod Stepping
 pub mod Steps
 pub mod Threads
 pub mod Told
-pub mod Units
 pub mod Walking

@@ -3,12 +3,12 @@ use Rattle.std.specs.Prelude.{ℕ, Bool, true, false, List, [], ◌∷◌, ◌++
 use Rattle.tt.specs.Types.Leaf.{Leaf}
 use Rattle.tt_matcher.specs.declared.linking.Frame.{Frame}
 use Rattle.tt_matcher.specs.declared.linking.Linked.{Linked}
-use Rattle.tt_matcher.specs.declared.pattern.RepeatKind.{RepeatKind}
+use Rattle.tt_pattern.specs.declared.pattern.RepeatKind.{RepeatKind}
 use Rattle.tt_matcher.specs.declared.places.Place.{Place}
 use Rattle.tt_matcher.specs.Asks.{Ask, ask_of}
 use Rattle.tt_matcher.specs.Asks as ask
 use Rattle.tt_matcher.specs.Compiled.{Stop, entries}
-use Rattle.tt_matcher.specs.Patterns.{may_be_none, may_be_more}
+use Rattle.tt_pattern.specs.Patterns.{may_be_none, may_be_more}
 use Rattle.tt_matcher.specs.Pieces.{Bit, begin, close, place}
 
 -- a repetition whose beginning is still to come: where a round may begin, its kind, and what comes behind it

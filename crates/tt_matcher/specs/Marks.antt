@@ -4,7 +4,7 @@ use Rattle.tt.specs.Forest.{Forest}
 use Rattle.tt.specs.Views.{trees_of}
 use Rattle.tt_matcher.specs.declared.walking.Mark.{Mark}
 use Rattle.tt_matcher.specs.declared.walking.Mark.TheVariants as mark
-use Rattle.tt_matcher.specs.Patterns.{Pattern, nothing, variable, token, subtree, repetition}
+use Rattle.tt_pattern.specs.Patterns.{Pattern, nothing, variable, token, subtree, repetition}
 use Rattle.tt_matcher.specs.Readings.{Reading, done, took, held, round, over, trees_taken, inside_of, more_of}
 
 -- the variable of that number took these trees, or a round of the repetition of that number begins, or it has no further round

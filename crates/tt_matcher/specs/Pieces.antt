@@ -1,13 +1,13 @@
 -- A pattern as a flat list of pieces.
-use Rattle.std.specs.Prelude.{◌≡◌, ℕ, suc, ◌+◌, List, [], ◌∷◌, map}
+use Rattle.std.specs.Prelude.{ℕ, suc, ◌+◌, List, [], ◌∷◌}
 use Rattle.tt.specs.Types.Leaf.{Leaf}
-use Rattle.tt_matcher.specs.declared.pattern.RepeatKind.{RepeatKind}
+use Rattle.tt_pattern.specs.declared.pattern.RepeatKind.{RepeatKind}
 use Rattle.tt_matcher.specs.declared.pieces.Piece.{Piece}
 use Rattle.tt_matcher.specs.declared.pieces.Piece.TheVariants as piece
 use Rattle.tt_matcher.specs.Asks.{Ask, ask_of}
 use Rattle.tt_matcher.specs.Asks as ask
 use Rattle.tt_matcher.specs.Compiled.{separator_count, place_count, entries}
-use Rattle.tt_matcher.specs.Patterns.{Pattern, nothing, variable, token, subtree, repetition, IsFull}
+use Rattle.tt_pattern.specs.Patterns.{Pattern, nothing, variable, token, subtree, repetition}
 
 -- a place of that number, or the beginning or the end of a repetition, with the number of its separator and where a round may begin
 pub data Bit : Type 0 where
@@ -34,7 +34,3 @@ bits_of at (repetition inner separator op others) behind =
 -- the pieces of a whole pattern
 abbrev pub all_bits : Pattern → List Bit
 all_bits pattern = bits_of 0 pattern (place (place_count pattern) ask.leave ∷ [])
-
--- the pieces are those of a pattern in which each repetition holds a tree at least
-abbrev pub AreAllPieces : Pattern → List Piece → Type 0
-AreAllPieces pattern pieces = (map bit_of pieces ≡ all_bits pattern) × IsFull pattern

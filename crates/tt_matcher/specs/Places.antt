@@ -8,7 +8,7 @@ use Rattle.tt_matcher.specs.declared.places.Place.{Place}
 use Rattle.tt_matcher.specs.Asks.{Ask, ask_of}
 use Rattle.tt_matcher.specs.Asks as ask
 use Rattle.tt_matcher.specs.Fragments.{takes, reach}
-use Rattle.tt_matcher.specs.Units.{IsUnitLike, IsNodeOf}
+use Rattle.tt_pattern.specs.Units.{IsUnitLike, IsNodeOf}
 
 -- what is left of the innermost level
 abbrev pub front : List Forest → Forest

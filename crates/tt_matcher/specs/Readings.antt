@@ -5,10 +5,10 @@ use Rattle.tt.specs.Gluing.{after_trees}
 use Rattle.tt.specs.Moves.{after_tree}
 use Rattle.tt.specs.Siblings.{children_of}
 use Rattle.tt.specs.Types.Leaf.{Leaf}
-use Rattle.tt_matcher.specs.declared.pattern.RepeatKind.{RepeatKind}
+use Rattle.tt_pattern.specs.declared.pattern.RepeatKind.{RepeatKind}
 use Rattle.tt_matcher.specs.Fragments.{takes, taken, left_by}
-use Rattle.tt_matcher.specs.Patterns.{Pattern, nothing, variable, token, subtree, repetition, may_be_none, may_be_more}
-use Rattle.tt_matcher.specs.Units.{IsUnitLike, IsNodeOf}
+use Rattle.tt_pattern.specs.Patterns.{Pattern, nothing, variable, token, subtree, repetition, may_be_none, may_be_more}
+use Rattle.tt_pattern.specs.Units.{IsUnitLike, IsNodeOf}
 
 -- how a pattern is read, part by part: the trees that a variable took, how a subtree's inside is read, a round of a repetition with the
 -- rounds and parts behind it, or that there is no further round

@@ -1,6 +1,6 @@
 -- The steps that are made of pieces, from the last.
 use Rattle.std.specs.Prelude.{ℕ, List, [], ◌∷◌, length, reverse, map}
-use Rattle.tt_matcher.specs.declared.pattern.Variable.{Variable}
+use Rattle.tt_pattern.specs.declared.pattern.Variable.{Variable}
 use Rattle.tt_matcher.specs.declared.steps.Binder.{Binder}
 use Rattle.tt_matcher.specs.declared.steps.End.{End}
 use Rattle.tt_matcher.specs.declared.steps.Step.{Step}
@@ -10,7 +10,7 @@ use Rattle.tt_matcher.specs.Asks.{Ask}
 use Rattle.tt_matcher.specs.Asks as ask
 use Rattle.tt_matcher.specs.Grouping.{Where}
 use Rattle.tt_matcher.specs.Linking.{again_from}
-use Rattle.tt_matcher.specs.Patterns.{may_be_more}
+use Rattle.tt_pattern.specs.Patterns.{may_be_more}
 use Rattle.tt_matcher.specs.Pieces.{Bit, begin, close, place}
 use Rattle.tt_matcher.specs.Steps.{with_begin}
 

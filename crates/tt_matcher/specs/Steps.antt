@@ -5,7 +5,7 @@ use Rattle.tt_matcher.specs.declared.steps.Step.TheVariants as step
 use Rattle.tt_matcher.specs.Compiled.{separator_count, place_count, entries}
 use Rattle.tt_matcher.specs.Linking.{again_from}
 use Rattle.tt_matcher.specs.Marks.{pass_count}
-use Rattle.tt_matcher.specs.Patterns.{Pattern, nothing, variable, token, subtree, repetition, may_be_more}
+use Rattle.tt_pattern.specs.Patterns.{Pattern, nothing, variable, token, subtree, repetition, may_be_more}
 
 -- a separator of so many leaves, which is passed before what is behind
 abbrev pub with_pass : ℕ → List Step → List Step

@@ -9,7 +9,7 @@ use Rattle.tt_matcher.specs.declared.threads.Turn.{Turn}
 use Rattle.tt_matcher.specs.Asks.{Ask, ask_of}
 use Rattle.tt_matcher.specs.Asks as ask
 use Rattle.tt_matcher.specs.Fragments.{takes, reach}
-use Rattle.tt_matcher.specs.Units.{IsUnitLike}
+use Rattle.tt_pattern.specs.Units.{IsUnitLike}
 
 -- what a thread stands for: its place, how many trees are passed before it stands there, whether many paths lead there, and one that does
 pub record View : Type 0 where

@@ -9,7 +9,7 @@ use Rattle.tt_matcher.specs.Bindings.{binding_of}
 use Rattle.tt_matcher.specs.Grouping.{variables_of, binding_by}
 use Rattle.tt_matcher.specs.Marks.{note_of, notes_of}
 use Rattle.tt_matcher.specs.Paths.{path_of}
-use Rattle.tt_matcher.specs.Patterns.{Pattern}
+use Rattle.tt_pattern.specs.Patterns.{Pattern}
 use Rattle.tt_matcher.specs.Readings.{Reading, IsNoInstance, IsReadBy, IsAmbiguous}
 use Rattle.tt_matcher.specs.Threads.{path_to}
 

@@ -3,31 +3,10 @@ ghost use Rattle.std.specs.Prelude.{◌≡◌, ◌↔◌, IsTrue};
 ghost use Rattle.tt.specs.Iters.{rest_of};
 ghost use Rattle.tt.specs.Moves.{after_tree};
 ghost use Rattle.tt_matcher.specs.Fragments.{is_at_number, is_at_negative, is_at_lifetime, is_at_block, takes, reach};
-ghost use Rattle.tt_matcher.specs.Units.{is_at_ident, unit_from, unit_size, IsSameLeaf, IsLeafLike, AreLeavesLike, IsUnitLike};
+ghost use Rattle.tt_pattern.specs.Units.{is_at_ident, unit_size, IsSameLeaf, IsLeafLike, AreLeavesLike, IsUnitLike};
 
-use crate::pattern::Fragment;
 use tt::{DelimiterKind, Leaf, LitKind, TtElement, TtIter};
-
-/// How many trees stand as one at the front: those of a token, or a subtree.
-pub(crate) fn unit_size(mut trees: TtIter<'_>) -> usize
-    ensures { result ≡ unit_size (rest_of trees.entry) }
-{
-    let mut behind = trees.remaining().iter();
-    match behind.expect_single_punct() {
-        Ok(punct) if punct.char == '\'' => {
-            if behind.expect_ident_or_underscore().is_ok() {
-                2
-            } else {
-                1
-            }
-        }
-        Ok(_) => match trees.expect_glued_punct() {
-            Ok(puncts) => puncts.len(),
-            Err(()) => 1,
-        },
-        Err(()) => 1,
-    }
-}
+use tt_pattern::{Fragment, unit_size};
 
 // Whether the leaves are the same, spans and spacing put aside.
 fn is_same_leaf(leaf: &Leaf, other: &Leaf) -> bool

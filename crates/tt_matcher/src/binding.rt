@@ -5,7 +5,7 @@ ghost use Rattle.tt.specs.Views.{trees_of};
 ghost use Rattle.tt_matcher.specs.Ends.{counted_on, ends_with, sums};
 ghost use Rattle.tt_matcher.specs.Grouping.{taken_by, counts_by};
 ghost use Rattle.tt_matcher.specs.Marks.{note_of};
-ghost use Rattle.tt_matcher.specs.Patterns.{Pattern, IsFull};
+ghost use Rattle.tt_pattern.specs.Patterns.{Pattern, IsFull};
 ghost use Rattle.tt_matcher.specs.Steps.{steps_of};
 ghost use Rattle.tt_matcher.specs.Threads.{path_to, earlier};
 ghost use Rattle.tt_matcher.specs.Told.{Tells, TellsPaths};

@@ -1,21 +1,17 @@
 //! A pattern is cut into pieces, part by part.
-ghost use Rattle.std.specs.Prelude.{◌≡◌, ◌≤◌, [], None, Some, IfOk, IfErr};
+ghost use Rattle.std.specs.Prelude.{◌≡◌, ◌≤◌, [], None, Some, IfOk, map};
 ghost use Rattle.tt_matcher.specs.Asks.{ask_of};
 ghost use Rattle.tt.specs.Iters.{rest_of};
 ghost use Rattle.tt_matcher.specs.Compiled.{separator_count};
-ghost use Rattle.tt_matcher.specs.Matchers.{IsPatternError};
-ghost use Rattle.tt_matcher.specs.Cutting.{marked, closed_in, level_left, levels_left, fresh_level, placed, entered, opened, ended, stepped, IsStepped, IsEmptyEnd, IsRefused};
-ghost use Rattle.tt_matcher.specs.Pieces.{AreAllPieces};
-ghost use Rattle.tt_matcher.specs.Spelling.{pattern_of};
+ghost use Rattle.tt_matcher.specs.Cutting.{marked, closed_in, level_left, levels_left, fresh_level, placed, entered, opened, ended, stepped, IsStepped};
+ghost use Rattle.tt_matcher.specs.Pieces.{bit_of, all_bits};
+ghost use Rattle.tt_pattern.specs.Spelling.{pattern_of};
 
-use crate::error::PatternError;
-use crate::parts::{Part, next_part};
-use crate::pattern::RepeatKind;
 use crate::pieces::{Cutting, Level, Piece};
 use crate::places::Atom;
-use crate::signs::Tail;
 use std::alloc::{AllocError, Global};
 use tt::{DelimiterKind, Leaf, TtIter};
+use tt_pattern::{Part, RepeatKind, Tail, next_part};
 
 // A part that has to be there stands at that place.
 fn mark<'p>(level: Level<'p>, at: usize) -> Result<Level<'p>, AllocError>
@@ -197,26 +193,18 @@ fn close<'p>(
     })
 }
 
-// The end of a level. A repetition of which no part has to be there may be empty.
-fn end_level<'p>(cutting: Cutting<'p>, level: Level<'p>) -> Result<Cutting<'p>, PatternError>
-    ensures ok { IfOk result (λ next. IsStepped (stepped Part.End cutting.entry.count (level_left level.entry) (levels_left cutting.entry.levels.items)) cutting.entry next) }
-    ensures full { IfOk result (λ _. IsEmptyEnd Part.End (level_left level.entry) → ⊥) }
-    ensures err { IfErr result (IsRefused Part.End (level_left level.entry)) }
+// The end of a level.
+fn end_level<'p>(cutting: Cutting<'p>, level: Level<'p>) -> Result<Cutting<'p>, AllocError>
+    ensures { IfOk result (λ next. IsStepped (stepped Part.End cutting.entry.count (level_left level.entry) (levels_left cutting.entry.levels.items)) cutting.entry next) }
 {
     let Level {
         closing,
         entries,
-        is_open,
         ..
     } = level;
     match closing {
-        None => Ok(leave(cutting)?),
-        Some(tail) => {
-            if is_open {
-                return Err(PatternError::EmptyRepetition);
-            }
-            Ok(close(cutting, tail, entries)?)
-        }
+        None => leave(cutting),
+        Some(tail) => close(cutting, tail, entries),
     }
 }
 
@@ -254,24 +242,21 @@ fn take_part<'p>(
     cutting: Cutting<'p>,
     level: Level<'p>,
     part: Part<'p>,
-) -> Result<Cutting<'p>, PatternError>
-    ensures ok { IfOk result (λ next. IsStepped (stepped part.entry cutting.entry.count (level_left level.entry) (levels_left cutting.entry.levels.items)) cutting.entry next) }
-    ensures full { IfOk result (λ _. IsEmptyEnd part.entry (level_left level.entry) → ⊥) }
-    ensures err { IfErr result (IsRefused part.entry (level_left level.entry)) }
+) -> Result<Cutting<'p>, AllocError>
+    ensures { IfOk result (λ next. IsStepped (stepped part.entry cutting.entry.count (level_left level.entry) (levels_left cutting.entry.levels.items)) cutting.entry next) }
 {
     match part {
         Part::End => end_level(cutting, level),
-        Part::Variable(variable) => { Ok(add_place(cutting, Atom::Take(variable), level)?) }
-        Part::Token(leaves) => Ok(add_place(cutting, Atom::Same(leaves), level)?),
-        Part::Subtree(kind, inner) => Ok(enter_subtree(alloc, cutting, level, kind, inner)?),
-        Part::Repetition(inner, tail) => Ok(enter_repetition(alloc, cutting, level, inner, tail)?),
+        Part::Variable(variable) => add_place(cutting, Atom::Take(variable), level),
+        Part::Token(leaves) => add_place(cutting, Atom::Same(leaves), level),
+        Part::Subtree(kind, inner) => enter_subtree(alloc, cutting, level, kind, inner),
+        Part::Repetition(inner, tail) => enter_repetition(alloc, cutting, level, inner, tail),
     }
 }
 
-/// The pieces of the pattern that the trees spell. A repetition that may take no tree is refused.
-pub(crate) fn cut(alloc: Global, pattern: TtIter<'_>) -> Result<Vec<Piece>, PatternError>
-    ensures ok { IfOk result (λ pieces. AreAllPieces (pattern_of (rest_of pattern.entry)) pieces.items) }
-    ensures err { IfErr result (IsPatternError (pattern_of (rest_of pattern.entry))) }
+/// The pieces of the pattern that the trees spell.
+pub(crate) fn cut(alloc: Global, pattern: TtIter<'_>) -> Result<Vec<Piece>, AllocError>
+    ensures { IfOk result (λ pieces. map bit_of pieces.items ≡ all_bits (pattern_of (rest_of pattern.entry))) }
 {
     let whole = Cutting {
         pieces: Vec::new(alloc),

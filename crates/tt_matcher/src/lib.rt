@@ -6,22 +6,17 @@
 mod asks;
 mod binding;
 mod cutting;
-mod error;
 mod linking;
 mod matcher;
-mod parts;
-mod pattern;
 mod pieces;
 mod places;
 mod reading;
-pub mod signs;
 mod steps;
 mod threads;
 mod walking;
 
 pub use binding::{Binding, Found};
-pub use error::PatternError;
 pub use matcher::Matcher;
-pub use pattern::{Fragment, RepeatKind, Variable};
 pub use steps::Binder;
+pub use tt_pattern::{Fragment, GrammarFragment, PatternError, RepeatKind, Variable};
 pub use walking::Mark;

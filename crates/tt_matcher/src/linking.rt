@@ -3,13 +3,12 @@ ghost use Rattle.std.specs.Prelude.{◌≡◌, IfOk, map};
 ghost use Rattle.tt_matcher.specs.Linking.{made_with, made_of, nothing_made, made_by, again_from};
 ghost use Rattle.tt_matcher.specs.Pieces.{bit_of, place, begin, close};
 ghost use Rattle.tt_matcher.specs.Asks.{ask_of};
-ghost use Rattle.tt_matcher.specs.Patterns.{may_be_more};
+ghost use Rattle.tt_pattern.specs.Patterns.{may_be_more};
 
-use crate::pattern::RepeatKind;
 use crate::pieces::Piece;
 use crate::places::{Atom, Place};
-use crate::signs::Tail;
 use std::alloc::{AllocError, Global};
+use tt_pattern::{RepeatKind, Tail};
 
 /// A repetition whose beginning is still to come: where a round may begin, its kind, and what comes behind it.
 #[derive(Drop)]

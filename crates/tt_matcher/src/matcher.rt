@@ -1,20 +1,21 @@
 //! The matcher of a pattern, by which any number of inputs is read.
-ghost use Rattle.std.specs.Prelude.{◌≡◌, IfOk, IfErr};
+ghost use Rattle.std.specs.Prelude.{◌≡◌, None, IfOk, IfErr};
 ghost use Rattle.tt.specs.Iters.{rest_of};
 ghost use Rattle.tt_matcher.specs.Told.{Tells};
-ghost use Rattle.tt_matcher.specs.Matchers.{IsMatcherOf, IsPatternError};
-ghost use Rattle.tt_matcher.specs.Patterns.{Pattern};
-ghost use Rattle.tt_matcher.specs.Spelling.{pattern_of};
+ghost use Rattle.tt_matcher.specs.Matchers.{IsMatcherOf};
+ghost use Rattle.tt_pattern.specs.Faults.{pattern_fault, IsPatternError};
+ghost use Rattle.tt_pattern.specs.Patterns.{Pattern};
+ghost use Rattle.tt_pattern.specs.Spelling.{pattern_of};
 
 use crate::binding::{Found, found_by};
 use crate::cutting::cut;
-use crate::error::PatternError;
 use crate::linking::{Linked, link};
 use crate::places::Place;
 use crate::reading::read_all;
 use crate::steps::{Binder, Step, Stepped, step_by_step};
 use std::alloc::{AllocError, Global};
 use tt::TtIter;
+use tt_pattern::{PatternError, judge};
 
 /// A pattern that is ready to read inputs.
 #[derive(Drop)]
@@ -27,14 +28,16 @@ pub struct Matcher {
 
 impl Matcher {
     /// The matcher of the pattern that the trees spell: `$name:fragment` is a variable, `$( .. )` with a separator, if there is one,
-    /// and `*`, `+` or `?` a repetition, and all else stands for itself.
+    /// and `*`, `+` or `?` a repetition, and all else stands for itself, `$crate` too.
     ///
     /// Time and memory are in proportion to the pattern, and to how many places may come behind each of its parts. It is refused
-    /// where a repetition may take no tree, and where memory is.
+    /// with the first fault in reading order, where the pattern has one, and where memory is.
     pub fn new(alloc: Global, pattern: TtIter<'_>) -> Result<Matcher, PatternError>
         ensures ok { IfOk result (IsMatcherOf (pattern_of (rest_of pattern.entry))) }
-        ensures err { IfErr result (IsPatternError (pattern_of (rest_of pattern.entry))) }
+        ensures sound { IfOk result (λ _. pattern_fault (rest_of pattern.entry) ≡ None) }
+        ensures err { IfErr result (IsPatternError (rest_of pattern.entry)) }
     {
+        judge(alloc, pattern.remaining().iter())?;
         let pieces = cut(alloc, pattern)?;
         let Stepped {
             mut steps,

@@ -2,8 +2,8 @@
 ghost use Rattle.std.specs.Prelude.{◌≡◌, ◌≤◌, length};
 
 use crate::places::Atom;
-use crate::signs::Tail;
 use tt::TtIter;
+use tt_pattern::Tail;
 
 /// A place of that number, or the beginning or the end of a repetition: the number of its separator, its tail, and where a round
 /// may begin.

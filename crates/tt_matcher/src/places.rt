@@ -1,6 +1,6 @@
 //! A pattern as places: what each asks of the trees, and the places that may come next.
-use crate::pattern::Variable;
 use tt::{DelimiterKind, Leaf};
+use tt_pattern::Variable;
 
 /// What a place asks of what is left of an input.
 #[derive(Drop)]

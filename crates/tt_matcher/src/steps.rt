@@ -3,16 +3,15 @@ ghost use Rattle.std.specs.Prelude.{◌≡◌, IfOk, OnOk, map, drop, length};
 ghost use Rattle.tt_matcher.specs.Asks.{ask_of};
 ghost use Rattle.tt_matcher.specs.Linking.{again_from};
 ghost use Rattle.tt_matcher.specs.Marks.{pass_count};
-ghost use Rattle.tt_matcher.specs.Patterns.{may_be_more};
+ghost use Rattle.tt_pattern.specs.Patterns.{may_be_more};
 ghost use Rattle.tt_matcher.specs.Pieces.{bit_of};
 ghost use Rattle.tt_matcher.specs.Stepping.{number_of, step_of, bound_with, placed_with, taken_with, closed_with, with_beginning, taken_of, taken_by, nothing_taken};
 
-use crate::pattern::{Fragment, RepeatKind, Variable};
 use crate::pieces::Piece;
 use crate::places::Atom;
-use crate::signs::Tail;
 use std::alloc::{AllocError, Global};
 use tt::Symbol;
+use tt_pattern::{Fragment, RepeatKind, Tail, Variable};
 
 /// A step of a walk through a pattern.
 #[derive(Clone, Copy)]

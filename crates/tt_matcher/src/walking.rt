@@ -11,11 +11,10 @@ ghost use Rattle.tt_matcher.specs.Places.{front, passed, entered, left};
 ghost use Rattle.tt_matcher.specs.Walking.{Notes, started, spot_of, IsWalked, walked_by, forward, begun, begin_notes, closed, close_notes};
 
 use crate::asks::reach;
-use crate::pattern::Fragment;
-use crate::signs::pass;
 use crate::steps::Step;
 use std::alloc::{AllocError, Global};
 use tt::{TokenTreesView, TtElement, TtIter};
+use tt_pattern::{Fragment, pass};
 
 /// What an input binds, one thing after the other. The parts of a pattern are numbered: a part has as its number how many steps of
 /// the pattern stand behind it.

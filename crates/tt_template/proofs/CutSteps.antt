@@ -1,7 +1,7 @@
 -- Part by part, what is left of a template is cut, and becomes less.
 use Rattle.std.proofs.Common.{◌≡◌, ◌+◌, ◌*◌, ◌<◌, ℕ, suc, List, [], ◌∷◌, ◌++◌, map, Option, ap, sym, ◌∙◌, arith, append_assoc}
 use Rattle.std.proofs.lemmas.List.{reverse-append}
-use Rattle.tt_matcher.specs.declared.signs.Tail.{Tail}
+use Rattle.tt_pattern.specs.declared.signs.Tail.{Tail}
 use Rattle.tt_matcher.specs.Grouping.{Where}
 use Rattle.tt_template.specs.declared.cutting.Level.{Level}
 use Rattle.tt_template.specs.declared.first.First.{First}

@@ -6,10 +6,10 @@ use Rattle.tt.specs.Gluing.{after_trees}
 use Rattle.tt.specs.Moves.{after_tree}
 use Rattle.tt.specs.Types.Delimiter.{Delimiter}
 use Rattle.tt.specs.Types.Leaf.{Leaf}
-use Rattle.tt_matcher.specs.declared.pattern.RepeatKind.{RepeatKind}
+use Rattle.tt_pattern.specs.declared.pattern.RepeatKind.{RepeatKind}
 use Rattle.tt_matcher.specs.Grouping.{Where}
-use Rattle.tt_matcher.specs.Spelling.{Tail, is_dollar, is_crate_in}
-use Rattle.tt_matcher.proofs.Ending.{after_end}
+use Rattle.tt_pattern.specs.Spelling.{Tail, is_dollar, is_crate_in}
+use Rattle.tt_pattern.proofs.Passing.{after_end}
 use Rattle.tt_template.specs.Spelling.{Mark, mark_from, mark_in, mark_length, part_of, variable_in, template_behind, template_until}
 use Rattle.tt_template.specs.Spelling as spelling
 use Rattle.tt_template.specs.Templates.{Template, inner_part}

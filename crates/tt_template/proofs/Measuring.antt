@@ -2,7 +2,7 @@
 use Rattle.std.proofs.Common.{◌≡◌, ◌+◌, ◌-◌, ℕ, suc, List, [], ◌∷◌, drop, map, Option, Some, None, refl, ap, ap₂, sym, ◌∙◌, arith}
 use Rattle.tt.specs.Types.Leaf.{Leaf}
 use Rattle.tt.specs.Types.Span.{Span}
-use Rattle.tt_matcher.specs.declared.pattern.RepeatKind.{RepeatKind}
+use Rattle.tt_pattern.specs.declared.pattern.RepeatKind.{RepeatKind}
 use Rattle.tt_matcher.specs.Bindings.{Binding}
 use Rattle.tt_template.specs.declared.taken.Round.{Round}
 use Rattle.tt_template.specs.Filling.{in_round}

@@ -5,7 +5,7 @@ use Rattle.tt.specs.Forest.{end}
 use Rattle.tt.specs.Siblings.{leaves}
 use Rattle.tt.specs.Types.Leaf.{Leaf}
 use Rattle.tt.specs.Types.Span.{Span}
-use Rattle.tt_matcher.specs.declared.pattern.RepeatKind.{RepeatKind}
+use Rattle.tt_pattern.specs.declared.pattern.RepeatKind.{RepeatKind}
 use Rattle.tt_matcher.specs.Bindings.{Binding}
 use Rattle.tt_template.specs.declared.counting.Count.TheVariants.{Unknown}
 use Rattle.tt_template.specs.declared.taken.Round.{Round}

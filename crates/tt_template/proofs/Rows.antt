@@ -7,7 +7,7 @@ use Rattle.tt.specs.Types.Leaf.TheVariants as leaf_of
 use Rattle.tt.specs.Types.Spacing.TheVariants.{Alone}
 use Rattle.tt_base.specs.Token.{delimiter}
 use Rattle.tt_base.proofs.Samples.{span, punct, ident, subtree}
-use Rattle.tt_matcher.specs.declared.pattern.RepeatKind.TheVariants as repeat
+use Rattle.tt_pattern.specs.declared.pattern.RepeatKind.TheVariants as repeat
 use Rattle.tt_matcher.specs.Bindings.{Bound, one, none, first, Named, Binding}
 use Rattle.tt_matcher.specs.Grouping.{Where}
 use Rattle.tt_template.specs.declared.error.TemplateError.{TemplateError}

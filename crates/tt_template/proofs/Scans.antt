@@ -2,7 +2,7 @@
 use Rattle.std.proofs.Common.{◌≡◌, ℕ, suc, Bool, true, false, List, [], ◌∷◌, ◌++◌, Option, Some, None, Err, refl, ap, sym, ◌∙◌, cond, append_assoc}
 use Rattle.std.proofs.lemmas.List.{append-nil}
 use Rattle.std.specs.Prelude.{nat_eq, slice_get}
-use Rattle.tt_matcher.specs.declared.pattern.RepeatKind.{RepeatKind}
+use Rattle.tt_pattern.specs.declared.pattern.RepeatKind.{RepeatKind}
 use Rattle.tt_matcher.specs.Bindings.{Bound, one, none, first, Named, Binding}
 use Rattle.tt.specs.Types.Leaf.{Leaf}
 use Rattle.tt_template.specs.declared.counting.Count.{Count}

@@ -10,7 +10,7 @@ use Rattle.tt.specs.Types.Delimiter.{Delimiter}
 use Rattle.tt.specs.Types.Leaf.{Leaf}
 use Rattle.tt.specs.Types.Span.{Span}
 use Rattle.tt.specs.Types.TtFault.{TtFault}
-use Rattle.tt_matcher.specs.declared.pattern.RepeatKind.{RepeatKind}
+use Rattle.tt_pattern.specs.declared.pattern.RepeatKind.{RepeatKind}
 use Rattle.tt_matcher.specs.Bindings.{Binding}
 use Rattle.tt_template.specs.declared.fill_error.FillError.TheVariants as error
 use Rattle.tt_template.specs.declared.filling.Filling.{Filling}

@@ -1,7 +1,7 @@
 -- How often a repetition is filled, as its parts are gone through.
 use Rattle.std.specs.Prelude.{ℕ, zero, suc, List, [], ◌∷◌, Result, Ok, Err, nat_eq, if◌then◌else◌}
-use Rattle.tt_matcher.specs.declared.pattern.RepeatKind.{RepeatKind}
-use Rattle.tt_matcher.specs.declared.pattern.RepeatKind.TheVariants.{ZeroOrMore}
+use Rattle.tt_pattern.specs.declared.pattern.RepeatKind.{RepeatKind}
+use Rattle.tt_pattern.specs.declared.pattern.RepeatKind.TheVariants.{ZeroOrMore}
 use Rattle.tt_template.specs.declared.counting.Count.{Count}
 use Rattle.tt_template.specs.declared.counting.Count.TheVariants.{Unknown, Same, Differ}
 use Rattle.tt_template.specs.declared.fill_error.FillError.{FillError}

@@ -1,5 +1,5 @@
 -- What was read of a template, as its definitions have it.
-use Rattle.tt_matcher.specs.Signs.{tail_of}
+use Rattle.tt_pattern.specs.Signs.{tail_of}
 use Rattle.tt_template.specs.declared.first.Mark.{Mark}
 use Rattle.tt_template.specs.declared.first.Mark.TheVariants as mark
 use Rattle.tt_template.specs.Spelling as spelling

@@ -2,7 +2,7 @@
 use Rattle.std.specs.Prelude.{ℕ, List, [], ◌∷◌}
 use Rattle.tt.specs.Types.Delimiter.{Delimiter}
 use Rattle.tt.specs.Types.Leaf.{Leaf}
-use Rattle.tt_matcher.specs.declared.pattern.RepeatKind.{RepeatKind}
+use Rattle.tt_pattern.specs.declared.pattern.RepeatKind.{RepeatKind}
 use Rattle.tt_template.specs.declared.parts.Part.{Part}
 use Rattle.tt_template.specs.declared.parts.Part.TheVariants as part
 use Rattle.tt_template.specs.Templates.{Template, nothing, use_of, token, subtree, repetition}

@@ -7,7 +7,7 @@ use Rattle.tt.specs.Types.Ident.{Ident}
 use Rattle.tt.specs.Types.Leaf.{Leaf}
 use Rattle.tt_matcher.specs.Bindings.{is_name}
 use Rattle.tt_matcher.specs.Grouping.{Where}
-use Rattle.tt_matcher.specs.Spelling.{Tail, tail_length, repetition_in, is_crate_in, is_dollar}
+use Rattle.tt_pattern.specs.Spelling.{Tail, tail_length, repetition_in, is_crate_in, is_dollar}
 use Rattle.tt_template.specs.Templates.{Template, inner_part}
 use Rattle.tt_template.specs.Templates as template
 

@@ -8,7 +8,7 @@ use Rattle.tt.specs.Types.Leaf.{Leaf}
 use Rattle.tt.specs.Types.Span.{Span}
 use Rattle.tt.specs.Types.TtFault.{TtFault}
 use Rattle.tt.specs.Types.TtFault.TheVariants as limit
-use Rattle.tt_matcher.specs.declared.pattern.RepeatKind.{RepeatKind}
+use Rattle.tt_pattern.specs.declared.pattern.RepeatKind.{RepeatKind}
 use Rattle.tt_matcher.specs.Bindings.{Bound, Binding}
 use Rattle.tt_template.specs.declared.fill_error.FillError.{FillError}
 use Rattle.tt_template.specs.declared.fill_error.FillError.TheVariants as error

@@ -1,7 +1,7 @@
 -- What is left of a template's trees, level by level.
 use Rattle.std.specs.Prelude.{◌≡◌, List, [], ◌∷◌, ◌++◌, map, reverse, Option, None, Some}
 use Rattle.tt.specs.Iters.{rest_of}
-use Rattle.tt_matcher.specs.declared.signs.Tail.{Tail}
+use Rattle.tt_pattern.specs.declared.signs.Tail.{Tail}
 use Rattle.tt_matcher.specs.Grouping.{Where}
 use Rattle.tt_template.specs.declared.cutting.Cutting.{Cutting}
 use Rattle.tt_template.specs.declared.cutting.Level.{Level}

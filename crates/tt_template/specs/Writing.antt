@@ -4,7 +4,7 @@ use Rattle.tt.specs.Building.{Stack, append, close_innermost}
 use Rattle.tt.specs.Siblings.{leaves}
 use Rattle.tt.specs.Types.Leaf.{Leaf}
 use Rattle.tt.specs.Types.Span.{Span}
-use Rattle.tt_matcher.specs.declared.pattern.RepeatKind.{RepeatKind}
+use Rattle.tt_pattern.specs.declared.pattern.RepeatKind.{RepeatKind}
 use Rattle.tt_matcher.specs.Bindings.{Binding}
 use Rattle.tt_template.specs.declared.filling.Filling.{Filling}
 use Rattle.tt_template.specs.Filling.{FillFault, Filled, filled, more_rounds}

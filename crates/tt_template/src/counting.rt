@@ -10,7 +10,7 @@ ghost use Rattle.tt_template.specs.Rounds.{AreTaken, binding_in, dones, seen_as}
 use crate::fill_error::FillError;
 use crate::parts::Part;
 use crate::taken::{Round, Seen, Taken, seen_in};
-use tt_matcher::RepeatKind;
+use tt_pattern::RepeatKind;
 
 /// How many rounds some variables have: none of them has rounds, all have so many, or some have more than others.
 #[derive(Clone, Copy)]

@@ -12,7 +12,7 @@ use crate::parts::Part;
 use std::alloc::{AllocError, Global};
 use tt::TtIter;
 use tt_matcher::Binder;
-use tt_matcher::signs::Tail;
+use tt_pattern::Tail;
 
 /// What is left of a subtree or a repetition, the flat place behind it, and the tail of a repetition.
 #[derive(Drop)]

@@ -3,7 +3,7 @@ ghost use Rattle.std.specs.Prelude.{◌≡◌, ◌-◌, ◌∷◌, [], true, map
 ghost use Rattle.std.specs.List.{position};
 ghost use Rattle.tt.specs.Forest.{leaf, size};
 ghost use Rattle.tt.specs.Iters.{rest_of};
-ghost use Rattle.tt_matcher.specs.Spelling.{is_dollar};
+ghost use Rattle.tt_pattern.specs.Spelling.{is_dollar};
 ghost use Rattle.tt_matcher.specs.Stepping.{where_of};
 ghost use Rattle.tt_template.specs.Spelling.{template_until, has_name, variable_in, mark_in};
 ghost use Rattle.tt_template.specs.Stepping.{IsFirst};
@@ -12,7 +12,7 @@ ghost use Rattle.tt_template.specs.Marks.{mark_of};
 use std::alloc::{AllocError, Global};
 use tt::{Delimiter, Leaf, Symbol, TtElement, TtIter};
 use tt_matcher::Binder;
-use tt_matcher::signs::{Tail, is_crate_in, is_dollar, pass, repetition_in};
+use tt_pattern::{Tail, is_crate_in, is_dollar, pass, repetition_in};
 
 /// The part of a template that comes first. A use and a repetition have the flat place of their `$`, and what a subtree or a repetition
 /// holds has the one behind its last token.

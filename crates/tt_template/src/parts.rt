@@ -1,6 +1,6 @@
 //! A template as a flat list of parts.
 use tt::{Delimiter, Leaf};
-use tt_matcher::signs::Tail;
+use tt_pattern::Tail;
 
 /// A part of a template.
 #[derive(Drop)]

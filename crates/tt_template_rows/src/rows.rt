@@ -1,8 +1,8 @@
 //! Templates, each with a pattern and its parts, or what is wrong with it and where.
 use std::alloc::Global;
 use std::test::Fail;
-use tt_matcher::signs::Tail;
-use tt_matcher::{Binder, RepeatKind};
+use tt_matcher::Binder;
+use tt_pattern::{RepeatKind, Tail};
 use tt_template::{Part, Template, TemplateError};
 
 use crate::texts::{holds, matcher_of, tree_of};

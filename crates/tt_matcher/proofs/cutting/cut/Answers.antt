@@ -2,7 +2,7 @@ use Rattle.std.proofs.Common.{rules, ◌≡◌, [], ◌∷◌, ◌++◌, map, ap
 use Rattle.tt.specs.Iters.{rest_of}
 use Rattle.tt_matcher.specs.Cutting.{level_left, levels_left, stepped, with_rest}
 use Rattle.tt_matcher.specs.Pieces.{bit_of}
-use Rattle.tt_matcher.specs.Spelling.{pattern_of}
+use Rattle.tt_pattern.specs.Spelling.{pattern_of}
 use Rattle.tt_matcher.proofs.CutLevels.{levels_last}
 use Rattle.tt_matcher.proofs.CutWhole.{Cut, cut_more, cut_same}
 use Rattle.tt_matcher.proofs.cutting.cut.Goals as goal
@@ -22,7 +22,7 @@ loop-level-preserved c =
     subst (Cut pattern (map bit_of old.pieces.items) old.count) left c.loop-level.invariant in
     let step = stepped found old.count (with_rest (level_left level) others) (levels_left popped) in
     let next = c.in_ok-cutting-2.cutting in
-    let made = c.in_ok-cutting-2.ensures.ok in
+    let made = c.in_ok-cutting-2.ensures in
     cut_same pattern (map bit_of old.pieces.items ++ step.bits) (map bit_of next.pieces.items) step.count next.count step.levels (levels_left next.levels.items)
     made.bits made.count made.levels
-    (cut_more pattern whole others (map bit_of old.pieces.items) old.count (level_left level) (levels_left popped) found c.in_ok-part.ensures.part c.in_ok-cutting-2.ensures.full it)
+    (cut_more pattern whole others (map bit_of old.pieces.items) old.count (level_left level) (levels_left popped) found c.in_ok-part.ensures.part it)

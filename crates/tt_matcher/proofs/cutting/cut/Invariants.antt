@@ -3,7 +3,7 @@ use Rattle.std.proofs.Common.{map}
 use Rattle.tt.specs.Iters.{rest_of}
 use Rattle.tt_matcher.specs.Cutting.{levels_left}
 use Rattle.tt_matcher.specs.Pieces.{bit_of}
-use Rattle.tt_matcher.specs.Spelling.{pattern_of}
+use Rattle.tt_pattern.specs.Spelling.{pattern_of}
 use Rattle.tt_matcher.proofs.CutWhole.{Cut, work_of}
 use Rattle.tt_matcher.proofs.cutting.cut.Given as goal
 

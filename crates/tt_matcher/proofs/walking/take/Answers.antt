@@ -4,7 +4,7 @@ use Rattle.tt.specs.Gluing.{after_trees}
 use Rattle.tt.specs.Iters.{rest_of, saved_of}
 use Rattle.tt.specs.Views.{trees_of}
 use Rattle.tt_matcher.specs.Fragments.{front_trees}
-use Rattle.tt_matcher.proofs.FirstTrees.{front_joined, front_told}
+use Rattle.tt_matcher.proofs.FrontTrees.{front_joined, front_told}
 use Rattle.tt_matcher.proofs.walking.take.Goals as goal
 
 pub from_savepoint-requires : goal.from_savepoint-requires

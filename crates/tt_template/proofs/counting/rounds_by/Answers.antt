@@ -1,5 +1,5 @@
 use Rattle.std.proofs.Common.{rules, ◌≡◌, refl, ap₂}
-use Rattle.tt_matcher.specs.declared.pattern.RepeatKind.TheVariants.{OneOrMore}
+use Rattle.tt_pattern.specs.declared.pattern.RepeatKind.TheVariants.{OneOrMore}
 use Rattle.tt_template.specs.declared.counting.Count.TheVariants.{Same, Differ}
 use Rattle.tt_template.specs.Counting.{rounds_by}
 use Rattle.tt_template.specs.Filling.{lengths_differ, no_round}

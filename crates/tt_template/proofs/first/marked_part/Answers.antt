@@ -4,7 +4,7 @@ use Rattle.tt.specs.Gluing.{after_trees}
 use Rattle.tt.specs.Iters.{rest_of, IsFirstSubtree}
 use Rattle.tt.specs.Moves.{after_tree}
 use Rattle.tt_matcher.specs.Stepping.{where_of}
-use Rattle.tt_matcher.proofs.FirstTrees.{node_before}
+use Rattle.tt_pattern.proofs.FirstTrees.{node_before}
 use Rattle.tt_template.specs.Spelling.{mark_in, template_until}
 use Rattle.tt_template.specs.Spelling as spelling
 use Rattle.tt_template.specs.Templates as template

@@ -4,7 +4,7 @@ use Rattle.tt.specs.Iters.{rest_of, IsFirstElement}
 use Rattle.tt.specs.Moves.{after_tree}
 use Rattle.tt.specs.Types.TtElement.TheVariants as element
 use Rattle.tt_matcher.specs.Stepping.{where_of}
-use Rattle.tt_matcher.proofs.FirstTrees.{leaf_before}
+use Rattle.tt_pattern.proofs.FirstTrees.{leaf_before}
 use Rattle.tt_template.specs.Spelling.{template_until}
 use Rattle.tt_template.specs.Stepping.{IsFirst}
 use Rattle.tt_template.proofs.first.next_part.Goals as goal

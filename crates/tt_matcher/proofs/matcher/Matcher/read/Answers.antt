@@ -2,7 +2,7 @@ use Rattle.std.proofs.Common.{rules, ◌≡◌, subst, ◌∙◌}
 use Rattle.std.specs.Prelude.{IfOk}
 use Rattle.tt.specs.Iters.{rest_of}
 use Rattle.tt_matcher.specs.Levels.{Finds}
-use Rattle.tt_matcher.specs.Patterns.{Pattern, IsFull}
+use Rattle.tt_pattern.specs.Patterns.{Pattern, IsFull}
 use Rattle.tt_matcher.specs.Places.{ReadsAll}
 use Rattle.tt_matcher.specs.Steps.{steps_of}
 use Rattle.tt_matcher.specs.Told.{Tells, TellsPaths}

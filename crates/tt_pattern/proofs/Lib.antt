@@ -1,0 +1,8 @@
+pub mod FirstSteps
+pub mod FirstTrees
+pub mod GluedSizes
+pub mod JudgeSteps
+pub mod PartSteps
+pub mod Passing
+pub mod Plain
+pub mod Rows

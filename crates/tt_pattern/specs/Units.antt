@@ -1,0 +1,78 @@
+-- Which leaves at the front of trees stand as one token, and when they are those of a pattern.
+use Rattle.std.specs.Prelude.{◌≡◌, ◌==◌, ℕ, zero, suc, Bool, List, [], ◌∷◌, length, is_some, if◌then◌else◌}
+use Rattle.tt.specs.Expectations.{first_leaf_as, as_punct, as_ident_or_underscore, is_punct_of}
+use Rattle.tt.specs.Forest.{Forest, end, leaf, node}
+use Rattle.tt.specs.Gluing.{glued_from}
+use Rattle.tt.specs.Moves.{after_tree}
+use Rattle.tt.specs.Literal.{kind_of, text_of, suffix_of}
+use Rattle.tt.specs.Types.DelimiterKind.{DelimiterKind}
+use Rattle.tt.specs.Types.Leaf.{Leaf}
+use Rattle.tt.specs.Types.Leaf.TheVariants as leaf_of
+
+-- the character `'`
+abbrev pub quote : ℕ
+quote = 39
+
+-- an ident stands first
+abbrev pub is_at_ident : Forest → Bool
+is_at_ident trees = is_some (first_leaf_as as_ident_or_underscore trees)
+
+-- a punct of that character stands first
+abbrev pub is_at_punct : (chars : List ℕ) → Forest → Bool
+is_at_punct chars trees = is_punct_of chars (first_leaf_as as_punct trees)
+
+-- how many leaves stand as one with a leaf, before these siblings: puncts that are glued, a `'` and its ident, or it alone
+abbrev pub unit_from : Leaf → (behind : Forest) → ℕ
+unit_from (leaf_of.Literal it) behind = 1
+unit_from (leaf_of.Punct it) behind = if it.char == quote then (if is_at_ident behind then 2 else 1) else length (glued_from it behind)
+unit_from (leaf_of.Ident it) behind = 1
+
+-- how many trees stand as one at the front: those of a token, or a subtree
+abbrev pub unit_size : Forest → ℕ
+unit_size end = 1
+unit_size (leaf it rest) = unit_from it rest
+unit_size (node delimiter children rest) = 1
+
+-- so many leaves at the front, if there are as many
+abbrev pub front_leaves : ℕ → Forest → List Leaf
+front_leaves zero trees = []
+front_leaves (suc n) end = []
+front_leaves (suc n) (leaf it rest) = it ∷ front_leaves n rest
+front_leaves (suc n) (node delimiter children rest) = []
+
+-- the leaves of the first token; none where there is no leaf
+abbrev pub first_unit : Forest → List Leaf
+first_unit trees = front_leaves (unit_size trees) trees
+
+-- the leaves are the same, spans and spacing put aside
+abbrev pub IsSameLeaf : Leaf → Leaf → Type 0
+IsSameLeaf (leaf_of.Literal a) (leaf_of.Literal b) = (kind_of a ≡ kind_of b) × (text_of a ≡ text_of b) × (suffix_of a ≡ suffix_of b)
+IsSameLeaf (leaf_of.Literal a) (leaf_of.Punct b) = ⊥
+IsSameLeaf (leaf_of.Literal a) (leaf_of.Ident b) = ⊥
+IsSameLeaf (leaf_of.Punct a) (leaf_of.Literal b) = ⊥
+IsSameLeaf (leaf_of.Punct a) (leaf_of.Punct b) = a.char ≡ b.char
+IsSameLeaf (leaf_of.Punct a) (leaf_of.Ident b) = ⊥
+IsSameLeaf (leaf_of.Ident a) (leaf_of.Literal b) = ⊥
+IsSameLeaf (leaf_of.Ident a) (leaf_of.Punct b) = ⊥
+IsSameLeaf (leaf_of.Ident a) (leaf_of.Ident b) = (a.sym ≡ b.sym) × (a.is_raw ≡ b.is_raw)
+
+-- the first tree is a leaf that is the same
+abbrev pub IsLeafLike : Leaf → Forest → Type 0
+IsLeafLike it end = ⊥
+IsLeafLike it (leaf other rest) = IsSameLeaf it other
+IsLeafLike it (node delimiter children rest) = ⊥
+
+-- the first trees are leaves that are the same, one by one
+abbrev pub AreLeavesLike : List Leaf → Forest → Type 0
+AreLeavesLike [] trees = Unit {0}
+AreLeavesLike (it ∷ others) trees = IsLeafLike it trees × AreLeavesLike others (after_tree trees)
+
+-- the first token has just these leaves
+abbrev pub IsUnitLike : List Leaf → Forest → Type 0
+IsUnitLike its trees = (unit_size trees ≡ length its) × AreLeavesLike its trees
+
+-- the first tree is a subtree of that kind
+abbrev pub IsNodeOf : DelimiterKind → Forest → Type 0
+IsNodeOf kind end = ⊥
+IsNodeOf kind (leaf it rest) = ⊥
+IsNodeOf kind (node delimiter children rest) = delimiter.kind ≡ kind

@@ -1,0 +1,50 @@
+//! What a pattern is made of.
+use tt::Symbol;
+
+/// What a variable takes.
+#[derive(Clone, Copy)]
+pub enum Fragment {
+    /// An ident other than `_`.
+    Ident,
+    /// A literal, a truth value, or a number behind `-`.
+    Literal,
+    /// A `'` and its ident.
+    Lifetime,
+    /// A subtree in braces.
+    Block,
+    /// Any token or subtree.
+    Tt,
+}
+
+/// A variable of a pattern. One that is written `_` has no name.
+#[derive(Drop)]
+pub struct Variable {
+    pub name: Option<Symbol>,
+    pub fragment: Fragment,
+}
+
+/// How many rounds a repetition has.
+#[derive(Clone, Copy)]
+pub enum RepeatKind {
+    /// `*`: any number.
+    ZeroOrMore,
+    /// `+`: one or more.
+    OneOrMore,
+    /// `?`: none or one.
+    ZeroOrOne,
+}
+
+/// A fragment of Rust's grammar. None of them is supported yet.
+#[derive(Debug, Clone, Copy, PartialEq, Eq)]
+pub enum GrammarFragment {
+    Expr,
+    Expr2021,
+    Ty,
+    Pat,
+    PatParam,
+    Path,
+    Stmt,
+    Item,
+    Meta,
+    Vis,
+}
