@@ -7,7 +7,8 @@ pub mod Faults
 pub mod Flat
 pub mod Growing
 pub mod Holding
-pub mod Marks
+pub mod MadeOf
+mod Marks
 pub mod Reading
 pub mod Refusing
 pub mod Standing

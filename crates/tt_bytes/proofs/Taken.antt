@@ -8,13 +8,13 @@ use Rattle.tt_base.specs.declared.ident.Ident.{Ident}
 use Rattle.tt_base.specs.declared.ident.IdentIsRaw.{IdentIsRaw}
 use Rattle.tt_base.specs.declared.leaf.Leaf.TheVariants as leaf
 use Rattle.tt_base.specs.declared.literal.LitKind.{LitKind}
+use Rattle.tt_base.specs.declared.literal.Literal.{Literal}
 use Rattle.tt_base.specs.declared.punct.Punct.{Punct}
 use Rattle.tt_base.specs.declared.punct.Spacing.{Spacing}
 use Rattle.tt_base.specs.declared.span.SpanPart.{SpanPart}
 use Rattle.tt_base.specs.declared.token_tree.TokenTree.{TokenTree}
 use Rattle.tt_base.specs.declared.token_tree.TokenTree.TheVariants as token
-use Rattle.tt_base.specs.Fits.{SpanInRange}
-use Rattle.tt_base.specs.Literal.{symbol_of, span_of}
+use Rattle.tt_base.specs.Literal.{CutsText}
 use Rattle.tt_base.specs.Span.{part_of}
 use Rattle.tt_bytes.specs.declared.uses.SymbolUses.{SymbolUses}
 use Rattle.tt_bytes.specs.Uses.{ArePlaced, AreUsed, UsesSpan, HaveUses, UsesSymbol, Stay}
@@ -28,8 +28,6 @@ use Rattle.tt_interned.specs.Held.{whole}
 use Rattle.tt_interned.specs.Names.{Names, AllName}
 use Rattle.tt_interned.proofs.Naming.{all_stay, keep_all, named-push}
 use Rattle.tt_interned.proofs.Using.{uses_pushed}
-use Rattle.tt_tables.proofs.Lookups.{span_from}
-use Rattle.tt_tables.specs.Searches.{FindsSpan, IsLeaf}
 use Rattle.tt_tables.specs.TableOrder.{different, uses_of}
 use Rattle.tt_tables.specs.Tables.{tables_from}
 use Rattle.tt_tables.specs.Uses.{same_part, token_parts, token_symbols, part_uses, symbol_uses}
@@ -123,33 +121,20 @@ taken_ident tokens more parts counts counts_now table old new symbol place raw s
       one.used.placed,
     )
 
--- the numbers name a literal under the tables
-abbrev pub IsLiteralOf : (parts : List SpanPart) (table : List (List ℕ)) (symbol : ℕ) (kind : LitKind) (suffix_len : ℕ) (span : SpanNumbers) → TokenTree → Type 0
-IsLiteralOf parts table symbol kind suffix_len span it = IsLeaf (tables_from parts table) (literal symbol kind suffix_len span) it
-
 -- A literal.
 pub taken_literal : (tokens more : List InternedToken) (parts : List SpanPart) (counts counts_now : List ℕ) (table : List (List ℕ)) (old new : SymbolUses) (symbol place : ℕ) (kind : LitKind) (suffix_len : ℕ) (span : SpanNumbers)
-    (it : TokenTree) → IsLiteralOf parts table symbol kind suffix_len span it
+    → ((text : List ℕ) → slice_get table symbol ≡ Some text → CutsText text suffix_len)
     → IsDistinct bytes_eq table → length old.places.items ≡ length table → ArePlaced table old.places.items old.order.items → IsListOf tokens parts counts old.order.items old.numbers.items
     → ((before : List SpanPart) → AreUsed parts counts before → UsesSpan parts span counts_now before)
     → ((before : List (List ℕ)) → HaveUses table old before → UsesSymbol table symbol place old new before)
     → more ≡ tokens ++ interned.Leaf (literal place kind suffix_len span) ∷ [] → IsTaken more parts counts_now table new
-taken_literal tokens more parts counts counts_now table old new symbol place kind suffix_len span (token.Subtree it) is distinct long placed has uses names grown = absurd is
-taken_literal tokens more parts counts counts_now table old new symbol place kind suffix_len span (token.Leaf (leaf.Punct it)) is distinct long placed has uses names grown = absurd is
-taken_literal tokens more parts counts counts_now table old new symbol place kind suffix_len span (token.Leaf (leaf.Ident it)) is distinct long placed has uses names grown = absurd is
-taken_literal tokens more parts counts counts_now table old new symbol place kind suffix_len span (token.Leaf (leaf.Literal it)) is distinct long placed (list, are) uses names grown =
+taken_literal tokens more parts counts counts_now table old new symbol place kind suffix_len span cuts distinct long placed (list, are) uses names grown =
     let part = uses (part_uses list) (parts_used tokens parts counts old.order.items old.numbers.items list are) in
     let one = names (symbol_uses list) (symbols_used table old tokens parts counts list distinct long placed are) in
-    let found = part.found table in
-    let same_span : part.span ≡ span_of it =
-    span_from part.span (span_of it) (one_there parts span.part (part_of part.span) (part_of (span_of it)) found.part is.0.part) (sym found.start ∙ is.0.start) (sym found.length ∙ is.0.length) in
-    let same_text : one.text ≡ symbol_of it = one_there table symbol one.text (symbol_of it) one.there is.1 in
-    let used = subst (λ s. AreUsed parts counts_now (part_uses list ++ part_of s ∷ [])) same_span part.used in
-    let symbols = subst (λ t. HaveUses table new (symbol_uses list ++ t ∷ [])) same_text one.used in
-    let stands : slice_get new.order.items place ≡ Some (symbol_of it) = one.stands ∙ ap Some same_text in
-    let finds : FindsSpan (tables_from parts new.order.items) span (span_of it) = subst (FindsSpan (tables_from parts new.order.items) span) same_span (part.found new.order.items) in (
-      taken tokens more parts counts counts_now old.order.items new.order.items old.numbers.items new.numbers.items list _ (token.Leaf (leaf.Literal it)) are grown used
-          symbols.in_order symbols.counted one.stay ((finds, stands, is.2, is.3), subst SpanInRange same_span part.range),
+    let cut = cuts one.text one.there in
+    let it : Literal = record { symbol = one.text; span = part.span; kind = kind; suffix_len = suffix_len; fits = cut.0; cuts = cut.1 } in (
+      taken tokens more parts counts counts_now old.order.items new.order.items old.numbers.items new.numbers.items list _ (token.Leaf (leaf.Literal it)) are grown part.used
+          one.used.in_order one.used.counted one.stay ((part.found new.order.items, one.stands, refl, refl), part.range),
       one.used.long,
       one.used.placed,
     )

@@ -1,8 +1,10 @@
 -- What stands behind a value at the front of some bytes.
 use Rattle.std.specs.Borrow.{Bor}
-use Rattle.std.specs.Prelude.{◌≡◌, ◌≢◌, ◌<◌, ◌^◌, ℕ, List, ◌++◌, length, Option, MatchOption}
-use Rattle.tt_bytes.specs.Format.{mark, number_bytes, parts_bytes, symbols_bytes, PieceFits}
-use Rattle.tt_tables.specs.Stored.{Stored}
+use Rattle.std.specs.Prelude.{◌≡◌, ◌≢◌, ◌<◌, ◌^◌, ℕ, List, [], ◌++◌, length, Option, MatchOption}
+use Rattle.tt_base.specs.Forest.{Root}
+use Rattle.tt_bytes.specs.Format.{mark, number_bytes, parts_bytes, symbols_bytes, piece, PieceFits}
+use Rattle.tt_bytes.specs.Front.{Held}
+use Rattle.tt_tables.specs.Stored.{Stored, packed}
 
 -- what stands behind the bytes of a value, if it fits and they stand at the front; else none
 abbrev pub IsBehind : (Fits : Type 0) → (value from : List ℕ) → Option (Bor (List ℕ)) → Type 0
@@ -25,3 +27,15 @@ front_bytes it = mark ++ counts_bytes (length it.parts) (length it.symbols) (len
 -- four bytes have room for each number of the piece
 abbrev pub StoredFits : Stored → Type 0
 StoredFits it = PieceFits it.parts it.symbols it.bytes
+
+-- the bytes are the piece of what they hold, and what stands behind its end
+pub record IsMadeOf (it : Held) (bytes : List ℕ) : Type 0 where
+  pub fits : PieceFits it.parts it.symbols it.packed
+  pub is : bytes ≡ piece it.parts it.symbols it.packed ++ it.behind
+
+-- the piece holds what is stored for the tree, and nothing stands behind its end
+pub record IsStoredIn (root : Root) (it : Held) : Type 0 where
+  pub parts : it.parts ≡ (packed root).parts
+  pub symbols : it.symbols ≡ (packed root).symbols
+  pub below : it.packed ≡ (packed root).bytes
+  pub none : it.behind ≡ []

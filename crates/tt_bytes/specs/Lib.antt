@@ -1,5 +1,6 @@
 pub mod Behind
 pub mod Decoding
+pub mod Digest
 pub mod Faults
 pub mod Format
 pub mod Front

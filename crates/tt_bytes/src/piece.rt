@@ -1,6 +1,7 @@
 //! What a piece of bytes holds.
 ghost use Rattle.std.specs.Prelude.{◌≡◌, ◌⊎◌, ◌+◌, ◌≤◌, length, Ok, Err, IfOk, MatchResult};
 ghost use Rattle.tt_bytes.specs.declared.fault.BytesFault.TheVariants.{Memory};
+ghost use Rattle.tt_bytes.specs.Behind.{IsMadeOf};
 ghost use Rattle.tt_bytes.specs.Front.{held, held_in};
 
 use crate::fault::BytesFault;
@@ -22,6 +23,7 @@ impl<'a> Piece<'a> {
     /// What the bytes hold.
     pub(crate) fn read(alloc: Global, bytes: &'a [u8]) -> Result<Piece<'a>, BytesFault>
         ensures value { MatchResult result (λ it. held bytes.now ≡ Ok (held_in it)) (λ fault. (fault ≡ Memory) ⊎ (held bytes.now ≡ Err fault)) }
+        ensures whole { IfOk result (λ it. IsMadeOf (held_in it) bytes.now) }
         ensures len { IfOk result (λ it. length it.packed.now + length it.behind.now ≤ length bytes.now) }
     {
         let all = bytes.len();

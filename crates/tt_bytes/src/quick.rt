@@ -1,13 +1,14 @@
 //! The tree of a piece, made by the places of values. It is taken only where its own bytes are those of the piece, so what is
 //! read of the piece before that has to be some tree, whichever.
 ghost use Rattle.std.specs.List.{IsDistinct};
-ghost use Rattle.std.specs.Prelude.{◌≡◌, bytes_eq, IfOk, IfSome};
+ghost use Rattle.std.specs.Prelude.{◌≡◌, ℕ, List, bytes_eq, IfOk, IfSome, IsTrue};
 ghost use Rattle.tt_base.specs.Forest.{Root};
+ghost use Rattle.tt_bytes.specs.Behind.{IsMadeOf, IsStoredIn};
 ghost use Rattle.tt_bytes.specs.Format.{AreBytesOf};
+ghost use Rattle.tt_bytes.specs.Front.{held_in};
 ghost use Rattle.tt_tables.specs.Uses.{same_part};
 
-use crate::compare::are_bytes_of;
-use crate::distinct::all_differ;
+use crate::distinct::{all_differ, symbols_differ};
 use crate::piece::Piece;
 use crate::taking::Taking;
 use crate::whole::are_whole;
@@ -38,6 +39,7 @@ fn split_top<'a>(
 }
 
 // So many tokens that stand at the front of the bytes, up to one that does not fit.
+#[inline(never)]
 fn take_tokens<'a>(
     alloc: Global,
     tables: Tables<'a>,
@@ -87,7 +89,7 @@ fn quick_tree(
         return Ok(None);
     };
     let tables = Tables::new(&parts[..below], symbols);
-    if !all_differ(alloc, tables.parts)? || !all_differ(alloc, tables.symbols)? {
+    if !all_differ(alloc, tables.parts)? || !symbols_differ(alloc, tables.symbols)? {
         return Ok(None);
     }
     let Some((top, rest)) = split_top(parts, symbols, packed) else {
@@ -101,19 +103,32 @@ fn quick_tree(
     tree_of_tokens(alloc, top.delimiter, &taking)
 }
 
+// Whether a piece holds what is stored for the tree, and nothing stands behind its end.
+fn is_stored_in(tree: &TopSubtree, piece: &Piece<'_>) -> bool
+    ensures is { IsTrue result → (bytes : List ℕ) → IsMadeOf (held_in piece.now) bytes → AreBytesOf tree.now bytes }
+    ensures only { IsStoredIn tree.now (held_in piece.now) → IsTrue result }
+{
+    if !piece.behind.is_empty() || tree.packed_bytes() != piece.packed {
+        return false;
+    }
+    if tree.span_part_table() != piece.parts.as_slice() {
+        return false;
+    }
+    tree.symbol_table() == piece.symbols.as_slice()
+}
+
 /// The tree of a piece, where these are its bytes. There may be none also where they are those of a tree.
 pub(crate) fn stored_tree(
     alloc: Global,
     piece: &Piece<'_>,
-    bytes: &[u8],
 ) -> Result<Option<TopSubtree>, AllocError>
-    ensures is { IfOk result (λ found. IfSome found (λ tree. AreBytesOf tree bytes.now)) }
-    ensures only { IfOk result (λ found. IfSome found (λ tree. (other : Root) → AreBytesOf other bytes.now → other ≡ tree)) }
+    ensures is { (bytes : List ℕ) → IsMadeOf (held_in piece.now) bytes → IfOk result (λ found. IfSome found (λ tree. AreBytesOf tree bytes)) }
+    ensures only { (bytes : List ℕ) → IsMadeOf (held_in piece.now) bytes → IfOk result (λ found. IfSome found (λ tree. (other : Root) → AreBytesOf other bytes → other ≡ tree)) }
 {
     let Some(tree) = quick_tree(alloc, &piece.parts, &piece.symbols, piece.packed)? else {
         return Ok(None);
     };
-    if are_bytes_of(&tree, bytes) {
+    if is_stored_in(&tree, piece) {
         return Ok(Some(tree));
     }
     Ok(None)

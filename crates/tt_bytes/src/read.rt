@@ -34,7 +34,7 @@ pub fn from_bytes(alloc: Global, bytes: &[u8]) -> Result<TopSubtree, BytesFault>
     ensures none { IfErr result (λ fault. (fault ≡ Memory) ⊎ AreBytesOfNone bytes.now) }
 {
     let piece = Piece::read(alloc, bytes)?;
-    if let Some(tree) = stored_tree(alloc, &piece, bytes)? {
+    if let Some(tree) = stored_tree(alloc, &piece)? {
         return Ok(tree);
     }
     let end = bytes.len() - piece.behind.len();

@@ -1,7 +1,8 @@
 //! Tokens that are taken from packed bytes one after the other.
-ghost use Rattle.std.specs.Prelude.{◌≡◌, ◌++◌, ◌∷◌, [], false, bytes_eq, length, IsTrue};
+ghost use Rattle.std.specs.Prelude.{◌≡◌, ℕ, List, Some, ◌++◌, ◌∷◌, [], false, bytes_eq, length, slice_get, IsTrue};
 ghost use Rattle.std.proofs.Props.{props};
 ghost use Rattle.std.specs.List.{IsDistinct};
+ghost use Rattle.tt_base.specs.Literal.{CutsText};
 ghost use Rattle.tt_bytes.specs.Uses.{ArePlaced};
 ghost use Rattle.tt_interned.specs.Counted.{IsListOf};
 ghost use Rattle.tt_interned.specs.OneList.{IsListOf-prop};
@@ -40,6 +41,17 @@ fn put(tokens: &mut Vec<InternedToken>, token: InternedToken) -> bool
     }
     tokens.push_reserved(token);
     true
+}
+
+// Whether a literal may have such a suffix. One with no suffix may have any text.
+#[inline(always)]
+fn is_cut(tables: Tables<'_>, symbol: u32, kind: LitKind, suffix_len: u8, span: SpanNumbers) -> bool
+    ensures { IsTrue result → (text : List ℕ) → slice_get tables.entry.symbols.now symbol ≡ Some text → CutsText text suffix_len }
+{
+    if suffix_len == 0 {
+        return true;
+    }
+    tables.literal(symbol, kind, suffix_len, span).is_some()
 }
 
 impl<'a> Taking<'a> {
@@ -143,10 +155,10 @@ impl<'a> Visitor<'a> for Taking<'a> {
         span: SpanNumbers,
         rest: &'a [u8],
     ) {
-        let Some(_found) = self.tables.literal(symbol, kind, suffix_len, span) else {
+        if !is_cut(self.tables, symbol, kind, suffix_len, span) {
             self.failed = true;
             return;
-        };
+        }
         if !use_span(&mut self.part_uses, span) {
             self.failed = true;
             return;

@@ -1,10 +1,10 @@
--- All values differ where those to come do.
-use Rattle.std.proofs.Common.{length}
+-- All values differ where those to come do, and there alone.
+use Rattle.std.proofs.Common.{◌↔◌, length}
 use Rattle.std.specs.List.{IsDistinct}
 use Rattle.tt_bytes.proofs.distinct.few_differ.Given as goal
 
 abbrev pub invariant-loop-first : goal.invariant-loop-first
-invariant-loop-first g l = record { differ : IsDistinct g.T.PartialEq.eq l.left → IsDistinct g.T.PartialEq.eq l.values }
+invariant-loop-first g l = record { differ : IsDistinct g.T.PartialEq.eq l.left ↔ IsDistinct g.T.PartialEq.eq l.values }
 
 abbrev pub decreases-loop-first : goal.decreases-loop-first
 decreases-loop-first g l = length l.left

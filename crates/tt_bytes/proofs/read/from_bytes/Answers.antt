@@ -115,3 +115,9 @@ returns-then-are_bytes_of-clause-only c other are =
     let same : tables_of c.new-tables.result ≡ tables_in (held_in c.in_ok-piece.piece) = c.new-tables.ensures ∙ ap₂ first_entries c.as_slice.ensures.value c.as_slice-2.ensures.value in
     let tokens = c.in_ok-tokens.ensures.list other (ahead_of other c.args.bytes.now (held_in c.in_ok-piece.piece) _ are c.in_ok-piece.ensures.value same) in
     flat_root-injective other c.in-Ok.tree (sym tokens ∙ c.in-Ok.ensures.ok)
+
+pub returns-in-Some-clause-ok : goal.returns-in-Some-clause-ok
+returns-in-Some-clause-ok c = search (rules, c.in_ok-tree.ensures.is c.args.bytes.now c.in_ok-piece.ensures.whole)
+
+pub returns-in-Some-clause-only : goal.returns-in-Some-clause-only
+returns-in-Some-clause-only c = search (rules, c.in_ok-tree.ensures.only c.args.bytes.now c.in_ok-piece.ensures.whole)

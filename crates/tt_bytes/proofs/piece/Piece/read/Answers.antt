@@ -2,6 +2,7 @@ use Rattle.std.proofs.Common.{rules, ◌≡◌, ◌⊎◌, ◌≤◌, ◌<◌, i
 use Rattle.tt_bytes.specs.declared.fault.BytesFault.TheVariants.{Memory}
 use Rattle.tt_bytes.specs.Front.{counts_at, held}
 use Rattle.tt_bytes.proofs.Holding.{no_mark, marked_held, no_counts, counted, no_parts, parts_there, no_symbols, symbols_there, packed_short, packed_there}
+use Rattle.tt_bytes.proofs.MadeOf.{made_of}
 use Rattle.tt_bytes.proofs.piece.Piece.read.Goals as goal
 
 pub returns-in_err-marked-clause-value : goal.returns-in_err-marked-clause-value
@@ -57,3 +58,7 @@ returns-clause-value c =
     ∙ parts_there (length c.args.bytes.now) c.in-Some.counts c.in-Some.rest.now c.in_ok-parts.rest.now c.in_ok-parts.parts.items c.in_ok-parts.ensures.value
     ∙ symbols_there (length c.args.bytes.now) c.in-Some.counts c.in_ok-parts.parts.items c.in_ok-parts.rest.now c.in_ok-symbols.rest.now c.in_ok-symbols.symbols.items c.in_ok-symbols.ensures.value
     ∙ packed_there (length c.args.bytes.now) c.in-Some.counts.bytes c.in_ok-parts.parts.items c.in_ok-symbols.symbols.items c.in_ok-symbols.rest.now _ _ room front back
+
+pub returns-clause-whole : goal.returns-clause-whole
+returns-clause-whole c =
+    made_of c.args.bytes.now _ (λ i. omega (arith, c.type_inv.bytes i)) (returns-clause-value c)
