@@ -1,0 +1,152 @@
+//! Macros, each with an input and what comes of it, and trees that are no macro.
+use std::alloc::Global;
+use std::test::Fail;
+use tt_macro_rules::{ArmFault, Expansion, MacroRules};
+use tt_pattern::PatternError;
+use tt_template::{FillError, TemplateError};
+
+use crate::texts::{holds, tree_of, written};
+
+// What comes of an input, as a text: its tokens, or that no arm takes it, that the one of that number takes it in two ways, or that it
+// is not filled.
+fn told(alloc: Global, arms: &str, input: &str) -> Option<String> {
+    let arms = tree_of(alloc, arms)?;
+    let input = tree_of(alloc, input)?;
+    let rules = MacroRules::new(alloc, arms.token_trees().iter()).ok()?;
+    match rules.expand(alloc, input.token_trees().iter()) {
+        Ok(Expansion::Tree(tree)) => written(alloc, &tree),
+        Ok(Expansion::NoMatch) => String::from_str_in("no match", alloc).ok(),
+        Ok(Expansion::Ambiguous(arm)) => numbered(alloc, "ambiguous ", arm),
+        Err(error) => match error.fault {
+            FillError::LengthsDiffer(_) => numbered(alloc, "lengths ", error.arm),
+            FillError::NoRound(_) => numbered(alloc, "no round ", error.arm),
+            FillError::Tree(_) => None,
+        },
+    }
+}
+
+// A word, and a small number.
+fn numbered(alloc: Global, word: &str, number: usize) -> Option<String> {
+    let mut text = String::new(alloc);
+    text.push_str(word).ok()?;
+    text.push(char::from_digit(number as u32, 10)?).ok()?;
+    Some(text)
+}
+
+// The first arm that takes the input answers, in the brackets of its template; where it takes it in two ways, no later one does; nor
+// where its template is not filled. A list, a tail, words that are not variables, and macros that people write.
+const EXPANSIONS: [(&str, &str, &str); 18] = [
+    ("() => {}", "", "{0"),
+    ("() => {a};", "", "{1a "),
+    ("[] => (a b)", "", "(2a b "),
+    ("() => {}", "a", "no match"),
+    ("(a) => {1}; (b) => [2]", "b", "[12 "),
+    ("($x:tt) => {1}; (a) => {2}", "a", "{11 "),
+    ("(a) => {2}; ($x:tt) => {1}", "a", "{12 "),
+    ("(a) => {2}; ($x:tt) => {1}", "c", "{11 "),
+    ("(a) => {2}; ($x:tt) => {1}", "c c", "no match"),
+    ("($($x:tt)* $($y:tt)*) => {1}; ($z:tt) => {2}", "a", "ambiguous 0"),
+    ("(b) => {1}; ($(a)? $(a)?) => {2}", "a", "ambiguous 1"),
+    ("($($x:tt)* end) => {$($x)*}", "a end b end", "{3a end b "),
+    (
+        "($($x:ident)* ; $($y:ident)*) => {$($x $y)*}",
+        "a b ; c",
+        "lengths 0",
+    ),
+    ("(b) => {}; ($($x:ident)*) => {$($x)+}", "", "no round 1"),
+    (
+        "($($k:ident => $v:tt),* $(,)?) => {$(f($k, $v);)*}",
+        "a => 1, b => [c],",
+        "{0",
+    ),
+    (
+        "(@sum) => {0}; (@sum $h:literal $($t:literal)*) => {$h + m!(@sum $($t)*)}",
+        "@sum 1 2 3",
+        "{91 + m ! (4@ sum 2 3 ",
+    ),
+    ("(0: $n:ident) => {$crate::$n}", "0: f", "{5$ crate : : f "),
+    ("($($n:ident)|+) => {$(#[$n])+}", "a | b", "{6# [1a # [1b "),
+];
+
+fn are_expanded(alloc: Global) -> bool {
+    for (arms, input, wanted) in &EXPANSIONS {
+        match told(alloc, arms, input) {
+            Some(text) if text.as_str() == *wanted => {}
+            _ => return false,
+        }
+    }
+    true
+}
+
+// The kind of a fault, and its place.
+fn kind_of(fault: ArmFault) -> (&'static str, usize) {
+    match fault {
+        ArmFault::NoPattern(at) => ("no pattern", at),
+        ArmFault::Pattern(error) => pattern_kind(error),
+        ArmFault::NoArrow(at) => ("no arrow", at),
+        ArmFault::NoTemplate(at) => ("no template", at),
+        ArmFault::Template(TemplateError::StillRepeats(at)) => ("still repeats", at),
+        ArmFault::Template(TemplateError::NothingRepeats(at)) => ("nothing repeats", at),
+        ArmFault::NoSemicolon(at) => ("no semicolon", at),
+        ArmFault::Template(TemplateError::Memory) | ArmFault::Memory => ("memory", 0),
+    }
+}
+
+// The same of a pattern's.
+fn pattern_kind(error: PatternError) -> (&'static str, usize) {
+    match error {
+        PatternError::BeginsNothing(at) => ("begins nothing", at),
+        PatternError::UnknownFragment(at) => ("unknown", at),
+        PatternError::UnsupportedFragment(at, _) => ("unsupported", at),
+        PatternError::NameTwice(at) => ("twice", at),
+        PatternError::NeedlessSeparator(at) => ("separator", at),
+        PatternError::EmptyRepetition(at) => ("empty", at),
+        PatternError::Memory => ("memory", 0),
+    }
+}
+
+// What is wrong, with the number of the arm and the place: among all trees what is wrong with the form of an arm, and in a pattern or a
+// template what is wrong with that. A pattern's fault comes before that of the arrow behind it.
+const FAULTS: [(&str, usize, &str, usize); 14] = [
+    ("", 0, "no pattern", 0),
+    (";", 0, "no pattern", 0),
+    ("a", 0, "no pattern", 0),
+    ("(a b)", 0, "no arrow", 3),
+    ("(a b) = > {}", 0, "no arrow", 3),
+    ("(a b) =>", 0, "no template", 5),
+    ("(a b) => c", 0, "no template", 5),
+    ("() => {} () => {}", 0, "no semicolon", 4),
+    ("() => {};;", 1, "no pattern", 5),
+    ("() => {}; (a $) => {}", 1, "begins nothing", 1),
+    ("() => {}; ($x:tt $x:tt) b", 1, "twice", 4),
+    ("(a) => {}; ($x:expr) => {}", 1, "unsupported", 0),
+    ("($($x:tt)*) => {a $x} b", 0, "still repeats", 1),
+    ("(a) => {$(b)*}", 0, "nothing repeats", 0),
+];
+
+// Whether that is wrong.
+fn has_fault(alloc: Global, arms: &str, arm: usize, kind: &str, place: usize) -> Option<bool> {
+    let arms = tree_of(alloc, arms)?;
+    let error = MacroRules::new(alloc, arms.token_trees().iter()).err()?;
+    let (is, at) = kind_of(error.fault);
+    Some((error.arm == arm) & (is == kind) & (at == place))
+}
+
+fn are_faults(alloc: Global) -> bool {
+    for (arms, arm, kind, place) in &FAULTS {
+        if has_fault(alloc, arms, *arm, kind, *place) != Some(true) {
+            return false;
+        }
+    }
+    true
+}
+
+#[test]
+fn macros_expand(rt: HostRuntime) -> Result<(), Fail> {
+    holds(are_expanded(rt.alloc()))
+}
+
+#[test]
+fn the_first_fault_is_told_with_its_arm(rt: HostRuntime) -> Result<(), Fail> {
+    holds(are_faults(rt.alloc()))
+}

@@ -1,0 +1,62 @@
+//! Trees of texts, and trees as texts.
+use std::alloc::Global;
+use std::test::Fail;
+use tt::{
+    DelimiterKind, ErasedFileAstId, FileId, Leaf, SpanAnchor, Subtree, SyntaxContext, TokenTree,
+    TopSubtree,
+};
+use tt_text::parse_to_token_tree;
+
+/// The tree of a text, if it has one.
+pub(crate) fn tree_of(alloc: Global, text: &str) -> Option<TopSubtree> {
+    let anchor = SpanAnchor {
+        file_id: FileId(0),
+        ast_id: ErasedFileAstId(0),
+    };
+    parse_to_token_tree(alloc, anchor, SyntaxContext(0), text).ok()
+}
+
+// How a header is written: its bracket, and how many tokens it holds, which are few.
+fn push_header(text: &mut String, header: &Subtree) -> Option<()> {
+    let bracket = match header.delimiter.kind {
+        DelimiterKind::Parenthesis => '(',
+        DelimiterKind::Brace => '{',
+        DelimiterKind::Bracket => '[',
+        DelimiterKind::Invisible => '<',
+    };
+    text.push(bracket).ok()?;
+    text.push(char::from_digit(header.len, 10)?).ok()
+}
+
+// How a leaf is written: its text, and a space.
+fn push_leaf(text: &mut String, leaf: &Leaf) -> Option<()> {
+    match leaf {
+        Leaf::Ident(ident) => text.push_str(ident.sym.as_str()).ok()?,
+        Leaf::Punct(punct) => text.push(punct.char).ok()?,
+        Leaf::Literal(literal) => text.push_str(literal.text()).ok()?,
+    }
+    text.push(' ').ok()
+}
+
+/// The tokens of a tree as a text, its top's header too.
+pub(crate) fn written(alloc: Global, tree: &TopSubtree) -> Option<String> {
+    let mut text = String::new(alloc);
+    push_header(&mut text, &tree.top_subtree())?;
+    let mut tokens = tree.token_trees().iter_flat_tokens();
+    for token in &mut tokens {
+        match token {
+            TokenTree::Subtree(header) => push_header(&mut text, &header)?,
+            TokenTree::Leaf(leaf) => push_leaf(&mut text, &leaf)?,
+        }
+    }
+    Some(text)
+}
+
+/// A test passes where what it asks is so.
+pub(crate) fn holds(is_so: bool) -> Result<(), Fail> {
+    if is_so {
+        Ok(())
+    } else {
+        Err(Fail::new("a row is answered otherwise"))
+    }
+}
