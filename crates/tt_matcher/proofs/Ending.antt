@@ -2,7 +2,6 @@
 use Rattle.std.proofs.Common.{append-nil, ◌≡◌, inl, inr, ◌+◌, ℕ, suc, zero, Bool, true, false, List, [], ◌∷◌, ◌++◌, Some, None, refl, ap, sym, subst, ◌∙◌, arith, cond}
 use Rattle.std.specs.Prelude.{◌⊎◌, slice_get, Option}
 use Rattle.tt.specs.Forest.{Forest, end}
-use Rattle.tt.specs.Gluing.{after_trees}
 use Rattle.tt.specs.Types.Leaf.{Leaf}
 use Rattle.tt_matcher.specs.Asks.{Ask, ask_of}
 use Rattle.tt_matcher.specs.Asks as ask
@@ -13,9 +12,10 @@ use Rattle.tt_matcher.specs.declared.reading.Choice.{Choice}
 use Rattle.tt_matcher.specs.declared.reading.Choice.TheVariants as choice
 use Rattle.tt_matcher.specs.declared.threads.Thread.{Thread}
 use Rattle.tt_matcher.specs.declared.threads.Turn.{Turn}
-use Rattle.tt_matcher.specs.Fragments.{takes}
+use Rattle.tt_matcher.specs.Fragments.{takes, takes_nothing}
 use Rattle.tt_matcher.specs.Levels.{AreTwo, IsOnly, is_leave_at, with_thread, choice_of}
-use Rattle.tt_matcher.specs.Places.{Passes, passed, onward, OnEdge, Ends, GoesOn, Reads, ReadsAll}
+use Rattle.tt_matcher.specs.Places.{Passes, passed, onward, is_leave, OnEdge, Ends, GoesOn, Reads, ReadsAll}
+use Rattle.tt_matcher.specs.Settling.{asks_nothing, asks_nothing_at, AreSettled}
 use Rattle.tt_matcher.specs.Threads.{View, view_of, views_of, path_to, spread}
 use Rattle.tt_pattern.specs.Units.{IsUnitLike}
 use Rattle.tt_matcher.proofs.Leading.{Config, thread, fan, threads, IsMany, Leads, Has, HasMany, AreApart, Told, told_spread}
@@ -23,12 +23,13 @@ use Rattle.tt_matcher.proofs.Telling as telling
 use Rattle.tt_pattern.proofs.Passing.{after_end}
 
 -- No fragment takes a tree where none is.
-pub takes_none : (which : Fragment) → takes which end ≡ true → ⊥
-takes_none fragment.Ident t = cc t
-takes_none fragment.Literal t = cc t
-takes_none fragment.Lifetime t = cc t
-takes_none fragment.Block t = cc t
-takes_none fragment.Tt t = cc t
+pub takes_none : (which : Fragment) → takes which end ≡ true → takes_nothing which end ≡ false → ⊥
+takes_none fragment.Ident t some = cc t
+takes_none fragment.Literal t some = cc t
+takes_none fragment.Lifetime t some = cc t
+takes_none fragment.Block t some = cc t
+takes_none fragment.Vis t some = cc some
+takes_none fragment.Tt t some = cc t
 
 -- Nor does a token stand there.
 pub no_unit : (its : List Leaf) → IsUnitLike its end → ⊥
@@ -40,17 +41,28 @@ passed_end n outer = ap (λ t. t ∷ outer) (after_end n)
 
 -- Nothing passes where no level is left.
 passes_none : (it : Ask) → Passes it [] → ⊥
-passes_none (ask.take which) p = takes_none which.fragment p
+passes_none (ask.take which) p = p
 passes_none (ask.same its) p = no_unit its p
 passes_none (ask.enter kind) p = p
 passes_none ask.leave p = p
 
 -- At the end of the outermost level only the end passes.
-passes_last : (it : Ask) → Passes it (end ∷ []) → onward it (end ∷ []) ≡ []
-passes_last (ask.take which) p = absurd (takes_none which.fragment p)
-passes_last (ask.same its) p = absurd (no_unit its p)
-passes_last (ask.enter kind) p = absurd p
-passes_last ask.leave p = refl
+passes_last : (it : Ask) → asks_nothing it end ≡ false → Passes it (end ∷ []) → onward it (end ∷ []) ≡ []
+passes_last (ask.take which) some p = absurd (takes_none which.fragment p some)
+passes_last (ask.same its) some p = absurd (no_unit its p)
+passes_last (ask.enter kind) some p = absurd p
+passes_last ask.leave some p = refl
+
+-- What is left asks for something.
+leave_some : (it : Ask) → is_leave it ≡ true → asks_nothing it end ≡ false
+leave_some (ask.take which) leave = absurd (cc leave)
+leave_some (ask.same its) leave = refl
+leave_some (ask.enter kind) leave = refl
+leave_some ask.leave leave = refl
+
+leave_some_at : (place : Option Place) → is_leave_at place ≡ true → asks_nothing_at place end ≡ false
+leave_some_at None leave = refl
+leave_some_at (Some place) leave = leave_some (ask_of place.atom) leave
 
 -- what all starts from
 abbrev pub outside : View
@@ -77,19 +89,19 @@ module _ (places : List Place) where
   on_edge_none (suc turn) (to ∷ others) P none on = on_edge_none turn others P none on
 
   -- At the end of the outermost level a thread leads to its own path alone, where its place is one that is left.
-  ends_here : (view : View) (path : List ℕ) → Leads places (thread (end ∷ []) view) path → (is_leave_at (slice_get places view.at) ≡ true) × (path ≡ view.trace)
-  ends_here view path ([], is, reads) = (by (slice_get places view.at) (subst (λ ls. Reads places view.at ls []) (passed_end view.wait []) reads), is ∙ append-nil view.trace)
+  ends_here : (view : View) (path : List ℕ) → asks_nothing_at (slice_get places view.at) end ≡ false → Leads places (thread (end ∷ []) view) path → (is_leave_at (slice_get places view.at) ≡ true) × (path ≡ view.trace)
+  ends_here view path some ([], is, reads) = (by (slice_get places view.at) (subst (λ ls. Reads places view.at ls []) (passed_end view.wait []) reads), is ∙ append-nil view.trace)
     where
       by : (place : Option Place) → Ends place (end ∷ []) → is_leave_at place ≡ true
       by None e = absurd e
       by (Some place) e = e.0
-  ends_here view path (turn ∷ more, is, reads) = absurd (by (slice_get places view.at) (subst (λ ls. Reads places view.at ls (turn ∷ more)) (passed_end view.wait []) reads))
+  ends_here view path some (turn ∷ more, is, reads) = absurd (by (slice_get places view.at) some (subst (λ ls. Reads places view.at ls (turn ∷ more)) (passed_end view.wait []) reads))
     where
-      by : (place : Option Place) → GoesOn place (end ∷ []) turn (λ to further. Reads places to further more) → ⊥
-      by None g = g
-      by (Some place) g =
+      by : (place : Option Place) → asks_nothing_at place end ≡ false → GoesOn place (end ∷ []) turn (λ to further. Reads places to further more) → ⊥
+      by None some g = g
+      by (Some place) some g =
           on_edge_none turn place.edges.items (λ to. Reads places to (onward (ask_of place.atom) (end ∷ [])) more)
-          (λ to reads. reads_none to more (subst (λ levels. Reads places to levels more) (passes_last (ask_of place.atom) g.0) reads)) g.1
+          (λ to reads. reads_none to more (subst (λ levels. Reads places to levels more) (passes_last (ask_of place.atom) some g.0) reads)) g.1
 
   leads_here : (view : View) → is_leave_at (slice_get places view.at) ≡ true → Leads places (thread (end ∷ []) view) view.trace
   leads_here view leave = ([], sym (append-nil view.trace), subst (λ ls. Reads places view.at ls []) (sym (passed_end view.wait [])) (by (slice_get places view.at) leave))
@@ -126,11 +138,11 @@ module _ (places : List Place) where
       here = thread (end ∷ []) (view_of log it)
 
       -- One that is not at the end says nothing.
-      means_missed : is_leave_at (slice_get places it.at) ≡ false → (so_far : Choice) → Means so_far news → Means so_far (here ∷ news)
-      means_missed missed so_far means = by so_far means
+      means_missed : is_leave_at (slice_get places it.at) ≡ false → asks_nothing_at (slice_get places it.at) end ≡ false → (so_far : Choice) → Means so_far news → Means so_far (here ∷ news)
+      means_missed missed some so_far means = by so_far means
         where
           nowhere : (path : List ℕ) → Leads places here path → ⊥
-          nowhere path l = cc (missed, (ends_here (view_of log it) path l).0)
+          nowhere path l = cc (missed, (ends_here (view_of log it) path some l).0)
 
           none : ((path : List ℕ) → Has places news path → ⊥) → (path : List ℕ) → Has places (here ∷ news) path → ⊥
           none before path (inl l) = nowhere path l
@@ -169,7 +181,7 @@ module _ (places : List Place) where
           first false single m = (inl leads, only, none)
             where
               only : (path : List ℕ) → Has places (here ∷ news) path → path ≡ trace
-              only path (inl l) = (ends_here (view_of log it) path l).1
+              only path (inl l) = (ends_here (view_of log it) path (leave_some_at (slice_get places it.at) leave) l).1
               only path (inr h) = absurd (m.0 path h)
 
               none : HasMany places (here ∷ news) → ⊥
@@ -231,11 +243,12 @@ module _ (places : List Place) where
         by choice.Many m = two m
 
     -- The choice of threads at the end says what is wanted.
-    says_choice : (so_far : Choice) (its : List Thread) (news : List Config) → Told places Whole news (threads (end ∷ []) (views_of log its)) → Means so_far news
+    says_choice : (so_far : Choice) (its : List Thread) (news : List Config) → AreSettled places end (views_of log its) → Told places Whole news (threads (end ∷ []) (views_of log its))
+        → Means so_far news
         → Says (choice_of places so_far its)
-    says_choice so_far [] news told means = says_all news told so_far means
-    says_choice so_far (it ∷ its) news told means =
-        by (is_leave_at (slice_get places it.at)) refl (λ so_far means. says_choice so_far its (here it news ∷ news) over means)
+    says_choice so_far [] news calm told means = says_all news told so_far means
+    says_choice so_far (it ∷ its) news calm told means =
+        by (is_leave_at (slice_get places it.at)) refl (λ so_far means. says_choice so_far its (here it news ∷ news) calm.1 over means)
       where
         over : Told places Whole (here it news ∷ news) (threads (end ∷ []) (views_of log its))
         over = telling.told_over Config (Leads places) IsMany Whole news (threads (end ∷ []) (views_of log its)) (here it news) told
@@ -243,11 +256,12 @@ module _ (places : List Place) where
         by : (b : Bool) → is_leave_at (slice_get places it.at) ≡ b → ((so_far : Choice) → Means so_far (here it news ∷ news) → Says (choice_of places so_far its))
             → Says (choice_of places (cond b (with_thread so_far it) so_far) its)
         by true leave rest = rest (with_thread so_far it) (means_more it news leave over.new_apart so_far means)
-        by false missed rest = rest so_far (means_missed it news missed so_far means)
+        by false missed rest = rest so_far (means_missed it news missed calm.0 so_far means)
 
-    pub says : (its : List Thread) (trees : Forest) → trees ≡ end → Told places Whole [] (threads (trees ∷ []) (views_of log its) ++ []) → Says (choice_of places choice.Nothing its)
-    says its trees ended told =
-        says_choice choice.Nothing its []
+    pub says : (its : List Thread) (trees : Forest) → trees ≡ end → AreSettled places trees (views_of log its) → Told places Whole [] (threads (trees ∷ []) (views_of log its) ++ [])
+        → Says (choice_of places choice.Nothing its)
+    says its trees ended calm told =
+        says_choice choice.Nothing its [] (subst (λ t. AreSettled places t (views_of log its)) ended calm)
         (subst (λ t. Told places Whole [] (threads (t ∷ []) (views_of log its))) ended (subst (Told places Whole []) (append-nil (threads (trees ∷ []) (views_of log its))) told))
         (λ path h. h, λ m. m)
 

@@ -1,16 +1,11 @@
 -- What stands first is compared leaf by leaf, and counted.
-use Rattle.std.proofs.Common.{◌≡◌, ◌+◌, ◌<◌, ◌≤◌, ℕ, false, List, length, get_or, drop, Some, ap, sym, subst, ◌∙◌, cond, arith}
+use Rattle.std.proofs.Common.{◌+◌, ◌<◌, ◌≤◌, ℕ, List, length, get_or, drop, sym, subst}
 use Rattle.std.proofs.lemmas.List.{drop_more, drop_all}
-use Rattle.std.proofs.lemmas.Bool.Decides.{nat_tests}
-use Rattle.std.specs.Prelude.{◌↔◌, ◌==◌}
-use Rattle.tt.specs.Expectations.{first_leaf_as, as_punct}
-use Rattle.tt.specs.Forest.{Forest, end, leaf, node}
-use Rattle.tt.specs.Gluing.{glued, glued_from}
+use Rattle.std.specs.Prelude.{◌↔◌}
+use Rattle.tt.specs.Forest.{Forest}
 use Rattle.tt.specs.Moves.{after_tree}
 use Rattle.tt.specs.Types.Leaf.{Leaf}
-use Rattle.tt.specs.Types.Leaf.TheVariants as leaf_of
-use Rattle.tt.specs.Types.Punct.{Punct}
-use Rattle.tt_pattern.specs.Units.{quote, is_at_ident, unit_size, IsLeafLike, AreLeavesLike}
+use Rattle.tt_pattern.specs.Units.{IsLeafLike, AreLeavesLike}
 
 -- so far the leaves are like the trees just where those that are left are
 abbrev pub AreAlikeSoFar : List Leaf → (before : Forest) → ℕ → (now : Forest) → Type 0

@@ -1,6 +1,6 @@
 -- What a step from tree to tree leaves told.
 use Rattle.std.proofs.Common.{arith, append-nil, ◌-◌, suc, zero, false, ◌≡◌, inl, inr, List, [], ◌∷◌, ◌++◌, Some, None, true, refl, ap, sym, subst, ◌∙◌}
-use Rattle.std.specs.Prelude.{◌⊎◌, ℕ, slice_get, Option}
+use Rattle.std.specs.Prelude.{◌⊎◌, ◌&&◌, ℕ, Bool, slice_get, Option}
 use Rattle.tt.specs.Forest.{Forest, end, leaf, node}
 use Rattle.tt.specs.Iters.{rest_of}
 use Rattle.tt.specs.Moves.{after_tree}
@@ -14,7 +14,8 @@ use Rattle.tt_matcher.specs.Asks as ask
 use Rattle.tt_matcher.specs.declared.places.Place.{Place}
 use Rattle.tt_matcher.specs.declared.threads.Move.{Move}
 use Rattle.tt_matcher.specs.declared.threads.Move.TheVariants as move
-use Rattle.tt_matcher.specs.Fragments.{takes}
+use Rattle.tt_matcher.specs.Fragments.{takes, takes_nothing}
+use Rattle.tt_matcher.specs.Settling.{is_here, asks_nothing, asks_nothing_at, goes_at_once, AreSettled}
 use Rattle.tt_matcher.specs.Levels.{LevelView, IsLeft, IsPassed, IsEntered, IsSkipped, Advances}
 use Rattle.tt_matcher.specs.Places.{Passes, passed, onward, Ends}
 use Rattle.tt_matcher.specs.Threads.{View, delayed, added, spread, IsMoved, wait_of, IsMovedAt, wait_at, edges_of, is_waiting, waited, StepsOn, Steps, AllStep}
@@ -33,6 +34,16 @@ levels_of (level ∷ outer) = level.trees ∷ levels_of outer
 abbrev pub configs_of : List LevelView → List Config
 configs_of [] = []
 configs_of (level ∷ outer) = threads (level.trees ∷ levels_of outer) level.views ++ configs_of outer
+
+-- A thread at its place that does not go on at once asks for something.
+calm_place : (places : List Place) (trees : Forest) (view : View) (place : Place) → is_here trees view.wait ≡ true → goes_at_once places trees view.at view.wait ≡ false
+    → slice_get places view.at ≡ Some place → asks_nothing (ask_of place.atom) trees ≡ false
+calm_place places trees view place here calm found =
+    subst (λ at. asks_nothing_at at trees ≡ false) found (by (is_here trees view.wait) (asks_nothing_at (slice_get places view.at) trees) here calm)
+  where
+    by : (a b : Bool) → a ≡ true → (a && b) ≡ false → b ≡ false
+    by true b t e = e
+    by false b t e = absurd (cc t)
 
 module _ (places : List Place) (Whole : List ℕ → Type 0) (levels : List Forest) (goes_on : (place : Place) → Ends (Some place) levels → ⊥) where
   -- A thread is moved.
@@ -71,56 +82,59 @@ module _ (places : List Place) (Whole : List ℕ → Type 0) (levels : List Fore
 
   -- Where all that pass are moved alike.
   module _ (by : Move) (further : List Forest) (sound : (it : Ask) → IsMoved by it → Passes it levels × (onward it levels ≡ passed (wait_of by it) further))
-      (complete : (it : Ask) → Passes it levels → IsMoved by it)
+      (trees : Forest) (complete : (it : Ask) → asks_nothing it trees ≡ false → Passes it levels → IsMoved by it)
       (here : (n : ℕ) → is_waiting by n ≡ false → passed n levels ≡ levels)
+      (standing : (n : ℕ) → is_waiting by n ≡ false → is_here trees n ≡ true)
       (nearer : (view : View) (old : List View) (olds : List Config) → is_waiting by view.wait ≡ true
       → Told places Whole (threads further old) (thread levels view ∷ olds) → Told places Whole (threads further (waited by view old)) olds) where
-    told_step : (view : View) (old new : List View) (olds : List Config) → Steps places by view old new
+    told_step : (view : View) (old new : List View) (olds : List Config) → goes_at_once places trees view.at view.wait ≡ false → Steps places by view old new
         → Told places Whole (threads further old) (thread levels view ∷ olds) → Told places Whole (threads further new) olds
-    told_step view old new olds (inl (waits, is)) told =
+    told_step view old new olds calm (inl (waits, is)) told =
         subst (λ views. Told places Whole (threads further views) olds) (sym is) (nearer view old olds waits told)
-    told_step view old new olds (inr (stands, inl (moved, is))) told =
+    told_step view old new olds calm (inr (stands, inl (moved, is))) told =
         subst (λ views. Told places Whole (threads further views) olds) (sym is) (told_moved by further sound view old olds (here view.wait stands) moved told)
-    told_step view old new olds (inr (stands, inr (stays, is))) told =
+    told_step view old new olds calm (inr (stands, inr (stays, is))) told =
         subst (λ views. Told places Whole (threads further views) olds) (sym is)
         (told_stuck (threads further old) view olds (here view.wait stands)
-        (λ place found passes. stays (subst (IsMovedAt by) (sym found) (complete (ask_of place.atom) passes))) told)
+        (λ place found passes. stays (subst (IsMovedAt by) (sym found) (complete (ask_of place.atom) (calm_place places trees view place (standing view.wait stands) calm found) passes))) told)
 
-    pub told_steps : (views old new : List View) (olds : List Config) → AllStep places by views old new
+    pub told_steps : (views old new : List View) (olds : List Config) → AreSettled places trees views → AllStep places by views old new
         → Told places Whole (threads further old) (threads levels views ++ olds) → Told places Whole (threads further new) olds
-    told_steps [] old new olds is told = subst (λ views. Told places Whole (threads further views) olds) (sym is) told
-    told_steps (view ∷ views) old new olds (middle, step, steps) told =
-        told_steps views middle new olds steps (told_step view old middle (threads levels views ++ olds) step told)
+    told_steps [] old new olds calm is told = subst (λ views. Told places Whole (threads further views) olds) (sym is) told
+    told_steps (view ∷ views) old new olds calm (middle, step, steps) told =
+        told_steps views middle new olds calm.1 steps (told_step view old middle (threads levels views ++ olds) calm.0 step told)
 
   -- Where some pass the first tree, and some enter it.
   module _ (before : TtIter) (kind : DelimiterKind) (behind inside : List Forest)
       (pass_sound : (it : Ask) → IsMoved (move.Passes before) it → Passes it levels × (onward it levels ≡ passed (wait_of (move.Passes before) it) behind))
       (enter_sound : (it : Ask) → IsMoved (move.Enters kind) it → Passes it levels × (onward it levels ≡ passed (wait_of (move.Enters kind) it) inside))
-      (complete : (it : Ask) → Passes it levels → IsMoved (move.Passes before) it ⊎ IsMoved (move.Enters kind) it)
+      (trees : Forest) (complete : (it : Ask) → asks_nothing it trees ≡ false → Passes it levels → IsMoved (move.Passes before) it ⊎ IsMoved (move.Enters kind) it)
       (not_both : (it : Ask) → IsMoved (move.Passes before) it → IsMoved (move.Enters kind) it → ⊥)
       (here : (n : ℕ) → is_waiting (move.Passes before) n ≡ false → passed n levels ≡ levels)
+      (standing : (n : ℕ) → is_waiting (move.Passes before) n ≡ false → is_here trees n ≡ true)
       (nearer : (n : ℕ) → is_waiting (move.Passes before) n ≡ true → passed n levels ≡ passed (n - 1) behind) where
     told_here : (view : View) (old new old_in new_in : List View) (olds : List Config) → passed view.wait levels ≡ levels
+        → ((place : Place) → slice_get places view.at ≡ Some place → asks_nothing (ask_of place.atom) trees ≡ false)
         → StepsOn places (move.Passes before) view old new → StepsOn places (move.Enters kind) view old_in new_in
         → Told places Whole (threads inside old_in) ((thread levels view ∷ olds) ++ threads behind old)
         → Told places Whole (threads inside new_in) (olds ++ threads behind new)
-    told_here view old new old_in new_in olds stands (inl (moved, is)) (inl (moved_in, is_in)) told =
+    told_here view old new old_in new_in olds stands some (inl (moved, is)) (inl (moved_in, is_in)) told =
         absurd (at (slice_get places view.at) moved moved_in)
       where
         at : (place : Option Place) → IsMovedAt (move.Passes before) place → IsMovedAt (move.Enters kind) place → ⊥
         at None a b = a
         at (Some place) a b = not_both (ask_of place.atom) a b
-    told_here view old new old_in new_in olds stands (inl (moved, is)) (inr (stays_in, is_in)) told =
+    told_here view old new old_in new_in olds stands some (inl (moved, is)) (inr (stays_in, is_in)) told =
         subst (λ views. Told places Whole (threads inside views) (olds ++ threads behind new)) (sym is_in)
         (telling.told_swapped Config (Leads places) IsMany Whole (threads behind new) (threads inside old_in) olds
         (subst (λ views. Told places Whole (threads behind views) (olds ++ threads inside old_in)) (sym is)
         (told_moved (move.Passes before) behind pass_sound view old (olds ++ threads inside old_in) stands moved
         (telling.told_swapped Config (Leads places) IsMany Whole (threads inside old_in) (threads behind old) (thread levels view ∷ olds) told))))
-    told_here view old new old_in new_in olds stands (inr (stays, is)) (inl (moved_in, is_in)) told =
+    told_here view old new old_in new_in olds stands some (inr (stays, is)) (inl (moved_in, is_in)) told =
         subst (λ views. Told places Whole (threads inside new_in) (olds ++ threads behind views)) (sym is)
         (subst (λ views. Told places Whole (threads inside views) (olds ++ threads behind old)) (sym is_in)
         (told_moved (move.Enters kind) inside enter_sound view old_in (olds ++ threads behind old) stands moved_in told))
-    told_here view old new old_in new_in olds stands (inr (stays, is)) (inr (stays_in, is_in)) told =
+    told_here view old new old_in new_in olds stands some (inr (stays, is)) (inr (stays_in, is_in)) told =
         subst (λ views. Told places Whole (threads inside new_in) (olds ++ threads behind views)) (sym is)
         (subst (λ views. Told places Whole (threads inside views) (olds ++ threads behind old)) (sym is_in)
         (told_stuck (threads inside old_in) view (olds ++ threads behind old) stands stuck told))
@@ -130,7 +144,7 @@ module _ (places : List Place) (Whole : List ℕ → Type 0) (levels : List Fore
         which place found (inr m) = stays_in (subst (IsMovedAt (move.Enters kind)) (sym found) m)
 
         stuck : (place : Place) → slice_get places view.at ≡ Some place → Passes (ask_of place.atom) levels → ⊥
-        stuck place found passes = which place found (complete (ask_of place.atom) passes)
+        stuck place found passes = which place found (complete (ask_of place.atom) (some place found) passes)
 
     -- One that waits goes on behind the tree.
     told_waits : (view : View) (old new old_in new_in : List View) (olds : List Config) → is_waiting (move.Passes before) view.wait ≡ true
@@ -149,31 +163,38 @@ module _ (places : List Place) (Whole : List ℕ → Type 0) (levels : List Fore
     alike zero = refl
     alike (suc n) = refl
 
-    told_either : (view : View) (old new old_in new_in : List View) (olds : List Config)
+    told_either : (view : View) (old new old_in new_in : List View) (olds : List Config) → goes_at_once places trees view.at view.wait ≡ false
         → Steps places (move.Passes before) view old new → Steps places (move.Enters kind) view old_in new_in
         → Told places Whole (threads inside old_in) ((thread levels view ∷ olds) ++ threads behind old)
         → Told places Whole (threads inside new_in) (olds ++ threads behind new)
-    told_either view old new old_in new_in olds (inl (waits, is)) (inl (waits_in, is_in)) told = told_waits view old new old_in new_in olds waits is is_in told
-    told_either view old new old_in new_in olds (inl (waits, is)) (inr (stands_in, on)) told = absurd (cc (sym waits ∙ alike view.wait ∙ stands_in))
-    told_either view old new old_in new_in olds (inr (stands, on)) (inl (waits_in, is_in)) told = absurd (cc (sym stands ∙ alike view.wait ∙ waits_in))
-    told_either view old new old_in new_in olds (inr (stands, on)) (inr (stands_in, on_in)) told =
-        told_here view old new old_in new_in olds (here view.wait stands) on on_in told
+    told_either view old new old_in new_in olds calm (inl (waits, is)) (inl (waits_in, is_in)) told = told_waits view old new old_in new_in olds waits is is_in told
+    told_either view old new old_in new_in olds calm (inl (waits, is)) (inr (stands_in, on)) told = absurd (cc (sym waits ∙ alike view.wait ∙ stands_in))
+    told_either view old new old_in new_in olds calm (inr (stands, on)) (inl (waits_in, is_in)) told = absurd (cc (sym stands ∙ alike view.wait ∙ waits_in))
+    told_either view old new old_in new_in olds calm (inr (stands, on)) (inr (stands_in, on_in)) told =
+        told_here view old new old_in new_in olds (here view.wait stands) (λ place found. calm_place places trees view place (standing view.wait stands) calm found) on on_in told
 
-    pub told_both : (views old new old_in new_in : List View) (olds : List Config)
+    pub told_both : (views old new old_in new_in : List View) (olds : List Config) → AreSettled places trees views
         → AllStep places (move.Passes before) views old new → AllStep places (move.Enters kind) views old_in new_in
         → Told places Whole (threads inside old_in) ((threads levels views ++ olds) ++ threads behind old)
         → Told places Whole (threads inside new_in) (olds ++ threads behind new)
-    told_both [] old new old_in new_in olds is is_in told =
+    told_both [] old new old_in new_in olds calm is is_in told =
         subst (λ views. Told places Whole (threads inside new_in) (olds ++ threads behind views)) (sym is)
         (subst (λ views. Told places Whole (threads inside views) (olds ++ threads behind old)) (sym is_in) told)
-    told_both (view ∷ views) old new old_in new_in olds (middle, step, steps) (middle_in, step_in, steps_in) told =
-        told_both views middle new middle_in new_in olds steps steps_in
-        (told_either view old middle old_in middle_in (threads levels views ++ olds) step step_in told)
+    told_both (view ∷ views) old new old_in new_in olds calm (middle, step, steps) (middle_in, step_in, steps_in) told =
+        told_both views middle new middle_in new_in olds calm.1 steps steps_in
+        (told_either view old middle old_in middle_in (threads levels views ++ olds) calm.0 step step_in told)
 
 -- One that does not wait is at its place; one that does is a tree nearer behind the first.
 stands_here : (before : TtIter) (trees : Forest) (outer : List Forest) (n : ℕ) → is_waiting (move.Passes before) n ≡ false → passed n (trees ∷ outer) ≡ trees ∷ outer
 stands_here before trees outer zero stands = refl
 stands_here before trees outer (suc n) stands = absurd (cc stands)
+
+-- It stands there, whatever the trees.
+is_there : (before : TtIter) (trees : Forest) (n : ℕ) → is_waiting (move.Passes before) n ≡ false → is_here trees n ≡ true
+is_there before end zero stands = refl
+is_there before (leaf it rest) zero stands = refl
+is_there before (node delimiter children rest) zero stands = refl
+is_there before trees (suc n) stands = absurd (cc stands)
 
 goes_nearer : (before : TtIter) (trees : Forest) (outer : List Forest) (n : ℕ) → is_waiting (move.Passes before) n ≡ true
     → passed n (trees ∷ outer) ≡ passed (n - 1) (after_tree trees ∷ outer)
@@ -198,12 +219,12 @@ module _ (places : List Place) (Whole : List ℕ → Type 0) where
   tails trees other outer others is = cc
 
   -- A level is left.
-  pub told_left : (level : LevelView) (outer news : List LevelView) → IsLeft places level outer news
+  pub told_left : (level : LevelView) (outer news : List LevelView) → AreSettled places level.trees level.views → IsLeft places level outer news
       → Told places Whole [] (configs_of (level ∷ outer)) → Told places Whole [] (configs_of news)
-  told_left level outer news is told =
+  told_left level outer news calm is told =
       subst (λ n. Told places Whole [] (configs_of n)) (sym is.news_are)
       (telling.told_joined Config (Leads places) IsMany Whole (threads further is.views) (configs_of is.below)
-      (told_steps places Whole levels goes_on move.Ends further sound complete here nearer level.views is.next.views is.views (configs_of is.below) is.steps
+      (told_steps places Whole levels goes_on move.Ends further sound level.trees complete here standing nearer level.views is.next.views is.views (configs_of is.below) calm is.steps
       (telling.told_lifted Config (Leads places) IsMany Whole (threads levels level.views) (threads further is.next.views) (configs_of is.below)
       (subst (λ o. Told places Whole [] (threads (level.trees ∷ levels_of o) level.views ++ configs_of o)) is.outer_is told))))
     where
@@ -229,19 +250,23 @@ module _ (places : List Place) (Whole : List ℕ → Type 0) where
           → Told places Whole (threads further old) (thread levels view ∷ olds) → Told places Whole (threads further (waited move.Ends view old)) olds
       nearer view old olds waits told = absurd (cc waits)
 
-      complete : (it : Ask) → Passes it levels → IsMoved move.Ends it
-      complete (ask.take which) p = takes_none which.fragment (subst (λ t. takes which.fragment t ≡ true) is.is_ended p)
-      complete (ask.same its) p = no_unit its (subst (IsUnitLike its) is.is_ended p)
-      complete (ask.enter kind) p = subst (IsNodeOf kind) is.is_ended p
-      complete ask.leave p = tt
+      standing : (n : ℕ) → is_waiting move.Ends n ≡ false → is_here level.trees n ≡ true
+      standing n stands = subst (λ t. is_here t n ≡ true) (sym is.is_ended) refl
+
+      complete : (it : Ask) → asks_nothing it level.trees ≡ false → Passes it levels → IsMoved move.Ends it
+      complete (ask.take which) some p =
+          takes_none which.fragment (subst (λ t. takes which.fragment t ≡ true) is.is_ended p) (subst (λ t. takes_nothing which.fragment t ≡ false) is.is_ended some)
+      complete (ask.same its) some p = no_unit its (subst (IsUnitLike its) is.is_ended p)
+      complete (ask.enter kind) some p = subst (IsNodeOf kind) is.is_ended p
+      complete ask.leave some p = tt
 
   -- A leaf is passed.
-  pub told_passed : (level : LevelView) (outer news : List LevelView) → IsPassed places level outer news
+  pub told_passed : (level : LevelView) (outer news : List LevelView) → AreSettled places level.trees level.views → IsPassed places level outer news
       → Told places Whole [] (configs_of (level ∷ outer)) → Told places Whole [] (configs_of news)
-  told_passed level outer news is told =
+  told_passed level outer news calm is told =
       subst (λ n. Told places Whole [] (configs_of n)) (sym is.news_are)
       (telling.told_joined Config (Leads places) IsMany Whole (threads further is.views) (configs_of outer)
-      (told_steps places Whole levels goes_on (move.Passes is.before) further sound complete here nearer level.views [] is.views (configs_of outer) is.steps told))
+      (told_steps places Whole levels goes_on (move.Passes is.before) further sound level.trees complete here (λ n stands. is_there is.before level.trees n stands) nearer level.views [] is.views (configs_of outer) calm is.steps told))
     where
       levels : List Forest
       levels = level.trees ∷ levels_of outer
@@ -253,7 +278,10 @@ module _ (places : List Place) (Whole : List ℕ → Type 0) where
       goes_on place ends = leaf_no_end level.trees (after_tree level.trees) is.it is.first (heads level.trees end (levels_of outer) [] ends.1)
 
       sound : (it : Ask) → IsMoved (move.Passes is.before) it → Passes it levels × (onward it levels ≡ passed (wait_of (move.Passes is.before) it) further)
-      sound (ask.take which) m = (subst (λ t. takes which.fragment t ≡ true) is.before_is m, take_onward which.fragment level.trees (rest_of is.before) (levels_of outer) is.before_is)
+      sound (ask.take which) m = (
+        subst (λ t. takes which.fragment t ≡ true) is.before_is m.0,
+        take_onward which.fragment level.trees (rest_of is.before) (levels_of outer) is.before_is (subst (λ t. takes_nothing which.fragment t ≡ false) is.before_is m.1),
+      )
       sound (ask.same its) m =
           let like : IsUnitLike its level.trees = subst (IsUnitLike its) is.before_is m in
           (like, same_onward its level.trees (levels_of outer) like)
@@ -268,16 +296,16 @@ module _ (places : List Place) (Whole : List ℕ → Type 0) where
       nearer view old olds waits told =
           told_nearer places Whole levels goes_on further view old olds (goes_nearer is.before level.trees (levels_of outer) view.wait waits) told
 
-      complete : (it : Ask) → Passes it levels → IsMoved (move.Passes is.before) it
-      complete (ask.take which) p = subst (λ t. takes which.fragment t ≡ true) (sym is.before_is) p
-      complete (ask.same its) p = subst (IsUnitLike its) (sym is.before_is) p
-      complete (ask.enter kind) p = subst (IsNodeOf kind) is.first p
-      complete ask.leave p = leaf_no_end level.trees (after_tree level.trees) is.it is.first p
+      complete : (it : Ask) → asks_nothing it level.trees ≡ false → Passes it levels → IsMoved (move.Passes is.before) it
+      complete (ask.take which) some p = (subst (λ t. takes which.fragment t ≡ true) (sym is.before_is) p, subst (λ t. takes_nothing which.fragment t ≡ false) (sym is.before_is) some)
+      complete (ask.same its) some p = subst (IsUnitLike its) (sym is.before_is) p
+      complete (ask.enter kind) some p = subst (IsNodeOf kind) is.first p
+      complete ask.leave some p = leaf_no_end level.trees (after_tree level.trees) is.it is.first p
 
   -- A subtree is passed, or entered.
-  pub told_entered : (level : LevelView) (outer news : List LevelView) → IsEntered places level outer news
+  pub told_entered : (level : LevelView) (outer news : List LevelView) → AreSettled places level.trees level.views → IsEntered places level outer news
       → Told places Whole [] (configs_of (level ∷ outer)) → Told places Whole [] (configs_of news)
-  told_entered level outer news is told =
+  told_entered level outer news calm is told =
       subst (λ n. Told places Whole [] (configs_of n)) (sym is.news_are) (joined ins (threads behind is.views ++ rest) (lifted (threads behind is.views) ins rest (joined (threads behind is.views) (ins ++ rest) (swapped rest (threads behind is.views) ins (lifted ins rest (threads behind is.views) (joined ins (rest ++ threads behind is.views) stepped))))))
     where
       levels : List Forest
@@ -308,7 +336,10 @@ module _ (places : List Place) (Whole : List ℕ → Type 0) where
       goes_on place ends = node_no_end level.trees is.children (after_tree level.trees) is.delimiter is.first (heads level.trees end (levels_of outer) [] ends.1)
 
       pass_sound : (it : Ask) → IsMoved (move.Passes is.before) it → Passes it levels × (onward it levels ≡ passed (wait_of (move.Passes is.before) it) behind)
-      pass_sound (ask.take which) m = (subst (λ t. takes which.fragment t ≡ true) is.before_is m, take_onward which.fragment level.trees (rest_of is.before) (levels_of outer) is.before_is)
+      pass_sound (ask.take which) m = (
+        subst (λ t. takes which.fragment t ≡ true) is.before_is m.0,
+        take_onward which.fragment level.trees (rest_of is.before) (levels_of outer) is.before_is (subst (λ t. takes_nothing which.fragment t ≡ false) is.before_is m.1),
+      )
       pass_sound (ask.same its) m =
           let like : IsUnitLike its level.trees = subst (IsUnitLike its) is.before_is m in
           (like, same_onward its level.trees (levels_of outer) like)
@@ -321,11 +352,11 @@ module _ (places : List Place) (Whole : List ℕ → Type 0) where
       enter_sound (ask.enter kind) m = (subst (IsNodeOf kind) (sym is.first) m, ap (λ t. children_of t ∷ behind) is.first)
       enter_sound ask.leave m = absurd m
 
-      complete : (it : Ask) → Passes it levels → IsMoved (move.Passes is.before) it ⊎ IsMoved (move.Enters is.delimiter.kind) it
-      complete (ask.take which) p = inl (subst (λ t. takes which.fragment t ≡ true) (sym is.before_is) p)
-      complete (ask.same its) p = inl (subst (IsUnitLike its) (sym is.before_is) p)
-      complete (ask.enter kind) p = inr (subst (IsNodeOf kind) is.first p)
-      complete ask.leave p = absurd (node_no_end level.trees is.children (after_tree level.trees) is.delimiter is.first p)
+      complete : (it : Ask) → asks_nothing it level.trees ≡ false → Passes it levels → IsMoved (move.Passes is.before) it ⊎ IsMoved (move.Enters is.delimiter.kind) it
+      complete (ask.take which) some p = inl (subst (λ t. takes which.fragment t ≡ true) (sym is.before_is) p, subst (λ t. takes_nothing which.fragment t ≡ false) (sym is.before_is) some)
+      complete (ask.same its) some p = inl (subst (IsUnitLike its) (sym is.before_is) p)
+      complete (ask.enter kind) some p = inr (subst (IsNodeOf kind) is.first p)
+      complete ask.leave some p = absurd (node_no_end level.trees is.children (after_tree level.trees) is.delimiter is.first p)
 
       not_both : (it : Ask) → IsMoved (move.Passes is.before) it → IsMoved (move.Enters is.delimiter.kind) it → ⊥
       not_both (ask.take which) a b = b
@@ -335,16 +366,16 @@ module _ (places : List Place) (Whole : List ℕ → Type 0) where
 
       stepped : Told places Whole ins (rest ++ threads behind is.views)
       stepped =
-          told_both places Whole levels goes_on is.before is.delimiter.kind behind inside pass_sound enter_sound complete not_both
-          (λ n stands. stands_here is.before level.trees (levels_of outer) n stands) (λ n waits. goes_nearer is.before level.trees (levels_of outer) n waits) level.views [] is.views [] is.inside rest is.steps is.enters
+          told_both places Whole levels goes_on is.before is.delimiter.kind behind inside pass_sound enter_sound level.trees complete not_both
+          (λ n stands. stands_here is.before level.trees (levels_of outer) n stands) (λ n stands. is_there is.before level.trees n stands) (λ n waits. goes_nearer is.before level.trees (levels_of outer) n waits) level.views [] is.views [] is.inside rest calm is.steps is.enters
           (subst (λ o. Told places Whole [] o) (sym (append-nil (threads levels level.views ++ rest))) told)
 
   -- A subtree that none enters is passed.
-  pub told_skipped : (level : LevelView) (outer news : List LevelView) → IsSkipped places level outer news
+  pub told_skipped : (level : LevelView) (outer news : List LevelView) → AreSettled places level.trees level.views → IsSkipped places level outer news
       → Told places Whole [] (configs_of (level ∷ outer)) → Told places Whole [] (configs_of news)
-  told_skipped level outer news is told =
+  told_skipped level outer news calm is told =
       subst (λ n. Told places Whole [] (configs_of n)) (sym is.news_are)
-      (told_entered level outer (record { trees = is.children; views = [] } ∷ record { trees = after_tree level.trees; views = is.views } ∷ outer)
+      (told_entered level outer (record { trees = is.children; views = [] } ∷ record { trees = after_tree level.trees; views = is.views } ∷ outer) calm
       (record {
         delimiter = is.delimiter;
         children = is.children;
@@ -359,9 +390,9 @@ module _ (places : List Place) (Whole : List ℕ → Type 0) where
       }) told)
 
   -- Each step leaves told what was.
-  pub told_advances : (level : LevelView) (outer news : List LevelView) → Advances places level outer news
+  pub told_advances : (level : LevelView) (outer news : List LevelView) → AreSettled places level.trees level.views → Advances places level outer news
       → Told places Whole [] (configs_of (level ∷ outer)) → Told places Whole [] (configs_of news)
-  told_advances level outer news (inl is) told = told_left level outer news is told
-  told_advances level outer news (inr (inl is)) told = told_passed level outer news is told
-  told_advances level outer news (inr (inr (inl is))) told = told_entered level outer news is told
-  told_advances level outer news (inr (inr (inr is))) told = told_skipped level outer news is told
+  told_advances level outer news calm (inl is) told = told_left level outer news calm is told
+  told_advances level outer news calm (inr (inl is)) told = told_passed level outer news calm is told
+  told_advances level outer news calm (inr (inr (inl is))) told = told_entered level outer news calm is told
+  told_advances level outer news calm (inr (inr (inr is))) told = told_skipped level outer news calm is told

@@ -33,7 +33,7 @@ pub views_last : (log : List Turn) (levels popped : List Level) (level : Level) 
 views_last log levels popped level was = ap (level_views log) (ap reverse was ∙ reverse-append popped (level ∷ []))
 
 -- Levels stand for what they stood for while turns are noted.
-levels_kept : (old log : List Turn) (levels : List Level) → IsGrown old log → AreLevelsWithin old levels → level_views log levels ≡ level_views old levels
+pub levels_kept : (old log : List Turn) (levels : List Level) → IsGrown old log → AreLevelsWithin old levels → level_views log levels ≡ level_views old levels
 levels_kept old log [] grown within = refl
 levels_kept old log (level ∷ others) grown within =
     ap₂ (λ (vs : List View) (ls : List LevelView). record { trees = rest_of level.rest; views = vs } ∷ ls)
@@ -58,7 +58,7 @@ within_last log [] level within = within.0
 within_last log (first ∷ others) level within = within_last log others level within.1
 
 -- The other way round.
-within_reverse : (log : List Turn) (levels : List Level) → AreLevelsWithin log levels → AreLevelsWithin log (reverse levels)
+pub within_reverse : (log : List Turn) (levels : List Level) → AreLevelsWithin log levels → AreLevelsWithin log (reverse levels)
 within_reverse log [] within = tt
 within_reverse log (level ∷ others) within =
     subst (AreLevelsWithin log) (sym (reverse-append (level ∷ []) others)) (within_push log (reverse others) level (within_reverse log others within.1) within.0)

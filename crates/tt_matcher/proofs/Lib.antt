@@ -17,10 +17,12 @@ pub mod Levelling
 pub mod LinkSteps
 pub mod Logs
 pub mod OneReading
+pub mod Ranked
 pub mod Reaching
 pub mod PathsBack
 pub mod ReadingSteps
 pub mod Results
+pub mod SettleSteps
 pub mod Standing
 pub mod Stepping
 pub mod StepsMade

@@ -1,6 +1,6 @@
 -- What is passed at the front is a tree at least.
 use Rattle.std.proofs.Common.{◌≡◌, ◌-◌, ◌∙◌, ℕ, suc, Bool, true, false, List, [], ◌∷◌, length, Option, Some, None, refl, ap, sym, cond}
-use Rattle.std.specs.Prelude.{◌==◌}
+use Rattle.std.specs.Prelude.{◌==◌, not, codes}
 use Rattle.tt.specs.Forest.{Forest, end, leaf, node}
 use Rattle.tt.specs.Gluing.{first_punct, is_alone, is_joint, is_one_of, twos, threes, glued_two, glued_three, glued_behind, glued_from}
 use Rattle.tt.specs.Moves.{after_tree}
@@ -9,7 +9,7 @@ use Rattle.tt.specs.Types.Punct.{Punct}
 use Rattle.tt_pattern.specs.declared.pattern.Fragment.{Fragment}
 use Rattle.tt_pattern.specs.declared.pattern.Fragment.TheVariants as fragment
 use Rattle.tt.specs.Types.Leaf.{Leaf}
-use Rattle.tt_matcher.specs.Fragments.{is_at_negative, reach}
+use Rattle.tt_matcher.specs.Fragments.{is_at_negative, is_at_word, is_at_scope, takes_nothing, reach}
 use Rattle.tt_matcher.specs.Places.{passed}
 use Rattle.tt_pattern.specs.Units.{is_at_ident, unit_from, unit_size, quote, IsUnitLike}
 
@@ -58,18 +58,23 @@ unit_some (leaf it rest) = from_some it rest
 unit_some (node delimiter children rest) = refl
 
 -- And what a fragment takes.
-pub reach_some : (which : Fragment) (trees : Forest) → IsSome (reach which trees)
-reach_some fragment.Ident trees = refl
-reach_some fragment.Literal trees = some_either (is_at_negative trees) 2 1 refl refl
-reach_some fragment.Lifetime trees = refl
-reach_some fragment.Block trees = refl
-reach_some fragment.Tt trees = unit_some trees
+visible_some : (b c : Bool) → not b ≡ false → IsSome (cond b (cond c 2 1) 0)
+visible_some true c there = some_either c 2 1 refl refl
+visible_some false c there = absurd (cc there)
+
+pub reach_some : (which : Fragment) (trees : Forest) → takes_nothing which trees ≡ false → IsSome (reach which trees)
+reach_some fragment.Ident trees there = refl
+reach_some fragment.Literal trees there = some_either (is_at_negative trees) 2 1 refl refl
+reach_some fragment.Lifetime trees there = refl
+reach_some fragment.Block trees there = refl
+reach_some fragment.Vis trees there = visible_some (is_at_word (codes "pub") trees) (is_at_scope (after_tree trees)) there
+reach_some fragment.Tt trees there = unit_some trees
 
 -- Behind the first tree the rest of it is left to pass.
-pub take_onward : (which : Fragment) (trees seen : Forest) (outer : List Forest) → seen ≡ trees
+pub take_onward : (which : Fragment) (trees seen : Forest) (outer : List Forest) → seen ≡ trees → takes_nothing which trees ≡ false
     → passed (reach which trees) (trees ∷ outer) ≡ passed (reach which seen - 1) (after_tree trees ∷ outer)
-take_onward which trees seen outer same =
-    ap (λ n. passed n (trees ∷ outer)) (reach_some which trees) ∙ ap (λ t. passed (reach which t - 1) (after_tree trees ∷ outer)) (sym same)
+take_onward which trees seen outer same there =
+    ap (λ n. passed n (trees ∷ outer)) (reach_some which trees there) ∙ ap (λ t. passed (reach which t - 1) (after_tree trees ∷ outer)) (sym same)
 
 pub same_onward : (its : List Leaf) (trees : Forest) (outer : List Forest) → IsUnitLike its trees
     → passed (length its) (trees ∷ outer) ≡ passed (length its - 1) (after_tree trees ∷ outer)

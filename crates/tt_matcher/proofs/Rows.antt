@@ -1,13 +1,10 @@
 -- Worked patterns with repetitions, and inputs: each holds by computation.
-use Rattle.std.proofs.Common.{◌≡◌, ℕ, true, false, List, [], ◌∷◌, None, Some, codes, refl, sym, ◌∙◌}
-use Rattle.tt.specs.Forest.{Forest, end, leaf, join}
+use Rattle.std.proofs.Common.{◌≡◌, true, false, [], ◌∷◌, None, Some, codes, refl, sym, ◌∙◌}
+use Rattle.tt.specs.Forest.{Forest, end, join}
 use Rattle.tt.specs.Types.DelimiterKind.TheVariants.{Parenthesis, Brace}
-use Rattle.tt.specs.Types.IdentIsRaw.TheVariants.{Yes}
-use Rattle.tt.specs.Types.Leaf.TheVariants as leaf_of
 use Rattle.tt.specs.Types.Spacing.TheVariants.{Alone, Joint}
-use Rattle.tt_base.proofs.Samples.{span, punct, ident, subtree}
+use Rattle.tt_base.proofs.Samples.{punct, subtree}
 use Rattle.tt_pattern.specs.declared.pattern.Fragment.TheVariants as fragment
-use Rattle.tt_pattern.specs.declared.pattern.RepeatKind.TheVariants as repeat
 use Rattle.tt_matcher.specs.declared.steps.Step.TheVariants as step
 use Rattle.tt_matcher.specs.Asks as ask
 use Rattle.tt_matcher.specs.Bindings.{one, none, first, binding_of, bound_to}
@@ -15,11 +12,11 @@ use Rattle.tt_matcher.specs.Grouping.{variables_of, binding_by}
 use Rattle.tt_matcher.specs.Marks.{taken as took_by, begun, ended, notes_of}
 use Rattle.tt_matcher.specs.Steps.{steps_of}
 use Rattle.tt_matcher.specs.Compiled.{starts_of, all_stops}
-use Rattle.tt_matcher.specs.Fragments.{takes, taken}
-use Rattle.tt_pattern.specs.Patterns.{Pattern, nothing, variable, token, subtree as held_by, repetition, may_be_empty}
+use Rattle.tt_matcher.specs.Fragments.{takes, taken, reach}
+use Rattle.tt_pattern.specs.Patterns.{Pattern}
 use Rattle.tt_matcher.specs.Readings.{Reading, done, took, held, round, over, IsInstance, IsNoInstance, IsReadBy, IsAmbiguous}
 use Rattle.tt_pattern.specs.Spelling.{pattern_of}
-use Rattle.tt_pattern.proofs.Rows.{word, raw_word, alone, joint, arrow, life, comma, var, rounds, listed, x_part}
+use Rattle.tt_pattern.proofs.Rows.{word, raw_word, alone, joint, arrow, life, comma, var, rounds, listed}
 
 -- An ident takes an ident, raw or not, but `_`, and no lifetime.
 ident_takes : takes fragment.Ident (word (codes "a") end) ≡ true
@@ -58,6 +55,22 @@ block_takes = refl
 
 parentheses_left : takes fragment.Block (subtree Parenthesis end) ≡ false
 parentheses_left = refl
+
+-- A visibility is `pub`, with `(crate)` or `(in ..)` behind it or without, or nothing; `r#pub` is none, and `(a)` is not part of one.
+visible : reach fragment.Vis (word (codes "pub") (comma end)) ≡ 1
+visible = refl
+
+visible_in_crate : reach fragment.Vis (word (codes "pub") (join (subtree Parenthesis (word (codes "crate") end)) end)) ≡ 2
+visible_in_crate = refl
+
+visible_in_path : reach fragment.Vis (word (codes "pub") (join (subtree Parenthesis (word (codes "in") (word (codes "a") end))) end)) ≡ 2
+visible_in_path = refl
+
+visible_before : reach fragment.Vis (word (codes "pub") (join (subtree Parenthesis (word (codes "a") end)) end)) ≡ 1
+visible_before = refl
+
+not_visible : reach fragment.Vis (raw_word (codes "pub") end) ≡ 0
+not_visible = refl
 
 -- `tt` takes a token, or a subtree; and nothing where nothing is.
 arrow_taken : taken fragment.Tt (arrow (comma end)) ≡ arrow end

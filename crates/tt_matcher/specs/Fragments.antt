@@ -1,6 +1,6 @@
 -- What a fragment takes.
-use Rattle.std.specs.Prelude.{ℕ, zero, suc, List, Bool, true, false, ◌&&◌, ◌||◌, not, codes, is_some, if◌then◌else◌}
-use Rattle.tt.specs.Expectations.{first_leaf_as, as_punct, as_literal, as_ident_or_underscore, unless_underscore, is_punct_of}
+use Rattle.std.specs.Prelude.{ℕ, zero, suc, List, Bool, true, false, ◌&&◌, ◌||◌, not, Option, None, Some, bytes_eq, codes, is_some, if◌then◌else◌}
+use Rattle.tt.specs.Expectations.{first_leaf_as, as_literal, as_ident_or_underscore, unless_underscore}
 use Rattle.tt.specs.Forest.{Forest, end, leaf, node}
 use Rattle.tt.specs.Gluing.{after_trees}
 use Rattle.tt.specs.Literal.{kind_of}
@@ -8,12 +8,16 @@ use Rattle.tt.specs.Moves.{after_tree}
 use Rattle.tt.specs.Siblings.{is_end}
 use Rattle.tt.specs.Types.DelimiterKind.{DelimiterKind}
 use Rattle.tt.specs.Types.DelimiterKind.TheVariants as delimited
+use Rattle.tt.specs.Types.Ident.{Ident}
+use Rattle.tt.specs.Types.IdentIsRaw.{IdentIsRaw}
+use Rattle.tt.specs.Types.IdentIsRaw.TheVariants.{No, Yes}
 use Rattle.tt.specs.Types.LitKind.{LitKind}
 use Rattle.tt.specs.Types.LitKind.TheVariants as literal
 use Rattle.tt.specs.Types.Leaf.{Leaf}
 use Rattle.tt.specs.Types.Leaf.TheVariants as leaf_of
 use Rattle.tt_pattern.specs.declared.pattern.Fragment.{Fragment}
 use Rattle.tt_pattern.specs.declared.pattern.Fragment.TheVariants as fragment
+use Rattle.tt_pattern.specs.Spelling.{is_parenthesis}
 use Rattle.tt_pattern.specs.Units.{is_at_ident, is_at_punct, unit_size}
 
 -- a literal, or a truth value, stands first
@@ -67,14 +71,52 @@ is_at_block end = false
 is_at_block (leaf it rest) = false
 is_at_block (node delimiter children rest) = is_brace delimiter.kind
 
+-- the ident of that text stands first, and is not raw
+abbrev pub is_word : (text : List ℕ) → IdentIsRaw → List ℕ → Bool
+is_word text No its = bytes_eq its text
+is_word text Yes its = false
+
+abbrev pub is_word_from : (text : List ℕ) → Option Ident → Bool
+is_word_from text None = false
+is_word_from text (Some it) = is_word text it.is_raw it.sym
+
+abbrev pub is_at_word : (text : List ℕ) → Forest → Bool
+is_at_word text trees = is_word_from text (first_leaf_as as_ident_or_underscore trees)
+
+-- `in` and what is behind it, or `crate`, `self` or `super` alone
+abbrev pub is_scope : (inside : Forest) → Bool
+is_scope inside =
+    is_at_word (codes "in") inside
+    || ((is_at_word (codes "crate") inside || (is_at_word (codes "self") inside || is_at_word (codes "super") inside)) && is_end (after_tree inside))
+
+-- parentheses that hold that stand first
+abbrev pub is_at_scope : Forest → Bool
+is_at_scope end = false
+is_at_scope (leaf it rest) = false
+is_at_scope (node delimiter children rest) = is_parenthesis delimiter.kind && is_scope children
+
+-- how many trees a visibility is: `pub` and such parentheses, or `pub`, or none
+abbrev pub visibility_size : Forest → ℕ
+visibility_size trees = if is_at_word (codes "pub") trees then (if is_at_scope (after_tree trees) then 2 else 1) else 0
+
 -- the fragment takes what stands first: an ident other than `_`; a literal, a truth value, or a number behind `-`; a lifetime; a
--- subtree in braces; or any token or subtree
+-- subtree in braces; a visibility, or nothing where none stands; or any token or subtree
 abbrev pub takes : Fragment → Forest → Bool
 takes fragment.Ident trees = is_some (unless_underscore (first_leaf_as as_ident_or_underscore trees))
 takes fragment.Literal trees = is_at_literal trees || is_at_negative trees
 takes fragment.Lifetime trees = is_at_lifetime trees
 takes fragment.Block trees = is_at_block trees
+takes fragment.Vis trees = true
 takes fragment.Tt trees = not (is_end trees)
+
+-- it takes nothing of them
+abbrev pub takes_nothing : Fragment → Forest → Bool
+takes_nothing fragment.Ident trees = false
+takes_nothing fragment.Literal trees = false
+takes_nothing fragment.Lifetime trees = false
+takes_nothing fragment.Block trees = false
+takes_nothing fragment.Vis trees = not (is_at_word (codes "pub") trees)
+takes_nothing fragment.Tt trees = false
 
 -- how many trees that is
 abbrev pub reach : Fragment → Forest → ℕ
@@ -82,6 +124,7 @@ reach fragment.Ident trees = 1
 reach fragment.Literal trees = if is_at_negative trees then 2 else 1
 reach fragment.Lifetime trees = 2
 reach fragment.Block trees = 1
+reach fragment.Vis trees = visibility_size trees
 reach fragment.Tt trees = unit_size trees
 
 -- so many trees at the front, if there are as many

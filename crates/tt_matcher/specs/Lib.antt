@@ -14,6 +14,7 @@ pub mod Paths
 pub mod Pieces
 pub mod Places
 pub mod Readings
+pub mod Settling
 pub mod Stepping
 pub mod Steps
 pub mod Threads

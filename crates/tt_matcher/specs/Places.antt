@@ -8,6 +8,7 @@ use Rattle.tt_matcher.specs.declared.places.Place.{Place}
 use Rattle.tt_matcher.specs.Asks.{Ask, ask_of}
 use Rattle.tt_matcher.specs.Asks as ask
 use Rattle.tt_matcher.specs.Fragments.{takes, reach}
+use Rattle.tt_pattern.specs.declared.pattern.Variable.{Variable}
 use Rattle.tt_pattern.specs.Units.{IsUnitLike, IsNodeOf}
 
 -- what is left of the innermost level
@@ -20,9 +21,14 @@ abbrev pub IsEnded : List Forest → Type 0
 IsEnded [] = ⊥
 IsEnded (trees ∷ outer) = trees ≡ end
 
+-- the variable takes what stands first in the innermost level
+abbrev pub TakesFront : Variable → List Forest → Type 0
+TakesFront which [] = ⊥
+TakesFront which (trees ∷ outer) = takes which.fragment trees ≡ true
+
 -- what is asked of the levels that are left, the innermost first, is there
 abbrev pub Passes : Ask → List Forest → Type 0
-Passes (ask.take which) levels = takes which.fragment (front levels) ≡ true
+Passes (ask.take which) levels = TakesFront which levels
 Passes (ask.same its) levels = IsUnitLike its (front levels)
 Passes (ask.enter kind) levels = IsNodeOf kind (front levels)
 Passes ask.leave levels = IsEnded levels

@@ -8,7 +8,7 @@ use Rattle.tt_matcher.specs.declared.threads.Thread.{Thread}
 use Rattle.tt_matcher.specs.declared.threads.Turn.{Turn}
 use Rattle.tt_matcher.specs.Asks.{Ask, ask_of}
 use Rattle.tt_matcher.specs.Asks as ask
-use Rattle.tt_matcher.specs.Fragments.{takes, reach}
+use Rattle.tt_matcher.specs.Fragments.{takes, takes_nothing, reach}
 use Rattle.tt_pattern.specs.Units.{IsUnitLike}
 
 -- what a thread stands for: its place, how many trees are passed before it stands there, whether many paths lead there, and one that does
@@ -91,7 +91,7 @@ threads_spread wait is_many before turn (to ∷ others) threads =
 
 -- what is asked is there, as the input goes on
 abbrev pub IsMoved : Move → Ask → Type 0
-IsMoved (move.Passes trees) (ask.take which) = takes which.fragment (rest_of trees) ≡ true
+IsMoved (move.Passes trees) (ask.take which) = (takes which.fragment (rest_of trees) ≡ true) × (takes_nothing which.fragment (rest_of trees) ≡ false)
 IsMoved (move.Passes trees) (ask.same its) = IsUnitLike its (rest_of trees)
 IsMoved (move.Passes trees) (ask.enter kind) = ⊥
 IsMoved (move.Passes trees) ask.leave = ⊥

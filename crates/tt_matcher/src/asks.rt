@@ -2,10 +2,10 @@
 ghost use Rattle.std.specs.Prelude.{◌≡◌, ◌↔◌, IsTrue};
 ghost use Rattle.tt.specs.Iters.{rest_of};
 ghost use Rattle.tt.specs.Moves.{after_tree};
-ghost use Rattle.tt_matcher.specs.Fragments.{is_at_number, is_at_negative, is_at_lifetime, is_at_block, takes, reach};
+ghost use Rattle.tt_matcher.specs.Fragments.{is_at_number, is_at_negative, is_at_lifetime, is_at_block, is_at_word, is_scope, is_at_scope, visibility_size, takes, takes_nothing, reach};
 ghost use Rattle.tt_pattern.specs.Units.{is_at_ident, unit_size, IsSameLeaf, IsLeafLike, AreLeavesLike, IsUnitLike};
 
-use tt::{DelimiterKind, Leaf, LitKind, TtElement, TtIter};
+use tt::{DelimiterKind, IdentIsRaw, Leaf, LitKind, TtElement, TtIter};
 use tt_pattern::{Fragment, unit_size};
 
 // Whether the leaves are the same, spans and spacing put aside.
@@ -93,6 +93,56 @@ fn is_at_block(mut trees: TtIter<'_>) -> bool
     }
 }
 
+// Whether the ident of that text stands first, and is not raw.
+fn is_at_word(mut trees: TtIter<'_>, text: &str) -> bool
+    ensures { result ≡ is_at_word text.now (rest_of trees.entry) }
+{
+    match trees.expect_ident_or_underscore() {
+        Ok(ident) => match ident.is_raw {
+            IdentIsRaw::No => ident.sym.as_str() == text,
+            IdentIsRaw::Yes => false,
+        },
+        Err(()) => false,
+    }
+}
+
+// Whether they are `in` and what is behind it, or `crate`, `self` or `super` alone.
+fn is_scope(mut trees: TtIter<'_>) -> bool
+    ensures { result ≡ is_scope (rest_of trees.entry) }
+{
+    if is_at_word(trees.remaining().iter(), "in") {
+        return true;
+    }
+    let is_root = is_at_word(trees.remaining().iter(), "crate")
+        || is_at_word(trees.remaining().iter(), "self")
+        || is_at_word(trees.remaining().iter(), "super");
+    trees.next();
+    is_root && trees.is_empty()
+}
+
+// Whether parentheses that hold that stand first.
+fn is_at_scope(mut trees: TtIter<'_>) -> bool
+    ensures { result ≡ is_at_scope (rest_of trees.entry) }
+{
+    match trees.next() {
+        Some(TtElement::Subtree(header, inside)) => {
+            header.delimiter.kind == DelimiterKind::Parenthesis && is_scope(inside)
+        }
+        _ => false,
+    }
+}
+
+// How many trees a visibility is: `pub` and such parentheses, or `pub`, or none.
+fn visibility_size(mut trees: TtIter<'_>) -> usize
+    ensures { result ≡ visibility_size (rest_of trees.entry) }
+{
+    if !is_at_word(trees.remaining().iter(), "pub") {
+        return 0;
+    }
+    trees.next();
+    if is_at_scope(trees) { 2 } else { 1 }
+}
+
 /// Whether the fragment takes what stands first.
 pub(crate) fn takes(fragment: Fragment, mut trees: TtIter<'_>) -> bool
     ensures { result ≡ takes fragment (rest_of trees.entry) }
@@ -105,7 +155,19 @@ pub(crate) fn takes(fragment: Fragment, mut trees: TtIter<'_>) -> bool
         }
         Fragment::Lifetime => is_at_lifetime(trees),
         Fragment::Block => is_at_block(trees),
+        Fragment::Vis => true,
         Fragment::Tt => !trees.is_empty(),
+    }
+}
+
+/// Whether it takes nothing of them.
+pub(crate) fn takes_nothing(fragment: Fragment, trees: TtIter<'_>) -> bool
+    ensures { result ≡ takes_nothing fragment (rest_of trees.entry) }
+{
+    match fragment {
+        Fragment::Vis => !is_at_word(trees, "pub"),
+        Fragment::Ident | Fragment::Literal | Fragment::Lifetime | Fragment::Block | Fragment::Tt =>
+            false,
     }
 }
 
@@ -117,6 +179,7 @@ pub(crate) fn reach(fragment: Fragment, trees: TtIter<'_>) -> usize
         Fragment::Ident | Fragment::Block => 1,
         Fragment::Literal => { if is_at_negative(trees) { 2 } else { 1 } }
         Fragment::Lifetime => 2,
+        Fragment::Vis => visibility_size(trees),
         Fragment::Tt => unit_size(trees),
     }
 }

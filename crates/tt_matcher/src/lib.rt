@@ -11,6 +11,7 @@ mod matcher;
 mod pieces;
 mod places;
 mod reading;
+mod settling;
 mod steps;
 mod threads;
 mod walking;

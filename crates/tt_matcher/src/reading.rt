@@ -1,11 +1,13 @@
 //! Reading an input: which paths lead through all of it.
-ghost use Rattle.std.specs.Prelude.{◌≡◌, [], OnOk, IfOk, MatchOption, reverse, slice_get};
+ghost use Rattle.std.specs.Prelude.{◌≡◌, [], ℕ, OnOk, IfOk, MatchOption, reverse, slice_get};
 ghost use Rattle.tt.specs.Iters.{rest_of};
 ghost use Rattle.tt_matcher.specs.Levels.{level_view, level_views, AreLevelsWithin, Advances, IsEndedWith, Finds, is_leave_at, with_thread, choice_of, found_of};
 ghost use Rattle.tt_matcher.specs.Places.{ReadsAll};
+ghost use Rattle.tt_matcher.specs.Settling.{IsSettledBy, AreRanked};
 ghost use Rattle.tt_matcher.specs.Threads.{views_of, AreWithin, IsGrown, AllStep};
 
 use crate::places::{Atom, Place};
+use crate::settling::settle;
 use crate::threads::{Move, Thread, Turn, spread_to, step_all};
 use std::alloc::{AllocError, Global};
 use tt::{DelimiterKind, TtElement, TtIter};
@@ -74,6 +76,24 @@ fn moved<'i>(
         rest,
         threads: next,
     })
+}
+
+// The level, where its threads go on from places that ask for nothing.
+fn settle_level<'i>(
+    alloc: Global,
+    places: &[Place],
+    level: Level<'i>,
+    log: &mut Vec<Turn>,
+) -> Result<Level<'i>, AllocError>
+    requires own { AreWithin log.old.items level.threads.items }
+    ensures rest { IfOk result (λ next. rest_of next.rest ≡ rest_of level.entry.rest) }
+    ensures settled { IfOk result (λ next. IsSettledBy places.now (rest_of level.entry.rest) (views_of log.old.items level.entry.threads.items) (views_of log.new.items next.threads.items)) }
+    ensures grown { OnOk result (IsGrown log.old.items log.new.items) }
+    ensures now_within { IfOk result (λ next. AreWithin log.new.items next.threads.items) }
+{
+    let Level { rest, threads } = level;
+    let threads = settle(alloc, places, &rest, threads, log)?;
+    Ok(Level { rest, threads })
 }
 
 // Goes on by one tree, or out of a level that is at its end. At the end of the outermost one its threads are left.
@@ -192,7 +212,7 @@ pub(crate) fn read_all(
     starts: &[usize],
     input: TtIter<'_>,
 ) -> Result<Paths, AllocError>
-    ensures { IfOk result (λ found. Finds (ReadsAll places.now starts.now (rest_of input.entry)) found) }
+    ensures { IfOk result (λ found. (rank : ℕ → ℕ) → AreRanked places.now rank → Finds (ReadsAll places.now starts.now (rest_of input.entry)) found) }
 {
     let mut log = Vec::new(alloc);
     let mut threads = Vec::new(alloc);
@@ -203,7 +223,8 @@ pub(crate) fn read_all(
         threads,
     })?;
     while let Some(level) = levels.pop() {
-        if let Some(ended) = advance(alloc, places, level, &mut levels, &mut log)? {
+        let calm = settle_level(alloc, places, level, &mut log)?;
+        if let Some(ended) = advance(alloc, places, calm, &mut levels, &mut log)? {
             let choice = chosen(places, &ended);
             return Ok(find_by(choice, log));
         }

@@ -3,7 +3,7 @@ ghost use Rattle.std.specs.Prelude.{◌≡◌, ◌≤◌, OnOk, length, MatchOpt
 ghost use Rattle.tt_matcher.specs.Asks.{ask_of};
 ghost use Rattle.tt_matcher.specs.Threads.{threads_meet, thread_added, threads_spread, view_of, views_of, AreWithin, IsGrown, IsMoved, wait_of, is_waiting, threads_waited, StepsOn, Steps, AllStep};
 
-use crate::asks::{is_unit_like, reach, takes};
+use crate::asks::{is_unit_like, reach, takes, takes_nothing};
 use crate::places::{Atom, Place};
 use std::alloc::AllocError;
 use tt::{DelimiterKind, TtIter};
@@ -42,7 +42,9 @@ fn moved(by: &Move<'_>, atom: &Atom) -> Option<usize>
 {
     match (by, atom) {
         (Move::Passes(trees), Atom::Take(variable)) => {
-            if takes(variable.fragment, trees.remaining().iter()) {
+            if takes(variable.fragment, trees.remaining().iter())
+                && !takes_nothing(variable.fragment, trees.remaining().iter())
+            {
                 Some(reach(variable.fragment, trees.remaining().iter()).saturating_sub(1))
             } else {
                 None
@@ -68,8 +70,8 @@ fn meet(thread: Thread, other: Thread) -> bool
     thread.at == other.at && thread.wait == other.wait
 }
 
-// Adds a thread; one that it meets stands for both.
-fn add(threads: &mut Vec<Thread>, thread: Thread) -> Result<(), AllocError>
+/// Adds a thread; one that it meets stands for both.
+pub(crate) fn add(threads: &mut Vec<Thread>, thread: Thread) -> Result<(), AllocError>
     ensures { OnOk result (threads.new.items ≡ thread_added thread threads.old.items) }
 {
     for i in 0..threads.len() {

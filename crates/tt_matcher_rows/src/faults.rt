@@ -17,7 +17,7 @@ fn is_told(alloc: Global, sound: &str, faulty: &str, fault: PatternError) -> Opt
 
 // A sound pattern, a faulty one, and what is wrong with that: a `$` that begins nothing, fragments that are none, or none of those that
 // are supported, a name that is given twice, repetitions that may take no tree, a separator before `?`; and the first of several.
-const FAULTS: [(&str, &str, PatternError); 59] = [
+const FAULTS: [(&str, &str, PatternError); 60] = [
     ("a", "$", PatternError::BeginsNothing(0)),
     ("$crate", "$$crate", PatternError::BeginsNothing(0)),
     ("$x:tt", "$x", PatternError::BeginsNothing(0)),
@@ -94,11 +94,6 @@ const FAULTS: [(&str, &str, PatternError); 59] = [
         PatternError::UnsupportedFragment(0, GrammarFragment::Meta),
     ),
     (
-        "$x:tt",
-        "$x:vis",
-        PatternError::UnsupportedFragment(0, GrammarFragment::Vis),
-    ),
-    (
         "$x:lifetime $y:literal",
         "$x:lifetime $y:r#ty",
         PatternError::UnsupportedFragment(4, GrammarFragment::Ty),
@@ -127,6 +122,12 @@ const FAULTS: [(&str, &str, PatternError); 59] = [
     ("$($(a)+),*", "$($(a)*),*", PatternError::EmptyRepetition(0)),
     ("$($(a)+)*", "$($(a)*)*", PatternError::EmptyRepetition(0)),
     ("$($(a)? b)+", "$($(a)?)+", PatternError::EmptyRepetition(0)),
+    ("$($v:vis a)*", "$($v:vis)*", PatternError::EmptyRepetition(0)),
+    (
+        "$($v:vis $(a)+)+",
+        "$($v:vis $(a)?)+",
+        PatternError::EmptyRepetition(0),
+    ),
     (
         "$($(a)+ $(b)*),*",
         "$($(a)? $(b)*),*",

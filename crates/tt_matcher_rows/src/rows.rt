@@ -28,8 +28,8 @@ fn ways(alloc: Global, pattern: &str, input: &str) -> Option<usize> {
 }
 
 // A list with a comma at its end or none, what may be left out twice, fragments, subtrees, repetitions inside of others, names, and
-// `$crate`.
-const WAYS: [(&str, &str, usize); 75] = [
+// `$crate`; visibilities, which may be nothing, beside each other and where rounds end.
+const WAYS: [(&str, &str, usize); 101] = [
     ("$($x:ident),* $(,)?", "", 1),
     ("$($x:ident),* $(,)?", "a", 1),
     ("$($x:ident),* $(,)?", "a, b,", 1),
@@ -105,6 +105,32 @@ const WAYS: [(&str, &str, usize); 75] = [
     ("$x:literal", "- true", 0),
     ("$x:literal", "-", 0),
     ("$x:block", "{ 1 2, }", 1),
+    ("$v:vis", "", 1),
+    ("$v:vis", "pub", 1),
+    ("$v:vis", "pub(crate)", 1),
+    ("$v:vis", "pub(self)", 1),
+    ("$v:vis", "pub(super)", 1),
+    ("$v:vis", "pub(in a::b)", 1),
+    ("$v:vis", "pub(a)", 0),
+    ("$v:vis", "r#pub", 0),
+    ("$v:vis", "pub[crate]", 0),
+    ("$v:vis", "pub(crate a)", 0),
+    ("$v:vis $x:ident", "a", 1),
+    ("$v:vis $x:ident", "pub a", 1),
+    ("$v:vis $x:ident", "pub", 0),
+    ("$v:vis ($x:tt)", "pub (a)", 1),
+    ("$v:vis ($x:tt)", "pub (crate)", 0),
+    ("$v:vis $w:vis a", "pub a", 1),
+    ("$v:vis $w:vis a", "a", 1),
+    ("$v:vis $w:vis", "pub pub", 1),
+    ("$($v:vis $x:ident),*", "pub a, b", 1),
+    ("$($x:ident $v:vis)*", "a pub b", 1),
+    ("($v:vis) $w:vis", "() pub", 1),
+    ("$($v:vis $x:tt $w:vis)* $u:vis", "a", 1),
+    ("$(a $v:vis)* $w:vis", "a pub", 1),
+    ("$($(a $v:vis)+)*", "a a", 2),
+    ("$(a)? $v:vis b", "a b", 1),
+    ("$v:vis $x:tt", "pub", 0),
 ];
 
 fn are_ways(alloc: Global) -> bool {

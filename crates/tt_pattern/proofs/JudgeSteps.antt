@@ -13,7 +13,7 @@ use Rattle.tt_pattern.specs.declared.judging.Opened.{Opened}
 use Rattle.tt_pattern.specs.declared.pattern.RepeatKind.{RepeatKind}
 use Rattle.tt_pattern.specs.Faults.{or_else, names_with, names_behind, name_fault, separator_fault, empty_fault, fault_behind, pattern_fault, IsPatternError}
 use Rattle.tt_pattern.specs.Judging.{IsFirst, LevelLeft, level_left, levels_left, State, fault_at_end, is_open_behind, level_of, levels_behind, opened_with, with_level, stepped}
-use Rattle.tt_pattern.specs.Patterns.{may_be_none, may_be_empty}
+use Rattle.tt_pattern.specs.Patterns.{may_take_none, may_be_none, may_be_empty}
 use Rattle.tt_pattern.specs.Placed.{Placed, nothing, variable, wrong, token, subtree, repetition, plain, placed_until}
 
 or_else_more : (a b c : Option PatternError) → or_else a (or_else b c) ≡ or_else (or_else a b) c
@@ -97,7 +97,8 @@ module _ (names : List (List ℕ)) (fault : Option PatternError) (outer : List L
       end_step outer ∙ ap₂ (λ f e. fault_outside names f closing e outer) (sym (or_else_none fault)) (sym (and_true is_open)) ∙ ap left (sym is)
   judged_step (first.Variable at it) is =
       let now = names_with it.name names in
-      ap₂ (λ f e. fault_outside (names_behind now others) f closing e outer) (sym (or_else_more fault (name_fault at it.name names) (fault_behind now others))) (sym (and_false is_open))
+      ap₂ (λ f e. fault_outside (names_behind now others) f closing e outer) (sym (or_else_more fault (name_fault at it.name names) (fault_behind now others)))
+      (and_more is_open (may_take_none it.fragment) (may_be_empty (plain others)))
       ∙ ap left (sym is)
   judged_step (first.Wrong why it) is =
       ap₂ (λ f e. fault_outside (names_behind names others) f closing e outer) (sym (or_else_more fault (Some why) (fault_behind names others))) (sym (and_false is_open)) ∙ ap left (sym is)

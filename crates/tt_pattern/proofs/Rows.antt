@@ -202,3 +202,10 @@ outer_first = refl
 
 inner_first : pattern_fault (rounds (comma (rounds end (alone 42 end))) (alone 42 (alone 36 end))) ≡ Some (error.EmptyRepetition 3)
 inner_first = refl
+
+-- `$($v:vis)*`, and `$($v:vis ,)*`.
+visibility_repeated : pattern_fault (rounds (var (codes "v") (codes "vis") end) (alone 42 end)) ≡ Some (error.EmptyRepetition 0)
+visibility_repeated = refl
+
+visibility_sound : pattern_fault (rounds (var (codes "v") (codes "vis") (comma end)) (alone 42 end)) ≡ None
+visibility_sound = refl

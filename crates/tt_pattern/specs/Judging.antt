@@ -8,9 +8,10 @@ use Rattle.tt_pattern.specs.declared.first.First.TheVariants as first
 use Rattle.tt_pattern.specs.declared.judging.Judged.{Judged}
 use Rattle.tt_pattern.specs.declared.judging.Level.{Level}
 use Rattle.tt_pattern.specs.declared.judging.Opened.{Opened}
+use Rattle.tt_pattern.specs.declared.pattern.Fragment.{Fragment}
 use Rattle.tt_pattern.specs.declared.pattern.RepeatKind.{RepeatKind}
 use Rattle.tt_pattern.specs.Faults.{or_else, names_with, name_fault, separator_fault, empty_fault}
-use Rattle.tt_pattern.specs.Patterns.{may_be_none}
+use Rattle.tt_pattern.specs.Patterns.{may_take_none, may_be_none}
 use Rattle.tt_pattern.specs.Placed.{Placed, placed_until}
 use Rattle.tt_pattern.specs.Placed as placed
 
@@ -68,6 +69,10 @@ abbrev pub levels_behind : Option Opened → (is_empty : Bool) → List LevelLef
 levels_behind closing is_empty [] = []
 levels_behind closing is_empty (next ∷ outer) = level_of next.rest next.closing (is_open_behind closing is_empty next.is_open) ∷ outer
 
+-- one in which a variable of that fragment has to be there
+abbrev pub taken : Fragment → LevelLeft → LevelLeft
+taken which level = level_of level.rest level.closing (level.is_open && may_take_none which)
+
 -- a level is at its end
 abbrev pub ended : LevelLeft → State → State
 ended level state =
@@ -97,7 +102,7 @@ begun at kind held level state = with_level (level_of held (Some (opened_with at
 -- what is judged of a part, behind which that is left of its level
 abbrev pub stepped : First → LevelLeft → State → State
 stepped first.End level state = ended level state
-stepped (first.Variable at it) level state = with_level (full level) (with_name at it.name state)
+stepped (first.Variable at it) level state = with_level (taken it.fragment level) (with_name at it.name state)
 stepped (first.Wrong why it) level state = with_level (full level) (with_fault (Some why) state)
 stepped first.Token level state = with_level (full level) state
 stepped (first.Subtree kind inner until) level state = with_level (level_of (placed_until until (rest_of inner)) None true) (with_level (full level) state)

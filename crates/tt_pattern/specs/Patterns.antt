@@ -2,6 +2,8 @@
 use Rattle.std.specs.Prelude.{◌≡◌, ◌&&◌, ◌||◌, Bool, true, false, List}
 use Rattle.tt.specs.Types.DelimiterKind.{DelimiterKind}
 use Rattle.tt.specs.Types.Leaf.{Leaf}
+use Rattle.tt_pattern.specs.declared.pattern.Fragment.{Fragment}
+use Rattle.tt_pattern.specs.declared.pattern.Fragment.TheVariants as fragment
 use Rattle.tt_pattern.specs.declared.pattern.RepeatKind.{RepeatKind}
 use Rattle.tt_pattern.specs.declared.pattern.RepeatKind.TheVariants as repeat
 use Rattle.tt_pattern.specs.declared.pattern.Variable.{Variable}
@@ -35,10 +37,19 @@ may_be_more repeat.ZeroOrMore = true
 may_be_more repeat.OneOrMore = true
 may_be_more repeat.ZeroOrOne = false
 
+-- a variable of that fragment may take no tree
+abbrev pub may_take_none : Fragment → Bool
+may_take_none fragment.Ident = false
+may_take_none fragment.Literal = false
+may_take_none fragment.Lifetime = false
+may_take_none fragment.Block = false
+may_take_none fragment.Vis = true
+may_take_none fragment.Tt = false
+
 -- the pattern may take no tree at all
 abbrev pub may_be_empty : Pattern → Bool
 may_be_empty nothing = true
-may_be_empty (variable it others) = false
+may_be_empty (variable it others) = may_take_none it.fragment && may_be_empty others
 may_be_empty (token its others) = false
 may_be_empty (subtree kind inner others) = false
 may_be_empty (repetition inner separator op others) = (may_be_none op || may_be_empty inner) && may_be_empty others

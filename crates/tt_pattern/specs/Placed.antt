@@ -55,8 +55,7 @@ grammar_named text =
     else (if bytes_eq text (codes "pat_param") then Some grammar.PatParam
     else (if bytes_eq text (codes "path") then Some grammar.Path
     else (if bytes_eq text (codes "stmt") then Some grammar.Stmt
-    else (if bytes_eq text (codes "item") then Some grammar.Item
-    else (if bytes_eq text (codes "meta") then Some grammar.Meta else (if bytes_eq text (codes "vis") then Some grammar.Vis else None)))))))))
+    else (if bytes_eq text (codes "item") then Some grammar.Item else (if bytes_eq text (codes "meta") then Some grammar.Meta else None))))))))
 
 -- what is wrong with a variable whose fragment is none, or is one of Rust's grammar
 abbrev pub fragment_fault : (at : ℕ) → Option GrammarFragment → PatternError

@@ -32,7 +32,8 @@ fragment_named text =
     if bytes_eq text (codes "ident") then Some fragment.Ident
     else (if bytes_eq text (codes "literal") then Some fragment.Literal
     else (if bytes_eq text (codes "lifetime") then Some fragment.Lifetime
-    else (if bytes_eq text (codes "block") then Some fragment.Block else (if bytes_eq text (codes "tt") then Some fragment.Tt else None))))
+    else (if bytes_eq text (codes "block") then Some fragment.Block
+    else (if bytes_eq text (codes "vis") then Some fragment.Vis else (if bytes_eq text (codes "tt") then Some fragment.Tt else None)))))
 
 -- the fragment that an ident names, raw or not
 abbrev pub fragment_from : Option Ident → Option Fragment

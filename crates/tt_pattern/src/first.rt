@@ -42,7 +42,6 @@ impl GrammarFragment {
             "stmt" => Some(GrammarFragment::Stmt),
             "item" => Some(GrammarFragment::Item),
             "meta" => Some(GrammarFragment::Meta),
-            "vis" => Some(GrammarFragment::Vis),
             _ => None,
         }
     }

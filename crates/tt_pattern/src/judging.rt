@@ -2,13 +2,13 @@
 ghost use Rattle.std.specs.Prelude.{◌≡◌, true, None, OnOk, IfOk, IfErr, not, is_some};
 ghost use Rattle.tt.specs.Iters.{rest_of};
 ghost use Rattle.tt_pattern.specs.Faults.{or_else, names_with, name_fault, separator_fault, empty_fault, pattern_fault, IsPatternError};
-ghost use Rattle.tt_pattern.specs.Judging.{level_left, state_of, full, level_of, fault_at_end, is_open_behind, ended, with_level, with_fault, with_name, begun, stepped};
-ghost use Rattle.tt_pattern.specs.Patterns.{may_be_none, may_be_more};
+ghost use Rattle.tt_pattern.specs.Judging.{level_left, state_of, full, taken, level_of, fault_at_end, is_open_behind, ended, with_level, with_fault, with_name, begun, stepped};
+ghost use Rattle.tt_pattern.specs.Patterns.{may_take_none, may_be_none, may_be_more};
 ghost use Rattle.tt_pattern.specs.Placed.{placed_until};
 
 use crate::error::PatternError;
 use crate::first::{First, next_first};
-use crate::pattern::RepeatKind;
+use crate::pattern::{Fragment, RepeatKind};
 use crate::signs::Tail;
 use indexmap::IndexSet;
 use std::alloc::{AllocError, Global};
@@ -81,6 +81,17 @@ fn name_fault(
     }
 }
 
+// Whether a variable of that fragment may take no tree.
+fn may_take_none(fragment: Fragment) -> bool
+    ensures { result ≡ may_take_none fragment }
+{
+    match fragment {
+        Fragment::Vis => true,
+        Fragment::Ident | Fragment::Literal | Fragment::Lifetime | Fragment::Block | Fragment::Tt =>
+            false,
+    }
+}
+
 // The fault at the end of a level, all of which may take no tree, or not.
 fn fault_at_end(
     closing: Option<Opened>,
@@ -130,6 +141,26 @@ impl<'p> Judged<'p> {
                 until,
                 closing,
                 is_open: false,
+            })?,
+        )
+    }
+
+    // A level in which a variable of that fragment has to be there.
+    fn take_variable(&mut self, level: Level<'p>, fragment: Fragment) -> Result<(), AllocError>
+        ensures { OnOk result (state_of self.new ≡ with_level (taken fragment (level_left level.entry)) (state_of self.old)) }
+    {
+        let Level {
+            rest,
+            until,
+            closing,
+            is_open,
+        } = level;
+        Ok(
+            self.levels.push(Level {
+                rest,
+                until,
+                closing,
+                is_open: is_open & may_take_none(fragment),
             })?,
         )
     }
@@ -226,7 +257,7 @@ impl<'p> Judged<'p> {
             First::End => self.end(level),
             First::Variable(at, variable) => {
                 self.name(at, variable.name)?;
-                self.stay(level)
+                self.take_variable(level, variable.fragment)
             }
             First::Wrong(fault, _) => {
                 self.note(Some(fault));

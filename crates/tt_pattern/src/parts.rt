@@ -15,10 +15,13 @@ use tt::{DelimiterKind, Leaf, TtElement, TtIter};
 pub enum Part<'p> {
     /// There is none.
     End,
+    /// A variable: `$name:fragment`.
     Variable(Variable),
-    /// The leaves of a token.
+    /// The leaves of a token. A `$` that begins nothing is one.
     Token(Vec<Leaf>),
+    /// A subtree of that kind, and what it holds.
     Subtree(DelimiterKind, TtIter<'p>),
+    /// What a repetition holds, and what stands behind that.
     Repetition(TtIter<'p>, Tail),
 }
 
@@ -58,7 +61,7 @@ fn signed_part<'p>(
     }
 }
 
-/// The first part of the pattern that these trees spell, which is passed.
+/// The first part of the pattern that these trees spell, which is passed. It is refused only where memory is.
 pub fn next_part<'p>(alloc: Global, trees: &mut TtIter<'p>) -> Result<Part<'p>, AllocError>
     ensures part { IfOk result (λ part. IsPart (pattern_of (rest_of trees.old)) part (pattern_of (rest_of trees.new))) }
     ensures less { IfOk result (λ part. AreLess part (held_size part + size (rest_of trees.new)) (size (rest_of trees.old))) }

@@ -12,6 +12,8 @@ pub enum Fragment {
     Lifetime,
     /// A subtree in braces.
     Block,
+    /// A visibility, which may be nothing.
+    Vis,
     /// Any token or subtree.
     Tt,
 }
@@ -37,14 +39,22 @@ pub enum RepeatKind {
 /// A fragment of Rust's grammar. None of them is supported yet.
 #[derive(Debug, Clone, Copy, PartialEq, Eq)]
 pub enum GrammarFragment {
+    /// `expr`.
     Expr,
+    /// `expr_2021`.
     Expr2021,
+    /// `ty`.
     Ty,
+    /// `pat`.
     Pat,
+    /// `pat_param`.
     PatParam,
+    /// `path`.
     Path,
+    /// `stmt`.
     Stmt,
+    /// `item`.
     Item,
+    /// `meta`.
     Meta,
-    Vis,
 }

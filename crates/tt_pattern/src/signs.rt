@@ -81,6 +81,7 @@ impl Fragment {
             "literal" => Some(Fragment::Literal),
             "lifetime" => Some(Fragment::Lifetime),
             "block" => Some(Fragment::Block),
+            "vis" => Some(Fragment::Vis),
             "tt" => Some(Fragment::Tt),
             _ => None,
         }

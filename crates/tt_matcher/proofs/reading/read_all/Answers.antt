@@ -1,13 +1,15 @@
-use Rattle.std.proofs.Common.{rules, ◌≡◌, [], ◌∷◌, ◌++◌, false, reverse, ap, sym, subst, refl, ◌∙◌}
+use Rattle.std.proofs.Common.{rules, arith, ◌<◌, ◌≡◌, [], ◌∷◌, ◌++◌, false, reverse, ap, sym, subst, refl, ◌∙◌}
 use Rattle.tt.specs.Iters.{rest_of}
 use Rattle.tt_matcher.specs.declared.reading.Choice.TheVariants as choice
 use Rattle.tt_matcher.specs.declared.reading.Level.{Level}
 use Rattle.tt_matcher.specs.Levels.{level_view, level_views, AreLevelsWithin, Advances, IsEndedWith, Finds, choice_of, found_of}
 use Rattle.tt_matcher.specs.Places.{ReadsAll}
-use Rattle.tt_matcher.specs.Threads.{views_of, threads_spread}
-use Rattle.tt_matcher.proofs.Levelling.{within_rest, within_last}
+use Rattle.tt_matcher.specs.Settling.{IsSettledBy}
+use Rattle.tt_matcher.specs.Threads.{views_of, IsGrown, threads_spread}
+use Rattle.tt_matcher.proofs.Levelling.{within_rest, within_last, levels_within_kept, work_left, less_left}
 use Rattle.tt_matcher.proofs.Ending.{Says}
-use Rattle.tt_matcher.proofs.ReadingSteps.{told_init, within_init, told_on, says_ended, finds}
+use Rattle.tt_matcher.proofs.ReadingSteps.{told_init, within_init, told_calm, work_kept, told_on, says_ended, finds}
+use Rattle.tt_matcher.proofs.SettleSteps.{calm_level}
 use Rattle.tt_matcher.proofs.reading.read_all.Goals as goal
 
 pub loop-level-init : goal.loop-level-init
@@ -20,54 +22,96 @@ loop-level-init c =
     let spreads : its ≡ threads_spread 0 false 0 0 c.args.starts.now [] = added ∙ ap (threads_spread 0 false 0 0 c.args.starts.now) before in
     let is : c.push.new.self.items ≡ [] ++ level ∷ [] = search rules in
     record {
-      told = told_init c.args.places.now c.args.starts.now c.args.input log its c.push.new.self.items level spreads is refl refl;
+      told = λ rank ranked. told_init c.args.places.now c.args.starts.now c.args.input log its c.push.new.self.items level spreads is refl refl;
       within = subst (AreLevelsWithin log) (sym is) (within_init log c.args.starts.now its spreads, tt);
     }
 
-pub advance-requires-clause-own : goal.advance-requires-clause-own
-advance-requires-clause-own c =
+pub settle_level-requires : goal.settle_level-requires
+settle_level-requires c =
     let log = c.loop-level.log.items in
     let level : Level = c.in-Some.level in
     let was : c.loop-level.levels.items ≡ c.pop.new.self.items ++ level ∷ [] = search rules in
-    within_last log c.pop.new.self.items level (subst (AreLevelsWithin log) was c.loop-level.invariant.within)
+    record { own = within_last log c.pop.new.self.items level (subst (AreLevelsWithin log) was c.loop-level.invariant.within) }
 
 pub advance-requires-clause-outside : goal.advance-requires-clause-outside
 advance-requires-clause-outside c =
     let log = c.loop-level.log.items in
+    let mid = c.settle_level.new.log.items in
     let level : Level = c.in-Some.level in
     let was : c.loop-level.levels.items ≡ c.pop.new.self.items ++ level ∷ [] = search rules in
-    within_rest log c.pop.new.self.items level (subst (AreLevelsWithin log) was c.loop-level.invariant.within)
+    let grown : IsGrown log mid = search rules in
+    levels_within_kept log mid c.pop.new.self.items grown (within_rest log c.pop.new.self.items level (subst (AreLevelsWithin log) was c.loop-level.invariant.within))
 
 pub returns-in-Some-2 : goal.returns-in-Some-2
-returns-in-Some-2 c =
+returns-in-Some-2 c rank ranked =
     let places = c.args.places.now in
+    let Whole = ReadsAll places c.args.starts.now (rest_of c.args.input) in
     let log = c.loop-level.log.items in
+    let mid = c.settle_level.new.log.items in
     let new = c.advance.new.log.items in
     let level : Level = c.in-Some.level in
+    let calm : Level = c.in_ok-calm.calm in
     let popped = c.pop.new.self.items in
     let its = c.in-Some-2.ended.items in
     let was : c.loop-level.levels.items ≡ popped ++ level ∷ [] = search rules in
-    let ended : IsEndedWith (level_view log level) (level_views log (reverse popped)) (views_of new its) = search rules in
+    let grown : IsGrown log mid = search rules in
+    let rest : rest_of calm.rest ≡ rest_of level.rest = search rules in
+    let settled : IsSettledBy places (rest_of level.rest) (views_of log level.threads.items) (views_of mid calm.threads.items) = search rules in
+    let ended : IsEndedWith (level_view mid calm) (level_views mid (reverse popped)) (views_of new its) = search rules in
     let here : c.deref.result.now ≡ its = search rules in
     let choice_is : c.chosen-choice.result ≡ choice_of places choice.Nothing c.deref.result.now = search rules in
     let found_is : c.find_by.result ≡ found_of c.chosen-choice.result c.advance.new.log = search rules in
-    subst (Finds (ReadsAll places c.args.starts.now (rest_of c.args.input))) (sym found_is)
-    (finds places (ReadsAll places c.args.starts.now (rest_of c.args.input)) c.advance.new.log c.chosen-choice.result
-    (subst (Says places (ReadsAll places c.args.starts.now (rest_of c.args.input)) new) (sym (choice_is ∙ ap (choice_of places choice.Nothing) here))
-    (says_ended places (ReadsAll places c.args.starts.now (rest_of c.args.input)) log new c.loop-level.levels.items popped [] level was c.loop-level.invariant.told its ended)))
+    let within = within_rest log popped level (subst (AreLevelsWithin log) was c.loop-level.invariant.within) in
+    let told = told_calm places Whole log mid c.loop-level.levels.items popped level calm was grown within rest settled (c.loop-level.invariant.told rank ranked) in
+    let still = calm_level places rank ranked (rest_of level.rest) (rest_of calm.rest) (views_of log level.threads.items) (views_of mid calm.threads.items) (sym rest) settled in
+    subst (Finds Whole) (sym found_is)
+    (finds places Whole c.advance.new.log c.chosen-choice.result
+    (subst (Says places Whole new) (sym (choice_is ∙ ap (choice_of places choice.Nothing) here))
+    (says_ended places Whole mid new popped [] calm still told its ended)))
 
 pub loop-level-preserved : goal.loop-level-preserved
 loop-level-preserved c =
     let places = c.args.places.now in
+    let Whole = ReadsAll places c.args.starts.now (rest_of c.args.input) in
     let log = c.loop-level.log.items in
+    let mid = c.settle_level.new.log.items in
     let new = c.advance.new.log.items in
     let level : Level = c.in-Some.level in
+    let calm : Level = c.in_ok-calm.calm in
     let popped = c.pop.new.self.items in
     let news = c.advance.new.levels.items in
     let was : c.loop-level.levels.items ≡ popped ++ level ∷ [] = search rules in
-    let steps : Advances places (level_view log level) (level_views log (reverse popped)) (level_views new (reverse news)) = search rules in
+    let grown : IsGrown log mid = search rules in
+    let rest : rest_of calm.rest ≡ rest_of level.rest = search rules in
+    let settled : IsSettledBy places (rest_of level.rest) (views_of log level.threads.items) (views_of mid calm.threads.items) = search rules in
+    let steps : Advances places (level_view mid calm) (level_views mid (reverse popped)) (level_views new (reverse news)) = search rules in
     let within : AreLevelsWithin new news = search rules in
+    let before = within_rest log popped level (subst (AreLevelsWithin log) was c.loop-level.invariant.within) in
     record {
-      told = told_on places (ReadsAll places c.args.starts.now (rest_of c.args.input)) log new c.loop-level.levels.items popped news level was c.loop-level.invariant.told steps;
+      told = λ rank ranked.
+          told_on places Whole mid new popped news calm
+          (calm_level places rank ranked (rest_of level.rest) (rest_of calm.rest) (views_of log level.threads.items) (views_of mid calm.threads.items) (sym rest) settled)
+          (told_calm places Whole log mid c.loop-level.levels.items popped level calm was grown before rest settled (c.loop-level.invariant.told rank ranked)) steps;
       within = within;
     }
+
+pub loop-level-smaller : goal.loop-level-smaller
+loop-level-smaller c =
+    let places = c.args.places.now in
+    let log = c.loop-level.log.items in
+    let mid = c.settle_level.new.log.items in
+    let new = c.advance.new.log.items in
+    let level : Level = c.in-Some.level in
+    let calm : Level = c.in_ok-calm.calm in
+    let popped = c.pop.new.self.items in
+    let news = c.advance.new.levels.items in
+    let was : c.loop-level.levels.items ≡ popped ++ level ∷ [] = search rules in
+    let grown : IsGrown log mid = search rules in
+    let rest : rest_of calm.rest ≡ rest_of level.rest = search rules in
+    let steps : Advances places (level_view mid calm) (level_views mid (reverse popped)) (level_views new (reverse news)) = search rules in
+    let before = within_rest log popped level (subst (AreLevelsWithin log) was c.loop-level.invariant.within) in
+    let less : work_left (level_views new (reverse news)) < work_left (level_view mid calm ∷ level_views mid (reverse popped)) =
+    less_left places (level_view mid calm) (level_views mid (reverse popped)) (level_views new (reverse news)) steps in
+    let same : work_left (level_view mid calm ∷ level_views mid (reverse popped)) ≡ work_left (level_views log (reverse c.loop-level.levels.items)) =
+    work_kept log mid c.loop-level.levels.items popped level calm was grown before rest in
+    omega (arith, less, same)

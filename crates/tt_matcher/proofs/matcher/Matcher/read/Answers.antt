@@ -1,11 +1,13 @@
-use Rattle.std.proofs.Common.{rules, ◌≡◌, subst, ◌∙◌}
+use Rattle.std.proofs.Common.{rules, ◌≡◌, ℕ, subst, ◌∙◌}
 use Rattle.std.specs.Prelude.{IfOk}
 use Rattle.tt.specs.Iters.{rest_of}
 use Rattle.tt_matcher.specs.Levels.{Finds}
 use Rattle.tt_pattern.specs.Patterns.{Pattern, IsFull}
 use Rattle.tt_matcher.specs.Places.{ReadsAll}
+use Rattle.tt_matcher.specs.Settling.{AreRanked}
 use Rattle.tt_matcher.specs.Steps.{steps_of}
 use Rattle.tt_matcher.specs.Told.{Tells, TellsPaths}
+use Rattle.tt_matcher.proofs.Ranked.{rank_in, are_ranked}
 use Rattle.tt_matcher.proofs.Results.{if_ok}
 use Rattle.tt_matcher.proofs.Told.{tells}
 use Rattle.tt_matcher.proofs.matcher.Matcher.read.Goals as goal
@@ -19,12 +21,12 @@ returns c =
     let starts : c.deref-2.result.now ≡ matcher.starts.items = search rules in
     let steps : c.deref-3.result.now ≡ matcher.steps.items = search rules in
     let same : rest_of c.iter.result ≡ input = search rules in
-    let found : Finds (ReadsAll c.deref.result.now c.deref-2.result.now (rest_of c.iter.result)) it = search rules in
-    let finds : Finds (ReadsAll matcher.places.items matcher.starts.items input) it =
-    subst (λ p. Finds (ReadsAll p matcher.starts.items input) it) places
-    (subst (λ s. Finds (ReadsAll c.deref.result.now s input) it) starts
-    (subst (λ t. Finds (ReadsAll c.deref.result.now c.deref-2.result.now t) it) same found)) in
+    let found : (rank : ℕ → ℕ) → AreRanked c.deref.result.now rank → Finds (ReadsAll c.deref.result.now c.deref-2.result.now (rest_of c.iter.result)) it = search rules in
+    let finds : (rank : ℕ → ℕ) → AreRanked matcher.places.items rank → Finds (ReadsAll matcher.places.items matcher.starts.items input) it =
+    subst (λ p. (rank : ℕ → ℕ) → AreRanked p rank → Finds (ReadsAll p matcher.starts.items input) it) places
+    (subst (λ s. (rank : ℕ → ℕ) → AreRanked c.deref.result.now rank → Finds (ReadsAll c.deref.result.now s input) it) starts
+    (subst (λ t. (rank : ℕ → ℕ) → AreRanked c.deref.result.now rank → Finds (ReadsAll c.deref.result.now c.deref-2.result.now t) it) same found)) in
     let told : IfOk c.found_by.result (λ found. (pattern : Pattern) → IsFull pattern → c.deref-3.result.now ≡ steps_of pattern → TellsPaths pattern input it → Tells pattern input found) = search rules in
     if_ok c.found_by.result
     (λ found is pattern of. is pattern of.full (steps ∙ of.steps)
-    (tells matcher.places.items pattern of.full of.stand input it (subst (λ s. Finds (ReadsAll matcher.places.items s input) it) of.starts finds))) told
+    (tells matcher.places.items pattern of.full of.stand input it (subst (λ s. Finds (ReadsAll matcher.places.items s input) it) of.starts (finds (rank_in pattern) (are_ranked matcher.places.items pattern of.full of.count of.stand))))) told
