@@ -23,8 +23,8 @@ use crate::parts::Part;
 use crate::taken::{Round, Seen, Taken, seen_in, taken_by};
 use std::alloc::Global;
 use tt::{Delimiter, Leaf, Span, TokenTreesView, TopSubtree, TopSubtreeBuilder, TtFault};
-use tt_pattern::Tail;
 use tt_matcher::{Binder, Binding};
+use tt_pattern::Tail;
 
 /// What was filled, the rounds that are begun, and the close spans of the subtrees that are open, the innermost last.
 #[derive(Drop)]
