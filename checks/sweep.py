@@ -40,8 +40,9 @@ TAKE_MEMORY = {
             "TopSubtreeBuilder::clone",
         ),
         "builds": ("build build_skip_top_subtree",),
-        # of a macro
+        # of a rule, and of a macro of several arms
         "rules": ("Rule::new expand",),
+        "macros": ("MacroRules::new MacroRules::expand",),
     },
 }
 

@@ -1,11 +1,10 @@
 //! Macros, each with an input and what comes of it, and trees that are no macro.
+use crate::texts::{holds, tree_of, written};
 use std::alloc::Global;
 use std::test::Fail;
 use tt_macro_rules::{ArmFault, Expansion, MacroRules};
 use tt_pattern::PatternError;
 use tt_template::{FillError, TemplateError};
-
-use crate::texts::{holds, tree_of, written};
 
 // What comes of an input, as a text: its tokens, or that no arm takes it, that the one of that number takes it in two ways, or that it
 // is not filled.
@@ -15,7 +14,7 @@ fn told(alloc: Global, arms: &str, input: &str) -> Option<String> {
     let rules = MacroRules::new(alloc, arms.token_trees().iter()).ok()?;
     match rules.expand(alloc, input.token_trees().iter()) {
         Ok(Expansion::Tree(tree)) => written(alloc, &tree),
-        Ok(Expansion::NoMatch) => String::from_str_in("no match", alloc).ok(),
+        Ok(Expansion::NoMatch) => String::from_str(alloc, "no match").ok(),
         Ok(Expansion::Ambiguous(arm)) => numbered(alloc, "ambiguous ", arm),
         Err(error) => match error.fault {
             FillError::LengthsDiffer(_) => numbered(alloc, "lengths ", error.arm),
@@ -45,7 +44,11 @@ const EXPANSIONS: [(&str, &str, &str); 18] = [
     ("(a) => {2}; ($x:tt) => {1}", "a", "{12 "),
     ("(a) => {2}; ($x:tt) => {1}", "c", "{11 "),
     ("(a) => {2}; ($x:tt) => {1}", "c c", "no match"),
-    ("($($x:tt)* $($y:tt)*) => {1}; ($z:tt) => {2}", "a", "ambiguous 0"),
+    (
+        "($($x:tt)* $($y:tt)*) => {1}; ($z:tt) => {2}",
+        "a",
+        "ambiguous 0",
+    ),
     ("(b) => {1}; ($(a)? $(a)?) => {2}", "a", "ambiguous 1"),
     ("($($x:tt)* end) => {$($x)*}", "a end b end", "{3a end b "),
     (

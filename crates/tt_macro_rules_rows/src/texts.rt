@@ -22,7 +22,7 @@ fn push_header(text: &mut String, header: &Subtree) -> Option<()> {
         DelimiterKind::Parenthesis => '(',
         DelimiterKind::Brace => '{',
         DelimiterKind::Bracket => '[',
-        DelimiterKind::Invisible => '<',
+        DelimiterKind::Invisible | DelimiterKind::InvisibleOpaque => '<',
     };
     text.push(bracket).ok()?;
     text.push(char::from_digit(header.len, 10)?).ok()

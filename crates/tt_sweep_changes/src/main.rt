@@ -7,6 +7,7 @@ mod builders;
 mod builds;
 mod edits;
 mod grown;
+mod macros;
 mod quiet;
 mod rules;
 mod walks;
@@ -33,6 +34,7 @@ impl Groups for ChangeGroups {
             "walks" => walks::judged(rt, rt.alloc(), call),
             "builders" => builders::judged(rt, rt.alloc(), call),
             "builds" => builds::judged(rt, rt.alloc(), call),
+            "macros" => macros::judged(rt, rt.alloc(), call),
             "rules" => rules::judged(rt, rt.alloc(), call),
             "quiet" => quiet::judged(rt, rt.alloc(), call),
             _ => Err(TtFault::NoSuchPlace),
