@@ -1,5 +1,5 @@
 -- Without places a pattern is the one that its trees spell; and one in which nothing is wrong has no repetition that may be empty.
-use Rattle.std.proofs.Common.{◌≡◌, ◌-◌, ℕ, zero, suc, Bool, true, false, List, [], ◌∷◌, Option, None, Some, refl, ap, ap₂, subst, ◌∙◌, cond}
+use Rattle.std.proofs.Common.{◌≡◌, ◌-◌, ℕ, zero, suc, Bool, true, false, List, [], Option, None, Some, refl, ap, ap₂, subst, ◌∙◌, cond}
 use Rattle.tt.specs.Forest.{Forest, end, leaf, node, size}
 use Rattle.tt.specs.Types.Leaf.{Leaf}
 use Rattle.tt_pattern.specs.declared.error.PatternError.{PatternError}
