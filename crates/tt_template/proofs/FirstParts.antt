@@ -10,7 +10,7 @@ use Rattle.tt_pattern.specs.declared.pattern.RepeatKind.{RepeatKind}
 use Rattle.tt_matcher.specs.Grouping.{Where}
 use Rattle.tt_pattern.specs.Spelling.{Tail, is_dollar, is_crate_in}
 use Rattle.tt_pattern.proofs.Passing.{after_end}
-use Rattle.tt_template.specs.Spelling.{Mark, mark_from, mark_in, mark_length, part_of, variable_in, template_behind, template_until}
+use Rattle.tt_template.specs.Spelling.{last_alone, seamed, Mark, mark_from, mark_in, mark_length, part_of, variable_in, template_behind, template_until}
 use Rattle.tt_template.specs.Spelling as spelling
 use Rattle.tt_template.specs.Templates.{Template, inner_part}
 use Rattle.tt_template.specs.Templates as template
@@ -42,7 +42,7 @@ module _ (variables : List Where) (until : ℕ) where
         ≡ part_of (until - size (leaf dollar rest)) dollar mark (inner_part (template_behind variables until zero rest)) (template_behind variables until (mark_length mark) rest)
     marked mark same =
         ap (λ b. cond b (part_of (until - size (leaf dollar rest)) dollar (mark_in variables rest) (inner_part (template_behind variables until zero rest)) (template_behind variables until (mark_length (mark_in variables rest)) rest))
-        (template.token dollar (template_behind variables until zero rest))) is
+        (template.token (seamed dollar rest) (template_behind variables until zero rest))) is
         ∙ ap (λ m. part_of (until - size (leaf dollar rest)) dollar m (inner_part (template_behind variables until zero rest)) (template_behind variables until (mark_length m) rest)) same
 
     pub marked_use : (variable : ℕ) (behind : Forest) → mark_in variables rest ≡ spelling.use_of variable → behind ≡ after_tree rest
@@ -55,10 +55,10 @@ module _ (variables : List Where) (until : ℕ) where
         → rest ≡ node delimiter children others → mark_in variables rest ≡ spelling.repetition (record { separator = separator; kind = kind })
         → behind ≡ after_trees (length separator) (after_tree others)
         → template_until variables until (leaf dollar rest)
-        ≡ template.repetition (until - size (leaf dollar rest)) (template_until variables (until - size others) children) separator kind (template_until variables until behind)
+        ≡ template.repetition (until - size (leaf dollar rest)) (template_until variables (until - size others) children) (last_alone separator) kind (template_until variables until behind)
     marked_repetition delimiter children others behind separator kind begins same left =
         marked (spelling.repetition (record { separator = separator; kind = kind })) same
-        ∙ ap₂ (λ held more. template.repetition (until - size (leaf dollar rest)) held separator kind more) (ap (λ t. inner_part (template_behind variables until zero t)) begins)
+        ∙ ap₂ (λ held more. template.repetition (until - size (leaf dollar rest)) held (last_alone separator) kind more) (ap (λ t. inner_part (template_behind variables until zero t)) begins)
         (behind_passed (suc (suc (length separator))) rest ∙ ap (λ t. template_until variables until (after_trees (suc (suc (length separator))) t)) begins
         ∙ ap (template_until variables until) (sym left))
 
@@ -66,7 +66,7 @@ module _ (variables : List Where) (until : ℕ) where
     marked_nothing same = marked spelling.nothing same
 
   -- Any other leaf is a token.
-  pub token_first : (it : Leaf) (rest : Forest) → is_dollar it ≡ false → template_until variables until (leaf it rest) ≡ template.token it (template_until variables until rest)
+  pub token_first : (it : Leaf) (rest : Forest) → is_dollar it ≡ false → template_until variables until (leaf it rest) ≡ template.token (seamed it rest) (template_until variables until rest)
   token_first it rest other =
       ap (λ b. cond b (part_of (until - size (leaf it rest)) it (mark_in variables rest) (inner_part (template_behind variables until zero rest)) (template_behind variables until (mark_length (mark_in variables rest)) rest))
-      (template.token it (template_behind variables until zero rest))) other
+      (template.token (seamed it rest) (template_behind variables until zero rest))) other

@@ -8,7 +8,7 @@ use Rattle.tt.specs.Types.Leaf.{Leaf}
 use Rattle.tt.specs.Types.Span.{Span}
 use Rattle.tt_matcher.specs.Bindings.{Binding}
 use Rattle.tt_template.specs.declared.taken.Round.{Round}
-use Rattle.tt_template.specs.Filling.{all_filled, in_subtree, filled, trees_used}
+use Rattle.tt_template.specs.Filling.{all_filled, in_subtree, filled, trees_placed}
 use Rattle.tt_template.specs.Parts.{Bit, uses, same, enter, leave, bits_of}
 use Rattle.tt_template.specs.Standing.{bound_here, IsEnd, AreLevels}
 use Rattle.tt_template.specs.Templates.{Template, nothing, use_of, token, subtree, repetition}
@@ -36,7 +36,7 @@ module _ (bits : List Bit) (whole : Binding) (outer : List Level) (rounds : List
 
   -- A use, where it comes first.
   use_next : (at variable : ℕ) (rest : Template) → uses at variable ∷ left ≡ bits_of rest (end_of closing ∷ behind)
-      → Next bits whole (level_of rest binding closing ∷ outer) rounds closes left (append (trees_used (slice_get (bound_here whole rounds) variable)))
+      → Next bits whole (level_of rest binding closing ∷ outer) rounds closes left (append (trees_placed (slice_get (bound_here whole rounds) variable)))
   use_next at variable nothing is = absurd (by closing is)
     where
       by : (closing : Closing) → uses at variable ∷ left ≡ end_of closing ∷ behind → ⊥
@@ -48,8 +48,8 @@ module _ (bits : List Bit) (whole : Binding) (outer : List Level) (rounds : List
         news = level_of others binding closing ∷ outer;
         stand = stand_on others (cc is);
         same =
-            λ stack. ap (λ w. finished outer (behind_end closing w)) (write_both (all_filled (trees_used (slice_get binding which))) (filled others binding) (sound stack))
-            ∙ ap₂ (λ b v. finished outer (behind_end closing (write (filled others binding) (sound (append (trees_used (slice_get b v)) stack))))) bound same_variable;
+            λ stack. ap (λ w. finished outer (behind_end closing w)) (write_both (all_filled (trees_placed (slice_get binding which))) (filled others binding) (sound stack))
+            ∙ ap₂ (λ b v. finished outer (behind_end closing (write (filled others binding) (sound (append (trees_placed (slice_get b v)) stack))))) bound same_variable;
         less = omega arith;
       }
     where
@@ -116,7 +116,7 @@ module _ (bits : List Bit) (whole : Binding) (outer : List Level) (rounds : List
 -- what is said of the levels, where that part comes first
 module _ (bits : List Bit) (whole : Binding) (rounds : List Round) (closes : List Span) (left : List Bit) where
   pub goes_use : (at variable : ℕ) (levels : List Level) → AreLevels bits whole levels rounds closes (uses at variable ∷ left)
-      → Next bits whole levels rounds closes left (append (trees_used (slice_get (bound_here whole rounds) variable)))
+      → Next bits whole levels rounds closes left (append (trees_placed (slice_get (bound_here whole rounds) variable)))
   goes_use at variable [] stand = absurd (cc stand.2)
   goes_use at variable (level ∷ outer) (behind, is, bound, ends) =
       use_next bits whole outer rounds closes level.binding level.closing behind left bound ends at variable level.rest is

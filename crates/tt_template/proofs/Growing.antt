@@ -2,8 +2,8 @@
 use Rattle.std.proofs.Common.{◌≡◌, ◌+◌, ◌<◌, ℕ, suc, List, [], ◌∷◌, ◌++◌, length, take, get_or, inl, inr, Ok, Err, Result, refl, ap, sym, subst, ◌∙◌, arith}
 use Rattle.std.specs.Prelude.{OnOk, IfOk, IfErr}
 use Rattle.std.proofs.lemmas.List.{take_more, length-take-le}
-use Rattle.tt.specs.Building.{Stack, lowest, above, close_innermost, extended, tokens_held, HasRoom, IsAbove, IsGrowthFault}
-use Rattle.tt.specs.Forest.{Forest, end, leaf, join, size}
+use Rattle.tt.specs.Building.{alone, Stack, lowest, above, close_innermost, extended, tokens_held, HasRoom, IsAbove, IsGrowthFault}
+use Rattle.tt.specs.Forest.{Forest, end, leaf, node, join, size}
 use Rattle.tt.specs.Siblings.{leaves}
 use Rattle.tt.specs.Types.Leaf.{Leaf}
 use Rattle.tt.specs.Types.Span.{Span}
@@ -93,3 +93,13 @@ err_so (Err e) then p = then e p
 pub ok_so : {A E : Type 0} {P Q : A → Type 0} (result : Result A E) → ((x : A) → P x → Q x) → IfOk result P → IfOk result Q
 ok_so (Ok x) then p = then x p
 ok_so (Err e) then p = tt
+
+-- A token that stands alone is one token still.
+pub size-alone : (trees : Forest) → size (alone trees) ≡ size trees
+size-alone end = refl
+size-alone (leaf it end) = refl
+size-alone (leaf it (leaf next rest)) = ap suc (size-alone (leaf next rest))
+size-alone (leaf it (node next children rest)) = ap suc (size-alone (node next children rest))
+size-alone (node delimiter children end) = omega (arith, size-alone children)
+size-alone (node delimiter children (leaf next rest)) = omega (arith, size-alone (leaf next rest))
+size-alone (node delimiter children (node next inner rest)) = omega (arith, size-alone (node next inner rest))

@@ -1,3 +1,4 @@
+pub mod Aloneness
 pub mod CutSteps
 pub mod Finishing
 pub mod FirstParts

@@ -4,7 +4,7 @@ use Rattle.tt.specs.Forest.{Forest, end, leaf, join}
 use Rattle.tt.specs.Types.DelimiterKind.TheVariants.{Parenthesis, Brace}
 use Rattle.tt.specs.Types.IdentIsRaw.TheVariants.{Yes}
 use Rattle.tt.specs.Types.Leaf.TheVariants as leaf_of
-use Rattle.tt.specs.Types.Spacing.TheVariants.{Alone}
+use Rattle.tt.specs.Types.Spacing.TheVariants.{Alone, Joint}
 use Rattle.tt_base.specs.Token.{delimiter}
 use Rattle.tt_base.proofs.Samples.{span, punct, ident, subtree}
 use Rattle.tt_pattern.specs.declared.pattern.RepeatKind.TheVariants as repeat
@@ -183,3 +183,20 @@ none_there = refl
 
 lengths_apart : becomes empty (rounds (alone 36 (word y (rounds (alone 36 (word z end)) (alone 42 end)))) (alone 42 end)) ≡ record { trees = end; fault = Some (lengths_differ 0) }
 lengths_apart = refl
+
+-- Before a `$` no punct stands as one with what comes behind, and neither does the last one of a separator or of what is bound; others do.
+abbrev joint : ℕ → Forest → Forest
+joint char rest = leaf (punct char Joint) rest
+
+before_use : template_of variables (joint 60 (alone 36 (word x end))) ≡ token (punct 60 Alone) (use_of 1 1 nothing)
+before_use = refl
+
+before_punct : template_of variables (joint 58 (alone 58 end)) ≡ token (punct 58 Joint) (token (punct 58 Alone) nothing)
+before_punct = refl
+
+joint_separator : template_of variables (rounds (alone 36 (word y end)) (joint 61 (joint 62 (alone 42 end))))
+    ≡ repetition 0 (use_of 2 2 nothing) (punct 61 Joint ∷ punct 62 Alone ∷ []) repeat.ZeroOrMore nothing
+joint_separator = refl
+
+joint_bound : filled (use_of 0 0 (token (punct 61 Alone) nothing)) (bind x (one (joint 61 (joint 62 end))) ∷ []) ≡ all_filled (joint 61 (alone 62 (alone 61 end)))
+joint_bound = refl

@@ -16,7 +16,7 @@ use Rattle.tt_template.specs.declared.fill_error.FillError.TheVariants as error
 use Rattle.tt_template.specs.declared.filling.Filling.{Filling}
 use Rattle.tt_template.specs.declared.taken.Round.{Round}
 use Rattle.tt_template.specs.Counting.{behind_close, round_error}
-use Rattle.tt_template.specs.Filling.{FillFault, lengths_differ, no_round, trees_used}
+use Rattle.tt_template.specs.Filling.{FillFault, lengths_differ, no_round, trees_placed}
 use Rattle.tt_template.specs.Parts.{Bit, uses, same, enter, leave, begin, close}
 use Rattle.tt_template.specs.Standing.{AreLevels, IsAt, Goes, Grows, IsWant, Enters, AreClosed, Leaves, IsStop, bound_here}
 use Rattle.tt_template.specs.Writing.{Level, written_by, finished}
@@ -67,17 +67,17 @@ module _ (bits : List Bit) (whole : Binding) (levels : List Level) (left : List 
 
     -- A use.
     pub use_steps : (new : Filling) (at variable : ℕ) → IsAt bits whole levels old (uses at variable ∷ left)
-        → Grows (trees_used (slice_get (bound_here whole rounds) variable)) old new → Goes bits whole levels old new left
+        → Grows (trees_placed (slice_get (bound_here whole rounds) variable)) old new → Goes bits whole levels old new left
     use_steps new at variable is grows =
-        let trees = trees_used (slice_get (bound_here whole rounds) variable) in
+        let trees = trees_placed (slice_get (bound_here whole rounds) variable) in
         goes_on old new rounds closes (append trees) (goes_use bits whole rounds closes left at variable levels is.stand)
         (ap (λ r. reverse r.items) grows.rounds) (ap (λ r. reverse r.items) grows.closes) (ap (λ b. b.stack) grows.builder)
         (grows.few is.few) (ap (λ b. b.top) grows.builder)
 
     pub use_stops : (at variable : ℕ) (fault : TtFault) → IsAt bits whole levels old (uses at variable ∷ left)
-        → IsWant (size (trees_used (slice_get (bound_here whole rounds) variable))) old fault → IsStop (finished levels (written_by old)) (error.Tree fault)
+        → IsWant (size (trees_placed (slice_get (bound_here whole rounds) variable))) old fault → IsStop (finished levels (written_by old)) (error.Tree fault)
     use_stops at variable fault is want =
-        let trees = trees_used (slice_get (bound_here whole rounds) variable) in
+        let trees = trees_placed (slice_get (bound_here whole rounds) variable) in
         want_stops old rounds closes left (append trees) (size trees) fault (goes_use bits whole rounds closes left at variable levels is.stand) (held-append trees old.builder.stack) want
 
     -- A token.

@@ -1,5 +1,6 @@
 -- What becomes of a template under a binding.
 use Rattle.std.specs.Prelude.{ℕ, zero, suc, Bool, true, false, List, [], ◌∷◌, ◌++◌, map, Option, None, Some, Result, Ok, Err, nat_eq, slice_get, if◌then◌else◌}
+use Rattle.tt.specs.Building.{alone}
 use Rattle.tt.specs.Forest.{Forest, end, leaf, node, join}
 use Rattle.tt.specs.Siblings.{leaves}
 use Rattle.tt.specs.Types.Delimiter.{Delimiter}
@@ -88,6 +89,10 @@ abbrev pub trees_used : Option Named → Forest
 trees_used None = end
 trees_used (Some it) = trees_in it.bound
 
+-- those that stand in its place: their last token does not stand as one with what comes behind
+abbrev pub trees_placed : Option Named → Forest
+trees_placed it = alone (trees_used it)
+
 -- trees, and no fault
 abbrev pub all_filled : Forest → Filled
 all_filled trees = record { trees = trees; fault = None }
@@ -124,7 +129,7 @@ in_subtree delimiter it = record { trees = node delimiter it.trees end; fault = 
 -- the template in which each use is replaced, and each repetition filled once for each round
 abbrev pub filled : Template → Binding → Filled
 filled nothing binding = all_filled end
-filled (use_of at variable others) binding = and_then (all_filled (trees_used (slice_get binding variable))) (filled others binding)
+filled (use_of at variable others) binding = and_then (all_filled (trees_placed (slice_get binding variable))) (filled others binding)
 filled (token it others) binding = and_then (all_filled (leaf it end)) (filled others binding)
 filled (subtree delimiter inner others) binding = and_then (in_subtree delimiter (filled inner binding)) (filled others binding)
 filled (repetition at inner separator kind others) binding =

@@ -1,6 +1,7 @@
 -- What template trees spell.
-use Rattle.std.specs.Prelude.{◌-◌, ℕ, zero, suc, Bool, true, false, List, Option, None, Some, if◌then◌else◌}
+use Rattle.std.specs.Prelude.{◌-◌, ℕ, zero, suc, Bool, true, false, List, [], ◌∷◌, Option, None, Some, if◌then◌else◌}
 use Rattle.std.specs.List.{position}
+use Rattle.tt.specs.Building.{leaf_alone}
 use Rattle.tt.specs.Expectations.{first_leaf_as, as_ident_or_underscore, unless_underscore}
 use Rattle.tt.specs.Forest.{Forest, end, leaf, node, size}
 use Rattle.tt.specs.Types.Ident.{Ident}
@@ -46,10 +47,26 @@ mark_length (use_of variable) = 1
 mark_length (repetition tail) = suc (tail_length tail)
 mark_length nothing = 0
 
+-- leaves of which the last does not stand as one with what comes behind
+abbrev pub last_alone : List Leaf → List Leaf
+last_alone [] = []
+last_alone (it ∷ []) = leaf_alone it ∷ []
+last_alone (it ∷ next ∷ others) = it ∷ last_alone (next ∷ others)
+
+-- a `$` stands first
+abbrev pub is_dollar_in : Forest → Bool
+is_dollar_in end = false
+is_dollar_in (leaf it rest) = is_dollar it
+is_dollar_in (node delimiter children rest) = false
+
+-- a leaf before trees: before a `$`, in whose place other trees may come, it does not stand as one with what comes behind
+abbrev pub seamed : Leaf → Forest → Leaf
+seamed it rest = if is_dollar_in rest then leaf_alone it else it
+
 -- the part that a `$` at that flat place begins, before what is behind; where it begins nothing it stands for itself
 abbrev pub part_of : (at : ℕ) → Leaf → Mark → (held others : Template) → Template
 part_of at it (use_of variable) held others = template.use_of at variable others
-part_of at it (repetition tail) held others = template.repetition at held tail.separator tail.kind others
+part_of at it (repetition tail) held others = template.repetition at held (last_alone tail.separator) tail.kind others
 part_of at it nothing held others = template.token it others
 
 -- the template that trees spell behind so many of them, which belong to a part before; behind the last of all is that flat place
@@ -59,7 +76,7 @@ template_behind variables until zero (leaf it rest) =
     if is_dollar it
     then part_of (until - size (leaf it rest)) it (mark_in variables rest) (inner_part (template_behind variables until zero rest))
     (template_behind variables until (mark_length (mark_in variables rest)) rest)
-    else template.token it (template_behind variables until zero rest)
+    else template.token (seamed it rest) (template_behind variables until zero rest)
 template_behind variables until zero (node delimiter children rest) =
     template.subtree delimiter (template_behind variables (until - size rest) zero children) (template_behind variables until zero rest)
 template_behind variables until (suc passed) (leaf it rest) = template_behind variables until passed rest

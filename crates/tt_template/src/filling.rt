@@ -10,7 +10,7 @@ ghost use Rattle.tt_matcher.specs.Grouping.{binding_by};
 ghost use Rattle.tt_matcher.specs.Marks.{note_of};
 ghost use Rattle.tt_matcher.specs.Stepping.{where_of};
 ghost use Rattle.tt_template.specs.declared.taken.Taken.{Taken};
-ghost use Rattle.tt_template.specs.Filling.{filled, trees_used};
+ghost use Rattle.tt_template.specs.Filling.{filled, trees_used, trees_placed};
 ghost use Rattle.tt_template.specs.Parts.{bit_of, begin, close};
 ghost use Rattle.tt_template.specs.Results.{IsFilled, IsFillError};
 ghost use Rattle.tt_template.specs.Rounds.{AreTaken, binding_in, dones};
@@ -47,11 +47,11 @@ fn trees_of<'i>(taken: &[Taken<'i>], number: usize, rounds: &[Round]) -> TokenTr
 impl Filling {
     // A use of the variable of that index.
     fn place(&mut self, taken: &[Taken<'_>], number: usize) -> Result<(), TtFault>
-        ensures ok { OnOk result ((binding : Bindings) → AreTaken binding taken.now → Grows (trees_used (slice_get (bound_here binding (reverse self.old.rounds.items)) number)) self.old self.new) }
-        ensures err { IfErr result (λ fault. (binding : Bindings) → AreTaken binding taken.now → IsWant (size (trees_used (slice_get (bound_here binding (reverse self.old.rounds.items)) number))) self.old fault) }
+        ensures ok { OnOk result ((binding : Bindings) → AreTaken binding taken.now → Grows (trees_placed (slice_get (bound_here binding (reverse self.old.rounds.items)) number)) self.old self.new) }
+        ensures err { IfErr result (λ fault. (binding : Bindings) → AreTaken binding taken.now → IsWant (size (trees_placed (slice_get (bound_here binding (reverse self.old.rounds.items)) number))) self.old fault) }
     {
         self.builder
-            .extend_with_tt(trees_of(taken, number, &self.rounds))
+            .extend_with_tt_alone(trees_of(taken, number, &self.rounds))
     }
 
     // A token.

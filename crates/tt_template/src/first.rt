@@ -9,6 +9,7 @@ ghost use Rattle.tt_template.specs.Spelling.{template_until, has_name, variable_
 ghost use Rattle.tt_template.specs.Stepping.{IsFirst};
 ghost use Rattle.tt_template.specs.Marks.{mark_of};
 
+use crate::seams::{last_alone, seamed};
 use std::alloc::{AllocError, Global};
 use tt::{Delimiter, Leaf, Symbol, TtElement, TtIter};
 use tt_matcher::Binder;
@@ -104,7 +105,9 @@ fn marked_part<'t>(
                 let inside = place_before(until, siblings);
                 siblings.next();
                 pass(siblings, tail.separator.len());
-                Ok(First::Repetition(at, inner, inside, tail))
+                let separator = last_alone(tail.separator)?;
+                let kind = tail.kind;
+                Ok(First::Repetition(at, inner, inside, Tail { separator, kind }))
             }
             Err(()) => unreachable!(),
         },
@@ -132,7 +135,7 @@ pub(crate) fn next_part<'t>(
                 let part = marked_part(alloc, binders, until, leaf, trees)?;
                 return Ok(part);
             }
-            Ok(First::Token(leaf))
+            Ok(First::Token(seamed(leaf, trees.remaining().iter())))
         }
     }
 }

@@ -5,14 +5,14 @@ use Rattle.tt.specs.Iters.{rest_of, IsFirstSubtree}
 use Rattle.tt.specs.Moves.{after_tree}
 use Rattle.tt_matcher.specs.Stepping.{where_of}
 use Rattle.tt_pattern.proofs.FirstTrees.{node_before}
-use Rattle.tt_template.specs.Spelling.{mark_in, template_until}
+use Rattle.tt_template.specs.Spelling.{last_alone, mark_in, template_until}
 use Rattle.tt_template.specs.Spelling as spelling
 use Rattle.tt_template.specs.Templates as template
 use Rattle.tt_template.proofs.FirstParts.{marked_repetition}
 use Rattle.tt_template.proofs.first.marked_part.Goals as goal
 
-pub returns-in-Ok : goal.returns-in-Ok
-returns-in-Ok c =
+pub returns-in_ok-separator-in-Ok : goal.returns-in_ok-separator-in-Ok
+returns-in_ok-separator-in-Ok c =
     let variables = map where_of c.args.binders.now in
     let until = c.args.until in
     let rest = rest_of c.args.siblings.now in
@@ -31,5 +31,7 @@ returns-in-Ok c =
     let behind : rest_of c.expect_subtree.new.self ≡ after_tree rest = search rules in
     let inside : c.place_before-inside.result ≡ until - size (rest_of c.expect_subtree.new.self) = search rules in
     let until_inside : c.place_before-inside.result ≡ until - size (after_tree rest) = inside ∙ ap (λ t. until - size t) behind in
+    let separator : c.in_ok-separator-in-Ok.separator.items ≡ last_alone tail.separator.items = search rules in
     marked_repetition variables until c.args.dollar rest c.requires header.delimiter (rest_of inner) (after_tree rest) (rest_of c.pass.new.trees) tail.separator.items tail.kind begins same left
-    ∙ sym (ap₂ (λ n m. template.repetition n (template_until variables m (rest_of inner)) tail.separator.items tail.kind (template_until variables until (rest_of c.pass.new.trees))) at until_inside)
+    ∙ sym (ap₂ (λ n m. template.repetition n (template_until variables m (rest_of inner)) (last_alone tail.separator.items) tail.kind (template_until variables until (rest_of c.pass.new.trees))) at until_inside)
+    ∙ sym (ap (λ l. template.repetition c.saturating_sub-at.result (template_until variables c.place_before-inside.result (rest_of inner)) l tail.kind (template_until variables until (rest_of c.pass.new.trees))) separator)
