@@ -28,7 +28,8 @@ fn told(alloc: Global, arms: &str, input: &str) -> Option<String> {
 fn numbered(alloc: Global, word: &str, number: usize) -> Option<String> {
     let mut text = String::new(alloc);
     text.push_str(word).ok()?;
-    text.push(char::from_digit(number as u32, 10)?).ok()?;
+    text.push(char::from_digit(u32::try_from(number).ok()?, 10)?)
+        .ok()?;
     Some(text)
 }
 
@@ -58,9 +59,9 @@ const EXPANSIONS: [(&str, &str, &str); 18] = [
     ),
     ("(b) => {}; ($($x:ident)*) => {$($x)+}", "", "no round 1"),
     (
-        "($($k:ident => $v:tt),* $(,)?) => {$(f($k, $v);)*}",
+        "($($k:ident => $v:tt),* $(,)?) => {$($k = $v;)*}",
         "a => 1, b => [c],",
-        "{0",
+        "{9a = 1 ; b = [1c ; ",
     ),
     (
         "(@sum) => {0}; (@sum $h:literal $($t:literal)*) => {$h + m!(@sum $($t)*)}",

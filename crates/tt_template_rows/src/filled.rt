@@ -1,11 +1,10 @@
 //! Templates, each with a pattern and an input, and what they are filled with, or why they are not.
+use crate::texts::{holds, matcher_of, tree_of};
 use std::alloc::Global;
 use std::test::Fail;
 use tt::{DelimiterKind, Leaf, Subtree, TokenTree, TopSubtree};
 use tt_matcher::Found;
 use tt_template::{FillError, Template};
-
-use crate::texts::{holds, matcher_of, tree_of};
 
 // How a header is written: its bracket, and how many tokens it holds, which are few.
 fn push_header(text: &mut String, header: &Subtree) -> Option<()> {
@@ -139,19 +138,49 @@ fn fault_of(error: FillError) -> Option<(bool, usize)> {
 
 // Different numbers of rounds, in the first round or in a later one, and none where one is wanted; the first of several.
 const REFUSED: [(&str, &str, &str, bool, usize); 7] = [
-    ("$($x:ident)* ; $($y:ident)*", "a b ; c", "$($x $y)*", true, 0),
-    ("$($x:ident)* ; $($y:ident)*", "a ; b c", "q $($x $y)*", true, 1),
-    ("$($x:tt)*", "", "$($x)+", false, 0),
-    ("$($x:ident [$($y:tt)*])*", "a [b] c []", "$($x $($y)+)*", false, 4),
     (
-        "$($x:ident [$($y:tt)*])* ; $($z:ident)*",
-        "a [b c] ; d",
-        "$($x $($y $z)*)* $($z)*",
+        "$($x:ident)* ; $($y:ident)*",
+        "a b ; c",
+        "$($x $y)*",
         true,
+        0,
+    ),
+    (
+        "$($x:ident)* ; $($y:ident)*",
+        "a ; b c",
+        "q $($x $y)*",
+        true,
+        1,
+    ),
+    ("$($x:tt)*", "", "$($x)+", false, 0),
+    (
+        "$($x:ident [$($y:tt)*])*",
+        "a [b] c []",
+        "$($x $($y)+)*",
+        false,
         4,
     ),
-    ("$($x:ident)* ; $($y:ident)*", "a ;", "$($y)+ $($x $y)*", false, 0),
-    ("$($x:ident)* ; $($y:ident)*", "a ;", "$($x $y)* $($y)+", true, 0),
+    (
+        "$($x:ident [$($y:tt)*])* ; $($z:ident)*",
+        "a [b c] ; d e",
+        "$($x $($y $z)*)* $($z)*",
+        true,
+        0,
+    ),
+    (
+        "$($x:ident)* ; $($y:ident)*",
+        "a ;",
+        "$($y)+ $($x $y)*",
+        false,
+        0,
+    ),
+    (
+        "$($x:ident)* ; $($y:ident)*",
+        "a ;",
+        "$($x $y)* $($y)+",
+        true,
+        0,
+    ),
 ];
 
 // Whether it is refused so.

@@ -1,11 +1,10 @@
 //! Templates, each with a pattern and its parts, or what is wrong with it and where.
+use crate::texts::{holds, matcher_of, tree_of};
 use std::alloc::Global;
 use std::test::Fail;
 use tt_matcher::Binder;
 use tt_pattern::{RepeatKind, Tail};
 use tt_template::{Part, Template, TemplateError};
-
-use crate::texts::{holds, matcher_of, tree_of};
 
 // The name of the variable of that number.
 fn name_of(binders: &[Binder], number: usize) -> Option<&str> {
