@@ -122,7 +122,11 @@ const FAULTS: [(&str, &str, PatternError); 60] = [
     ("$($(a)+),*", "$($(a)*),*", PatternError::EmptyRepetition(0)),
     ("$($(a)+)*", "$($(a)*)*", PatternError::EmptyRepetition(0)),
     ("$($(a)? b)+", "$($(a)?)+", PatternError::EmptyRepetition(0)),
-    ("$($v:vis a)*", "$($v:vis)*", PatternError::EmptyRepetition(0)),
+    (
+        "$($v:vis a)*",
+        "$($v:vis)*",
+        PatternError::EmptyRepetition(0),
+    ),
     (
         "$($v:vis $(a)+)+",
         "$($v:vis $(a)?)+",
