@@ -1,4 +1,5 @@
 -- What the callers count, find and expand.
+pub mod Arms
 pub mod Commas
 pub mod Macros
 pub mod Names
