@@ -38,7 +38,7 @@ fn tree_of(alloc: Global, text: &str) -> Result<TopSubtree, TtFault> {
     };
     match parse_to_token_tree(alloc, anchor, SyntaxContext(0), text) {
         Ok(tree) => Ok(tree),
-        Err(TextFault::Memory) => Err(TtFault::Memory),
+        Err(TextFault::Limit(fault)) => Err(fault),
         Err(_) => Err(TtFault::NotOneSubtree),
     }
 }
