@@ -1,0 +1,41 @@
+//! Why nothing was measured or shown.
+use std::io;
+use thiserror::Error;
+use tt::TtFault;
+use tt_macro_rules::{ExpandError, RulesError};
+use tt_text::TextFault;
+
+/// Why nothing was measured or shown.
+#[derive(Debug, Drop, Error)]
+pub enum BenchError {
+    /// The arguments ask for nothing that there is.
+    #[error("usage: tt_macro_bench new|expand ROUNDS < TEXTS, or tt_macro_bench show < TEXTS")]
+    Usage,
+    /// There are not two texts.
+    #[error("no U+0001 between the arms and the input")]
+    OneText,
+    /// A text has no tree.
+    #[error("{0}")]
+    Refused(TextFault),
+    /// The arms are no macro.
+    #[error("{0}")]
+    NoMacro(RulesError),
+    /// No arm takes the input in one way.
+    #[error("no arm takes the input in one way")]
+    NoTree,
+    /// The arm that takes it is refused.
+    #[error("{0}")]
+    NotExpanded(ExpandError),
+    /// Memory for what is shown was refused.
+    #[error("{0}")]
+    Show(TtFault),
+    /// Input, output or the clock failed, or the input is no UTF-8.
+    #[error(transparent)]
+    Io(#[from] io::Error),
+}
+
+impl From<TtFault> for BenchError {
+    fn from(fault: TtFault) -> BenchError {
+        BenchError::Show(fault)
+    }
+}

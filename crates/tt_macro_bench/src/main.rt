@@ -1,0 +1,50 @@
+//! Expands the macro of the text on standard input, to measure that or to show what comes of it:
+//! `tt_macro_bench new|expand ROUNDS < TEXTS`, `tt_macro_bench show < TEXTS`.
+//!
+//! The texts are the arms of the macro and its input, parted by the character U+0001. `new` makes the macro in each round, and
+//! `expand` has it expand the input. They print one line: the nanoseconds of processor time that a round took, and the tokens of
+//! the arms, of the input and of what comes of it. `show` prints what comes of it as Display does, or that there is nothing.
+#![tactic(auto)]
+
+mod error;
+mod job;
+mod macros;
+mod timing;
+
+use crate::error::BenchError;
+use crate::job::Job;
+use crate::macros::Macro;
+use std::io::Read;
+use std::process::ExitCode;
+use tt::display_text;
+
+fn main(rt: HostRuntime) -> ExitCode {
+    match run(&rt) {
+        Ok(()) => ExitCode::SUCCESS,
+        Err(error) => {
+            let _ = eprintln!(rt; "tt_macro_bench: {error}");
+            ExitCode::FAILURE
+        }
+    }
+}
+
+// Does what the arguments ask for.
+fn run(rt: &HostRuntime) -> Result<(), BenchError> {
+    let job = Job::from_args(rt)?;
+    let alloc = rt.alloc();
+    let mut texts = String::new(alloc);
+    rt.stdin().read_to_string(&mut texts)?;
+    let made = Macro::of_texts(alloc, texts.as_str())?;
+    match job {
+        Job::Time(timing, rounds) => {
+            let timed = timing::time(rt, alloc, &made, timing, rounds)?;
+            println!(rt; "{timed}")?;
+        }
+        Job::Show => {
+            let tree = made.expanded(alloc)?;
+            let text = display_text(alloc, tree.as_token_trees())?;
+            println!(rt; "{text}")?;
+        }
+    }
+    Ok(())
+}
