@@ -1,7 +1,6 @@
 //! Why nothing was measured or shown.
 use std::io;
 use thiserror::Error;
-use tt::TtFault;
 use tt_macro_rules::{ExpandError, RulesError};
 use tt_text::TextFault;
 
@@ -26,16 +25,7 @@ pub enum BenchError {
     /// The arm that takes it is refused.
     #[error("{0}")]
     NotExpanded(ExpandError),
-    /// Memory for what is shown was refused.
-    #[error("{0}")]
-    Show(TtFault),
     /// Input, output or the clock failed, or the input is no UTF-8.
     #[error(transparent)]
     Io(#[from] io::Error),
-}
-
-impl From<TtFault> for BenchError {
-    fn from(fault: TtFault) -> BenchError {
-        BenchError::Show(fault)
-    }
 }

@@ -3,20 +3,21 @@
 //!
 //! The texts are the arms of the macro and its input, parted by the character U+0001. `new` makes the macro in each round, and
 //! `expand` has it expand the input. They print one line: the nanoseconds of processor time that a round took, and the tokens of
-//! the arms, of the input and of what comes of it. `show` prints what comes of it as Display does, or that there is nothing.
+//! the arms, of the input and of what comes of it. `show` prints what comes of it on one line: its tokens, a bracket with the number of
+//! tokens in it for a subtree, or `no match`, `ambiguous ARM`, `lengths ARM PLACE` or `no round ARM PLACE`.
 #![tactic(auto)]
 
 mod error;
 mod job;
 mod macros;
+mod show;
 mod timing;
 
 use crate::error::BenchError;
 use crate::job::Job;
 use crate::macros::Macro;
-use std::io::Read;
+use std::io::{BufWriter, Read, Write};
 use std::process::ExitCode;
-use tt::display_text;
 
 fn main(rt: HostRuntime) -> ExitCode {
     match run(&rt) {
@@ -41,9 +42,9 @@ fn run(rt: &HostRuntime) -> Result<(), BenchError> {
             println!(rt; "{timed}")?;
         }
         Job::Show => {
-            let tree = made.expanded(alloc)?;
-            let text = display_text(alloc, tree.as_token_trees())?;
-            println!(rt; "{text}")?;
+            let mut out = BufWriter::new(alloc, rt.stdout())?;
+            show::show(&mut out, alloc, &made)?;
+            out.flush()?;
         }
     }
     Ok(())

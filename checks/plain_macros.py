@@ -1,0 +1,178 @@
+"""Macros of several arms by brute force, from docs/DIFFERENCES.md and docs/PROVED.md: all readings of an input are listed, one
+part after the other, and what they bind is a list of lists. Nothing here knows of places or threads.
+
+A unit is one token as Rust sees it, or a subtree: ("ident", NAME), ("lit", TEXT), ("op", CHARS), ("life", NAME) or
+("sub", BRACKET, UNITS). A part of a pattern is ("var", NAME, FRAGMENT), ("unit", UNIT), ("sub", BRACKET, PARTS) or
+("rep", PARTS, SEPARATOR or None, OPERATOR); a part of a template is ("use", NAME, PLACE), or one of the others, where a repetition has
+its flat place behind its operator.
+"""
+
+
+class Stopped(Exception):
+    """Why a template is not filled: `lengths` or `no round`, and the place of its repetition."""
+
+
+# How many units a fragment takes at a place of the input; None where it takes none of them and has to.
+def taken(fragment, units, at):
+    first = units[at] if at < len(units) else None
+    if fragment == "vis":
+        if first != ("ident", "pub"):
+            return 0
+        behind = units[at + 1] if at + 1 < len(units) else None
+        if behind is not None and behind[0] == "sub" and behind[1] == "(" and behind[2]:
+            held = behind[2]
+            if held[0] == ("ident", "in") or (len(held) == 1 and held[0] in [("ident", w) for w in ("crate", "self", "super")]):
+                return 2
+        return 1
+    if first is None:
+        return None
+    if fragment == "tt":
+        return 1
+    if fragment == "ident":
+        return 1 if first[0] == "ident" and first[1] != "_" else None
+    if fragment == "lifetime":
+        return 1 if first[0] == "life" else None
+    if fragment == "block":
+        return 1 if first[0] == "sub" and first[1] == "{" else None
+    if first[0] == "lit" or first in (("ident", "true"), ("ident", "false")):
+        return 1
+    behind = units[at + 1] if at + 1 < len(units) else None
+    if first == ("op", "-") and behind is not None and behind[0] == "lit" and behind[1][0].isdigit():
+        return 2
+    return None
+
+
+# All ways in which the parts take units from a place on: where each ends, and what it binds.
+def ways(parts, units, at):
+    if not parts:
+        yield at, {}
+        return
+    first, others = parts[0], parts[1:]
+    for behind, bound in first_ways(first, units, at):
+        for end, more in ways(others, units, behind):
+            yield end, {**bound, **more}
+
+
+def first_ways(part, units, at):
+    if part[0] == "var":
+        count = taken(part[2], units, at)
+        if count is not None:
+            yield at + count, {part[1]: units[at : at + count]}
+    elif part[0] == "unit":
+        if at < len(units) and units[at] == part[1]:
+            yield at + 1, {}
+    elif part[0] == "sub":
+        if at < len(units) and units[at][0] == "sub" and units[at][1] == part[1]:
+            held = units[at][2]
+            for end, bound in ways(part[2], held, 0):
+                if end == len(held):
+                    yield at + 1, bound
+    else:
+        yield from rounds_of(part, units, at)
+
+
+# All lists of rounds of a repetition.
+def rounds_of(part, units, at):
+    _, body, separator, operator = part
+    names = names_of(body)
+    if operator in "*?":
+        yield at, {name: ("list", []) for name in names}
+    for behind, bound in ways(body, units, at):
+        for end, more in behind_round(part, units, behind):
+            yield end, {name: ("list", [bound[name]] + more[name]) for name in names}
+
+
+# All that may come behind a round: no other, or one more.
+def behind_round(part, units, at):
+    _, body, separator, operator = part
+    names = names_of(body)
+    yield at, {name: [] for name in names}
+    if operator == "?":
+        return
+    start = at
+    if separator is not None:
+        if at >= len(units) or units[at] != separator:
+            return
+        start = at + 1
+    for behind, bound in ways(body, units, start):
+        for end, more in behind_round(part, units, behind):
+            yield end, {name: [bound[name]] + more[name] for name in names}
+
+
+def names_of(parts):
+    names = []
+    for part in parts:
+        if part[0] == "var":
+            names.append(part[1])
+        elif part[0] == "sub":
+            names += names_of(part[2])
+        elif part[0] == "rep":
+            names += names_of(part[1])
+    return names
+
+
+# The names that a template uses.
+def uses_of(parts):
+    names = []
+    for part in parts:
+        if part[0] == "use":
+            names.append(part[1])
+        elif part[0] == "sub":
+            names += uses_of(part[2])
+        elif part[0] == "rep":
+            names += uses_of(part[1])
+    return names
+
+
+def is_list(bound):
+    return isinstance(bound, tuple) and bound and bound[0] == "list"
+
+
+# The units that a template becomes.
+def filled(parts, bound):
+    units = []
+    for part in parts:
+        if part[0] == "use":
+            units += bound[part[1]]
+        elif part[0] == "unit":
+            units.append(part[1])
+        elif part[0] == "sub":
+            units.append(("sub", part[1], filled(part[2], bound)))
+        else:
+            units += filled_rounds(part, bound)
+    return units
+
+
+def filled_rounds(part, bound):
+    _, body, separator, operator, place = part
+    lists = [bound[name][1] for name in uses_of(body) if is_list(bound[name])]
+    counts = {len(rounds) for rounds in lists}
+    if len(counts) > 1:
+        raise Stopped("lengths", place)
+    count = counts.pop()
+    if count == 0 and operator == "+":
+        raise Stopped("no round", place)
+    units = []
+    for number in range(count):
+        if number and separator is not None:
+            units.append(separator)
+        here = {name: its[1][number] if is_list(its) and number < len(its[1]) else its for name, its in bound.items()}
+        units += filled(body, here)
+    return units
+
+
+# What a macro makes of an input: `no match`, `ambiguous ARM`, `lengths ARM PLACE`, `no round ARM PLACE`, or units.
+def expanded(arms, units):
+    for number, (pattern, template) in enumerate(arms):
+        found = []
+        for end, bound in ways(pattern, units, 0):
+            if end == len(units):
+                found.append(bound)
+            if len(found) == 2:
+                return f"ambiguous {number}"
+        if found:
+            try:
+                return filled(template, found[0])
+            except Stopped as stopped:
+                return f"{stopped.args[0]} {number} {stopped.args[1]}"
+    return "no match"
