@@ -34,8 +34,9 @@ fn numbered(alloc: Global, word: &str, number: usize) -> Option<String> {
 }
 
 // The first arm that takes the input answers, in the brackets of its template; where it takes it in two ways, no later one does; nor
-// where its template is not filled. A list, a tail, words that are not variables, and macros that people write.
-const EXPANSIONS: [(&str, &str, &str); 18] = [
+// where its template is not filled. A list, a tail, words that are not variables, and macros of the forms that people write: a map, a
+// count by recursion, an enum with a visibility and values, lists in lists, a loop with its lifetime, a macro handed on.
+const EXPANSIONS: [(&str, &str, &str); 24] = [
     ("() => {}", "", "{0"),
     ("() => {a};", "", "{1a "),
     ("[] => (a b)", "", "(2a b "),
@@ -70,6 +71,36 @@ const EXPANSIONS: [(&str, &str, &str); 18] = [
     ),
     ("(0: $n:ident) => {$crate::$n}", "0: f", "{5$ crate : : f "),
     ("($($n:ident)|+) => {$(#[$n])+}", "a | b", "{6# [1a # [1b "),
+    (
+        "() => {Map::new()}; ($($k:tt => $v:tt),+ $(,)?) => {{ let mut m = Map::new(); $(m.insert($k, $v);)+ m }}",
+        "1 => 2, 3 => 4",
+        "{s{rlet mut m = Map : : new (0; m . insert (31 , 2 ; m . insert (33 , 4 ; m ",
+    ),
+    (
+        "() => {0}; ($h:tt $($t:tt)*) => {1 + count!($($t)*)}",
+        "a b c",
+        "{71 + count ! (2b c ",
+    ),
+    (
+        "($v:vis enum $n:ident {$($x:ident $(= $d:literal)?),* $(,)?}) => {$v enum $n {$($x $(= $d)?),*}}",
+        "pub enum E { A = -1, B, }",
+        "{apub enum E {6A = - 1 , B ",
+    ),
+    (
+        "($([$($x:literal),*]),*) => {[$([$($x),*]),*]}",
+        "[1, 2], [], [3]",
+        "{a[9[31 , 2 , [0, [13 ",
+    ),
+    (
+        "($l:lifetime : $b:block) => {$l : loop $b}",
+        "'a: { x }",
+        "{6' a : loop {1x ",
+    ),
+    (
+        "($m:ident ! ($($a:tt)*)) => {$m!(begin $($a)*)}",
+        "f!(1, 2)",
+        "{7f ! (4begin 1 , 2 ",
+    ),
 ];
 
 fn are_expanded(alloc: Global) -> bool {

@@ -16,7 +16,7 @@ pub(crate) fn tree_of(alloc: Global, text: &str) -> Option<TopSubtree> {
     parse_to_token_tree(alloc, anchor, SyntaxContext(0), text).ok()
 }
 
-// How a header is written: its bracket, and how many tokens it holds, which are few.
+// How a header is written: its bracket, and how many tokens it holds, fewer than 36, as one digit or letter.
 fn push_header(text: &mut String, header: &Subtree) -> Option<()> {
     let bracket = match header.delimiter.kind {
         DelimiterKind::Parenthesis => '(',
@@ -25,7 +25,7 @@ fn push_header(text: &mut String, header: &Subtree) -> Option<()> {
         DelimiterKind::Invisible | DelimiterKind::InvisibleOpaque => '<',
     };
     text.push(bracket).ok()?;
-    text.push(char::from_digit(header.len, 10)?).ok()
+    text.push(char::from_digit(header.len, 36)?).ok()
 }
 
 // How a leaf is written: its text, and a space.
