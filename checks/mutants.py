@@ -6,6 +6,7 @@ a script of random_scripts.py otherwise than the plain machine does: so a progra
 found out. The program is not asked, and nothing has to be built. A line `NOT NOTICED FILE: WHAT` is printed for each
 definition that no script notices, and at the end how many are noticed; the status is 1 where one is not. It takes a
 minute or two: run it where plain_*.py, made_*.py or script_maker.py change. `--only` tries those whose names have the word.
+The definitions of plain_macros.py are turned too, and are to be noticed by the macros of random_macros.py.
 """
 import argparse
 import multiprocessing
@@ -16,12 +17,14 @@ from pathlib import Path
 
 import mutants_of_lists
 import mutants_of_machine
+import mutants_of_macros
 import mutants_of_pieces
 import mutants_of_rules
 import mutants_of_stored
 import mutants_of_texts
 import mutants_of_trees
 import mutants_of_written
+import random_macros
 from random_scripts import SCRIPTS, expected_answers
 from script_maker import Script
 
@@ -88,6 +91,44 @@ def judged(mutant):
     return name, what, any(is_noticed(machine, script) for script in kept)
 
 
+def load_macros(old="", new=""):
+    """Brute force anew, with one definition turned, or none."""
+    text = (HERE / "plain_macros.py").read_text()
+    if old and text.count(old) != 1:
+        raise ValueError(f"{old!r} stands {text.count(old)} times in plain_macros.py")
+    module = types.ModuleType("plain_macros")
+    exec(compile(text.replace(old, new) if old else text, "plain_macros", "exec"), vars(module))  # pylint: disable=exec-used
+    return module
+
+
+def macro_answer(seed):
+    """What brute force answers on the macro of a seed, if it does."""
+    try:
+        return random_macros.example(seed)
+    except Exception:  # pylint: disable=broad-exception-caught
+        return NO_ANSWER
+
+
+def is_noticed_by_macros(old, new, answers):
+    """Whether brute force, with one definition turned, answers the macros otherwise."""
+    random_macros.plain_macros = load_macros(old, new)
+    return any(macro_answer(seed) != answer for seed, answer in enumerate(answers))
+
+
+def macros_noticed(only):
+    """How many definitions of brute force are noticed, and how many there are."""
+    random_macros.plain_macros = load_macros()
+    answers = [macro_answer(seed) for seed in range(random_macros.MACROS)]
+    mutants = [mutant for mutant in mutants_of_macros.MUTANTS if only in mutant[0]]
+    noticed = 0
+    for what, old, new in mutants:
+        is_seen = is_noticed_by_macros(old, new, answers)
+        noticed += is_seen
+        if not is_seen:
+            print(f"NOT NOTICED plain_macros.py: {what}", flush=True)
+    return noticed, len(mutants)
+
+
 def main():
     """Tries each mutant."""
     parser = argparse.ArgumentParser()
@@ -104,8 +145,10 @@ def main():
             noticed += is_seen
             if not is_seen:
                 print(f"NOT NOTICED {name}.py: {what}", flush=True)
-    print(f"{noticed} of {len(mutants)} mutants are noticed")
-    sys.exit(noticed != len(mutants))
+    more, all_macros = macros_noticed(asked.only)
+    noticed, count = noticed + more, len(mutants) + all_macros
+    print(f"{noticed} of {count} mutants are noticed")
+    sys.exit(noticed != count)
 
 
 if __name__ == "__main__":

@@ -77,7 +77,8 @@ class Maker:
             elif part[0] == "unit":
                 units.append(part[1])
             elif part[0] == "sub":
-                units.append(("sub", part[1], self.input_of(part[2])))
+                bracket = self.by.choice("([{") if self.by.random() < 0.05 else part[1]
+                units.append(("sub", bracket, self.input_of(part[2])))
             else:
                 count = self.by.randrange(3) if part[3] in "*?" else self.by.randrange(1, 3)
                 count = min(count, 1) if part[3] == "?" else count
@@ -89,15 +90,16 @@ class Maker:
 
     def fragment(self, name):
         if name == "ident":
-            return [("ident", self.by.choice("ab"))]
+            return [("ident", self.by.choice("aabb_"))]
         if name == "literal":
-            return self.by.choice([[("lit", "1")], [("op", "-"), ("lit", "1")], [("ident", "true")]])
+            return self.by.choice([[("lit", "1")], [("op", "-"), ("lit", "1")], [("op", "-"), ("lit", '"s"')], [("ident", "true")]])
         if name == "lifetime":
             return [("life", "x")]
         if name == "block":
             return [("sub", "{", [self.unit(0)])]
         if name == "vis":
-            return self.by.choice([[], [("ident", "pub")], [("ident", "pub"), ("sub", "(", [("ident", "self")])]])
+            held = self.by.choice([[], [("ident", "self")], [("ident", "self"), ("ident", "b")], [("ident", "in"), ("ident", "a")]])
+            return self.by.choice([[], [("ident", "pub")], [("ident", "pub"), ("sub", "(", held)]])
         return [self.unit(1)]
 
     # A template of these variables, each with how many repetitions it stands in, where so many stand round it, of fewer parts than
