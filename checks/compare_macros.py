@@ -79,6 +79,11 @@ def answers(rustc, room, made):
     sys.exit("rustc finds something wrong each time")
 
 
+# Whether an arm may take `-` and a literal that is no number as one, as rustc does.
+def is_minus(arms, given):
+    return "literal" in arms and re.search(r'- (true|")', given) is not None
+
+
 # How the two stand to each other.
 def kind(arms, given, wanted, got):
     if got[0] == "tree":
@@ -86,7 +91,7 @@ def kind(arms, given, wanted, got):
         shown = "".join(word[0] if re.fullmatch(r"[(\[{]\d+", word) else word for word in wanted.split(" "))
         if printed == shown:
             return "agree: tree"
-        return MINUS if "literal" in arms and re.search(r'- (true|")', given) else "DIFFERS"
+        return MINUS if is_minus(arms, given) else "DIFFERS"
     why = got[1]
     if "ambiguity" in why:
         return "agree: ambiguous" if wanted.startswith("ambiguous") else AMBIGUITY
@@ -95,7 +100,7 @@ def kind(arms, given, wanted, got):
     for begins, words in SAME:
         if wanted.startswith(begins) and any(word in why for word in words):
             return "agree: " + begins
-    return "rustc: " + why
+    return MINUS if is_minus(arms, given) else "rustc: " + why
 
 
 def main():
