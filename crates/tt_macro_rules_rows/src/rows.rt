@@ -142,15 +142,18 @@ fn pattern_kind(error: PatternError) -> (&'static str, usize) {
 
 // What is wrong, with the number of the arm and the place: among all trees what is wrong with the form of an arm, and in a pattern or a
 // template what is wrong with that. A pattern's fault comes before that of the arrow behind it.
-const FAULTS: [(&str, usize, &str, usize); 14] = [
+const FAULTS: [(&str, usize, &str, usize); 17] = [
     ("", 0, "no pattern", 0),
     (";", 0, "no pattern", 0),
     ("a", 0, "no pattern", 0),
     ("(a b)", 0, "no arrow", 3),
     ("(a b) = > {}", 0, "no arrow", 3),
+    ("(a b) == {}", 0, "no arrow", 3),
+    ("(a b) -> {}", 0, "no arrow", 3),
     ("(a b) =>", 0, "no template", 5),
     ("(a b) => c", 0, "no template", 5),
     ("() => {} () => {}", 0, "no semicolon", 4),
+    ("() => {}, () => {}", 0, "no semicolon", 4),
     ("() => {};;", 1, "no pattern", 5),
     ("() => {}; (a $) => {}", 1, "begins nothing", 1),
     ("() => {}; ($x:tt $x:tt) b", 1, "twice", 4),

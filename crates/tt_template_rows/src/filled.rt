@@ -72,13 +72,15 @@ fn is_filled(
 }
 
 // Uses; lists with separators, without, of one and of none; what stands outside used in each round; lists in lists; options.
-const FILLED: [(&str, &str, &str, &str); 18] = [
+const FILLED: [(&str, &str, &str, &str); 20] = [
     ("", "", "", ""),
     ("$x:tt", "a", "$x $x", "a a "),
     ("$x:tt", "(a b)", "[$x]", "[3(2a b "),
     ("$($x:tt)*", "a b c", "$($x)*", "a b c "),
     ("$($x:tt)*", "a b c", "$($x),*", "a , b , c "),
     ("$($x:tt)*", "a", "$($x),*", "a "),
+    ("$($x:tt)*", "a b", "$($x)?", "a b "),
+    ("$($x:tt)+", "a b", "$($x),*", "a , b "),
     ("$($x:tt)*", "", "$($x),* ;", "; "),
     ("$($x:tt)+", "a b", "$($x)=>+", "a = > b "),
     ("$n:ident $($x:tt)*", "f a b", "$($n $x)*", "f a f b "),
