@@ -43,7 +43,21 @@ def told(arms):
     return re.sub(r"\) => \{(.*?)\}(?=; \(|$)", lambda m: f") => {{ stringify!({m.group(1)}) }}", arms)
 
 
-# The numbers of macros in which rustc finds something wrong, and what.
+# How many tokens of an input stand before a column of its text; its tokens and brackets stand between spaces.
+def place_at(given, column):
+    place = start = 0
+    for word in given.split(" "):
+        if start >= column:
+            break
+        if word.startswith("'"):
+            place += 2
+        elif word not in ("", ")", "]", "}"):
+            place += 1 if word[0].isalnum() or word[0] in '_"([{' else len(word)
+        start += len(word) + 1
+    return place
+
+
+# The numbers of macros in which rustc finds something wrong, what, and how many tokens of the input stand before it.
 def errors_of(rustc, room, made):
     source, program = room / "main.rs", room / "main"
     lines = crate_of(made)
@@ -51,11 +65,14 @@ def errors_of(rustc, room, made):
     ran = subprocess.run([rustc, "--error-format=short", "-o", program, source], capture_output=True, text=True, check=False)
     wrong = {}
     for line in ran.stderr.splitlines():
-        found = re.match(r".*main\.rs:(\d+):\d+: error(?:\[\w+\])?: (.*)", line)
+        found = re.match(r".*main\.rs:(\d+):(\d+): error(?:\[\w+\])?: (.*)", line)
         if found:
-            number = re.search(r"\bm(\d+)\b", lines[int(found.group(1)) - 1])
+            told = lines[int(found.group(1)) - 1]
+            number = re.search(r"\bm(\d+)\b", told)
             if number:
-                wrong.setdefault(int(number.group(1)), found.group(2))
+                call = f"m{number.group(1)}!("
+                column = int(found.group(2)) - 1 - told.index(call) - len(call) if call in told else 0
+                wrong.setdefault(int(number.group(1)), (found.group(3), place_at(made[int(number.group(1))][1], column)))
     return wrong, ran.returncode == 0
 
 
@@ -73,8 +90,8 @@ def answers(rustc, room, made):
             return said
         if not wrong:
             sys.exit("rustc refuses the crate, and names no macro")
-        for number, why in wrong.items():
-            said[number] = ("error", why)
+        for number, (why, place) in wrong.items():
+            said[number] = ("error", why, place)
             del left[number]
     sys.exit("rustc finds something wrong each time")
 
@@ -99,6 +116,8 @@ def kind(arms, given, wanted, got):
         return NO_LITERAL
     for begins, words in SAME:
         if wanted.startswith(begins) and any(word in why for word in words):
+            if begins == "no match" and wanted != f"no match {got[2]}":
+                return f"rustc: no match, at another place: {got[2]}"
             return "agree: " + begins
     return MINUS if is_minus(arms, given) else "rustc: " + why
 

@@ -26,5 +26,9 @@ MUTANTS = [
     ("no round is enough for +", 'if count == 0 and operator == "+":', "if False:"),
     ("a separator stands before the first round", "if number and separator is not None:", "if separator is not None:"),
     ("what stands outside is there in the first round alone", "else its for name", "else its if number == 0 or is_list(its) else [] for name"),
+    ("a front ends before a subtree only", "            yield sum(size(unit) for unit in units[:at]) + 1 + place", "            pass"),
+    ("a front ends in the first round only", "            yield from stops_in_rounds(part, units, behind + 1)", "            pass"),
+    ("the first arm alone tells where it stops", "for pattern, _ in arms)", "for pattern, _ in arms[:1])"),
+    ("a front is as long as units are many", "    yield sum(size(unit) for unit in units[:at])\n    if not parts", "    yield at\n    if not parts"),
     ("a subtree of a template is not filled", 'filled(part[2], bound)))', "[]))"),
 ]

@@ -99,6 +99,41 @@ def behind_round(part, units, at):
             yield end, {name: [bound[name]] + more[name] for name in names}
 
 
+# How many tokens a unit is, at any depth: a subtree's delimiter is one.
+def size(unit):
+    if unit[0] == "sub":
+        return 1 + sum(size(held) for held in unit[2])
+    return {"op": len(unit[1]), "life": 2}.get(unit[0], 1)
+
+
+# All flat places of the units at which beginnings of the parts stop that take units from a place on.
+def stops(parts, units, at):
+    yield sum(size(unit) for unit in units[:at])
+    if not parts:
+        return
+    first, others = parts[0], parts[1:]
+    if first[0] == "sub" and at < len(units) and units[at][0] == "sub" and units[at][1] == first[1]:
+        for place in stops(first[2], units[at][2], 0):
+            yield sum(size(unit) for unit in units[:at]) + 1 + place
+    if first[0] == "rep":
+        yield from stops_in_rounds(first, units, at)
+    for behind, _ in first_ways(first, units, at):
+        yield from stops(others, units, behind)
+
+
+# Those in a round, or in one behind it.
+def stops_in_rounds(part, units, at):
+    _, body, separator, operator = part
+    yield from stops(body, units, at)
+    if operator == "?":
+        return
+    for behind, _ in ways(body, units, at):
+        if separator is None:
+            yield from stops_in_rounds(part, units, behind)
+        elif behind < len(units) and units[behind] == separator:
+            yield from stops_in_rounds(part, units, behind + 1)
+
+
 def names_of(parts):
     names = []
     for part in parts:
@@ -161,7 +196,7 @@ def filled_rounds(part, bound):
     return units
 
 
-# What a macro makes of an input: `no match`, `ambiguous ARM`, `lengths ARM PLACE`, `no round ARM PLACE`, or units.
+# What a macro makes of an input: `no match PLACE`, where the arm that comes farthest stops, `ambiguous ARM`, `lengths ARM PLACE`, `no round ARM PLACE`, or units.
 def expanded(arms, units):
     for number, (pattern, template) in enumerate(arms):
         found = []
@@ -175,4 +210,4 @@ def expanded(arms, units):
                 return filled(template, found[0])
             except Stopped as stopped:
                 return f"{stopped.args[0]} {number} {stopped.args[1]}"
-    return "no match"
+    return f"no match {max(max(stops(pattern, units, 0)) for pattern, _ in arms)}"

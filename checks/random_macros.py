@@ -177,13 +177,6 @@ def parts_text(parts):
     return " ".join(words)
 
 
-# How many tokens a unit is.
-def size(unit):
-    if unit[0] == "sub":
-        return 1 + sum(size(held) for held in unit[2])
-    return {"op": len(unit[1]), "life": 2}.get(unit[0], 1)
-
-
 # The parts of a template, each repetition with its flat place; and the place behind them.
 def placed(parts, at):
     made = []
@@ -193,7 +186,7 @@ def placed(parts, at):
             at += 2
         elif part[0] == "unit":
             made.append(part)
-            at += size(part[1])
+            at += plain_macros.size(part[1])
         elif part[0] == "sub":
             held, at = placed(part[2], at + 1)
             made.append(("sub", part[1], held))
@@ -201,7 +194,7 @@ def placed(parts, at):
             place = at
             held, at = placed(part[1], at + 2)
             made.append(("rep", held, part[2], part[3], place))
-            at += (size(part[2]) if part[2] is not None else 0) + 1
+            at += (plain_macros.size(part[2]) if part[2] is not None else 0) + 1
     return made, at
 
 
@@ -210,7 +203,7 @@ def shown(units):
     words = []
     for unit in units:
         if unit[0] == "sub":
-            words.append(f"{unit[1]}{sum(size(held) for held in unit[2])}")
+            words.append(f"{unit[1]}{sum(plain_macros.size(held) for held in unit[2])}")
             words += shown(unit[2])
         elif unit[0] == "op":
             words += list(unit[1])

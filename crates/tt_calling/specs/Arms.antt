@@ -10,7 +10,7 @@ use Rattle.tt_calling.specs.declared.arms.ArmsFault.TheVariants as fault
 
 -- the trees spell arms, of which that comes
 abbrev pub Expands : (trees input : Forest) → Expansion → Type 0
-Expands trees input expansion = (arms : List Arm) × Spell trees arms × IsExpansion arms 0 input expansion
+Expands trees input expansion = (arms : List Arm) × Spell trees arms × IsExpansion arms 0 0 input expansion
 
 -- they do not, or the arm that takes the input is refused
 abbrev pub IsArmsFault : (trees input : Forest) → ArmsFault → Type 0

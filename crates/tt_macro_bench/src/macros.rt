@@ -47,7 +47,7 @@ impl Macro {
     pub fn expanded(&self, alloc: Global) -> Result<TopSubtree, BenchError> {
         match self.rules.expand(alloc, self.input.token_trees().iter()) {
             Ok(Expansion::Tree(tree)) => Ok(tree),
-            Ok(Expansion::NoMatch) | Ok(Expansion::Ambiguous(_)) => Err(BenchError::NoTree),
+            Ok(Expansion::NoMatch(_)) | Ok(Expansion::Ambiguous(_)) => Err(BenchError::NoTree),
             Err(error) => Err(BenchError::NotExpanded(error)),
         }
     }

@@ -37,7 +37,7 @@ fn show_tree<W: Write>(out: &mut W, tree: &TopSubtree) -> Result<(), BenchError>
 pub fn show<W: Write>(out: &mut W, alloc: Global, made: &Macro) -> Result<(), BenchError> {
     match made.rules.expand(alloc, made.input.token_trees().iter()) {
         Ok(Expansion::Tree(tree)) => show_tree(out, &tree)?,
-        Ok(Expansion::NoMatch) => writeln!(out, "no match")?,
+        Ok(Expansion::NoMatch(at)) => writeln!(out, "no match {at}")?,
         Ok(Expansion::Ambiguous(arm)) => writeln!(out, "ambiguous {arm}")?,
         Err(error) => match error.fault {
             FillError::LengthsDiffer(at) => writeln!(out, "lengths {} {at}", error.arm)?,

@@ -1,6 +1,6 @@
 -- What the arms of a macro answer, one after the other.
 use Rattle.std.proofs.Common.{◌≡◌, ℕ, zero, suc, true, false, List, [], ◌∷◌, ◌++◌, drop, Some, None, inl, inr, refl, ap, sym, subst, ◌∙◌, append_assoc}
-use Rattle.std.specs.Prelude.{slice_get, Bool, not}
+use Rattle.std.specs.Prelude.{max, slice_get, Bool, not}
 use Rattle.tt.specs.Forest.{Forest, Root, end, leaf, node}
 use Rattle.tt.specs.Siblings.{is_end}
 use Rattle.tt_template.specs.declared.fill_error.FillError.{FillError}
@@ -76,18 +76,18 @@ module _ (all trees : Forest) (so_far : List Arm) (read : IsReadSoFar true all s
   read_next true some = read_more some
   read_next false none = read_last none
 
-module _ (arms : List Arm) (its : List rust.Arm) (n : ℕ) (it : rust.Arm) (are : AreMade arms its) (there : slice_get its n ≡ Some it) (input : Forest) where
+module _ (arms : List Arm) (its : List rust.Arm) (n : ℕ) (it : rust.Arm) (are : AreMade arms its) (there : slice_get its n ≡ Some it) (input : Forest) (far : ℕ) where
   -- The arm at a place answers that there are two readings.
-  pub ambiguous_here : ((arm : Arm) → IsMade arm it → IsAnswer arm input answer.Ambiguous) → IsExpansion (drop n arms) n input (expansion.Ambiguous n)
+  pub ambiguous_here : ((arm : Arm) → IsMade arm it → IsAnswer arm input answer.Ambiguous) → IsExpansion (drop n arms) n far input (expansion.Ambiguous n)
   ambiguous_here says =
       let (arm, is, split) = made_at arms its n it are there in
-      subst (λ l. IsExpansion l n input (expansion.Ambiguous n)) (sym split) (inr (refl, says arm is))
+      subst (λ l. IsExpansion l n far input (expansion.Ambiguous n)) (sym split) (inr (refl, says arm is))
 
   -- It answers with a tree.
-  pub tree_here : (tree : Root) → ((arm : Arm) → IsMade arm it → IsAnswer arm input (answer.Tree tree)) → IsExpansion (drop n arms) n input (expansion.Tree tree)
+  pub tree_here : (tree : Root) → ((arm : Arm) → IsMade arm it → IsAnswer arm input (answer.Tree tree)) → IsExpansion (drop n arms) n far input (expansion.Tree tree)
   tree_here tree says =
       let (arm, is, split) = made_at arms its n it are there in
-      subst (λ l. IsExpansion l n input (expansion.Tree tree)) (sym split) (inr (says arm is))
+      subst (λ l. IsExpansion l n far input (expansion.Tree tree)) (sym split) (inr (says arm is))
 
   -- It is refused.
   pub refused_here : (fault : FillError) → ((arm : Arm) → IsMade arm it → IsRefusal arm input fault)
@@ -96,17 +96,17 @@ module _ (arms : List Arm) (its : List rust.Arm) (n : ℕ) (it : rust.Arm) (are 
       let (arm, is, split) = made_at arms its n it are there in
       subst (λ l. IsExpandError l n input (record { arm = n; fault = fault })) (sym split) (inr (refl, says arm is))
 
-  module _ (next : ℕ) (more : next ≡ suc n) (says : (arm : Arm) → IsMade arm it → IsAnswer arm input answer.NoMatch) where
+  module _ (next at : ℕ) (more : next ≡ suc n) (says : (arm : Arm) → IsMade arm it → IsAnswer arm input (answer.NoMatch at)) where
     -- It does not answer: those behind it do.
-    pub no_match_here : (result : Expansion) → IsExpansion (drop next arms) next input result → IsExpansion (drop n arms) n input result
+    pub no_match_here : (result : Expansion) → IsExpansion (drop next arms) next (max far at) input result → IsExpansion (drop n arms) n far input result
     no_match_here result behind =
         let (arm, is, split) = made_at arms its n it are there in
-        subst (λ l. IsExpansion l n input result) (sym split) (inl (says arm is, subst (λ m. IsExpansion (drop m arms) m input result) more behind))
+        subst (λ l. IsExpansion l n far input result) (sym split) (inl (at, says arm is, subst (λ m. IsExpansion (drop m arms) m (max far at) input result) more behind))
 
     pub no_refusal_here : (error : ExpandError) → IsExpandError (drop next arms) next input error → IsExpandError (drop n arms) n input error
     no_refusal_here error behind =
         let (arm, is, split) = made_at arms its n it are there in
-        subst (λ l. IsExpandError l n input error) (sym split) (inl (says arm is, subst (λ m. IsExpandError (drop m arms) m input error) more behind))
+        subst (λ l. IsExpandError l n input error) (sym split) (inl ((says arm is).0, subst (λ m. IsExpandError (drop m arms) m input error) more behind))
 
 -- What is wrong with an arm that is left is wrong with it among those from the one before.
 pub fault_behind : (until : ℕ) (trees : Forest) (arm : Arm) (rest others : Forest) → IsArm trees arm rest → IsBehind rest others → is_end others ≡ false

@@ -1,8 +1,9 @@
 -- What a macro expands an input to.
-use Rattle.std.specs.Prelude.{◌≡◌, ◌⊎◌, ℕ, suc, List, [], ◌∷◌}
+use Rattle.std.specs.Prelude.{◌≡◌, ◌⊎◌, ℕ, suc, max, List, [], ◌∷◌}
 use Rattle.tt.specs.Forest.{Forest}
 use Rattle.tt.specs.Types.TtFault.TheVariants.{Memory}
 use Rattle.tt_matcher.specs.Bindings.{binding_of}
+use Rattle.tt_matcher.specs.Fronts.{StopsAt}
 use Rattle.tt_matcher.specs.Matchers.{IsMatcherOf}
 use Rattle.tt_matcher.specs.Readings.{Reading, IsNoInstance, IsReadBy, IsAmbiguous}
 use Rattle.tt_template.specs.declared.fill_error.FillError.{FillError}
@@ -33,10 +34,10 @@ AreMade (arm ∷ more) (it ∷ others) = IsMade arm it × AreMade more others
 abbrev pub written : Arm → Reading → Filled
 written arm reading = filled arm.template (binding_of arm.pattern reading)
 
--- what the arm makes of an input: nothing, where it is no instance of the pattern; it is said where there are two readings; or the template,
--- filled with what the one reading binds
+-- what the arm makes of an input: nothing, where it is no instance of the pattern, which stops there; it is said where there are two readings;
+-- or the template, filled with what the one reading binds
 abbrev pub IsAnswer : Arm → (input : Forest) → Answer → Type 0
-IsAnswer arm input answer.NoMatch = IsNoInstance arm.pattern input
+IsAnswer arm input (answer.NoMatch at) = IsNoInstance arm.pattern input × StopsAt arm.pattern input at
 IsAnswer arm input answer.Ambiguous = IsAmbiguous arm.pattern input
 IsAnswer arm input (answer.Tree tree) = (reading : Reading) × IsReadBy arm.pattern input reading × IsFilled arm.delimiter (written arm reading) tree
 
@@ -45,16 +46,17 @@ abbrev pub IsRefusal : Arm → (input : Forest) → FillError → Type 0
 IsRefusal arm input (Tree Memory) = Unit {0}
 IsRefusal arm input error = (reading : Reading) × IsReadBy arm.pattern input reading × IsFillError arm.delimiter (written arm reading) error
 
--- the answer of the first arm of whose pattern the input is an instance, where the first of these has that number
-abbrev pub IsExpansion : List Arm → (number : ℕ) → (input : Forest) → Expansion → Type 0
-IsExpansion [] number input expansion.NoMatch = Unit {0}
-IsExpansion [] number input (expansion.Ambiguous arm) = ⊥
-IsExpansion [] number input (expansion.Tree tree) = ⊥
-IsExpansion (arm ∷ others) number input result =
-    (IsNoInstance arm.pattern input × IsExpansion others (suc number) input result) ⊎ IsOf result
+-- the answer of the first arm of whose pattern the input is an instance, where the first of these has that number, and the arms before them
+-- came up to a flat place; where there is no such arm, the farthest place is told
+abbrev pub IsExpansion : List Arm → (number farthest : ℕ) → (input : Forest) → Expansion → Type 0
+IsExpansion [] number farthest input (expansion.NoMatch at) = at ≡ farthest
+IsExpansion [] number farthest input (expansion.Ambiguous arm) = ⊥
+IsExpansion [] number farthest input (expansion.Tree tree) = ⊥
+IsExpansion (arm ∷ others) number farthest input result =
+    ((at : ℕ) × IsAnswer arm input (answer.NoMatch at) × IsExpansion others (suc number) (max farthest at) input result) ⊎ IsOf result
   where
     IsOf : Expansion → Type 0
-    IsOf expansion.NoMatch = ⊥
+    IsOf (expansion.NoMatch at) = ⊥
     IsOf (expansion.Ambiguous which) = (which ≡ number) × IsAnswer arm input answer.Ambiguous
     IsOf (expansion.Tree tree) = IsAnswer arm input (answer.Tree tree)
 

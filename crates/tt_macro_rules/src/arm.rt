@@ -25,8 +25,8 @@ pub(crate) struct Arm {
 /// What an arm makes of an input.
 #[derive(Drop)]
 pub(crate) enum Answer {
-    /// The input is no instance of its pattern.
-    NoMatch,
+    /// The input is no instance of its pattern, which stops at that flat place.
+    NoMatch(usize),
     /// It is one by different readings.
     Ambiguous,
     Tree(TopSubtree),
@@ -92,7 +92,7 @@ impl Arm {
         ensures err { IfErr result (λ error. (arm : ArmOf) → IsMade arm self.now → IsRefusal arm (rest_of input.entry) error) }
     {
         let binding = match self.matcher.read(alloc, input)? {
-            Found::Nothing => return Ok(Answer::NoMatch),
+            Found::Nothing(at) => return Ok(Answer::NoMatch(at)),
             Found::Many => return Ok(Answer::Ambiguous),
             Found::One(binding) => binding,
         };

@@ -18,8 +18,9 @@ pub struct MacroRules {
 /// What a macro makes of an input.
 #[derive(Drop)]
 pub enum Expansion {
-    /// The input is no instance of the pattern of any arm.
-    NoMatch,
+    /// The input is no instance of the pattern of any arm. The arm that comes farthest stops at that flat place, which tells how many
+    /// tokens of the input stand before it, at any depth.
+    NoMatch(usize),
     /// It is an instance of the pattern of that arm, counted from 0, and of none before, by different readings.
     Ambiguous(usize),
     /// The template of the first arm of whose pattern it is an instance, filled with what it binds, under the template's delimiter.
@@ -67,13 +68,14 @@ impl MacroRules {
     /// and to what is written. It is refused with the first fault of filling that arm's template, with the limit that the tree is past,
     /// or where memory is.
     pub fn expand(&self, alloc: Global, input: TtIter<'_>) -> Result<Expansion, ExpandError>
-        ensures ok { IfOk result (λ expansion. (arms : List ArmOf) → AreMade arms self.now.arms.items → IsExpansion arms 0 (rest_of input.entry) expansion) }
+        ensures ok { IfOk result (λ expansion. (arms : List ArmOf) → AreMade arms self.now.arms.items → IsExpansion arms 0 0 (rest_of input.entry) expansion) }
         ensures err { IfErr result (λ error. (arms : List ArmOf) → AreMade arms self.now.arms.items → IsExpandError arms 0 (rest_of input.entry) error) }
     {
         let mut number = 0;
+        let mut farthest = 0;
         while let Some(arm) = self.arms.get(number) {
             match arm.expand(alloc, input.remaining().iter()) {
-                Ok(Answer::NoMatch) => {}
+                Ok(Answer::NoMatch(at)) => farthest = farthest.max(at),
                 Ok(Answer::Ambiguous) => return Ok(Expansion::Ambiguous(number)),
                 Ok(Answer::Tree(tree)) => return Ok(Expansion::Tree(tree)),
                 Err(fault) => {
@@ -82,6 +84,6 @@ impl MacroRules {
             }
             number += 1;
         }
-        Ok(Expansion::NoMatch)
+        Ok(Expansion::NoMatch(farthest))
     }
 }

@@ -6,7 +6,7 @@ use tt_macro_rules::{ArmFault, Expansion, MacroRules};
 use tt_pattern::PatternError;
 use tt_template::{FillError, TemplateError};
 
-// What comes of an input, as a text: its tokens, or that no arm takes it, that the one of that number takes it in two ways, or that it
+// What comes of an input, as a text: its tokens, or that no arm takes it and where the farthest stops, that the one of that number takes it in two ways, or that it
 // is not filled.
 fn told(alloc: Global, arms: &str, input: &str) -> Option<String> {
     let arms = tree_of(alloc, arms)?;
@@ -14,7 +14,7 @@ fn told(alloc: Global, arms: &str, input: &str) -> Option<String> {
     let rules = MacroRules::new(alloc, arms.token_trees().iter()).ok()?;
     match rules.expand(alloc, input.token_trees().iter()) {
         Ok(Expansion::Tree(tree)) => written(alloc, &tree),
-        Ok(Expansion::NoMatch) => String::from_str(alloc, "no match").ok(),
+        Ok(Expansion::NoMatch(at)) => numbered(alloc, "no match ", at),
         Ok(Expansion::Ambiguous(arm)) => numbered(alloc, "ambiguous ", arm),
         Err(error) => match error.fault {
             FillError::LengthsDiffer(_) => numbered(alloc, "lengths ", error.arm),
@@ -36,16 +36,17 @@ fn numbered(alloc: Global, word: &str, number: usize) -> Option<String> {
 // The first arm that takes the input answers, in the brackets of its template; where it takes it in two ways, no later one does; nor
 // where its template is not filled. A list, a tail, words that are not variables, and macros of the forms that people write: a map, a
 // count by recursion, an enum with a visibility and values, lists in lists, a loop with its lifetime, a macro handed on.
-const EXPANSIONS: [(&str, &str, &str); 24] = [
+const EXPANSIONS: [(&str, &str, &str); 25] = [
     ("() => {}", "", "{0"),
     ("() => {a};", "", "{1a "),
     ("[] => (a b)", "", "(2a b "),
-    ("() => {}", "a", "no match"),
+    ("() => {}", "a", "no match 0"),
     ("(a) => {1}; (b) => [2]", "b", "[12 "),
     ("($x:tt) => {1}; (a) => {2}", "a", "{11 "),
     ("(a) => {2}; ($x:tt) => {1}", "a", "{12 "),
     ("(a) => {2}; ($x:tt) => {1}", "c", "{11 "),
-    ("(a) => {2}; ($x:tt) => {1}", "c c", "no match"),
+    ("(a) => {2}; ($x:tt) => {1}", "c c", "no match 1"),
+    ("(a b c) => {}; (a b) => {}; (d) => {}", "a b d", "no match 2"),
     (
         "($($x:tt)* $($y:tt)*) => {1}; ($z:tt) => {2}",
         "a",

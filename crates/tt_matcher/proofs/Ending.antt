@@ -1,5 +1,5 @@
 -- What is told at the start, and what at the end.
-use Rattle.std.proofs.Common.{append-nil, ◌≡◌, inl, inr, ◌+◌, ℕ, suc, zero, Bool, true, false, List, [], ◌∷◌, ◌++◌, Some, None, refl, ap, sym, subst, ◌∙◌, arith, cond}
+use Rattle.std.proofs.Common.{append-nil, ◌≡◌, inl, inr, ℕ, suc, zero, Bool, true, false, List, [], ◌∷◌, ◌++◌, Some, None, refl, ap, sym, subst, ◌∙◌, cond}
 use Rattle.std.specs.Prelude.{◌⊎◌, slice_get, Option}
 use Rattle.tt.specs.Forest.{Forest, end}
 use Rattle.tt.specs.Types.Leaf.{Leaf}
@@ -14,11 +14,11 @@ use Rattle.tt_matcher.specs.declared.threads.Thread.{Thread}
 use Rattle.tt_matcher.specs.declared.threads.Turn.{Turn}
 use Rattle.tt_matcher.specs.Fragments.{takes, takes_nothing}
 use Rattle.tt_matcher.specs.Levels.{AreTwo, IsOnly, is_leave_at, with_thread, choice_of}
-use Rattle.tt_matcher.specs.Places.{Passes, passed, onward, is_leave, OnEdge, Ends, GoesOn, Reads, ReadsAll}
+use Rattle.tt_matcher.specs.Places.{Passes, passed, onward, is_leave, OnEdge, Ends, GoesOn, Reads}
 use Rattle.tt_matcher.specs.Settling.{asks_nothing, asks_nothing_at, AreSettled}
-use Rattle.tt_matcher.specs.Threads.{View, view_of, views_of, path_to, spread}
+use Rattle.tt_matcher.specs.Threads.{View, view_of, views_of, path_to}
 use Rattle.tt_pattern.specs.Units.{IsUnitLike}
-use Rattle.tt_matcher.proofs.Leading.{Config, thread, fan, threads, IsMany, Leads, Has, HasMany, AreApart, Told, told_spread}
+use Rattle.tt_matcher.proofs.Leading.{Config, thread, threads, IsMany, Leads, Has, HasMany, AreApart, Told}
 use Rattle.tt_matcher.proofs.Telling as telling
 use Rattle.tt_pattern.proofs.Passing.{after_end}
 
@@ -64,10 +64,6 @@ leave_some_at : (place : Option Place) → is_leave_at place ≡ true → asks_n
 leave_some_at None leave = refl
 leave_some_at (Some place) leave = leave_some (ask_of place.atom) leave
 
--- what all starts from
-abbrev pub outside : View
-outside = record { at = 0; wait = 0; is_many = false; trace = [] }
-
 module _ (places : List Place) where
   -- No path leads on where no level is left.
   reads_none : (at : ℕ) (path : List ℕ) → Reads places at [] path → ⊥
@@ -89,7 +85,7 @@ module _ (places : List Place) where
   on_edge_none (suc turn) (to ∷ others) P none on = on_edge_none turn others P none on
 
   -- At the end of the outermost level a thread leads to its own path alone, where its place is one that is left.
-  ends_here : (view : View) (path : List ℕ) → asks_nothing_at (slice_get places view.at) end ≡ false → Leads places (thread (end ∷ []) view) path → (is_leave_at (slice_get places view.at) ≡ true) × (path ≡ view.trace)
+  ends_here : (view : View) (path : List ℕ) → asks_nothing_at (slice_get places view.at) end ≡ false → Leads places Ends (thread (end ∷ []) view) path → (is_leave_at (slice_get places view.at) ≡ true) × (path ≡ view.trace)
   ends_here view path some ([], is, reads) = (by (slice_get places view.at) (subst (λ ls. Reads places view.at ls []) (passed_end view.wait []) reads), is ∙ append-nil view.trace)
     where
       by : (place : Option Place) → Ends place (end ∷ []) → is_leave_at place ≡ true
@@ -103,7 +99,7 @@ module _ (places : List Place) where
           on_edge_none turn place.edges.items (λ to. Reads places to (onward (ask_of place.atom) (end ∷ [])) more)
           (λ to reads. reads_none to more (subst (λ levels. Reads places to levels more) (passes_last (ask_of place.atom) some g.0) reads)) g.1
 
-  leads_here : (view : View) → is_leave_at (slice_get places view.at) ≡ true → Leads places (thread (end ∷ []) view) view.trace
+  leads_here : (view : View) → is_leave_at (slice_get places view.at) ≡ true → Leads places Ends (thread (end ∷ []) view) view.trace
   leads_here view leave = ([], sym (append-nil view.trace), subst (λ ls. Reads places view.at ls []) (sym (passed_end view.wait [])) (by (slice_get places view.at) leave))
     where
       by : (place : Option Place) → is_leave_at place ≡ true → Ends place (end ∷ [])
@@ -116,15 +112,15 @@ module _ (places : List Place) where
       one : List ℕ
       other : List ℕ
       differ : one ≡ other → ⊥
-      one_there : Has places configs one
-      other_there : Has places configs other
+      one_there : Has places Ends configs one
+      other_there : Has places Ends configs other
 
     -- what a choice says of threads
     abbrev Means : Choice → List Config → Type 0
-    Means choice.Nothing configs = ((path : List ℕ) → Has places configs path → ⊥) × (HasMany places configs → ⊥)
+    Means choice.Nothing configs = ((path : List ℕ) → Has places Ends configs path → ⊥) × (HasMany places Ends configs → ⊥)
     Means (choice.One last) configs =
-        Has places configs (path_to log last) × ((path : List ℕ) → Has places configs path → path ≡ path_to log last) × (HasMany places configs → ⊥)
-    Means choice.Many configs = HasMany places configs ⊎ LeadApart configs
+        Has places Ends configs (path_to log last) × ((path : List ℕ) → Has places Ends configs path → path ≡ path_to log last) × (HasMany places Ends configs → ⊥)
+    Means choice.Many configs = HasMany places Ends configs ⊎ LeadApart configs
 
     -- what a choice says of the paths that are wanted
     abbrev pub Says : Choice → Type 0
@@ -141,22 +137,22 @@ module _ (places : List Place) where
       means_missed : is_leave_at (slice_get places it.at) ≡ false → asks_nothing_at (slice_get places it.at) end ≡ false → (so_far : Choice) → Means so_far news → Means so_far (here ∷ news)
       means_missed missed some so_far means = by so_far means
         where
-          nowhere : (path : List ℕ) → Leads places here path → ⊥
+          nowhere : (path : List ℕ) → Leads places Ends here path → ⊥
           nowhere path l = cc (missed, (ends_here (view_of log it) path some l).0)
 
-          none : ((path : List ℕ) → Has places news path → ⊥) → (path : List ℕ) → Has places (here ∷ news) path → ⊥
+          none : ((path : List ℕ) → Has places Ends news path → ⊥) → (path : List ℕ) → Has places Ends (here ∷ news) path → ⊥
           none before path (inl l) = nowhere path l
           none before path (inr h) = before path h
 
-          none_many : (HasMany places news → ⊥) → HasMany places (here ∷ news) → ⊥
+          none_many : (HasMany places Ends news → ⊥) → HasMany places Ends (here ∷ news) → ⊥
           none_many before (inl m) = nowhere m.0 m.2
           none_many before (inr m) = before m
 
-          only : (trace : List ℕ) → ((path : List ℕ) → Has places news path → path ≡ trace) → (path : List ℕ) → Has places (here ∷ news) path → path ≡ trace
+          only : (trace : List ℕ) → ((path : List ℕ) → Has places Ends news path → path ≡ trace) → (path : List ℕ) → Has places Ends (here ∷ news) path → path ≡ trace
           only trace before path (inl l) = absurd (nowhere path l)
           only trace before path (inr h) = before path h
 
-          two : HasMany places news ⊎ LeadApart news → HasMany places (here ∷ news) ⊎ LeadApart (here ∷ news)
+          two : HasMany places Ends news ⊎ LeadApart news → HasMany places Ends (here ∷ news) ⊎ LeadApart (here ∷ news)
           two (inl m) = inl (inr m)
           two (inr pair) = inr (record { one = pair.one; other = pair.other; differ = pair.differ; one_there = inr pair.one_there; other_there = inr pair.other_there })
 
@@ -166,29 +162,29 @@ module _ (places : List Place) where
           by choice.Many m = two m
 
       -- One that is at the end is one more.
-      means_more : is_leave_at (slice_get places it.at) ≡ true → AreApart places (here ∷ news) → (so_far : Choice) → Means so_far news
+      means_more : is_leave_at (slice_get places it.at) ≡ true → AreApart places Ends (here ∷ news) → (so_far : Choice) → Means so_far news
           → Means (with_thread so_far it) (here ∷ news)
       means_more leave apart so_far means = by so_far means
         where
           trace : List ℕ
           trace = path_to log it.last
 
-          leads : Leads places here trace
+          leads : Leads places Ends here trace
           leads = leads_here (view_of log it) leave
 
           first : (b : Bool) → it.is_many ≡ b → Means choice.Nothing news → Means (cond b choice.Many (choice.One it.last)) (here ∷ news)
           first true many m = inl (inl (trace, many, leads))
           first false single m = (inl leads, only, none)
             where
-              only : (path : List ℕ) → Has places (here ∷ news) path → path ≡ trace
+              only : (path : List ℕ) → Has places Ends (here ∷ news) path → path ≡ trace
               only path (inl l) = (ends_here (view_of log it) path (leave_some_at (slice_get places it.at) leave) l).1
               only path (inr h) = absurd (m.0 path h)
 
-              none : HasMany places (here ∷ news) → ⊥
+              none : HasMany places Ends (here ∷ news) → ⊥
               none (inl n) = cc (single, n.1)
               none (inr n) = m.1 n
 
-          more : HasMany places news ⊎ LeadApart news → HasMany places (here ∷ news) ⊎ LeadApart (here ∷ news)
+          more : HasMany places Ends news ⊎ LeadApart news → HasMany places Ends (here ∷ news) ⊎ LeadApart (here ∷ news)
           more (inl m) = inl (inr m)
           more (inr pair) = inr (record { one = pair.one; other = pair.other; differ = pair.differ; one_there = inr pair.one_there; other_there = inr pair.other_there })
 
@@ -198,31 +194,31 @@ module _ (places : List Place) where
               inr (record {
                 one = trace;
                 other = path_to log last;
-                differ = λ e. apart.0 trace leads (subst (Has places news) (sym e) m.0);
+                differ = λ e. apart.0 trace leads (subst (Has places Ends news) (sym e) m.0);
                 one_there = inl leads;
                 other_there = inr m.0;
               })
           by choice.Many m = more m
 
     -- Where all threads were looked at the choice says what is wanted.
-    says_all : (news : List Config) → Told places Whole news [] → (it : Choice) → Means it news → Says it
+    says_all : (news : List Config) → Told places Ends Whole news [] → (it : Choice) → Means it news → Says it
     says_all news told it means = by it means
       where
-        none : ((path : List ℕ) → Has places news path → ⊥) → (HasMany places news → ⊥) → (path : List ℕ)
-            → (Has places news path ⊎ Has places [] path) ⊎ (HasMany places news ⊎ HasMany places []) → ⊥
+        none : ((path : List ℕ) → Has places Ends news path → ⊥) → (HasMany places Ends news → ⊥) → (path : List ℕ)
+            → (Has places Ends news path ⊎ Has places Ends [] path) ⊎ (HasMany places Ends news ⊎ HasMany places Ends []) → ⊥
         none empty no_many path (inl (inl h)) = empty path h
         none empty no_many path (inl (inr h)) = h
         none empty no_many path (inr (inl m)) = no_many m
         none empty no_many path (inr (inr m)) = m
 
-        only : (trace : List ℕ) → ((path : List ℕ) → Has places news path → path ≡ trace) → (HasMany places news → ⊥) → (path : List ℕ)
-            → (Has places news path ⊎ Has places [] path) ⊎ (HasMany places news ⊎ HasMany places []) → path ≡ trace
+        only : (trace : List ℕ) → ((path : List ℕ) → Has places Ends news path → path ≡ trace) → (HasMany places Ends news → ⊥) → (path : List ℕ)
+            → (Has places Ends news path ⊎ Has places Ends [] path) ⊎ (HasMany places Ends news ⊎ HasMany places Ends []) → path ≡ trace
         only trace one no_many path (inl (inl h)) = one path h
         only trace one no_many path (inl (inr h)) = absurd h
         only trace one no_many path (inr (inl m)) = absurd (no_many m)
         only trace one no_many path (inr (inr m)) = absurd m
 
-        two : HasMany places news ⊎ LeadApart news → AreTwo Whole
+        two : HasMany places Ends news ⊎ LeadApart news → AreTwo Whole
         two (inl m) = told.new_two m
         two (inr pair) =
             record {
@@ -243,66 +239,24 @@ module _ (places : List Place) where
         by choice.Many m = two m
 
     -- The choice of threads at the end says what is wanted.
-    says_choice : (so_far : Choice) (its : List Thread) (news : List Config) → AreSettled places end (views_of log its) → Told places Whole news (threads (end ∷ []) (views_of log its))
+    says_choice : (so_far : Choice) (its : List Thread) (news : List Config) → AreSettled places end (views_of log its) → Told places Ends Whole news (threads (end ∷ []) (views_of log its))
         → Means so_far news
         → Says (choice_of places so_far its)
     says_choice so_far [] news calm told means = says_all news told so_far means
     says_choice so_far (it ∷ its) news calm told means =
         by (is_leave_at (slice_get places it.at)) refl (λ so_far means. says_choice so_far its (here it news ∷ news) calm.1 over means)
       where
-        over : Told places Whole (here it news ∷ news) (threads (end ∷ []) (views_of log its))
-        over = telling.told_over Config (Leads places) IsMany Whole news (threads (end ∷ []) (views_of log its)) (here it news) told
+        over : Told places Ends Whole (here it news ∷ news) (threads (end ∷ []) (views_of log its))
+        over = telling.told_over Config (Leads places Ends) IsMany Whole news (threads (end ∷ []) (views_of log its)) (here it news) told
 
         by : (b : Bool) → is_leave_at (slice_get places it.at) ≡ b → ((so_far : Choice) → Means so_far (here it news ∷ news) → Says (choice_of places so_far its))
             → Says (choice_of places (cond b (with_thread so_far it) so_far) its)
         by true leave rest = rest (with_thread so_far it) (means_more it news leave over.new_apart so_far means)
         by false missed rest = rest so_far (means_missed it news missed calm.0 so_far means)
 
-    pub says : (its : List Thread) (trees : Forest) → trees ≡ end → AreSettled places trees (views_of log its) → Told places Whole [] (threads (trees ∷ []) (views_of log its) ++ [])
+    pub says : (its : List Thread) (trees : Forest) → trees ≡ end → AreSettled places trees (views_of log its) → Told places Ends Whole [] (threads (trees ∷ []) (views_of log its) ++ [])
         → Says (choice_of places choice.Nothing its)
     says its trees ended calm told =
         says_choice choice.Nothing its [] (subst (λ t. AreSettled places t (views_of log its)) ended calm)
-        (subst (λ t. Told places Whole [] (threads (t ∷ []) (views_of log its))) ended (subst (Told places Whole []) (append-nil (threads (trees ∷ []) (views_of log its))) told))
+        (subst (λ t. Told places Ends Whole [] (threads (t ∷ []) (views_of log its))) ended (subst (Told places Ends Whole []) (append-nil (threads (trees ∷ []) (views_of log its))) told))
         (λ path h. h, λ m. m)
-
-  -- At the start the edges from outside tell all.
-  pub told_start : (starts : List ℕ) (input : Forest) → Told places (ReadsAll places starts input) [] (threads (input ∷ []) (spread outside 0 starts []) ++ [])
-  told_start starts input =
-      telling.told_joined Config (Leads places) IsMany Whole (threads (input ∷ []) (spread outside 0 starts [])) []
-      (told_spread places Whole (input ∷ []) outside 0 starts [] [] start)
-    where
-      Whole : List ℕ → Type 0
-      Whole = ReadsAll places starts input
-
-      fanned : Config
-      fanned = fan 0 starts (input ∷ []) outside
-
-      goes : (path : List ℕ) → Whole path → Leads places fanned path
-      goes [] w = absurd w
-      goes (turn ∷ more) w = let same : turn ≡ 0 + turn = omega arith in (turn, more, ap (λ n. n ∷ more) same, w)
-
-      comes : (path : List ℕ) → Leads places fanned path → Whole path
-      comes path (ahead, more, is, on) =
-          let same : 0 + ahead ≡ ahead = omega arith in
-          subst Whole (sym (is ∙ ap (λ n. n ∷ more) same)) on
-
-      found : (path : List ℕ) → Has places (fanned ∷ []) path → Whole path
-      found path (inl l) = comes path l
-      found path (inr h) = absurd h
-
-      two : HasMany places (fanned ∷ []) → AreTwo Whole
-      two (inl m) = absurd (cc m.1)
-      two (inr m) = absurd m
-
-      start : Told places Whole [] (fanned ∷ [])
-      start =
-          record {
-            whole = λ path w. inl (inr (inl (goes path w)));
-            new_sound = λ path h. absurd h;
-            old_sound = found;
-            new_two = λ m. absurd m;
-            old_two = two;
-            apart = λ path h o. h;
-            new_apart = tt;
-            old_apart = (λ path l h. h, tt);
-          }

@@ -7,7 +7,7 @@ use Rattle.tt.specs.Forest.{Forest}
 use Rattle.tt_matcher.specs.declared.places.Place.{Place}
 use Rattle.tt_matcher.specs.Asks.{ask_of}
 use Rattle.tt_matcher.specs.Levels.{AreTwo}
-use Rattle.tt_matcher.specs.Places.{Passes, passed, onward, OnEdge, Ends, GoesOn, Reads}
+use Rattle.tt_matcher.specs.Places.{Passes, passed, onward, OnEdge, GoesOn, Goes}
 use Rattle.tt_matcher.specs.Threads.{View, meet, doubled, delayed, added, turned, spread}
 use Rattle.tt_matcher.proofs.Telling as telling
 
@@ -25,12 +25,12 @@ IsMany (fan turn edges levels view) = view.is_many ≡ true
 abbrev pub threads : List Forest → List View → List Config
 threads levels views = map (thread levels) views
 
-module _ (places : List Place) where
+module _ (places : List Place) (Last : Option Place → List Forest → Type 0) where
   -- it leads to the path
   abbrev pub Leads : Config → List ℕ → Type 0
-  Leads (thread levels view) path = (more : List ℕ) × (path ≡ view.trace ++ more) × Reads places view.at (passed view.wait levels) more
+  Leads (thread levels view) path = (more : List ℕ) × (path ≡ view.trace ++ more) × Goes places Last view.at (passed view.wait levels) more
   Leads (fan turn edges levels view) path =
-      (ahead : ℕ) × (more : List ℕ) × (path ≡ view.trace ++ (turn + ahead) ∷ more) × OnEdge ahead edges (λ to. Reads places to (passed view.wait levels) more)
+      (ahead : ℕ) × (more : List ℕ) × (path ≡ view.trace ++ (turn + ahead) ∷ more) × OnEdge ahead edges (λ to. Goes places Last to (passed view.wait levels) more)
 
   -- the words of `Telling` for threads
   abbrev pub Has : List Config → List ℕ → Type 0
@@ -60,8 +60,8 @@ module _ (places : List Place) where
     (
       leads.0,
       refl,
-      subst (λ place. Reads places place (passed other.wait levels) leads.0) (sym (meet_at view other same))
-          (subst (λ n. Reads places view.at (passed n levels) leads.0) (sym (meet_wait view other same)) leads.2),
+      subst (λ place. Goes places Last place (passed other.wait levels) leads.0) (sym (meet_at view other same))
+          (subst (λ n. Goes places Last view.at (passed n levels) leads.0) (sym (meet_wait view other same)) leads.2),
     ),
   )
 
@@ -72,8 +72,8 @@ module _ (places : List Place) where
     (
       leads.0,
       refl,
-      subst (λ place. Reads places place (passed view.wait levels) leads.0) (meet_at view other same)
-          (subst (λ n. Reads places other.at (passed n levels) leads.0) (meet_wait view other same) leads.2),
+      subst (λ place. Goes places Last place (passed view.wait levels) leads.0) (meet_at view other same)
+          (subst (λ n. Goes places Last other.at (passed n levels) leads.0) (meet_wait view other same) leads.2),
     ),
   )
 
@@ -309,28 +309,28 @@ module _ (places : List Place) where
         → telling.Becomes Config Leads IsMany (thread levels view) (thread further (delayed n view))
     becomes_nearer n further same =
         record {
-          goes = λ path l. (l.0, l.1, subst (λ ls. Reads places view.at ls l.0) same l.2);
-          comes = λ path l. (l.0, l.1, subst (λ ls. Reads places view.at ls l.0) (sym same) l.2);
+          goes = λ path l. (l.0, l.1, subst (λ ls. Goes places Last view.at ls l.0) same l.2);
+          comes = λ path l. (l.0, l.1, subst (λ ls. Goes places Last view.at ls l.0) (sym same) l.2);
           many = (λ m. m, λ m. m);
         }
 
     module _ (here : passed view.wait levels ≡ levels) where
       -- A thread whose place is passed gives way to the edges of its place.
       pub becomes_fan : (place : Place) → slice_get places view.at ≡ Some place → (n : ℕ) (further : List Forest)
-          → onward (ask_of place.atom) levels ≡ passed n further → Passes (ask_of place.atom) levels → (Ends (Some place) levels → ⊥)
+          → onward (ask_of place.atom) levels ≡ passed n further → Passes (ask_of place.atom) levels → (Last (Some place) levels → ⊥)
           → telling.Becomes Config Leads IsMany (thread levels view) (fan 0 place.edges.items further (delayed n view))
       becomes_fan place found n further on passes goes_on =
           record { goes = goes; comes = comes; many = (λ m. m, λ m. m) }
         where
           goes : (path : List ℕ) → Leads (thread levels view) path → Leads (fan 0 place.edges.items further (delayed n view)) path
-          goes path ([], is, reads) = absurd (goes_on (subst (λ at. Ends at levels) found (subst (λ ls. Reads places view.at ls []) here reads)))
+          goes path ([], is, reads) = absurd (goes_on (subst (λ at. Last at levels) found (subst (λ ls. Goes places Last view.at ls []) here reads)))
           goes path (turn ∷ more, is, reads) =
               let same : turn ≡ 0 + turn = omega arith in (
                 turn,
                 more,
                 is ∙ ap (λ n. view.trace ++ n ∷ more) same,
-                subst (λ ls. OnEdge turn place.edges.items (λ to. Reads places to ls more)) on
-                    (subst (λ at. GoesOn at levels turn (λ to further. Reads places to further more)) found (subst (λ ls. Reads places view.at ls (turn ∷ more)) here reads)).1,
+                subst (λ ls. OnEdge turn place.edges.items (λ to. Goes places Last to ls more)) on
+                    (subst (λ at. GoesOn at levels turn (λ to further. Goes places Last to further more)) found (subst (λ ls. Goes places Last view.at ls (turn ∷ more)) here reads)).1,
               )
 
           comes : (path : List ℕ) → Leads (fan 0 place.edges.items further (delayed n view)) path → Leads (thread levels view) path
@@ -338,19 +338,18 @@ module _ (places : List Place) where
               let same : 0 + ahead ≡ ahead = omega arith in (
                 ahead ∷ more,
                 is ∙ ap (λ n. view.trace ++ n ∷ more) same,
-                subst (λ ls. Reads places view.at ls (ahead ∷ more)) (sym here)
-                    (subst (λ at. GoesOn at levels ahead (λ to further. Reads places to further more)) (sym found)
-                    (passes, subst (λ ls. OnEdge ahead place.edges.items (λ to. Reads places to ls more)) (sym on) reads)),
+                subst (λ ls. Goes places Last view.at ls (ahead ∷ more)) (sym here)
+                    (subst (λ at. GoesOn at levels ahead (λ to further. Goes places Last to further more)) (sym found)
+                    (passes, subst (λ ls. OnEdge ahead place.edges.items (λ to. Goes places Last to ls more)) (sym on) reads)),
               )
 
       -- A thread whose place is not leads nowhere.
-      pub leads_nowhere : ((place : Place) → slice_get places view.at ≡ Some place → (Passes (ask_of place.atom) levels → ⊥) × (Ends (Some place) levels → ⊥))
+      pub leads_nowhere : ((place : Place) → slice_get places view.at ≡ Some place → Passes (ask_of place.atom) levels → ⊥) → ((place : Option Place) → Last place levels → ⊥)
           → (path : List ℕ) → Leads (thread levels view) path → ⊥
-      leads_nowhere stuck path (more, is, reads) = by (slice_get places view.at) refl more (subst (λ ls. Reads places view.at ls more) here reads)
+      leads_nowhere stuck goes_on path (more, is, reads) = by (slice_get places view.at) refl more (subst (λ ls. Goes places Last view.at ls more) here reads)
         where
-          by : (at : Option Place) → slice_get places view.at ≡ at → (more : List ℕ) → Reads places view.at levels more → ⊥
-          by None found [] reads = subst (λ at. Ends at levels) found reads
-          by None found (turn ∷ more) reads = subst (λ at. GoesOn at levels turn (λ to further. Reads places to further more)) found reads
-          by (Some place) found [] reads = (stuck place found).1 (subst (λ at. Ends at levels) found reads)
+          by : (at : Option Place) → slice_get places view.at ≡ at → (more : List ℕ) → Goes places Last view.at levels more → ⊥
+          by at found [] reads = goes_on (slice_get places view.at) reads
+          by None found (turn ∷ more) reads = subst (λ at. GoesOn at levels turn (λ to further. Goes places Last to further more)) found reads
           by (Some place) found (turn ∷ more) reads =
-              (stuck place found).0 (subst (λ at. GoesOn at levels turn (λ to further. Reads places to further more)) found reads).0
+              stuck place found (subst (λ at. GoesOn at levels turn (λ to further. Goes places Last to further more)) found reads).0

@@ -1,26 +1,26 @@
 -- What a step makes of the levels as they are stored, and that less is left to do.
-use Rattle.std.proofs.Common.{length, ◌≡◌, inl, inr, ◌+◌, ◌*◌, ◌<◌, ℕ, suc, List, [], ◌∷◌, ◌++◌, Some, None, reverse, refl, ap, ap₂, sym, subst, ◌∙◌, arith}
+use Rattle.std.proofs.Common.{length, ◌≡◌, inl, inr, ◌+◌, ◌*◌, ◌-◌, ◌<◌, ℕ, suc, List, [], ◌∷◌, ◌++◌, None, reverse, refl, ap, ap₂, sym, subst, ◌∙◌, arith}
 use Rattle.std.proofs.lemmas.List.{reverse-append}
 use Rattle.tt.specs.Forest.{Forest, size}
 use Rattle.tt.specs.Iters.{rest_of, IsFirstElement}
 use Rattle.tt.specs.Moves.{after_tree}
-use Rattle.tt.specs.Types.Leaf.{Leaf}
-use Rattle.tt.specs.Types.Subtree.{Subtree}
-use Rattle.tt.specs.Types.TtElement.TheVariants as element
-use Rattle.tt.specs.Types.TtIter.{TtIter}
-use Rattle.tt_pattern.proofs.FirstTrees.{none_first, leaf_before, node_before}
+use Rattle.tt.specs.Types.DelimiterKind.{DelimiterKind}
+use Rattle.tt_pattern.proofs.FirstTrees.{none_first}
+use Rattle.tt_matcher.specs.declared.ahead.Ahead.{Ahead}
 use Rattle.tt_matcher.specs.declared.places.Place.{Place}
 use Rattle.tt_matcher.specs.declared.reading.Level.{Level}
 use Rattle.tt_matcher.specs.declared.threads.Move.TheVariants as move
 use Rattle.tt_matcher.specs.declared.threads.Thread.{Thread}
 use Rattle.tt_matcher.specs.declared.threads.Turn.{Turn}
-use Rattle.tt_matcher.specs.Levels.{LevelView, level_view, level_views, AreLevelsWithin, Advances}
+use Rattle.tt_matcher.specs.Aheads.{IsLeafAhead, IsNodeAhead}
+use Rattle.tt_matcher.specs.Levels.{LevelView, level_view, view_before, level_views, AreLevelsWithin, Advances}
 use Rattle.tt_matcher.specs.Threads.{View, views_of, AreWithin, IsGrown, AllStep}
-use Rattle.tt_matcher.proofs.Logs.{views_kept, within_kept}
+use Rattle.tt_matcher.proofs.Logs.{views_kept, within_kept, grown_both}
 
--- a level, from what is left of it and what its threads stand for
-level_is : (trees other : Forest) (views : List View) → trees ≡ other → ◌≡◌ {A = LevelView} (record { trees = trees; views = views }) (record { trees = other; views = views })
-level_is trees other views is = ap (λ (t : Forest). record { trees = t; views = views }) is
+-- A level is what is left of it, where it ends, and what its threads stand for.
+level_is : (trees other : Forest) (until end_of : ℕ) (views its : List View) → trees ≡ other → until ≡ end_of → views ≡ its
+    → ◌≡◌ {A = LevelView} (record { trees = trees; until = until; views = views }) (record { trees = other; until = end_of; views = its })
+level_is trees other until end_of views its rest ends same = cc
 
 -- There is none.
 pub no_threads : (its : List Thread) → length its ≡ 0 → its ≡ []
@@ -36,7 +36,7 @@ views_last log levels popped level was = ap (level_views log) (ap reverse was �
 pub levels_kept : (old log : List Turn) (levels : List Level) → IsGrown old log → AreLevelsWithin old levels → level_views log levels ≡ level_views old levels
 levels_kept old log [] grown within = refl
 levels_kept old log (level ∷ others) grown within =
-    ap₂ (λ (vs : List View) (ls : List LevelView). record { trees = rest_of level.rest; views = vs } ∷ ls)
+    ap₂ (λ (vs : List View) (ls : List LevelView). record { trees = rest_of level.rest; until = level.until; views = vs } ∷ ls)
     (views_kept old log level.threads.items grown within.0) (levels_kept old log others grown within.1)
 
 pub levels_within_kept : (old log : List Turn) (levels : List Level) → IsGrown old log → AreLevelsWithin old levels → AreLevelsWithin log levels
@@ -63,100 +63,103 @@ within_reverse log [] within = tt
 within_reverse log (level ∷ others) within =
     subst (AreLevelsWithin log) (sym (reverse-append (level ∷ []) others)) (within_push log (reverse others) level (within_reverse log others within.1) within.0)
 
-module _ (places : List Place) (log new : List Turn) (level : Level) (levels news : List Level) (grown : IsGrown log new) where
-  -- A level is left for the one outside.
-  pub left_step : (popped : List Level) (outer next : Level) → levels ≡ popped ++ outer ∷ [] → news ≡ popped ++ next ∷ [] → AreLevelsWithin log popped
-      → IsFirstElement (rest_of level.rest) None → rest_of next.rest ≡ rest_of outer.rest
-      → AllStep places move.Ends (views_of log level.threads.items) (views_of log outer.threads.items) (views_of new next.threads.items)
-      → Advances places (level_view log level) (level_views log (reverse levels)) (level_views new (reverse news))
-  left_step popped outer next was is within none rest steps =
-      inl (record {
-        next = level_view log outer;
-        below = level_views log (reverse popped);
-        views = views_of new next.threads.items;
-        is_ended = none_first (rest_of level.rest) none;
-        outer_is = views_last log levels popped outer was;
-        steps = steps;
-        news_are =
-            views_last new news popped next is
-            ∙ ap₂ (λ (l : LevelView) (ls : List LevelView). l ∷ ls) (level_is (rest_of next.rest) (rest_of outer.rest) (views_of new next.threads.items) rest)
-            (levels_kept log new (reverse popped) grown (within_reverse log popped within));
-      })
+-- A level is left for the one outside.
+pub left_step : (places : List Place) (log new : List Turn) (level : Level) (levels news : List Level) → IsGrown log new → (popped : List Level) (outer next : Level)
+    → levels ≡ popped ++ outer ∷ [] → news ≡ popped ++ next ∷ [] → AreLevelsWithin log popped
+    → IsFirstElement (rest_of level.rest) None → rest_of next.rest ≡ rest_of outer.rest → next.until ≡ outer.until
+    → AllStep places move.Ends (views_of log level.threads.items) (views_of log outer.threads.items) (views_of new next.threads.items)
+    → Advances places (level_view log level) (level_views log (reverse levels)) (level_views new (reverse news))
+left_step places log new level levels news grown popped outer next was is within none rest until steps =
+    inl (record {
+      next = level_view log outer;
+      below = level_views log (reverse popped);
+      views = views_of new next.threads.items;
+      is_ended = none_first (rest_of level.rest) none;
+      outer_is = views_last log levels popped outer was;
+      steps = steps;
+      news_are =
+          views_last new news popped next is
+          ∙ ap₂ (λ (l : LevelView) (ls : List LevelView). l ∷ ls)
+          (level_is (rest_of next.rest) (rest_of outer.rest) next.until outer.until (views_of new next.threads.items) (views_of new next.threads.items) rest until refl)
+          (levels_kept log new (reverse popped) grown (within_reverse log popped within));
+    })
+
+module _ (places : List Place) (log middle new : List Turn) (before : Ahead) (level : Level) (levels news : List Level) (sooner : IsGrown log middle) (later : IsGrown middle new)
+    (within : AreLevelsWithin log levels) (own : AreWithin log level.threads.items) (rest : rest_of level.rest ≡ after_tree (rest_of before.trees))
+    (next : Level) (next_within : AreWithin middle next.threads.items) (next_rest : rest_of next.rest ≡ rest_of level.rest) (next_until : next.until ≡ level.until)
+    (steps : AllStep places (move.Passes before) (views_of log level.threads.items) [] (views_of middle next.threads.items)) where
+  -- the level behind the first tree, as it stands for at the end
+  behind_is : level_view new next ≡ record { trees = after_tree (rest_of before.trees); until = level.until; views = views_of middle next.threads.items }
+  behind_is =
+      level_is (rest_of next.rest) (after_tree (rest_of before.trees)) next.until level.until (views_of new next.threads.items) (views_of middle next.threads.items)
+      (next_rest ∙ rest) next_until (views_kept middle new next.threads.items later next_within)
+
+  -- Those outside stand for what they did.
+  outside_are : level_views new (reverse levels) ≡ level_views log (reverse levels)
+  outside_are = levels_kept log new (reverse levels) (grown_both log middle new sooner later) (within_reverse log levels within)
+
+  pub behind_only : news ≡ levels ++ next ∷ []
+      → level_views new (reverse news) ≡ record { trees = after_tree (rest_of before.trees); until = level.until; views = views_of middle next.threads.items } ∷ level_views log (reverse levels)
+  behind_only is = views_last new news levels next is ∙ ap₂ (λ (l : LevelView) (ls : List LevelView). l ∷ ls) behind_is outside_are
 
   -- A leaf is passed.
-  pub passed_step : (it : Leaf) (before : TtIter) (next : Level) → news ≡ levels ++ next ∷ [] → AreLevelsWithin log levels
-      → IsFirstElement (rest_of level.rest) (Some (element.Leaf it)) → rest_of before ≡ rest_of level.rest → rest_of next.rest ≡ after_tree (rest_of level.rest)
-      → AllStep places (move.Passes before) (views_of log level.threads.items) [] (views_of new next.threads.items)
-      → Advances places (level_view log level) (level_views log (reverse levels)) (level_views new (reverse news))
-  passed_step it before next is within first same rest steps =
+  pub passed_step : IsLeafAhead (rest_of before.trees) → news ≡ levels ++ next ∷ []
+      → Advances places (view_before (rest_of before.trees) log level) (level_views log (reverse levels)) (level_views new (reverse news))
+  passed_step (it, first) is =
       inr (inl (record {
         it = it;
         before = before;
-        views = views_of new next.threads.items;
-        first = leaf_before (rest_of level.rest) it first;
-        before_is = same;
+        views = views_of middle next.threads.items;
+        first = first;
+        before_is = refl;
         steps = steps;
-        news_are =
-            views_last new news levels next is
-            ∙ ap₂ (λ (l : LevelView) (ls : List LevelView). l ∷ ls) (level_is (rest_of next.rest) (after_tree (rest_of level.rest)) (views_of new next.threads.items) rest)
-            (levels_kept log new (reverse levels) grown (within_reverse log levels within));
+        news_are = behind_only is;
       }))
 
-  -- A subtree is passed and entered.
-  pub entered_step : (middle : List Turn) (header : Subtree) (children before : TtIter) (next inside : Level) → news ≡ (levels ++ next ∷ []) ++ inside ∷ []
-      → AreLevelsWithin log levels → IsGrown middle new → AreWithin middle next.threads.items → IsGrown log middle → AreWithin log level.threads.items
-      → IsFirstElement (rest_of level.rest) (Some (element.Subtree header children)) → rest_of before ≡ rest_of level.rest
-      → rest_of next.rest ≡ after_tree (rest_of level.rest) → rest_of inside.rest ≡ rest_of children
-      → AllStep places (move.Passes before) (views_of log level.threads.items) [] (views_of middle next.threads.items)
-      → AllStep places (move.Enters header.delimiter.kind) (views_of middle level.threads.items) [] (views_of new inside.threads.items)
-      → Advances places (level_view log level) (level_views log (reverse levels)) (level_views new (reverse news))
-  entered_step middle header children before next inside is within later next_within sooner own first same rest held steps enters =
-      inr (inr (inl (record {
-        delimiter = header.delimiter;
-        children = rest_of children;
-        before = before;
-        views = views_of middle next.threads.items;
-        inside = views_of new inside.threads.items;
-        first = node_before (rest_of level.rest) header children first;
-        before_is = same;
-        steps = steps;
-        enters = subst (λ vs. AllStep places (move.Enters header.delimiter.kind) vs [] (views_of new inside.threads.items)) (views_kept log middle level.threads.items sooner own) enters;
-        news_are =
-            views_last new news (levels ++ next ∷ []) inside is
-            ∙ ap₂ (λ (l : LevelView) (ls : List LevelView). l ∷ ls) (level_is (rest_of inside.rest) (rest_of children) (views_of new inside.threads.items) held)
-            (
-            views_last new (levels ++ next ∷ []) levels next refl
-            ∙ ap₂ (λ (l : LevelView) (ls : List LevelView). l ∷ ls)
-            (ap₂ (λ (t : Forest) (vs : List View). record { trees = t; views = vs }) rest (views_kept middle new next.threads.items later next_within))
-            (levels_kept log new (reverse levels) grown (within_reverse log levels within))
-            );
-      })))
+  module _ (kind : DelimiterKind) (children : Forest) (first : IsNodeAhead (rest_of before.trees) kind children) (inside : Level)
+      (enters : AllStep places (move.Enters kind) (views_of middle level.threads.items) [] (views_of new inside.threads.items)) where
+    enters_too : AllStep places (move.Enters first.0.kind) (views_of log level.threads.items) [] (views_of new inside.threads.items)
+    enters_too =
+        subst (λ k. AllStep places (move.Enters k) (views_of log level.threads.items) [] (views_of new inside.threads.items)) (sym first.1)
+        (subst (λ vs. AllStep places (move.Enters kind) vs [] (views_of new inside.threads.items)) (views_kept log middle level.threads.items sooner own) enters)
 
-  -- A subtree that none enters is passed.
-  pub skipped_step : (middle : List Turn) (header : Subtree) (children before : TtIter) (next inside : Level) → news ≡ levels ++ next ∷ [] → inside.threads.items ≡ []
-      → AreLevelsWithin log levels → IsGrown middle new → AreWithin middle next.threads.items → IsGrown log middle → AreWithin log level.threads.items
-      → IsFirstElement (rest_of level.rest) (Some (element.Subtree header children)) → rest_of before ≡ rest_of level.rest
-      → rest_of next.rest ≡ after_tree (rest_of level.rest)
-      → AllStep places (move.Passes before) (views_of log level.threads.items) [] (views_of middle next.threads.items)
-      → AllStep places (move.Enters header.delimiter.kind) (views_of middle level.threads.items) [] (views_of new inside.threads.items)
-      → Advances places (level_view log level) (level_views log (reverse levels)) (level_views new (reverse news))
-  skipped_step middle header children before next inside is empty within later next_within sooner own first same rest steps enters =
-      inr (inr (inr (record {
-        delimiter = header.delimiter;
-        children = rest_of children;
-        before = before;
-        views = views_of middle next.threads.items;
-        first = node_before (rest_of level.rest) header children first;
-        before_is = same;
-        steps = steps;
-        enters = subst (λ vs. AllStep places (move.Enters header.delimiter.kind) vs [] []) (views_kept log middle level.threads.items sooner own)
-            (subst (λ its. AllStep places (move.Enters header.delimiter.kind) (views_of middle level.threads.items) [] (views_of new its)) empty enters);
-        news_are =
-            views_last new news levels next is
-            ∙ ap₂ (λ (l : LevelView) (ls : List LevelView). l ∷ ls)
-            (ap₂ (λ (t : Forest) (vs : List View). record { trees = t; views = vs }) rest (views_kept middle new next.threads.items later next_within))
-            (levels_kept log new (reverse levels) grown (within_reverse log levels within));
-      })))
+    -- A subtree is passed and entered.
+    pub entered_step : news ≡ (levels ++ next ∷ []) ++ inside ∷ [] → rest_of inside.rest ≡ children → inside.until ≡ level.until - size (rest_of level.rest)
+        → Advances places (view_before (rest_of before.trees) log level) (level_views log (reverse levels)) (level_views new (reverse news))
+    entered_step is held until =
+        inr (inr (inl (record {
+          delimiter = first.0;
+          children = children;
+          before = before;
+          views = views_of middle next.threads.items;
+          inside = views_of new inside.threads.items;
+          first = first.2;
+          before_is = refl;
+          steps = steps;
+          enters = enters_too;
+          news_are =
+              views_last new news (levels ++ next ∷ []) inside is
+              ∙ ap₂ (λ (l : LevelView) (ls : List LevelView). l ∷ ls)
+              (level_is (rest_of inside.rest) children inside.until (level.until - size (after_tree (rest_of before.trees))) (views_of new inside.threads.items) (views_of new inside.threads.items)
+              held (until ∙ ap (λ t. level.until - size t) rest) refl)
+              (views_last new (levels ++ next ∷ []) levels next refl ∙ ap₂ (λ (l : LevelView) (ls : List LevelView). l ∷ ls) behind_is outside_are);
+        })))
+
+    -- A subtree that none enters is passed.
+    pub skipped_step : news ≡ levels ++ next ∷ [] → inside.threads.items ≡ []
+        → Advances places (view_before (rest_of before.trees) log level) (level_views log (reverse levels)) (level_views new (reverse news))
+    skipped_step is empty =
+        inr (inr (inr (record {
+          delimiter = first.0;
+          children = children;
+          before = before;
+          views = views_of middle next.threads.items;
+          first = first.2;
+          before_is = refl;
+          steps = steps;
+          enters = subst (λ its. AllStep places (move.Enters first.0.kind) (views_of log level.threads.items) [] (views_of new its)) empty enters_too;
+          news_are = behind_only is;
+        })))
 
 -- how much is left to do
 abbrev pub work_left : List LevelView → ℕ

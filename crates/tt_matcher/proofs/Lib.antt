@@ -6,26 +6,35 @@ pub mod CutLevels
 pub mod CutSteps
 pub mod CutWhole
 pub mod Decompiling
+pub mod DecompilingRounds
 pub mod EndSteps
 pub mod Ending
+pub mod FirstThreads
+pub mod FrontCompiling
+pub mod FrontTold
 pub mod FrontTrees
+pub mod Fronts
+pub mod GroupSteps
 pub mod Leading
 pub mod LeafSteps
-pub mod GroupSteps
 pub mod LevelSteps
 pub mod Levelling
 pub mod LinkSteps
 pub mod Logs
 pub mod OneReading
+pub mod PathsBack
 pub mod Ranked
 pub mod Reaching
-pub mod PathsBack
 pub mod ReadingSteps
 pub mod Results
+mod Rows
 pub mod SettleSteps
 pub mod Standing
+pub mod Stands
+pub mod Starting
 pub mod Stepping
 pub mod StepsMade
+pub mod Stopping
 pub mod Telling
 pub mod Told
 pub mod Via
@@ -33,4 +42,3 @@ pub mod WalkEnds
 pub mod WalkLeft
 pub mod WalkSteps
 pub mod Walked
-mod Rows

@@ -1,5 +1,5 @@
 -- Turns that are noted, and what threads stand for while more are.
-use Rattle.std.proofs.Common.{◌≡◌, ◌-◌, ◌<◌, ◌≤◌, ℕ, suc, zero, Bool, true, false, List, [], ◌∷◌, ◌++◌, length, reverse, get_or, refl, ap, ap₂, sym, subst, ◌∙◌, arith, append_assoc, length-append, cond}
+use Rattle.std.proofs.Common.{append-nil, ◌≡◌, ◌-◌, ◌<◌, ◌≤◌, ℕ, suc, zero, Bool, true, false, List, [], ◌∷◌, ◌++◌, length, reverse, get_or, refl, ap, ap₂, sym, subst, ◌∙◌, arith, append_assoc, length-append, cond}
 use Rattle.std.proofs.lemmas.List.{reverse-append, length-reverse}
 use Rattle.std.proofs.lemmas.Bool.Decides.{nat_tests}
 use Rattle.std.specs.Prelude.{nat_eq}
@@ -36,6 +36,10 @@ module _ (log more : List Turn) where
   within_grown : (threads : List Thread) → AreWithin log threads → AreWithin (log ++ more) threads
   within_grown [] within = tt
   within_grown (thread ∷ others) within = (omega (arith, within.0, length-append log more), within_grown others within.1)
+
+-- A log has grown by nothing.
+pub grown_none : (log : List Turn) → IsGrown log log
+grown_none log = ([], sym (append-nil log))
 
 -- A log that has grown can grow more.
 pub grown_both : (old log new : List Turn) → IsGrown old log → IsGrown log new → IsGrown old new

@@ -1,5 +1,5 @@
 -- Worked patterns with repetitions, and inputs: each holds by computation.
-use Rattle.std.proofs.Common.{◌≡◌, true, false, [], ◌∷◌, None, Some, codes, refl, sym, ◌∙◌}
+use Rattle.std.proofs.Common.{◌≡◌, inl, inr, ◌≤◌, ℕ, true, false, [], ◌∷◌, None, Some, codes, refl, sym, ◌∙◌, arith}
 use Rattle.tt.specs.Forest.{Forest, end, join}
 use Rattle.tt.specs.Types.DelimiterKind.TheVariants.{Parenthesis, Brace}
 use Rattle.tt.specs.Types.Spacing.TheVariants.{Alone, Joint}
@@ -13,6 +13,7 @@ use Rattle.tt_matcher.specs.Marks.{taken as took_by, begun, ended, notes_of}
 use Rattle.tt_matcher.specs.Steps.{steps_of}
 use Rattle.tt_matcher.specs.Compiled.{starts_of, all_stops}
 use Rattle.tt_matcher.specs.Fragments.{takes, taken, reach}
+use Rattle.tt_matcher.specs.Fronts.{StopsAt, TakesUpTo}
 use Rattle.tt_pattern.specs.Patterns.{Pattern}
 use Rattle.tt_matcher.specs.Readings.{Reading, done, took, held, round, over, IsInstance, IsNoInstance, IsReadBy, IsAmbiguous}
 use Rattle.tt_pattern.specs.Spelling.{pattern_of}
@@ -185,6 +186,51 @@ twice_ambiguous =
       one_holds = (_, ((refl, (refl, tt)), (refl, refl)), (refl, (refl, refl)));
       other_holds = (refl, (_, ((refl, (refl, tt)), (refl, refl)), (refl, refl)));
     }
+
+-- `a $x:ident (b c)` stops before its second part where no name is, and in its subtree where no `c` is.
+abbrev grouped : Pattern
+grouped = pattern_of (word (codes "a") (var (codes "x") (codes "ident") (join (subtree Parenthesis (word (codes "b") (word (codes "c") end))) end)))
+
+abbrev group : (inside rest : Forest) → Forest
+group inside rest = word (codes "a") (word (codes "d") (join (subtree Parenthesis inside) rest))
+
+stops_before_name : StopsAt grouped (word (codes "a") (comma end)) 1
+stops_before_name = record { left = 1; comes = inr ((refl, ((refl, refl), tt)), inl refl); least = least; place = refl }
+  where
+    least : (other : ℕ) → TakesUpTo grouped (word (codes "a") (comma end)) 0 other → 1 ≤ other
+    least other (inl is) = omega (arith, is)
+    least other (inr (a, inl is)) = omega (arith, is)
+    least other (inr (a, inr (name, more))) = absurd (cc name)
+
+stops_in_group : StopsAt grouped (group (word (codes "b") (comma end)) end) 4
+stops_in_group =
+    record { left = 1; comes = inr ((refl, ((refl, refl), tt)), inr (refl, inr (refl, inl (inr ((refl, ((refl, refl), tt)), inl refl))))); least = least; place = refl }
+  where
+    least : (other : ℕ) → TakesUpTo grouped (group (word (codes "b") (comma end)) end) 0 other → 1 ≤ other
+    least other (inl is) = omega (arith, is)
+    least other (inr (a, inl is)) = omega (arith, is)
+    least other (inr (a, inr (name, inl is))) = omega (arith, is)
+    least other (inr (a, inr (name, inr (node, inl (inl is))))) = omega (arith, is)
+    least other (inr (a, inr (name, inr (node, inl (inr (b, inl is)))))) = omega (arith, is)
+    least other (inr (a, inr (name, inr (node, inl (inr (b, inr (c, more))))))) = absurd c.1.0
+    least other (inr (a, inr (name, inr (node, inr (inside, (b, (c, all)), more))))) = absurd c.1.0
+
+-- It comes to the subtree's end, and behind it.
+comes_to_end : TakesUpTo grouped (group (word (codes "b") (word (codes "c") (comma end))) end) 0 1
+comes_to_end = inr ((refl, ((refl, refl), tt)), inr (refl, inr (refl, inl (inr ((refl, ((refl, refl), tt)), inr ((refl, ((refl, refl), tt)), refl))))))
+
+comes_behind : TakesUpTo grouped (group (word (codes "b") (word (codes "c") end)) (comma end)) 0 1
+comes_behind = inr ((refl, ((refl, refl), tt)), inr (refl, inr (refl, inr (done, ((refl, ((refl, refl), tt)), ((refl, ((refl, refl), tt)), (refl, refl))), refl))))
+
+-- `$($x:ident +),*` comes behind a separator, and into a round.
+abbrev added : Pattern
+added = pattern_of (rounds (var (codes "x") (codes "ident") (alone 43 end)) (comma (alone 42 end)))
+
+comes_behind_separator : TakesUpTo added (word (codes "a") (alone 43 (comma (comma end)))) 0 1
+comes_behind_separator = inr (inl (inr (1, _, (_, (_, refl, refl, ((refl, (refl, tt)), (refl, refl)))), (_, refl, ((refl, (refl, tt)), refl), inl (inl refl)))))
+
+comes_into_round : TakesUpTo added (word (codes "a") (alone 43 (comma (word (codes "b") (comma end))))) 0 1
+comes_into_round = inr (inl (inr (1, _, (_, (_, refl, refl, ((refl, (refl, tt)), (refl, refl)))), (_, refl, ((refl, (refl, tt)), refl), inl (inr (refl, inl refl))))))
 
 -- No two of the three answers can hold of one input.
 module _ (pattern : Pattern) (input : Forest) where

@@ -13,12 +13,13 @@ use Rattle.tt_matcher.specs.declared.threads.Turn.{Turn}
 use Rattle.tt_matcher.specs.Asks.{Ask, ask_of}
 use Rattle.tt_matcher.specs.Asks as ask
 use Rattle.tt_matcher.specs.Fragments.{takes, takes_nothing, reach, is_at_word, is_at_scope}
-use Rattle.tt_matcher.specs.Places.{Passes, passed, onward, is_leave}
+use Rattle.tt_matcher.specs.Places.{Passes, passed, onward}
 use Rattle.tt_matcher.specs.Settling.{is_here, asks_nothing, asks_nothing_at, goes_at_once, AreSettled, settled_one, settled_all, settled, IsSettledBy, may_ask_nothing, may_ask_nothing_at, AreBelow, AreRanked}
 use Rattle.tt_matcher.specs.Threads.{View, view_of, views_of, IsGrown, meet, doubled, added, delayed, turned, spread, edges_of}
 use Rattle.tt_matcher.proofs.Ending.{passed_end}
 use Rattle.tt_matcher.proofs.Leading.{Config, thread, fan, threads, IsMany, Leads, Told, told_spread, told_added, becomes_fan}
 use Rattle.tt_matcher.proofs.Logs.{view_kept}
+use Rattle.tt_matcher.proofs.Stands.{AreGoingAtOnce, stands_once}
 use Rattle.tt_matcher.proofs.Telling as telling
 use Rattle.tt_pattern.specs.Patterns.{may_take_none}
 
@@ -66,11 +67,10 @@ may_ask_at (Some place) trees h = may_ask (ask_of place.atom) trees h
 record IsPassedAtOnce (it : Ask) (levels : List Forest) : Type 0 where
   passes : Passes it levels
   stays : onward it levels ≡ passed 0 levels
-  inside : is_leave it ≡ false
 
 at_once : (it : Ask) (trees : Forest) (outer : List Forest) → asks_nothing it trees ≡ true → IsPassedAtOnce it (trees ∷ outer)
 at_once (ask.take which) trees outer h =
-    record { passes = takes_it which.fragment trees h; stays = ap (λ n. passed n (trees ∷ outer)) (reach_none which.fragment trees h); inside = refl }
+    record { passes = takes_it which.fragment trees h; stays = ap (λ n. passed n (trees ∷ outer)) (reach_none which.fragment trees h) }
 at_once (ask.same its) trees outer h = absurd (cc h)
 at_once (ask.enter kind) trees outer h = absurd (cc h)
 at_once ask.leave trees outer h = absurd (cc h)
@@ -79,7 +79,7 @@ not_none : (n : ℕ) → nat_eq (suc n) 0 ≡ true → ⊥
 not_none n h = let none : suc n ≡ 0 = grind (arith, nat_tests, h) in omega (arith, none)
 
 -- A thread that is at its place is before all that is left.
-here_is : (trees : Forest) (n : ℕ) (outer : List Forest) → is_here trees n ≡ true → passed n (trees ∷ outer) ≡ trees ∷ outer
+pub here_is : (trees : Forest) (n : ℕ) (outer : List Forest) → is_here trees n ≡ true → passed n (trees ∷ outer) ≡ trees ∷ outer
 here_is end n outer h = passed_end n outer
 here_is (leaf it rest) zero outer h = refl
 here_is (leaf it rest) (suc n) outer h = absurd (not_none n h)
@@ -94,41 +94,43 @@ both_right : (a b : Bool) → (a && b) ≡ true → b ≡ true
 both_right true b h = h
 both_right false b h = absurd (cc h)
 
-module _ (places : List Place) (Whole : List ℕ → Type 0) (trees : Forest) (outer : List Forest) where
+module _ (places : List Place) (Last : Option Place → List Forest → Type 0) (Whole : List ℕ → Type 0) (trees : Forest) (outer : List Forest) where
   abbrev levels : List Forest
   levels = trees ∷ outer
 
-  told_one : (view : View) (old : List View) (olds : List Config) → Told places Whole (threads levels old) (thread levels view ∷ olds)
-      → Told places Whole (threads levels (settled_one places trees view old)) olds
-  told_one view old olds told = by (goes_at_once places trees view.at view.wait) refl
+  told_one : (view : View) (old : List View) (olds : List Config) → (is_here trees view.wait ≡ true → (place : Place) → asks_nothing (ask_of place.atom) trees ≡ true → Last (Some place) levels → ⊥)
+      → Told places Last Whole (threads levels old) (thread levels view ∷ olds)
+      → Told places Last Whole (threads levels (settled_one places trees view old)) olds
+  told_one view old olds goes_on told = by (goes_at_once places trees view.at view.wait) refl
     where
       goes : is_here trees view.wait ≡ true → (place : Option Place) → slice_get places view.at ≡ place → asks_nothing_at place trees ≡ true
-          → Told places Whole (threads levels (spread (delayed 0 view) 0 (edges_of place) old)) olds
+          → Told places Last Whole (threads levels (spread (delayed 0 view) 0 (edges_of place) old)) olds
       goes here None found h = absurd (cc h)
       goes here (Some place) found h =
           let is = at_once (ask_of place.atom) trees outer h in
-          told_spread places Whole levels (delayed 0 view) 0 place.edges.items old olds
-          (telling.told_same Config (Leads places) IsMany Whole (threads levels old) olds (thread levels view) (fan 0 place.edges.items levels (delayed 0 view)) told
-          (becomes_fan places levels view (here_is trees view.wait outer here) place found 0 levels is.stays is.passes (λ ends. cc (sym ends.0 ∙ is.inside))))
+          told_spread places Last Whole levels (delayed 0 view) 0 place.edges.items old olds
+          (telling.told_same Config (Leads places Last) IsMany Whole (threads levels old) olds (thread levels view) (fan 0 place.edges.items levels (delayed 0 view)) told
+          (becomes_fan places Last levels view (here_is trees view.wait outer here) place found 0 levels is.stays is.passes (goes_on here place h)))
 
       by : (b : Bool) → goes_at_once places trees view.at view.wait ≡ b
-          → Told places Whole (threads levels (cond b (spread (delayed 0 view) 0 (edges_of (slice_get places view.at)) old) (added view old))) olds
+          → Told places Last Whole (threads levels (cond b (spread (delayed 0 view) 0 (edges_of (slice_get places view.at)) old) (added view old))) olds
       by true h =
           goes (both_left (is_here trees view.wait) (asks_nothing_at (slice_get places view.at) trees) h) (slice_get places view.at) refl
           (both_right (is_here trees view.wait) (asks_nothing_at (slice_get places view.at) trees) h)
-      by false h = told_added places Whole levels view old olds (telling.told_over Config (Leads places) IsMany Whole (threads levels old) olds (thread levels view) told)
+      by false h = told_added places Last Whole levels view old olds (telling.told_over Config (Leads places Last) IsMany Whole (threads levels old) olds (thread levels view) told)
 
-  told_all : (views old : List View) (olds : List Config) → Told places Whole (threads levels old) (threads levels views ++ olds)
-      → Told places Whole (threads levels (settled_all places trees views old)) olds
-  told_all [] old olds told = told
-  told_all (view ∷ views) old olds told = told_all views (settled_one places trees view old) olds (told_one view old (threads levels views ++ olds) told)
+  told_all : (views old : List View) (olds : List Config) → AreGoingAtOnce Last levels trees views → Told places Last Whole (threads levels old) (threads levels views ++ olds)
+      → Told places Last Whole (threads levels (settled_all places trees views old)) olds
+  told_all [] old olds goes_on told = told
+  told_all (view ∷ views) old olds goes_on told =
+      told_all views (settled_one places trees view old) olds (λ stands. goes_on (inr stands)) (told_one view old (threads levels views ++ olds) (λ here. goes_on (inl here)) told)
 
-  pub told_settled : (n : ℕ) (views : List View) (olds : List Config) → Told places Whole [] (threads levels views ++ olds)
-      → Told places Whole [] (threads levels (settled places trees n views) ++ olds)
-  told_settled zero views olds told = told
-  told_settled (suc n) views olds told =
-      told_settled n (settled_all places trees views []) olds
-      (telling.told_joined Config (Leads places) IsMany Whole (threads levels (settled_all places trees views [])) olds (told_all views [] olds told))
+  pub told_settled : (n : ℕ) (views : List View) (olds : List Config) → AreGoingAtOnce Last levels trees views → Told places Last Whole [] (threads levels views ++ olds)
+      → Told places Last Whole [] (threads levels (settled places trees n views) ++ olds)
+  told_settled zero views olds goes_on told = told
+  told_settled (suc n) views olds goes_on told =
+      told_settled n (settled_all places trees views []) olds (λ stands. goes_on (stands_once trees places views stands))
+      (telling.told_joined Config (Leads places Last) IsMany Whole (threads levels (settled_all places trees views [])) olds (told_all views [] olds goes_on told))
 
 module _ (places : List Place) (trees : Forest) where
   module _ (view : View) (old : List View) where
@@ -182,6 +184,10 @@ module _ (places : List Place) (trees : Forest) where
       by a (inl calm) = inl calm
       by (inl calm) (inr le) = inl (subst (AreSettled places trees) (sym second) (settled_stay m once calm))
       by (inr le) (inr more) = inr (omega (arith, le, more))
+
+  -- Threads of which none goes on are settled as they are.
+  pub settled_already : (views : List View) → AreSettled places trees views → IsSettledBy places trees views views
+  settled_already views calm = record { count = 0; same = refl; enough = inl calm }
 
   module _ (rank : ℕ → ℕ) (ranked : AreRanked places rank) where
     -- those that go on at once have a lower rank

@@ -1,79 +1,60 @@
 -- What the places of a pattern tell of an input.
-use Rattle.std.proofs.Common.{◌≡◌, inl, inr, ℕ, true, List, [], ◌∷◌, refl, ap, sym, subst, ◌∙◌, arith}
-use Rattle.std.specs.Prelude.{◌⊎◌}
+use Rattle.std.proofs.Common.{◌≡◌, inl, inr, ℕ, List, [], ◌∷◌, refl, ap, sym, subst, ◌∙◌}
 use Rattle.std.specs.Global.{Global}
 use Rattle.std.specs.Prelude.{Vec}
-use Rattle.tt.specs.Forest.{Forest, end}
-use Rattle.tt_matcher.specs.Asks as ask
+use Rattle.tt.specs.Forest.{Forest, end, size}
 use Rattle.tt_matcher.specs.declared.places.Place.{Place}
-use Rattle.tt_matcher.specs.Compiled.{Stand, place_count, stops, all_stops, starts_of}
+use Rattle.tt_matcher.specs.Compiled.{Stand, place_count, all_stops, starts_of}
 use Rattle.tt_matcher.specs.declared.reading.Paths.{Paths}
 use Rattle.tt_matcher.specs.declared.reading.Paths.TheVariants as paths
 use Rattle.tt_matcher.specs.Levels.{AreTwo, IsOnly, Finds}
 use Rattle.tt_matcher.specs.Paths.{path_of}
 use Rattle.tt_pattern.specs.Patterns.{Pattern, IsFull}
-use Rattle.tt_matcher.specs.Places.{ReadsAll, Reads, Passes, is_leave}
+use Rattle.tt_matcher.specs.Places.{Ends, ReadsAll, Reads, StopsAll}
 use Rattle.tt_matcher.specs.Readings.{Reading, Takes, IsInstance, IsNoInstance, IsReadBy, IsAmbiguous}
 use Rattle.tt_matcher.specs.declared.threads.Turn.{Turn}
 use Rattle.tt_matcher.specs.Threads.{path_to}
 use Rattle.tt_matcher.specs.Told.{TellsPaths}
-use Rattle.tt_matcher.proofs.Compiling.{length-stops, from_reading}
-use Rattle.tt_matcher.proofs.Decompiling.{Read, to_reading}
+use Rattle.tt_matcher.proofs.Compiling.{from_reading}
+use Rattle.tt_matcher.proofs.Decompiling.{to_reading}
+use Rattle.tt_matcher.proofs.DecompilingRounds.{Read}
+use Rattle.tt_matcher.proofs.FrontTold.{stops_there}
 use Rattle.tt_matcher.proofs.OneReading.{same_reading}
-use Rattle.tt_matcher.proofs.Via.{Via, stand_left, stand_right, via_none, via_one, comes_by, ends_by}
+use Rattle.tt_matcher.proofs.Starting.{last_stop, stand_first, stand_last, to_via, of_via}
+use Rattle.tt_matcher.proofs.Via.{via_none, via_one, comes_by, ended_by, ends_by}
 
 module _ (places : List Place) (pattern : Pattern) (full : IsFull pattern) (stand : Stand places 0 (all_stops pattern)) (input : Forest) where
-  -- the place where all ends
-  last : Stand places (place_count pattern) (record { asked = ask.leave; edges = [] } ∷ [])
-  last =
-      stand_right places 0 (place_count pattern) (stops 0 pattern (place_count pattern ∷ [])) (record { asked = ask.leave; edges = [] } ∷ [])
-      (omega (arith, length-stops 0 pattern (place_count pattern ∷ []))) stand
-
-  first : Stand places 0 (stops 0 pattern (place_count pattern ∷ []))
-  first = stand_left places 0 (stops 0 pattern (place_count pattern ∷ [])) (record { asked = ask.leave; edges = [] } ∷ []) stand
-
-  -- the paths that are wanted, in two spellings
-  to_via : (path : List ℕ) → ReadsAll places (starts_of pattern) input path → Via places (starts_of pattern) (input ∷ []) path
-  to_via [] w = w
-  to_via (turn ∷ more) w = w
-
-  of_via : (path : List ℕ) → Via places (starts_of pattern) (input ∷ []) path → ReadsAll places (starts_of pattern) input path
-  of_via [] w = w
-  of_via (turn ∷ more) w = w
-
   -- An instance has its path.
   pub instance_reads : (reading : Reading) → IsInstance pattern input reading → ReadsAll places (starts_of pattern) input (path_of 0 pattern reading (0 ∷ []))
   instance_reads reading is =
-      of_via (path_of 0 pattern reading (0 ∷ []))
-      (from_reading places 0 pattern (place_count pattern ∷ []) input reading end [] (0 ∷ []) full first is ends)
+      of_via places Ends pattern input (path_of 0 pattern reading (0 ∷ []))
+      (from_reading places Ends 0 pattern (place_count pattern ∷ []) input reading end [] (0 ∷ []) full (stand_first places pattern stand) is ends)
     where
       ends : Reads places (place_count pattern) (end ∷ []) []
-      ends = ends_by places (end ∷ []) (place_count pattern) (record { asked = ask.leave; edges = [] }) last.0 refl refl
+      ends = ends_by places (end ∷ []) (place_count pattern) last_stop (stand_last places pattern stand).0 refl refl
 
   -- A path is that of an instance.
   pub path_reads : (path : List ℕ) → ReadsAll places (starts_of pattern) input path
       → (reading : Reading) × IsInstance pattern input reading × (path ≡ path_of 0 pattern reading (0 ∷ []))
-  path_reads path w = out (to_reading places 0 pattern (place_count pattern ∷ []) [] input path full first (to_via path w))
+  path_reads path w =
+      elim (to_reading places Ends 0 pattern (place_count pattern ∷ []) [] input path full (stand_first places pattern stand) (to_via places Ends pattern input path w)) [
+        | inl found ↦ through found (via_one places Ends (found.rest ∷ []) (place_count pattern) found.tail found.via)
+        | inr halts ↦ absurd (halts.sooner halts.last)
+      ]
     where
-      finish : (found : Read places 0 pattern (place_count pattern ∷ []) [] input path) → (more : List ℕ) → found.tail ≡ 0 ∷ more
-          → ((is_leave ask.leave ≡ true) × (found.rest ∷ [] ≡ end ∷ []) × (more ≡ [])) ⊎ (Passes ask.leave (found.rest ∷ []) × Via places [] [] more)
-          → (reading : Reading) × IsInstance pattern input reading × (path ≡ path_of 0 pattern reading (0 ∷ []))
-      finish found more tail (inl (leave, ended, none)) =
-          let over : found.rest ≡ end = cc ended in (
-            found.reading,
-            subst (λ r. Takes pattern input found.reading r) over found.takes,
-            found.is ∙ ap (path_of 0 pattern found.reading) (tail ∙ ap (λ p. 0 ∷ p) none),
-          )
-      finish found more tail (inr (ended, v)) = absurd (via_none places [] more v)
-
-      through : (found : Read places 0 pattern (place_count pattern ∷ []) [] input path)
+      through : (found : Read places Ends 0 pattern (place_count pattern ∷ []) [] input path)
           → (more : List ℕ) × (found.tail ≡ 0 ∷ more) × Reads places (place_count pattern) (found.rest ∷ []) more
           → (reading : Reading) × IsInstance pattern input reading × (path ≡ path_of 0 pattern reading (0 ∷ []))
-      through found (more, tail, reads) =
-          finish found more tail (comes_by places (found.rest ∷ []) (place_count pattern) (record { asked = ask.leave; edges = [] }) last.0 more reads)
-
-      out : Read places 0 pattern (place_count pattern ∷ []) [] input path → (reading : Reading) × IsInstance pattern input reading × (path ≡ path_of 0 pattern reading (0 ∷ []))
-      out found = through found (via_one places (found.rest ∷ []) (place_count pattern) found.tail found.via)
+      through found (more, tail, reads) = elim (comes_by places Ends (found.rest ∷ []) (place_count pattern) last_stop (stand_last places pattern stand).0 more reads) [
+        | inl (none, ends) ↦
+            let ended = ended_by places (found.rest ∷ []) (place_count pattern) last_stop (stand_last places pattern stand).0 ends in
+            let over : found.rest ≡ end = cc ended.1 in (
+              found.reading,
+              subst (λ r. Takes pattern input found.reading r) over found.takes,
+              found.is ∙ ap (path_of 0 pattern found.reading) (tail ∙ ap (λ p. 0 ∷ p) none),
+            )
+        | inr (ended, v) ↦ absurd (via_none places Ends [] more v)
+      ]
 
   -- Where no path is, the input is no instance.
   pub no_instance : ((path : List ℕ) → ReadsAll places (starts_of pattern) input path → ⊥) → IsNoInstance pattern input
@@ -108,8 +89,8 @@ module _ (places : List Place) (pattern : Pattern) (full : IsFull pattern) (stan
       }
 
   -- What was found of the paths is so of the readings.
-  pub tells : (it : Paths) → Finds (ReadsAll places (starts_of pattern) input) it → TellsPaths pattern input it
-  tells paths.Nothing finds = no_instance finds
+  pub tells : (it : Paths) → Finds (ReadsAll places (starts_of pattern) input) (λ left. StopsAll places left (starts_of pattern) input) (size input) it → TellsPaths pattern input it
+  tells (paths.Nothing at) finds = (no_instance finds.0, stops_there places pattern full stand input at finds.1)
   tells (paths.One log last) finds = let one = one_instance (path_to log.items last) finds in (one.0, one.1, one.2)
   tells paths.Many finds = two_instances finds
 

@@ -1,10 +1,12 @@
 -- When trees are an instance of a pattern, and how its places read them.
+pub mod Aheads
 pub mod Asks
 pub mod Bindings
 pub mod Compiled
 pub mod Cutting
 pub mod Ends
 pub mod Fragments
+pub mod Fronts
 pub mod Grouping
 pub mod Levels
 pub mod Linking

@@ -1,6 +1,6 @@
 -- Places of a pattern, and their paths through an input.
-use Rattle.std.specs.Prelude.{◌≡◌, ℕ, zero, suc, Bool, true, false, List, [], ◌∷◌, length, Option, None, Some, slice_get}
-use Rattle.tt.specs.Forest.{Forest, end}
+use Rattle.std.specs.Prelude.{◌≡◌, ◌+◌, ℕ, zero, suc, Bool, true, false, List, [], ◌∷◌, length, Option, None, Some, slice_get}
+use Rattle.tt.specs.Forest.{Forest, end, size}
 use Rattle.tt.specs.Gluing.{after_trees}
 use Rattle.tt.specs.Moves.{after_tree}
 use Rattle.tt.specs.Siblings.{children_of}
@@ -78,12 +78,33 @@ abbrev pub GoesOn : Option Place → (levels : List Forest) → (turn : ℕ) →
 GoesOn None levels turn P = ⊥
 GoesOn (Some place) levels turn P = Passes (ask_of place.atom) levels × OnEdge turn place.edges.items (λ to. P to (onward (ask_of place.atom) levels))
 
--- the path, of the numbers of edges, leads from a place through all that is left of the levels
-abbrev pub Reads : (places : List Place) → (at : ℕ) → (levels : List Forest) → (path : List ℕ) → Type 0
-Reads places at levels [] = Ends (slice_get places at) levels
-Reads places at levels (turn ∷ path) = GoesOn (slice_get places at) levels turn (λ to further. Reads places to further path)
+-- the path, of the numbers of edges, leads from a place before levels to where this holds of a place and the levels that are left
+abbrev pub Goes : (places : List Place) → (Last : Option Place → List Forest → Type 0) → (at : ℕ) → (levels : List Forest) → (path : List ℕ) → Type 0
+Goes places Last at levels [] = Last (slice_get places at) levels
+Goes places Last at levels (turn ∷ path) = GoesOn (slice_get places at) levels turn (λ to further. Goes places Last to further path)
 
 -- it does from one of the places where the pattern starts
+abbrev pub GoesAll : (places : List Place) → (Last : Option Place → List Forest → Type 0) → (starts : List ℕ) → (input : Forest) → (path : List ℕ) → Type 0
+GoesAll places Last starts input [] = ⊥
+GoesAll places Last starts input (turn ∷ path) = OnEdge turn starts (λ to. Goes places Last to (input ∷ []) path)
+
+-- the path leads from a place through all that is left of the levels
+abbrev pub Reads : (places : List Place) → (at : ℕ) → (levels : List Forest) → (path : List ℕ) → Type 0
+Reads places = Goes places Ends
+
+-- it leads through all of an input
 abbrev pub ReadsAll : (places : List Place) → (starts : List ℕ) → (input : Forest) → (path : List ℕ) → Type 0
-ReadsAll places starts input [] = ⊥
-ReadsAll places starts input (turn ∷ path) = OnEdge turn starts (λ to. Reads places to (input ∷ []) path)
+ReadsAll places = GoesAll places Ends
+
+-- how many tokens are left of the levels
+abbrev pub left_in : List Forest → ℕ
+left_in [] = 0
+left_in (trees ∷ outer) = size trees + left_in outer
+
+-- so many are left, whatever the place
+abbrev pub AreLeft : (left : ℕ) → Option Place → List Forest → Type 0
+AreLeft left place levels = left ≡ left_in levels
+
+-- the path leads from a start to where so many are left
+abbrev pub StopsAll : (places : List Place) → (left : ℕ) → (starts : List ℕ) → (input : Forest) → (path : List ℕ) → Type 0
+StopsAll places left = GoesAll places (AreLeft left)

@@ -91,10 +91,10 @@ threads_spread wait is_many before turn (to ∷ others) threads =
 
 -- what is asked is there, as the input goes on
 abbrev pub IsMoved : Move → Ask → Type 0
-IsMoved (move.Passes trees) (ask.take which) = (takes which.fragment (rest_of trees) ≡ true) × (takes_nothing which.fragment (rest_of trees) ≡ false)
-IsMoved (move.Passes trees) (ask.same its) = IsUnitLike its (rest_of trees)
-IsMoved (move.Passes trees) (ask.enter kind) = ⊥
-IsMoved (move.Passes trees) ask.leave = ⊥
+IsMoved (move.Passes ahead) (ask.take which) = (takes which.fragment (rest_of ahead.trees) ≡ true) × (takes_nothing which.fragment (rest_of ahead.trees) ≡ false)
+IsMoved (move.Passes ahead) (ask.same its) = IsUnitLike its (rest_of ahead.trees)
+IsMoved (move.Passes ahead) (ask.enter kind) = ⊥
+IsMoved (move.Passes ahead) ask.leave = ⊥
 IsMoved (move.Enters kind) (ask.take which) = ⊥
 IsMoved (move.Enters kind) (ask.same its) = ⊥
 IsMoved (move.Enters kind) (ask.enter other) = kind ≡ other
@@ -106,10 +106,10 @@ IsMoved move.Ends ask.leave = Unit {0}
 
 -- for how many trees behind the first the thread then waits
 abbrev pub wait_of : Move → Ask → ℕ
-wait_of (move.Passes trees) (ask.take which) = reach which.fragment (rest_of trees) - 1
-wait_of (move.Passes trees) (ask.same its) = length its - 1
-wait_of (move.Passes trees) (ask.enter kind) = 0
-wait_of (move.Passes trees) ask.leave = 0
+wait_of (move.Passes ahead) (ask.take which) = reach which.fragment (rest_of ahead.trees) - 1
+wait_of (move.Passes ahead) (ask.same its) = length its - 1
+wait_of (move.Passes ahead) (ask.enter kind) = 0
+wait_of (move.Passes ahead) ask.leave = 0
 wait_of (move.Enters kind) asked = 0
 wait_of move.Ends asked = 0
 
@@ -129,15 +129,15 @@ edges_of (Some place) = place.edges.items
 
 -- a thread that waits is not at its place yet; at the end of a subtree none waits
 abbrev pub is_waiting : Move → (wait : ℕ) → Bool
-is_waiting (move.Passes trees) zero = false
-is_waiting (move.Passes trees) (suc n) = true
+is_waiting (move.Passes ahead) zero = false
+is_waiting (move.Passes ahead) (suc n) = true
 is_waiting (move.Enters kind) zero = false
 is_waiting (move.Enters kind) (suc n) = true
 is_waiting move.Ends n = false
 
 -- what one that waits adds: itself, one tree nearer, where a tree is passed
 abbrev pub waited : Move → View → List View → List View
-waited (move.Passes trees) view old = added (delayed (view.wait - 1) view) old
+waited (move.Passes ahead) view old = added (delayed (view.wait - 1) view) old
 waited (move.Enters kind) view old = old
 waited move.Ends view old = old
 
@@ -159,6 +159,6 @@ AllStep places by (view ∷ views) old new = (middle : List View) × Steps place
 
 -- what one that waits adds, of threads
 abbrev pub threads_waited : Move → Thread → List Thread → List Thread
-threads_waited (move.Passes trees) thread old = thread_added (record thread { wait = thread.wait - 1 }) old
+threads_waited (move.Passes ahead) thread old = thread_added (record thread { wait = thread.wait - 1 }) old
 threads_waited (move.Enters kind) thread old = old
 threads_waited move.Ends thread old = old

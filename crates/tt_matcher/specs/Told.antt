@@ -6,6 +6,7 @@ use Rattle.tt_matcher.specs.declared.binding.Found.TheVariants as found
 use Rattle.tt_matcher.specs.declared.reading.Paths.{Paths}
 use Rattle.tt_matcher.specs.declared.reading.Paths.TheVariants as paths
 use Rattle.tt_matcher.specs.Bindings.{binding_of}
+use Rattle.tt_matcher.specs.Fronts.{StopsAt}
 use Rattle.tt_matcher.specs.Grouping.{variables_of, binding_by}
 use Rattle.tt_matcher.specs.Marks.{note_of, notes_of}
 use Rattle.tt_matcher.specs.Paths.{path_of}
@@ -13,9 +14,9 @@ use Rattle.tt_pattern.specs.Patterns.{Pattern}
 use Rattle.tt_matcher.specs.Readings.{Reading, IsNoInstance, IsReadBy, IsAmbiguous}
 use Rattle.tt_matcher.specs.Threads.{path_to}
 
--- what was found of an input: no reading, one and no other, with what it binds, or two
+-- what was found of an input: no reading, and where it stops; one and no other, with what it binds; or two
 abbrev pub Tells : Pattern → (input : Forest) → Found → Type 0
-Tells pattern input found.Nothing = IsNoInstance pattern input
+Tells pattern input (found.Nothing at) = IsNoInstance pattern input × StopsAt pattern input at
 Tells pattern input (found.One binding) =
     (reading : Reading) × IsReadBy pattern input reading × (map note_of binding.marks.items ≡ notes_of pattern reading)
     × (binding_by (variables_of pattern 1) (map note_of binding.marks.items) ≡ binding_of pattern reading)
@@ -23,7 +24,7 @@ Tells pattern input found.Many = IsAmbiguous pattern input
 
 -- the same of paths: none, that of the one reading, or two
 abbrev pub TellsPaths : Pattern → (input : Forest) → Paths → Type 0
-TellsPaths pattern input paths.Nothing = IsNoInstance pattern input
+TellsPaths pattern input (paths.Nothing at) = IsNoInstance pattern input × StopsAt pattern input at
 TellsPaths pattern input (paths.One log last) =
     (reading : Reading) × IsReadBy pattern input reading × (path_to log.items last ≡ path_of 0 pattern reading (0 ∷ []))
 TellsPaths pattern input paths.Many = IsAmbiguous pattern input

@@ -3,13 +3,13 @@ ghost use Rattle.std.specs.Prelude.{◌≡◌, ◌↔◌, IsTrue};
 ghost use Rattle.tt.specs.Iters.{rest_of};
 ghost use Rattle.tt.specs.Moves.{after_tree};
 ghost use Rattle.tt_matcher.specs.Fragments.{is_at_number, is_at_negative, is_at_lifetime, is_at_block, is_at_word, is_scope, is_at_scope, visibility_size, takes, takes_nothing, reach};
-ghost use Rattle.tt_pattern.specs.Units.{is_at_ident, unit_size, IsSameLeaf, IsLeafLike, AreLeavesLike, IsUnitLike};
+ghost use Rattle.tt_pattern.specs.Units.{is_at_ident, unit_size, IsSameLeaf, IsLeafLike, AreLeavesLike};
 
 use tt::{DelimiterKind, IdentIsRaw, Leaf, LitKind, TtElement, TtIter};
 use tt_pattern::{Fragment, unit_size};
 
-// Whether the leaves are the same, spans and spacing put aside.
-fn is_same_leaf(leaf: &Leaf, other: &Leaf) -> bool
+/// Whether the leaves are the same, spans and spacing put aside.
+pub(crate) fn is_same_leaf(leaf: &Leaf, other: &Leaf) -> bool
     ensures { IsTrue result ↔ IsSameLeaf leaf.now other.now }
 {
     match (leaf, other) {
@@ -37,8 +37,8 @@ fn passes_leaf(leaf: &Leaf, trees: &mut TtIter<'_>) -> bool
     }
 }
 
-// Whether the first trees are such leaves, one by one.
-fn are_leaves_like(leaves: &[Leaf], mut trees: TtIter<'_>) -> bool
+/// Whether the first trees are such leaves, one by one.
+pub(crate) fn are_leaves_like(leaves: &[Leaf], mut trees: TtIter<'_>) -> bool
     ensures { IsTrue result ↔ AreLeavesLike leaves.now (rest_of trees.entry) }
 {
     for leaf in leaves {
@@ -47,13 +47,6 @@ fn are_leaves_like(leaves: &[Leaf], mut trees: TtIter<'_>) -> bool
         }
     }
     true
-}
-
-/// Whether a token of just these leaves stands first.
-pub(crate) fn is_unit_like(leaves: &[Leaf], trees: TtIter<'_>) -> bool
-    ensures { IsTrue result ↔ IsUnitLike leaves.now (rest_of trees.entry) }
-{
-    are_leaves_like(leaves, trees.remaining().iter()) && unit_size(trees) == leaves.len()
 }
 
 // Whether a number stands first.

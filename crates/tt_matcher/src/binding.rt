@@ -26,8 +26,8 @@ pub struct Binding<'i> {
 /// In how many ways an input is an instance of a pattern.
 #[derive(Drop)]
 pub enum Found<'i> {
-    /// In none.
-    Nothing,
+    /// In none: the pattern, read as far as it goes, stops at that flat place, which tells how many tokens stand before it.
+    Nothing(usize),
     /// In one and no other, which binds this.
     One(Binding<'i>),
     /// In two different ones, and maybe more.
@@ -140,7 +140,7 @@ pub(crate) fn found_by<'i>(
     ensures { IfOk result (λ found. (pattern : Pattern) → IsFull pattern → steps.now ≡ steps_of pattern → TellsPaths pattern (rest_of input.entry) paths → Tells pattern (rest_of input.entry) found) }
 {
     match paths {
-        Paths::Nothing => Ok(Found::Nothing),
+        Paths::Nothing(at) => Ok(Found::Nothing(at)),
         Paths::One(log, last) => {
             let path = path_back(alloc, &log, last)?;
             let marks = marks_along(alloc, steps, path, input)?;

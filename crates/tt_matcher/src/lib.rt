@@ -3,6 +3,7 @@
 //! What contracts speak of stands in `specs/` of this crate.
 #![tactic(auto)]
 
+mod ahead;
 mod asks;
 mod binding;
 mod cutting;

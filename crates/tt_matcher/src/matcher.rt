@@ -67,8 +67,8 @@ impl Matcher {
         &self.binders
     }
 
-    /// In how many ways the input is an instance of the pattern: in none, in one and no other, with what it binds, or in two and
-    /// maybe more.
+    /// In how many ways the input is an instance of the pattern: in none, with the flat place where it stops, in one and no other,
+    /// with what it binds, or in two and maybe more.
     ///
     /// Time is in proportion to the length of the input times the number of edges that are taken at a tree, and memory to how many
     /// places are passed. It is refused only where memory is.

@@ -1,79 +1,77 @@
 //! Reading an input: which paths lead through all of it.
-ghost use Rattle.std.specs.Prelude.{◌≡◌, [], ℕ, OnOk, IfOk, MatchOption, reverse, slice_get};
+ghost use Rattle.std.specs.Prelude.{◌≡◌, ◌-◌, [], ℕ, OnOk, IfOk, MatchOption, reverse, slice_get};
+ghost use Rattle.tt.specs.Forest.{size};
 ghost use Rattle.tt.specs.Iters.{rest_of};
-ghost use Rattle.tt_matcher.specs.Levels.{level_view, level_views, AreLevelsWithin, Advances, IsEndedWith, Finds, is_leave_at, with_thread, choice_of, found_of};
-ghost use Rattle.tt_matcher.specs.Places.{ReadsAll};
+ghost use Rattle.tt.specs.Moves.{after_tree};
+ghost use Rattle.tt_matcher.specs.Aheads.{IsAhead, IsAheadIn};
+ghost use Rattle.tt_matcher.specs.Levels.{level_view, view_before, level_views, AreLevelsWithin, Advances, IsEndedWith, Finds, is_leave_at, with_thread, choice_of, found_of, reached};
+ghost use Rattle.tt_matcher.specs.Places.{ReadsAll, StopsAll};
 ghost use Rattle.tt_matcher.specs.Settling.{IsSettledBy, AreRanked};
 ghost use Rattle.tt_matcher.specs.Threads.{views_of, AreWithin, IsGrown, AllStep};
 
+use crate::ahead::Ahead;
 use crate::places::{Atom, Place};
 use crate::settling::settle;
 use crate::threads::{Move, Thread, Turn, spread_to, step_all};
 use std::alloc::{AllocError, Global};
-use tt::{DelimiterKind, TtElement, TtIter};
+use tt::TtIter;
 
-/// What is left of a subtree of the input that was entered, and the threads before it.
+/// What is left of a subtree of the input that was entered, how many tokens of the input stand before its end, and the threads
+/// before what is left.
 #[derive(Drop)]
 pub(crate) struct Level<'i> {
     rest: TtIter<'i>,
+    until: usize,
     threads: Vec<Thread>,
 }
 
 /// How many paths lead through an input.
 #[derive(Drop)]
 pub(crate) enum Paths {
-    /// None.
-    Nothing,
+    /// None. Those that come farthest stop at that flat place.
+    Nothing(usize),
     /// One and no other: the turns of all paths that were tried, and the last turn of the one.
     One(Vec<Turn>, Turn),
     /// Two different ones, and maybe more.
     Many,
 }
 
-// The level outside, where the threads leave one that is at its end.
-fn leave<'i>(
+// These trees with no thread before them, before whose end so many tokens stand.
+fn level_of<'i>(alloc: Global, rest: TtIter<'i>, until: usize) -> Level<'i>
+    ensures { (rest_of result.rest ≡ rest_of rest.entry) × (result.until ≡ until) × (result.threads.items ≡ []) }
+{
+    Level {
+        rest,
+        until,
+        threads: Vec::new(alloc),
+    }
+}
+
+// The level, to which the threads move so.
+fn moved<'i>(
     places: &[Place],
     threads: &[Thread],
-    outer: Level<'i>,
+    by: &Move<'_>,
+    to: Level<'i>,
     log: &mut Vec<Turn>,
 ) -> Result<Level<'i>, AllocError>
+    requires ahead { IsAheadIn by.now }
     requires own { AreWithin log.old.items threads.now }
-    requires outside { AreWithin log.old.items outer.threads.items }
-    ensures steps { IfOk result (λ next. AllStep places.now Move.Ends (views_of log.old.items threads.now) (views_of log.old.items outer.entry.threads.items) (views_of log.new.items next.threads.items)) }
-    ensures rest { IfOk result (λ next. rest_of next.rest ≡ rest_of outer.entry.rest) }
+    requires within { AreWithin log.old.items to.threads.items }
+    ensures steps { IfOk result (λ next. AllStep places.now by.now (views_of log.old.items threads.now) (views_of log.old.items to.entry.threads.items) (views_of log.new.items next.threads.items)) }
+    ensures rest { IfOk result (λ next. (rest_of next.rest ≡ rest_of to.entry.rest) × (next.until ≡ to.entry.until)) }
     ensures grown { OnOk result (IsGrown log.old.items log.new.items) }
     ensures now_within { IfOk result (λ next. AreWithin log.new.items next.threads.items) }
 {
     let Level {
         rest,
+        until,
         threads: mut next,
-    } = outer;
-    step_all(places, threads, &Move::Ends, log, &mut next)?;
-    Ok(Level {
-        rest,
-        threads: next,
-    })
-}
-
-// The level of these trees, where the threads move so.
-fn moved<'i>(
-    alloc: Global,
-    places: &[Place],
-    threads: &[Thread],
-    by: &Move<'_>,
-    rest: TtIter<'i>,
-    log: &mut Vec<Turn>,
-) -> Result<Level<'i>, AllocError>
-    requires own { AreWithin log.old.items threads.now }
-    ensures steps { IfOk result (λ next. AllStep places.now by.now (views_of log.old.items threads.now) [] (views_of log.new.items next.threads.items)) }
-    ensures rest { IfOk result (λ next. rest_of next.rest ≡ rest_of rest.entry) }
-    ensures grown { OnOk result (IsGrown log.old.items log.new.items) }
-    ensures now_within { IfOk result (λ next. AreWithin log.new.items next.threads.items) }
-{
-    let mut next = Vec::new(alloc);
+    } = to;
     step_all(places, threads, by, log, &mut next)?;
     Ok(Level {
         rest,
+        until,
         threads: next,
     })
 }
@@ -86,14 +84,60 @@ fn settle_level<'i>(
     log: &mut Vec<Turn>,
 ) -> Result<Level<'i>, AllocError>
     requires own { AreWithin log.old.items level.threads.items }
-    ensures rest { IfOk result (λ next. rest_of next.rest ≡ rest_of level.entry.rest) }
+    ensures rest { IfOk result (λ next. (rest_of next.rest ≡ rest_of level.entry.rest) × (next.until ≡ level.entry.until)) }
     ensures settled { IfOk result (λ next. IsSettledBy places.now (rest_of level.entry.rest) (views_of log.old.items level.entry.threads.items) (views_of log.new.items next.threads.items)) }
     ensures grown { OnOk result (IsGrown log.old.items log.new.items) }
     ensures now_within { IfOk result (λ next. AreWithin log.new.items next.threads.items) }
 {
-    let Level { rest, threads } = level;
+    let Level {
+        rest,
+        until,
+        threads,
+    } = level;
     let threads = settle(alloc, places, &rest, threads, log)?;
-    Ok(Level { rest, threads })
+    Ok(Level {
+        rest,
+        until,
+        threads,
+    })
+}
+
+// Goes on behind the first tree, and in it, where it is a subtree that some threads enter.
+fn pass<'i>(
+    alloc: Global,
+    places: &[Place],
+    ahead: Ahead<'i>,
+    behind: Level<'i>,
+    levels: &mut Vec<Level<'i>>,
+    log: &mut Vec<Turn>,
+) -> Result<(), AllocError>
+    requires first { IsAhead ahead }
+    requires rest { rest_of behind.rest ≡ after_tree (rest_of ahead.trees) }
+    requires own { AreWithin log.old.items behind.threads.items }
+    requires outside { AreLevelsWithin log.old.items levels.old.items }
+    ensures steps { OnOk result (Advances places.now (view_before (rest_of ahead.entry.trees) log.old.items behind.entry) (level_views log.old.items (reverse levels.old.items)) (level_views log.new.items (reverse levels.new.items))) }
+    ensures grown { OnOk result (IsGrown log.old.items log.new.items) }
+    ensures now_within { OnOk result (AreLevelsWithin log.new.items levels.new.items) }
+{
+    let entered = ahead.inside();
+    let Level {
+        rest,
+        until,
+        threads,
+    } = behind;
+    let inner_until = until.saturating_sub(rest.remaining().len());
+    let next = level_of(alloc, rest, until);
+    let next = moved(places, &threads, &Move::Passes(ahead), next, log)?;
+    levels.push(next)?;
+    let Some((kind, children)) = entered else {
+        return Ok(());
+    };
+    let inside = level_of(alloc, children, inner_until);
+    let inside = moved(places, &threads, &Move::Enters(kind), inside, log)?;
+    if inside.threads.is_empty() {
+        return Ok(());
+    }
+    Ok(levels.push(inside)?)
 }
 
 // Goes on by one tree, or out of a level that is at its end. At the end of the outermost one its threads are left.
@@ -110,33 +154,18 @@ fn advance<'i>(
     ensures grown { OnOk result (IsGrown log.old.items log.new.items) }
     ensures now_within { OnOk result (AreLevelsWithin log.new.items levels.new.items) }
 {
-    let Level { mut rest, threads } = level;
-    let before = Move::Passes(rest.remaining().iter());
-    match rest.next() {
-        None => match levels.pop() {
-            None => Ok(Some(threads)),
-            Some(outer) => {
-                let next = leave(places, &threads, outer, log)?;
-                levels.push(next)?;
-                Ok(None)
-            }
-        },
-        Some(TtElement::Leaf(_leaf)) => {
-            let next = moved(alloc, places, &threads, &before, rest, log)?;
+    let mut level = level;
+    let trees = level.rest.remaining().iter();
+    if let Some(first) = level.rest.next() {
+        pass(alloc, places, Ahead { first, trees }, level, levels, log)?;
+        return Ok(None);
+    }
+    match levels.pop() {
+        None => Ok(Some(level.threads)),
+        Some(outer) => {
+            let next = moved(places, &level.threads, &Move::Ends, outer, log)?;
             levels.push(next)?;
             Ok(None)
-        }
-        Some(TtElement::Subtree(header, children)) => {
-            let next = moved(alloc, places, &threads, &before, rest, log)?;
-            let enters = Move::Enters(header.delimiter.kind);
-            let inside = moved(alloc, places, &threads, &enters, children, log)?;
-            levels.push(next)?;
-            if inside.threads.is_empty() {
-                Ok(None)
-            } else {
-                levels.push(inside)?;
-                Ok(None)
-            }
         }
     }
 }
@@ -191,15 +220,28 @@ pub(crate) enum Choice {
     Many,
 }
 
-// What is found where the choice is made in that log.
-fn find_by(choice: Choice, log: Vec<Turn>) -> Paths
-    ensures { result ≡ found_of choice log }
+// What is found where the choice is made in that log, and threads came up to that flat place.
+fn find_by(choice: Choice, log: Vec<Turn>, at: usize) -> Paths
+    ensures { result ≡ found_of choice log at }
 {
     match choice {
-        Choice::Nothing => Paths::Nothing,
+        Choice::Nothing => Paths::Nothing(at),
         Choice::One(last) => Paths::One(log, last),
         Choice::Many => Paths::Many,
     }
+}
+
+// The flat place before what is left of the level, where a thread stands there, or else the one so far.
+fn reached(level: &Level<'_>, so_far: usize) -> usize
+    ensures { result ≡ reached (rest_of level.now.rest) (level.now.until - size (rest_of level.now.rest)) so_far level.now.threads.items }
+{
+    let is_ended = level.rest.is_empty();
+    for thread in &level.threads {
+        if is_ended || thread.wait == 0 {
+            return level.until.saturating_sub(level.rest.remaining().len());
+        }
+    }
+    so_far
 }
 
 /// Which paths lead through all of the input, of those that begin at the places with these numbers.
@@ -212,22 +254,25 @@ pub(crate) fn read_all(
     starts: &[usize],
     input: TtIter<'_>,
 ) -> Result<Paths, AllocError>
-    ensures { IfOk result (λ found. (rank : ℕ → ℕ) → AreRanked places.now rank → Finds (ReadsAll places.now starts.now (rest_of input.entry)) found) }
+    ensures { IfOk result (λ found. (rank : ℕ → ℕ) → AreRanked places.now rank → Finds (ReadsAll places.now starts.now (rest_of input.entry)) (λ left. StopsAll places.now left starts.now (rest_of input.entry)) (size (rest_of input.entry)) found) }
 {
     let mut log = Vec::new(alloc);
     let mut threads = Vec::new(alloc);
     spread_to(starts, 0, false, 0, &mut threads)?;
     let mut levels = Vec::new(alloc);
     levels.push(Level {
+        until: input.remaining().len(),
         rest: input,
         threads,
     })?;
+    let mut farthest = 0;
     while let Some(level) = levels.pop() {
+        farthest = reached(&level, farthest);
         let calm = settle_level(alloc, places, level, &mut log)?;
         if let Some(ended) = advance(alloc, places, calm, &mut levels, &mut log)? {
             let choice = chosen(places, &ended);
-            return Ok(find_by(choice, log));
+            return Ok(find_by(choice, log, farthest));
         }
     }
-    Ok(Paths::Nothing)
+    Ok(Paths::Nothing(farthest))
 }

@@ -131,6 +131,9 @@ pub(crate) fn settle(
     ensures grown { OnOk result (IsGrown log.old.items log.new.items) }
     ensures now_within { IfOk result (λ next. AreWithin log.new.items next.items) }
 {
+    if are_settled(places, trees, &threads) {
+        return Ok(threads);
+    }
     let once = settle_some(alloc, places, trees, threads, log)?;
     let twice = settle_some(alloc, places, trees, once, log)?;
     Ok(twice)

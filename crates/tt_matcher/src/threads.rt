@@ -1,12 +1,13 @@
 //! Threads: the places at which the paths through an input are.
 ghost use Rattle.std.specs.Prelude.{◌≡◌, ◌≤◌, OnOk, length, MatchOption};
+ghost use Rattle.tt_matcher.specs.Aheads.{IsAheadIn};
 ghost use Rattle.tt_matcher.specs.Asks.{ask_of};
 ghost use Rattle.tt_matcher.specs.Threads.{threads_meet, thread_added, threads_spread, view_of, views_of, AreWithin, IsGrown, IsMoved, wait_of, is_waiting, threads_waited, StepsOn, Steps, AllStep};
 
-use crate::asks::{is_unit_like, reach, takes, takes_nothing};
+use crate::ahead::Ahead;
 use crate::places::{Atom, Place};
 use std::alloc::AllocError;
-use tt::{DelimiterKind, TtIter};
+use tt::DelimiterKind;
 
 /// A turn of a path: the number of the edge that it takes, and that of the turn before it. Turns are numbered from 1, and 0 is
 /// none.
@@ -28,8 +29,8 @@ pub(crate) struct Thread {
 /// How an input goes on.
 #[derive(Drop)]
 pub(crate) enum Move<'i> {
-    /// The first of these trees is passed.
-    Passes(TtIter<'i>),
+    /// The first tree is passed.
+    Passes(Ahead<'i>),
     /// A subtree of that kind is entered.
     Enters(DelimiterKind),
     /// The subtree is at its end.
@@ -38,20 +39,13 @@ pub(crate) enum Move<'i> {
 
 // Where what the atom asks is there: for how many trees behind the first a thread then waits.
 fn moved(by: &Move<'_>, atom: &Atom) -> Option<usize>
+    requires { IsAheadIn by.now }
     ensures { MatchOption result (IsMoved by.now (ask_of atom.now) → ⊥) (λ wait. IsMoved by.now (ask_of atom.now) × (wait ≡ wait_of by.now (ask_of atom.now))) }
 {
     match (by, atom) {
-        (Move::Passes(trees), Atom::Take(variable)) => {
-            if takes(variable.fragment, trees.remaining().iter())
-                && !takes_nothing(variable.fragment, trees.remaining().iter())
-            {
-                Some(reach(variable.fragment, trees.remaining().iter()).saturating_sub(1))
-            } else {
-                None
-            }
-        }
-        (Move::Passes(trees), Atom::Same(leaves)) => {
-            if is_unit_like(leaves, trees.remaining().iter()) {
+        (Move::Passes(ahead), Atom::Take(variable)) => ahead.wait_behind(variable.fragment),
+        (Move::Passes(ahead), Atom::Same(leaves)) => {
+            if ahead.is_unit_like(leaves) {
                 Some(leaves.len().saturating_sub(1))
             } else {
                 None
@@ -119,6 +113,7 @@ fn step_on(
     log: &mut Vec<Turn>,
     next: &mut Vec<Thread>,
 ) -> Result<(), AllocError>
+    requires ahead { IsAheadIn by.now }
     requires own { thread.last.before ≤ length log.old.items }
     requires within { AreWithin log.old.items next.old.items }
     ensures steps { OnOk result (StepsOn places.now by.now (view_of log.old.items thread) (views_of log.old.items next.old.items) (views_of log.new.items next.new.items)) }
@@ -169,6 +164,7 @@ fn step_one(
     log: &mut Vec<Turn>,
     next: &mut Vec<Thread>,
 ) -> Result<(), AllocError>
+    requires ahead { IsAheadIn by.now }
     requires own { thread.last.before ≤ length log.old.items }
     requires within { AreWithin log.old.items next.old.items }
     ensures steps { OnOk result (Steps places.now by.now (view_of log.old.items thread) (views_of log.old.items next.old.items) (views_of log.new.items next.new.items)) }
@@ -190,6 +186,7 @@ pub(crate) fn step_all(
     log: &mut Vec<Turn>,
     next: &mut Vec<Thread>,
 ) -> Result<(), AllocError>
+    requires ahead { IsAheadIn by.now }
     requires own { AreWithin log.old.items threads.now }
     requires within { AreWithin log.old.items next.old.items }
     ensures steps { OnOk result (AllStep places.now by.now (views_of log.old.items threads.now) (views_of log.old.items next.old.items) (views_of log.new.items next.new.items)) }

@@ -20,11 +20,61 @@ fn ways(alloc: Global, pattern: &str, input: &str) -> Option<usize> {
     let matcher = Matcher::new(alloc, pattern.token_trees().iter()).ok()?;
     let input = tree_of(alloc, input)?;
     match matcher.read(alloc, input.token_trees().iter()) {
-        Ok(Found::Nothing) => Some(0),
+        Ok(Found::Nothing(_)) => Some(0),
         Ok(Found::One(_)) => Some(1),
         Ok(Found::Many) => Some(2),
         Err(_) => None,
     }
+}
+
+// The flat place of an input where a pattern stops of which it is no instance.
+fn stop(alloc: Global, pattern: &str, input: &str) -> Option<usize> {
+    let pattern = tree_of(alloc, pattern)?;
+    let matcher = Matcher::new(alloc, pattern.token_trees().iter()).ok()?;
+    let input = tree_of(alloc, input)?;
+    match matcher.read(alloc, input.token_trees().iter()) {
+        Ok(Found::Nothing(at)) => Some(at),
+        Ok(Found::One(_)) | Ok(Found::Many) | Err(_) => None,
+    }
+}
+
+// Before the first token, behind some, in a subtree, at its end, behind it; behind a round, behind a separator, in a round and in a
+// repetition of it; where one of two ways comes farther; before a token of which the input has the beginning only; behind a `vis` that
+// takes nothing, and behind one that takes three tokens; where nothing is left.
+const STOPS: [(&str, &str, usize); 24] = [
+    ("", "a", 0),
+    ("a", "", 0),
+    ("a", "b", 0),
+    ("a b c", "a b", 2),
+    ("a b c", "a b d", 2),
+    ("a (b c) d", "a (b d) d", 3),
+    ("a (b c) d", "a (b)", 3),
+    ("a (b c) d", "a (b c c)", 4),
+    ("a (b c) d", "a (b c) e", 4),
+    ("a (b c) d", "a [b c] d", 1),
+    ("$x:tt d", "(b c) e", 3),
+    ("$($x:ident),*", "a, b c", 3),
+    ("$($x:ident),*", "a, b,", 4),
+    ("$($x:ident),*", "a, (b)", 2),
+    ("$($x:ident),+", "1", 0),
+    ("$($($x:ident)+ ;)*", "a b ; c , d", 4),
+    ("$($x:ident)? 1 2", "1 3", 1),
+    ("$($x:tt)* end", "a b", 2),
+    ("$(a b c)? a b d", "a b c", 3),
+    ("a = b", "a == b", 1),
+    ("a == b", "a == c", 3),
+    ("$v:vis struct", "enum", 0),
+    ("$v:vis struct", "pub(crate) enum", 3),
+    ("$x:lifetime b", "'a c", 2),
+];
+
+fn are_stopped(alloc: Global) -> bool {
+    for (pattern, input, place) in &STOPS {
+        if stop(alloc, pattern, input) != Some(*place) {
+            return false;
+        }
+    }
+    true
 }
 
 // A list with a comma at its end or none, what may be left out twice, fragments, subtrees, repetitions inside of others, names, and
@@ -286,6 +336,11 @@ pub(crate) fn holds(is_so: bool) -> Result<(), Fail> {
 #[test]
 fn inputs_are_instances_in_so_many_ways(rt: HostRuntime) -> Result<(), Fail> {
     holds(are_ways(rt.alloc()))
+}
+
+#[test]
+fn patterns_stop_where_none_comes_farther(rt: HostRuntime) -> Result<(), Fail> {
+    holds(are_stopped(rt.alloc()))
 }
 
 #[test]

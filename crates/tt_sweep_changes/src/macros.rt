@@ -62,7 +62,7 @@ fn expanded(
 ) -> Result<Option<TopSubtree>, TtFault> {
     match rules.expand(alloc, input.token_trees().iter()) {
         Ok(Expansion::Tree(tree)) => Ok(Some(tree)),
-        Ok(Expansion::NoMatch) | Ok(Expansion::Ambiguous(_)) => Ok(None),
+        Ok(Expansion::NoMatch(_)) | Ok(Expansion::Ambiguous(_)) => Ok(None),
         Err(error) => match error.fault {
             FillError::Tree(fault) => Err(fault),
             FillError::LengthsDiffer(_) | FillError::NoRound(_) => Err(TtFault::NotOneSubtree),

@@ -1,18 +1,16 @@
 -- What is wanted is told by the threads of the levels.
-use Rattle.std.proofs.Common.{ℕ, [], reverse}
+use Rattle.std.proofs.Common.{ℕ, reverse}
 use Rattle.tt.specs.Iters.{rest_of}
 use Rattle.tt_matcher.specs.Levels.{level_views, AreLevelsWithin}
-use Rattle.tt_matcher.specs.Places.{ReadsAll}
 use Rattle.tt_matcher.specs.Settling.{AreRanked}
-use Rattle.tt_matcher.proofs.Leading.{Told}
 use Rattle.tt_matcher.proofs.Levelling.{work_left}
-use Rattle.tt_matcher.proofs.LevelSteps.{configs_of}
+use Rattle.tt_matcher.proofs.Stopping.{AreTold}
 use Rattle.tt_matcher.proofs.reading.read_all.Given as goal
 
 abbrev pub invariant-loop-level : goal.invariant-loop-level
 invariant-loop-level l =
     record {
-      told : (rank : ℕ → ℕ) → AreRanked l.places rank → Told l.places (ReadsAll l.places l.starts (rest_of l.fn.input)) [] (configs_of (level_views l.log.items (reverse l.levels.items)));
+      told : (rank : ℕ → ℕ) → AreRanked l.places rank → AreTold l.places l.starts (rest_of l.fn.input) l.farthest (level_views l.log.items (reverse l.levels.items));
       within : AreLevelsWithin l.log.items l.levels.items;
     }
 

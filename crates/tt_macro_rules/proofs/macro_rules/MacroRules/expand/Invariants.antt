@@ -13,7 +13,7 @@ invariant-loop-arm l =
       few : l.number ≤ length l.self.arms.items;
       answers :
           (arms : List Arm) → AreMade arms l.self.arms.items → (result : Expansion)
-          → IsExpansion (drop l.number arms) l.number (rest_of l.input) result → IsExpansion arms 0 (rest_of l.input) result;
+          → IsExpansion (drop l.number arms) l.number l.farthest (rest_of l.input) result → IsExpansion arms 0 0 (rest_of l.input) result;
       refuses :
           (arms : List Arm) → AreMade arms l.self.arms.items → (error : ExpandError)
           → IsExpandError (drop l.number arms) l.number (rest_of l.input) error → IsExpandError arms 0 (rest_of l.input) error;

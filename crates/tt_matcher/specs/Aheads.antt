@@ -1,0 +1,29 @@
+-- The tree that an input goes on with.
+use Rattle.std.specs.Prelude.{◌≡◌, Some}
+use Rattle.tt.specs.Forest.{Forest, leaf, node}
+use Rattle.tt.specs.Iters.{rest_of, IsFirstElement}
+use Rattle.tt.specs.Moves.{after_tree}
+use Rattle.tt.specs.Types.Delimiter.{Delimiter}
+use Rattle.tt.specs.Types.DelimiterKind.{DelimiterKind}
+use Rattle.tt.specs.Types.Leaf.{Leaf}
+use Rattle.tt_matcher.specs.declared.ahead.Ahead.{Ahead}
+use Rattle.tt_matcher.specs.declared.threads.Move.{Move}
+use Rattle.tt_matcher.specs.declared.threads.Move.TheVariants as move
+
+-- the first of its trees was decoded
+abbrev pub IsAhead : Ahead → Type 0
+IsAhead ahead = IsFirstElement (rest_of ahead.trees) (Some ahead.first)
+
+-- so it is where a tree is passed
+abbrev pub IsAheadIn : Move → Type 0
+IsAheadIn (move.Passes ahead) = IsAhead ahead
+IsAheadIn (move.Enters kind) = Unit {0}
+IsAheadIn move.Ends = Unit {0}
+
+-- a leaf stands first
+abbrev pub IsLeafAhead : Forest → Type 0
+IsLeafAhead trees = (it : Leaf) × (trees ≡ leaf it (after_tree trees))
+
+-- a subtree of that kind that holds these trees stands first
+abbrev pub IsNodeAhead : (trees : Forest) → DelimiterKind → (children : Forest) → Type 0
+IsNodeAhead trees kind children = (delimiter : Delimiter) × (delimiter.kind ≡ kind) × (trees ≡ node delimiter children (after_tree trees))

@@ -1,0 +1,111 @@
+//! The tree that an input goes on with, decoded once for all threads.
+ghost use Rattle.std.specs.Prelude.{◌≡◌, ◌↔◌, ◌-◌, IsTrue, MatchOption, true, false};
+ghost use Rattle.tt.specs.Iters.{rest_of};
+ghost use Rattle.tt_matcher.specs.Aheads.{IsAhead, IsLeafAhead, IsNodeAhead};
+ghost use Rattle.tt_matcher.specs.Fragments.{takes, takes_nothing, reach};
+ghost use Rattle.tt_pattern.specs.Units.{unit_size, IsLeafLike, IsUnitLike};
+
+use crate::asks::{are_leaves_like, is_same_leaf, reach, takes, takes_nothing};
+use tt::{DelimiterKind, Leaf, Spacing, TtElement, TtIter};
+use tt_pattern::{Fragment, unit_size};
+
+/// The tree that stands first, and where it stands.
+#[derive(Drop)]
+pub(crate) struct Ahead<'i> {
+    pub(crate) first: TtElement<'i>,
+    pub(crate) trees: TtIter<'i>,
+}
+
+impl<'i> Ahead<'i> {
+    /// The kind of the first tree's delimiter, and what it holds, where it is a subtree.
+    pub(crate) fn inside(&self) -> Option<(DelimiterKind, TtIter<'i>)>
+        requires { IsAhead self.now }
+        ensures { MatchOption result (IsLeafAhead (rest_of self.now.trees)) (λ found. IsNodeAhead (rest_of self.now.trees) found.0 (rest_of found.1)) }
+    {
+        match &self.first {
+            TtElement::Leaf(_leaf) => None,
+            TtElement::Subtree(header, children) => {
+                Some((header.delimiter.kind, children.remaining().iter()))
+            }
+        }
+    }
+
+    // Whether the first tree is such a leaf.
+    fn is_leaf_like(&self, leaf: &Leaf) -> bool
+        requires { IsAhead self.now }
+        ensures { IsTrue result ↔ IsLeafLike leaf.now (rest_of self.now.trees) }
+    {
+        match &self.first {
+            TtElement::Leaf(first) => is_same_leaf(leaf, first),
+            TtElement::Subtree(..) => false,
+        }
+    }
+
+    // How many trees stand as one at the front. Only puncts that do not stand alone are looked at with those behind them.
+    fn unit_size(&self) -> usize
+        requires { IsAhead self.now }
+        ensures { result ≡ unit_size (rest_of self.now.trees) }
+    {
+        match &self.first {
+            TtElement::Leaf(Leaf::Punct(punct)) => {
+                if punct.char != '\'' && punct.spacing == Spacing::Alone {
+                    1
+                } else {
+                    unit_size(self.trees.remaining().iter())
+                }
+            }
+            TtElement::Leaf(Leaf::Literal(_) | Leaf::Ident(_)) | TtElement::Subtree(..) => 1,
+        }
+    }
+
+    /// Whether a token of just these leaves stands first.
+    pub(crate) fn is_unit_like(&self, leaves: &[Leaf]) -> bool
+        requires { IsAhead self.now }
+        ensures { IsTrue result ↔ IsUnitLike leaves.now (rest_of self.now.trees) }
+    {
+        if let Some(head) = leaves.first() {
+            if !self.is_leaf_like(head) {
+                return false;
+            }
+        }
+        self.unit_size() == leaves.len()
+            && (leaves.len() == 1 || are_leaves_like(leaves, self.trees.remaining().iter()))
+    }
+
+    // Whether the fragment takes what stands first.
+    fn takes(&self, fragment: Fragment) -> bool
+        requires { IsAhead self.now }
+        ensures { result ≡ takes fragment (rest_of self.now.trees) }
+    {
+        match (fragment, &self.first) {
+            (Fragment::Tt, _) => true,
+            (Fragment::Ident, TtElement::Leaf(Leaf::Ident(ident))) => ident.sym.as_str() != "_",
+            (Fragment::Literal, TtElement::Leaf(Leaf::Literal(_))) => true,
+            _ => takes(fragment, self.trees.remaining().iter()),
+        }
+    }
+
+    // How many trees it takes.
+    fn reach(&self, fragment: Fragment) -> usize
+        requires { IsAhead self.now }
+        ensures { result ≡ reach fragment (rest_of self.now.trees) }
+    {
+        match (fragment, &self.first) {
+            (Fragment::Tt, _) => self.unit_size(),
+            (Fragment::Literal, TtElement::Leaf(Leaf::Literal(_))) => 1,
+            _ => reach(fragment, self.trees.remaining().iter()),
+        }
+    }
+
+    /// For how many trees behind the first a thread waits that takes what the fragment takes, where that is a tree at least.
+    pub(crate) fn wait_behind(&self, fragment: Fragment) -> Option<usize>
+        requires { IsAhead self.now }
+        ensures { MatchOption result (((takes fragment (rest_of self.now.trees) ≡ true) → takes_nothing fragment (rest_of self.now.trees) ≡ true)) (λ wait. (takes fragment (rest_of self.now.trees) ≡ true) × (takes_nothing fragment (rest_of self.now.trees) ≡ false) × (wait ≡ reach fragment (rest_of self.now.trees) - 1)) }
+    {
+        if self.takes(fragment) && !takes_nothing(fragment, self.trees.remaining().iter()) {
+            Some(self.reach(fragment).saturating_sub(1))
+        } else {
+            None
+        }
+    }
+}
