@@ -3,7 +3,7 @@
 
 PROGRAM is `tt_macro_bench`. Each macro is given to rustc with `stringify!` round the templates of its arms, and what that prints is
 compared with what `show` does, spaces put aside. It prints how many agree by what came of them, how many rustc refuses as a local
-ambiguity where the program goes on, and each macro that is answered otherwise. Fragments that rustc parses (`block`) and those behind
+ambiguity where the program goes on, and each macro that is answered otherwise, or told to stop at another token. Fragments that rustc parses (`block`) and those behind
 which it lets only some tokens stand (`vis`) are left out. No part of the gate: it needs rustc.
 """
 import argparse
@@ -23,6 +23,7 @@ BATCH = 400
 SAME = [("no match", ["no rules expected", "unexpected end"]), ("lengths", ["repeats"]), ("no round", ["must repeat at least once"])]
 AMBIGUITY = "rustc: local ambiguity, where the program goes on"
 MINUS = "rustc: `-` and a literal that is no number"
+LESS_FAR = "rustc: an arm that comes less far, where another takes a subtree by `tt`"
 NO_LITERAL = "rustc: an error of its own, where `-` and no literal stands"
 
 
@@ -40,7 +41,7 @@ def crate_of(made):
 
 # The arms with `stringify!` round what each template holds.
 def told(arms):
-    return re.sub(r"\) => \{(.*?)\}(?=; \(|$)", lambda m: f") => {{ stringify!({m.group(1)}) }}", arms)
+    return re.sub(r"\) => \{(.*?)\}(?= ; \(|$)", lambda m: f") => {{ stringify!({m.group(1)}) }}", arms)
 
 
 # How many tokens of an input stand before a column of its text; its tokens and brackets stand between spaces.
@@ -116,9 +117,11 @@ def kind(arms, given, wanted, got):
         return NO_LITERAL
     for begins, words in SAME:
         if wanted.startswith(begins) and any(word in why for word in words):
-            if begins == "no match" and wanted != f"no match {got[2]}":
-                return f"rustc: no match, at another place: {got[2]}"
-            return "agree: " + begins
+            if begins != "no match" or wanted == f"no match {got[2]}":
+                return "agree: " + begins
+            if is_minus(arms, given):
+                return MINUS
+            return LESS_FAR if ":tt" in arms and int(wanted.split(" ")[2]) > got[2] else f"DIFFERS: no match {got[2]}"
     return MINUS if is_minus(arms, given) else "rustc: " + why
 
 
@@ -144,7 +147,7 @@ def main():
         for seed, (arms, given, wanted) in made.items():
             how = kind(arms, given, wanted, said[seed])
             counts[how] += 1
-            if not how.startswith("agree") and how not in (AMBIGUITY, MINUS, NO_LITERAL):
+            if not how.startswith("agree") and how not in (AMBIGUITY, MINUS, NO_LITERAL, LESS_FAR):
                 print(f"{seed}: {how}: {arms!r} on {given!r}: {wanted!r}, rustc {said[seed][1]!r}")
     for how, count in sorted(counts.items()):
         print(f"{count} {how}")

@@ -15,6 +15,7 @@ import sys
 import types
 from pathlib import Path
 
+import mutants_of_arms
 import mutants_of_lists
 import mutants_of_machine
 import mutants_of_macros
@@ -33,7 +34,7 @@ HERE = Path(__file__).parent
 TABLES = {
     "plain_trees": mutants_of_trees, "plain_lists": mutants_of_lists, "plain_stored": mutants_of_stored,
     "plain_pieces": mutants_of_pieces, "plain_text": mutants_of_texts, "plain_written": mutants_of_written, "plain_rules": mutants_of_rules,
-    "plain_machine": mutants_of_machine,
+    "plain_arms": mutants_of_arms, "plain_machine": mutants_of_machine,
 }
 # What stands for an answer that a turned machine does not give.
 NO_ANSWER = ["no answer"]

@@ -62,15 +62,6 @@ BUILDING = [
         "symbols of literals are not counted", COUNTED_SYMBOLS,
         "len({tree.text for tree in flat(trees) if hasattr(tree, 'raw')})",
     ),
-    ("a nested last punct stays as it is", "elif isinstance(last, Subtree) and last.children:", "elif False:"),
-    (
-        "a last punct of an opaque subtree stays as it is", "and last.children:",
-        "and last.children and last.kind != 'opaque':",
-    ),
-    (
-        "a last punct stays hidden", "if isinstance(last, Punct):",
-        "if isinstance(last, Punct) and last.spacing != 'hidden':",
-    ),
     ("skip leaves opaque subtrees their top", ONE_CHILD, f"{ONE_CHILD} and tree.children[0].kind != 'opaque'"),
     ("skip takes the first of two subtrees", ONE_CHILD, ONE_CHILD.replace("==", ">=")),
     ("skip takes the top of a leaf", ONE_CHILD, "len(tree.children) == 1"),
@@ -135,6 +126,9 @@ QUESTIONS = [
     ),
     ("what is expanded has the input's top", f"self.slots[template].{TOPS}", f"self.slots[source].{TOPS}"),
     ("what is expanded has the pattern's top", f"self.slots[template].{TOPS}", f"self.slots[pattern].{TOPS}"),
+    ("arms asks for a tree to replace", '"arms": (0, 1)', '"arms": (0, 1, 2)'),
+    ("arms takes an empty input for no match", ', "arms": (0, 1)', ', "arms": (0,)'),
+    ("what arms make comes to the input", "self.slots[to] = made", "self.slots[source] = made"),
     ("expand asks for a tree to replace", '"expand": (0, 1, 2)', '"expand": (0, 1, 2, 3)'),
     ("expand takes an empty input for no match", '"expand": (0, 1, 2)', '"expand": (0, 1)'),
     (

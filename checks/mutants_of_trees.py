@@ -82,7 +82,18 @@ PIECES = [
     ),
     ("a piece counts trees", "sizes[-1] += size((tree,))", "sizes[-1] += 1"),
 ]
-MUTANTS = GLUING + TEXTS + PIECES
+ALONE = [
+    ("a nested last punct stays as it is", "elif isinstance(last, Subtree) and last.children:", "elif False:"),
+    (
+        "a last punct of an opaque subtree stays as it is", "and last.children:",
+        "and last.children and last.kind != 'opaque':",
+    ),
+    (
+        "a last punct stays hidden", "if isinstance(last, Punct):",
+        "if isinstance(last, Punct) and last.spacing != 'hidden':",
+    ),
+]
+MUTANTS = GLUING + TEXTS + PIECES + ALONE
 # What the texts in place of others name.
 HELPERS = '''
 

@@ -3,27 +3,18 @@
 Each command is a method that gives its answer, a list of lines. Nothing is stored or packed: what the program holds in
 bytes and tables is here a tree, a list or a number.
 """
+from plain_arms import ArmFault, made_by_arms
 from plain_lists import Header, NotOneSubtree, one_subtree, trees_of  # noqa: F401
 from plain_pieces import WrongBytes, piece, tree_of_piece
 from plain_rules import RuleFault, expanded
 from plain_stored import Stored, part_table, parts_used, symbol_table, symbols_used
 from plain_text import WrongText, tree_of_text
 from plain_trees import (
-    Punct, Subtree, debug_lines, flat, glued_sizes, piece_sizes, size, text_of, token_words, walk,
+    Subtree, alone, debug_lines, flat, glued_sizes, piece_sizes, size, text_of, token_words, walk,
 )
 from plain_written import NotWritable, written
 
 SLOTS = 16
-
-
-def alone(trees):
-    """The trees, of which the last token is alone if it is a punct."""
-    *front, last = trees
-    if isinstance(last, Punct):
-        last = last._replace(spacing="alone")
-    elif isinstance(last, Subtree) and last.children:
-        last = last._replace(children=alone(last.children))
-    return (*front, last)
 
 
 class Builder:
@@ -248,6 +239,15 @@ class Machine:
             return ["no match"]
         self.slots[to] = self.slots[template]._replace(children=children)
 
+    def arms(self, arms, source, to):
+        try:
+            made = made_by_arms(self.slots[arms].children, self.slots[source].children)
+        except ArmFault as fault:
+            return ["rule {} {}".format(*fault.args)]
+        if isinstance(made, str):
+            return [made]
+        self.slots[to] = made
+
     def show(self, slot):
         return [text_of((self.slots[slot],), ("joint", "hidden"))]
 
@@ -309,6 +309,6 @@ class Machine:
 # The verbs that ask for a builder first.
 BUILDER_VERBS = set("open push close append alone unwrap point restore expected counts build skip".split())
 # Which values of a command are slots that have to hold a tree.
-READ = {"copy": (1,), "equal": (0, 1), "expand": (0, 1, 2)}
+READ = {"copy": (1,), "equal": (0, 1), "expand": (0, 1, 2), "arms": (0, 1)}
 READ.update((verb, (0,)) for verb in "kind spans set ids rewrite split".split())
 READ.update((verb, (0,)) for verb in "show pretty debug flat siblings walk glue bytes parts symbols save text".split())

@@ -196,8 +196,16 @@ def filled_rounds(part, bound):
     return units
 
 
-# What a macro makes of an input: `no match PLACE`, where the arm that comes farthest stops, `ambiguous ARM`, `lengths ARM PLACE`, `no round ARM PLACE`, or units.
-def expanded(arms, units):
+# What is bound, and what each variable took as it is written.
+def placed(bound, written):
+    if is_list(bound):
+        return ("list", [placed(round_, written) for round_ in bound[1]])
+    return written(bound)
+
+
+# What a macro makes of an input: `no match PLACE`, where the arm that comes farthest stops, `ambiguous ARM`, `lengths ARM PLACE`,
+# `no round ARM PLACE`, or units. What a variable took is written so.
+def expanded(arms, units, written=list):
     for number, (pattern, template) in enumerate(arms):
         found = []
         for end, bound in ways(pattern, units, 0):
@@ -207,7 +215,7 @@ def expanded(arms, units):
                 return f"ambiguous {number}"
         if found:
             try:
-                return filled(template, found[0])
+                return filled(template, {name: placed(bound, written) for name, bound in found[0].items()})
             except Stopped as stopped:
                 return f"{stopped.args[0]} {number} {stopped.args[1]}"
     return f"no match {max(max(stops(pattern, units, 0)) for pattern, _ in arms)}"

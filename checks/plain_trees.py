@@ -169,6 +169,16 @@ def walk(trees):
             yield "close"
 
 
+def alone(trees):
+    """The trees, of which the last token is alone if it is a punct."""
+    *front, last = trees
+    if isinstance(last, Punct):
+        last = last._replace(spacing="alone")
+    elif isinstance(last, Subtree) and last.children:
+        last = last._replace(children=alone(last.children))
+    return (*front, last)
+
+
 def glued_front(trees):
     """How many puncts at the front of the trees stand as one."""
     first, second, third = (trees + (None, None))[:3]

@@ -33,8 +33,8 @@ FRAGMENTS = ["tt", "tt", "ident", "literal", "lifetime", "block", "vis"]
 class Maker:
     """Makes macros and inputs by chance."""
 
-    def __init__(self, seed):
-        self.by = random.Random(seed)
+    def __init__(self, by):
+        self.by = by
         self.names = 0
 
     def unit(self, depth):
@@ -221,18 +221,29 @@ def answer(arms, units):
     return "".join(word + " " for word in shown(made))
 
 
-# A macro and an input, as texts, and what comes of it; nothing where the input has too many units for brute force.
-def example(seed):
-    maker = Maker(seed)
+# The arms of a macro, and an input that one of them may take.
+def macro(maker):
     arms = []
     for _ in range(maker.by.choice((1, 1, 2, 3))):
         pattern = maker.pattern(2, maker.by.randrange(1, 5))
         arms.append((pattern, maker.template(nests_of(pattern), 0)))
-    units = maker.input_of(maker.by.choice(arms)[0])
+    return arms, maker.input_of(maker.by.choice(arms)[0])
+
+
+def macro_text(arms):
+    return " ; ".join(f"( {parts_text(pattern)} ) => {{ {parts_text(template)} }}" for pattern, template in arms)
+
+
+def units_text(units):
+    return " ".join(unit_text(unit) for unit in units)
+
+
+# A macro and an input, as texts, and what comes of it; nothing where the input has too many units for brute force.
+def example(seed):
+    arms, units = macro(Maker(random.Random(seed)))
     if len(units) > MOST_UNITS:
         return None
-    text = "; ".join(f"({parts_text(pattern)}) => {{{parts_text(template)}}}" for pattern, template in arms)
-    return text, " ".join(unit_text(unit) for unit in units), answer(arms, units)
+    return macro_text(arms), units_text(units), answer(arms, units)
 
 
 # What the program answers otherwise than it should, if anything.

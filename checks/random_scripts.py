@@ -10,14 +10,15 @@ import subprocess
 import sys
 
 from made_values import FEW_SLOTS
+from plain_arms import TooManyUnits
 from plain_machine import Header, Machine
 from plain_trees import Ident, Literal, Punct, header_words, leaf_words, size
 from script_maker import Script
 
-SCRIPTS = 300
+SCRIPTS = 500
 # Scripts to one line that is printed.
 BATCH = 100
-# A script ends where a tree or the builder has more tokens.
+# A script ends where a tree or the builder has more tokens, or a macro takes an input that is too long for brute force.
 MOST_TOKENS = 4000
 
 
@@ -40,7 +41,11 @@ def expected_answers(commands):
     """Each line of the script, with the answer of the plain machine."""
     machine = Machine()
     for command in commands:
-        yield " ".join(word for value in command for word in spelled(value)), machine.answer(*command)
+        try:
+            answer = machine.answer(*command)
+        except TooManyUnits:
+            return
+        yield " ".join(word for value in command for word in spelled(value)), answer
         if is_large(machine):
             return
 

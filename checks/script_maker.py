@@ -1,6 +1,7 @@
 """Commands made by chance (docs/LANGUAGE.md): those that a user may send, and some that are refused."""
 import itertools
 
+from made_arms import Arms
 from made_rules import NAMES, Rules
 from made_texts import Texts
 from made_values import CUTS, FEW_SLOTS, MANY_PARTS, MANY_SYMBOLS, MOST, SLOTS
@@ -22,17 +23,17 @@ SHOWN = "show pretty debug flat siblings walk glue bytes parts symbols save text
 STORED = "bytes parts symbols".split()
 # How often each command, or some that belong together, come among others.
 WEIGHTS = {
-    "tree": 4, "spoiled_list": 1, "mended_list": 1, "rule": 8, "spoiled_rule": 1, "edge": 1, "table": 0.5, "joined": 3,
+    "tree": 4, "spoiled_list": 1, "mended_list": 1, "rule": 10, "spoiled_rule": 1, "edge": 1, "table": 0.5, "joined": 3,
     "new": 2, "open": 11, "push": 14, "close": 10, "append": 3, "alone": 3, "ends_alone": 1, "unwrap": 4, "marked": 3,
     "point": 4, "restore": 4, "points": 0.3, "many": 0.1, "expected": 1, "counts": 4, "build": 2, "skip": 2, "skipped": 1,
-    "copy": 2, "kind": 2, "spans": 2, "set": 3, "ids": 2, "rewrite": 4, "expand": 1.5, "equal": 2, "nearly_equal": 1,
-    "split": 4, "shown": 13, "load": 13, "read": 30, "written": 10,
+    "copy": 2, "kind": 2, "spans": 2, "set": 3, "ids": 2, "rewrite": 4, "expand": 1.5, "macro_used": 6, "near_read": 1.5, "arms": 0.5, "equal": 2, "nearly_equal": 1,
+    "split": 5, "shown": 13, "load": 15, "read": 36, "written": 13,
 }
 # Signs that make a comment, a prefix or a lifetime with what they touch, and others.
 TOUCHING = "//**##''-:="
 
 
-class Script(Rules, Texts):
+class Script(Rules, Arms, Texts):
     """Commands made by chance. A method `add_VERB` adds one of that verb; a verb that has none has no values."""
 
     def __init__(self, seed):
@@ -154,6 +155,39 @@ class Script(Rules, Texts):
 
     def add_expand(self):
         self.add("expand", *(self.slot() for _ in range(4)))
+
+    def put_text(self, slot, text):
+        """The trees of a text in a slot, as they are read, or with changes."""
+        if self.happens(0.6):
+            self.add("read", slot, text)
+        else:
+            self.put(slot, self.changed_trees(text))
+
+    def add_macro_used(self):
+        """A macro of several arms, an input for it, and what it makes."""
+        made = self.macro()
+        if made is None:
+            return
+        slots = self.chance.sample(range(FEW_SLOTS), 2)
+        for slot, text in zip(slots, made):
+            self.put_text(slot, text)
+        to = self.slot()
+        self.add("arms", *slots, to)
+        self.add("flat", to)
+
+    def add_near_read(self):
+        """An arm whose pattern is a leaf or an empty subtree, and an input that is like it, or nearly so; or an arm of `crate`."""
+        tree = self.pick((self.literal, self.ident, lambda: self.subtree([])))()
+        near = self.subtree([]) if isinstance(tree, Subtree) else self.alike(tree)
+        slots = self.chance.sample(range(FEW_SLOTS), 2)
+        self.put(slots[0], self.crate_arm() if self.happens(0.2) else self.arm_of([tree], []))
+        self.put(slots[1], [near])
+        to = self.slot()
+        self.add("arms", *slots, to)
+        self.add("flat", to)
+
+    def add_arms(self):
+        self.add("arms", *(self.slot() for _ in range(3)))
 
     def add_new(self):
         self.points = 0
@@ -331,7 +365,8 @@ class Script(Rules, Texts):
     def add_read(self):
         """A text, and the tree that it is."""
         slot = self.slot()
-        self.add("read", slot, self.rust_text(self.pick((1, 2, 3, 6, 12, 40))))
+        last = self.pick(("/// a\r", "/// a\r\r")) if self.happens(0.01) else ""
+        self.add("read", slot, self.rust_text(self.pick((1, 2, 3, 6, 12, 40))) + last)
         self.add("flat", slot)
         self.add("text", slot)
 

@@ -58,6 +58,7 @@ part verb.Set = slot_then (number_then (rest_of_line leaf_words LeafFits one_lea
 part verb.Ids = slot_then (words_of decimal (λ n. n < 2 ^ 32) spaceless_number one_number)
 part verb.Rewrite = slot_then (words_of action_word ActionFits spaceless_action one_action)
 part verb.Expand = slot_then (slot_then (slot_then (slot_then nothing)))
+part verb.Arms = slot_then (slot_then (slot_then nothing))
 part verb.Split = slot_then (rest_of_line encode_utf8 IsScalar one_character)
 part verb.Equal = slot_then (slot_then nothing)
 part verb.Save = slot_then nothing
@@ -91,6 +92,7 @@ make verb.Set = λ (a, (n, leaf)). command.Set a n leaf
 make verb.Ids = λ (a, ids). command.Ids a ids
 make verb.Rewrite = λ (a, actions). command.Rewrite a actions
 make verb.Expand = λ (p, (t, (i, (o, _)))). command.Expand p t i o
+make verb.Arms = λ (a, (i, (o, _))). command.Arms a i o
 make verb.Split = λ (a, char). command.Split a char
 make verb.Equal = λ (a, (b, _)). command.Equal a b
 make verb.Save = λ (slot, _). command.Save slot
@@ -142,6 +144,7 @@ taken_apart (command.Set a n leaf) fits = (verb.Set, record { value = (a, (n, le
 taken_apart (command.Ids a ids) fits = (verb.Ids, record { value = (a, ids); fits = (fits.0, fits.1); made = refl })
 taken_apart (command.Rewrite a actions) fits = (verb.Rewrite, record { value = (a, actions); fits = (fits.0, fits.1); made = refl })
 taken_apart (command.Expand p t i o) fits = (verb.Expand, record { value = (p, (t, (i, (o, tt)))); fits = (fits.0, (fits.1, (fits.2, (fits.3, tt)))); made = refl })
+taken_apart (command.Arms a i o) fits = (verb.Arms, record { value = (a, (i, (o, tt))); fits = (fits.0, (fits.1, (fits.2, tt))); made = refl })
 taken_apart (command.Split a char) fits = (verb.Split, record { value = (a, char); fits = (fits.0, fits.1); made = refl })
 taken_apart (command.Equal a b) fits = (verb.Equal, record { value = (a, (b, tt)); fits = (fits.0, (fits.1, tt)); made = refl })
 taken_apart (command.Save slot) fits = (verb.Save, record { value = (slot, tt); fits = (fits, tt); made = refl })

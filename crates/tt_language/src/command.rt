@@ -79,6 +79,8 @@ pub enum Command {
     /// Expands a rule: its pattern is in the first slot, its template in the second, the input in the third. What comes of
     /// it goes to the last.
     Expand(Slot, Slot, Slot, Slot),
+    /// Expands a macro: its arms are in the first slot, the input in the second. What comes of it goes to the third.
+    Arms(Slot, Slot, Slot),
     /// The text of a slot's tree in one of its forms.
     View(View, Slot),
     /// How many tokens stand in each piece between the puncts of that character, below the top.
@@ -185,7 +187,8 @@ impl Command {
             Verb::Save => |(slot, ())| Command::Save(slot),
             Verb::Load => |(slot, digits)| Command::Load(slot, digits),
             Verb::Read => |(slot, text)| Command::Read(slot, text),
-            Verb::Text => |(slot, ())| Command::Text(slot)
+            Verb::Text => |(slot, ())| Command::Text(slot),
+            Verb::Arms => |(arms, (input, (to, ())))| Command::Arms(arms, input, to)
         )
     }
 }

@@ -1,4 +1,5 @@
 pub mod Answering
+pub mod Arms
 pub mod BuilderSteps
 pub mod Feeding
 pub mod Editing

@@ -1,5 +1,6 @@
 -- The plain machine, and what a run of the program reads and writes.
 pub mod Answer
+pub mod Arms
 pub mod Building
 pub mod Editing
 pub mod Expanding

@@ -11,6 +11,7 @@ use Rattle.tt_base.specs.declared.fault.TtFault.TheVariants.{Memory}
 use Rattle.tt_language.specs.declared.command.Command.{Command}
 use Rattle.tt_language.specs.declared.command.Command.TheVariants as command
 use Rattle.tt_run.specs.Answer.{ok_line, empty_line, yes_line, no_line, fault_line}
+use Rattle.tt_run.specs.Arms.{ExpandsArms}
 use Rattle.tt_run.specs.Building.{OfBuilder, OfTree, Grows, Appends, Closes, Points, Restores, Builds, expected_text, counts_text}
 use Rattle.tt_run.specs.Expanding.{Expands}
 use Rattle.tt_run.specs.State.{State, tree_in, with_builder, with_tree}
@@ -67,6 +68,7 @@ Does old (command.Set slot place leaf) answer new = SetsLeaf old slot place leaf
 Does old (command.Ids slot ids) answer new = ChangesIds old slot ids (tree_in old slot) answer new
 Does old (command.Rewrite slot actions) answer new = RewritesSlot old slot actions (tree_in old slot) answer new
 Does old (command.Expand pattern template input to) answer new = Expands old (tree_in old pattern) (tree_in old template) (tree_in old input) to answer new
+Does old (command.Arms arms input to) answer new = ExpandsArms old (tree_in old arms) (tree_in old input) to answer new
 Does old (command.View view slot) answer new = (answer ≡ text_or_empty (view_text view) (tree_in old slot)) × (new ≡ old)
 Does old (command.Split slot char) answer new = (answer ≡ text_or_empty (split_text char) (tree_in old slot)) × (new ≡ old)
 Does old (command.Equal left right) answer new = Compares (tree_in old left) (tree_in old right) answer × (new ≡ old)
@@ -100,6 +102,7 @@ TakesMemory (command.Set slot place leaf) = Unit {0}
 TakesMemory (command.Ids slot ids) = Unit {0}
 TakesMemory (command.Rewrite slot actions) = Unit {0}
 TakesMemory (command.Expand pattern template input to) = Unit {0}
+TakesMemory (command.Arms arms input to) = Unit {0}
 TakesMemory (command.View view slot) = Unit {0}
 TakesMemory (command.Split slot char) = Unit {0}
 TakesMemory (command.Equal left right) = ⊥

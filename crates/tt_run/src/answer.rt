@@ -1,14 +1,17 @@
 //! What the machine answers, in bytes.
-ghost use Rattle.std.specs.Prelude.{◌≡◌, ◌≤◌, ◌++◌, ◌∷◌, [], length, codes, decimal, MatchResult, string_bytes, if◌then◌else◌};
+ghost use Rattle.std.specs.Prelude.{◌≡◌, ◌≤◌, ◌++◌, ◌∷◌, [], length, codes, decimal, Some, MatchResult, string_bytes, if◌then◌else◌};
 ghost use Rattle.tt_base.specs.declared.fault.TtFault.TheVariants.{Memory};
 
+use crate::arm_number::arm_fault_number;
 use arrayvec::ArrayString;
 use itoa::Buffer;
 use std::alloc::AllocError;
 use std::marker::Model;
 use tt_base::TtFault;
 use tt_bytes::BytesFault;
+use tt_macro_rules::RulesError;
 use tt_mbe::RuleFault;
+use tt_template::FillError;
 use tt_unparse::WriteFault;
 
 // The most bytes of a line that is made without memory: a word, and two numbers of at most 20 digits.
@@ -39,6 +42,7 @@ impl Model for Answer {
 
 impl Answer {
     ghost use Rattle.tt_run.specs.Answer.{line, ok_line, empty_line, same_line, no_builder_line, none_open_line, still_open_line, yes_line, no_line, fault_line, no_match_line, rule_line, bytes_line};
+    ghost use Rattle.tt_run.specs.Arms.{arm_line, rules_line, ambiguous_line, unfilled_line};
     ghost use Rattle.tt_run.specs.Building.{point_line, counts_line};
     ghost use Rattle.tt_run.specs.Writing.{unwritten_line};
 
@@ -203,6 +207,34 @@ impl Answer {
         })
     }
 
+    /// `ambiguous`: the input is an instance of a pattern by different readings.
+    pub(crate) fn ambiguous() -> Answer
+        ensures { result ≡ ambiguous_line }
+    {
+        Answer::fixed(b"ambiguous\n")
+    }
+
+    /// `rule`, the number of the arm and that of its fault, for trees that are no macro; `fault 1` where memory was refused. Made
+    /// without memory.
+    pub(crate) fn no_macro(error: RulesError) -> Answer
+        ensures { result ≡ rules_line error }
+    {
+        match arm_fault_number(error.fault) {
+            Some(number) => Answer::arm(error.arm, number),
+            None => Answer::fault(TtFault::Memory),
+        }
+    }
+
+    /// Why a template is not filled: `lengths`, or the fault.
+    pub(crate) fn unfilled(error: FillError) -> Answer
+        ensures { result ≡ unfilled_line error }
+    {
+        match error {
+            FillError::LengthsDiffer(_) | FillError::NoRound(_) => Answer::fixed(b"lengths\n"),
+            FillError::Tree(fault) => Answer::fault(fault),
+        }
+    }
+
     /// Why bytes are those of no tree, and at which of them that is seen; `fault 1` where memory was refused. Made without
     /// memory.
     pub(crate) fn wrong_bytes(fault: BytesFault) -> Answer
@@ -236,6 +268,21 @@ impl Answer {
         let mut text = ArrayString::new();
         text.push_str("not writable ");
         text.push_str(Buffer::new().format(at));
+        text.push_str("\n");
+        Answer {
+            held: Held::Short(text),
+        }
+    }
+
+    // `rule` and the two numbers.
+    fn arm(arm: usize, number: usize) -> Answer
+        ensures { result ≡ arm_line arm (Some number) }
+    {
+        let mut text = ArrayString::new();
+        text.push_str("rule ");
+        text.push_str(Buffer::new().format(arm));
+        text.push_str(" ");
+        text.push_str(Buffer::new().format(number));
         text.push_str("\n");
         Answer {
             held: Held::Short(text),

@@ -4,6 +4,7 @@
 #![tactic(auto)]
 
 mod answer;
+mod arm_number;
 mod glued;
 mod machine;
 mod noted;

@@ -1,6 +1,7 @@
 //! The slots, the list and the builder, and what each command does to them.
 ghost use Rattle.std.specs.Prelude.{◌≡◌};
 
+mod arms;
 mod building;
 mod editing;
 mod expanding;
@@ -89,6 +90,7 @@ impl Machine {
             Command::Expand(pattern, template, input, to) => {
                 self.expand(pattern, template, input, to)
             }
+            Command::Arms(arms, input, to) => self.arms(arms, input, to),
             Command::View(view, slot) => self.view(view, slot),
             Command::Split(slot, char) => self.split(slot, char),
             Command::Equal(left, right) => self.equal(left, right),

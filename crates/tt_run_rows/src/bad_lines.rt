@@ -53,7 +53,7 @@ const BAD_LINES: [(u32, &[u8]); 13] = [
     ),
     // Trees that are changed.
     (
-        33,
+        37,
         b"kind 0\n\
       kind 16 paren\n\
       kind 0 round\n\
@@ -86,7 +86,11 @@ const BAD_LINES: [(u32, &[u8]); 13] = [
       expand 0 1 2\n\
       expand 0 1 2 16\n\
       expand 0 1 2 3 \n\
-      expand 0 1 2 3 4",
+      expand 0 1 2 3 4\n\
+      arms 0 1\n\
+      arms 0 1 16\n\
+      arms 0 1 2 \n\
+      arms 0 1 2 3",
     ),
     // Slots.
     (

@@ -9,7 +9,7 @@ use tt_language::Command;
 const LINES: [(u32, &[u8]); 7] = [
     // Slots, and what takes no more than a slot, a number or a character.
     (
-        36,
+        37,
         b"clear=Clear\n\
       list 0=List(Slot { number: 0 })\n\
       list 15=List(Slot { number: 15 })\n\
@@ -38,6 +38,7 @@ const LINES: [(u32, &[u8]); 7] = [
       split 15  =Split(Slot { number: 15 }, ' ')\n\
       split 15 \xe2\x86\x92=Split(Slot { number: 15 }, '\xe2\x86\x92')\n\
       expand 15 0 15 0=Expand(Slot { number: 15 }, Slot { number: 0 }, Slot { number: 15 }, Slot { number: 0 })\n\
+      arms 0 15 0=Arms(Slot { number: 0 }, Slot { number: 15 }, Slot { number: 0 })\n\
       equal 0 15=Equal(Slot { number: 0 }, Slot { number: 15 })\n\
       equal 15 0=Equal(Slot { number: 15 }, Slot { number: 0 })\n\
       save 15=Save(Slot { number: 15 })\n\

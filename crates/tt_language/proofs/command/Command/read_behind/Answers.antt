@@ -154,3 +154,8 @@ pub returns-in_ok-read-in-Text-clause-reads : goal.returns-in_ok-read-in-Text-cl
 returns-in_ok-read-in-Text-clause-reads c =
     let made : c.map-in-Text.result ≡ option_map (make verb.Text) c.in_ok-read-in-Text.field-0 = mapped (make verb.Text) _ _ c.map-in-Text.ensures.cases (λ x y learnt. search) in
     rw c.in-Text.is (command_read verb.Text _ _ _ c.requires.tail c.in_ok-read-in-Text.ensures.reads made)
+
+pub returns-in_ok-read-in-Arms-clause-reads : goal.returns-in_ok-read-in-Arms-clause-reads
+returns-in_ok-read-in-Arms-clause-reads c =
+    let made : c.map-in-Arms.result ≡ option_map (make verb.Arms) c.in_ok-read-in-Arms.field-0 = mapped (make verb.Arms) _ _ c.map-in-Arms.ensures.cases (λ x y learnt. search) in
+    rw c.in-Arms.is (command_read verb.Arms _ _ _ c.requires.tail c.in_ok-read-in-Arms.ensures.reads made)

@@ -1,0 +1,79 @@
+"""Definitions of plain_arms.py turned: what is turned, the text that is replaced, and the text in its place."""
+FOUND = "if is_operator(trees[count:]) else None"
+FAULT = "fault = pattern_fault(pattern, set())\n    if fault:\n        raise ArmFault(number, fault)"
+ARROW = "if not is_arrow(trees[1:]):\n        raise ArmFault(number, NO_ARROW)"
+TEMPLATE = "fault = template_fault(template, nests)\n    if fault:\n        raise ArmFault(number, fault)"
+SEMICOLON = 'if left and not is_punct(left, ";"):\n        raise ArmFault(number, NO_SEMICOLON)'
+UNITS = [
+    ("a lifetime is two units", "return 2 if is_ident(trees[1:]) else 1", "return 1"),
+    ("puncts never stand as one", "return glued_front(trees) if isinstance(trees[0], Punct) else 1", "return 1"),
+    ("raw and plain idents are one unit", 'return (RAW if ident.raw == "raw" else "") + ident.text', "return ident.text"),
+    ("literals of other kinds are one unit", '{first.kind} {first.suffix_len}', "{first.suffix_len}"),
+    ("literals of other suffixes are one unit", " {first.suffix_len}", ""),
+    ("a string is a number", 'if first.kind in NUMBERS else "x"', ""),
+    ("opaque and invisible subtrees are one unit", '"opaque": "opaque"', '"opaque": "invisible"'),
+    ("invisible subtrees are parentheses", '"invisible": "invisible"', '"invisible": "("'),
+]
+SPELLING = [
+    ("an operator may be glued", 'return is_punct(trees, "*+?") and unit_size(trees) == 1', 'return is_punct(trees, "*+?")'),
+    ("a $ is a separator", 'or isinstance(trees[0], Subtree) or is_punct(trees, "$")', "or isinstance(trees[0], Subtree)"),
+    ("a repetition has no separator", f"return (trees[:count], trees[count].char) {FOUND}", "return None"),
+    ("a separator is one tree", "    count = unit_size(trees)\n    return (trees[:count]", "    count = 1\n    return (trees[:count]"),
+    ("any brackets hold a repetition", 'or trees[0].kind != "paren"', ""),
+    ("r#crate is $crate", 'word(trees[0]) == "crate"', 'trees[0].text == "crate"'),
+    ("$crate begins nothing", "    if is_crate(behind):\n        return (\"unit\"", "    if False:\n        return (\"unit\""),
+    ("a name is raw or not", '("var", behind[0].text, fragment)', '("var", word(behind[0]), fragment)'),
+    ("a fragment is never raw", "fragment = behind[2].text", "fragment = word(behind[2])"),
+    ("any punct stands before a fragment", 'not is_punct(behind[1:], ":")', "not behind[1:]"),
+    ("_ is a name", 'if part[0] == "var" and part[1] != "_":', 'if part[0] == "var":'),
+    ("a use is raw or not", "behind[0].text in nests:", "word(behind[0]) in nests:"),
+    ("$crate uses a variable", "if is_ident(behind) and not is_crate(behind)", "if is_ident(behind)"),
+    ("a template's repetition holds no tokens", "template_of(held, nests), between", "[part for part in template_of(held, nests) if part[0] != 'unit'], between"),
+]
+FAULTS = [
+    ("an unknown fragment is one of the grammar", "UNSUPPORTED_FRAGMENT if fragment in GRAMMAR else UNKNOWN_FRAGMENT", "UNSUPPORTED_FRAGMENT"),
+    ("a fragment of the grammar is unknown", "UNSUPPORTED_FRAGMENT if fragment in GRAMMAR else UNKNOWN_FRAGMENT", "UNKNOWN_FRAGMENT"),
+    ("_ is given twice", 'names |= {part[1]} - {"_"}', "names |= {part[1]}"),
+    ("names below are let go", "fault = pattern_fault(part[2], names)", "fault = pattern_fault(part[2], set(names))"),
+    ("names of a repetition are let go", "or pattern_fault(part[1], names)", "or pattern_fault(part[1], set(names))"),
+    ("what a repetition holds comes first", "repetition_fault(part) or pattern_fault(part[1], names)", "pattern_fault(part[1], names) or repetition_fault(part)"),
+    ("a separator stands before ?", 'if part[2] is not None and part[3] == "?":', "if False:"),
+    ("a repetition may be empty", "if all(map(may_take_nothing, part[1])) else None", "if False else None"),
+    ("an empty repetition comes before a separator", "    if part[2] is not None and part[3]", "    if not all(map(may_take_nothing, part[1])) and part[2] is not None and part[3]"),
+    ("a + with what may be empty takes a unit", 'return part[3] in "*?" or all(map(may_take_nothing, part[1]))', 'return part[3] in "*?"'),
+    ("a ? takes a unit", 'return part[3] in "*?" or', 'return part[3] == "*" or'),
+    ("vis takes a unit", 'return part[0] == "var" and part[2] == "vis"', "return False"),
+    ("a $ that begins nothing may take nothing", 'return part[0] == "var" and part[2] == "vis"', 'return part[0] == "wrong" or part[0] == "var" and part[2] == "vis"'),
+    ("a use may stand too far out", "STILL_REPEATS if nests[part[1]] > depth else None", "None"),
+    ("a use stands just as deep", "STILL_REPEATS if nests[part[1]] > depth else None", "STILL_REPEATS if nests[part[1]] != depth else None"),
+    ("nothing has to repeat", "fault = NOTHING_REPEATS if deepest <= depth else", "fault = NOTHING_REPEATS if False else"),
+    ("any variable repeats", "if deepest <= depth else", "if deepest <= 0 else"),
+    ("what is below is not judged", "fault = template_fault(part[2], nests, depth)", "fault = None"),
+    ("what is repeated is not judged", "else template_fault(part[1], nests, depth + 1)", "else None"),
+]
+ARMS = [
+    ("a pattern is not judged", FAULT, "pattern_fault(pattern, set())"),
+    ("an arrow is missing last", ARROW, "pass"),
+    ("= > is an arrow", 'return is_punct(trees, "=") and unit_size(trees) == 2 and', 'return is_punct(trees, "=") and is_punct(trees[1:], ">") and'),
+    ("any two puncts that stand as one are an arrow", ' and trees[1].char == ">"', ""),
+    ("a template is not judged", TEMPLATE, "pass"),
+    ("arms stand without ;", SEMICOLON, "left = left if is_punct(left, ';') else (None, *left)"),
+    ("no ; comes before the template's faults", TEMPLATE, f"{SEMICOLON}\n    {TEMPLATE}"),
+    ("no arm is a macro", "while trees or not arms:", "while trees:"),
+    ("; behind the last arm begins one", "left[1:]\n\n\ndef arms_of", "left[1:] if left[1:] else left\n\n\ndef arms_of"),
+    ("arms are counted from 1", "raise ArmFault(number, NO_PATTERN)", "raise ArmFault(number + 1, NO_PATTERN)"),
+    ("all faults are of the first arm", "arm_at(trees, len(arms))", "arm_at(trees, 0)"),
+]
+WRITING = [
+    ("what is bound stays as it is", "units[:-1] + [Unit(unit, alone(unit.trees)) for unit in units[-1:]]", "units"),
+    ("each token that is bound is alone", "units[:-1] + [Unit(unit, alone(unit.trees)) for unit in units[-1:]]", "[Unit(unit, alone(unit.trees)) for unit in units]"),
+    ("a separator stays as it is", "between = unit_of(alone(separator))", "between = unit_of(separator)"),
+    ("a punct before a $ stays as it is", 'alone(trees[:1]) if is_punct(behind, "$") else trees[:1]', "trees[:1]"),
+    ("a punct before a subtree is alone", 'alone(trees[:1]) if is_punct(behind, "$") else trees[:1]', 'alone(trees[:1]) if is_punct(behind, "$") or behind and isinstance(behind[0], Subtree) else trees[:1]'),
+    ("a $ that stands for itself is alone", '        return ("use", behind[0].text), 2\n    return ("unit", unit_of(trees[:1])), 1', '        return ("use", behind[0].text), 2\n    return ("unit", unit_of(alone(trees[:1]))), 1'),
+    ("what comes has the pattern's top", '[("sub", trees[3], template)]', '[("sub", trees[0], template)]'),
+    ("ambiguous is no match", 'return "ambiguous" if', 'return "no match" if'),
+    ("lengths are no match", 'else "lengths"', 'else "no match"'),
+]
+MUTANTS = UNITS + SPELLING + FAULTS + ARMS + WRITING
+HELPERS = ""

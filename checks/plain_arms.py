@@ -1,0 +1,299 @@
+"""Macros of several arms on plain trees (docs/LANGUAGE.md, "Macros of several arms").
+
+Trees are read as units, patterns and templates as parts of plain_macros.py, which tells what comes of an input; that is then
+trees again.
+"""
+import plain_macros
+from plain_trees import Ident, Literal, Punct, Subtree, alone, glued_front
+
+# Brute force takes inputs of so many units at most, at any depth.
+MOST_UNITS = 16
+BRACKETS = {"paren": "(", "brace": "{", "bracket": "[", "invisible": "invisible", "opaque": "opaque"}
+# Stands before the text of a raw ident; no text of a tree has it, since a line has none.
+RAW = "\n"
+NUMBERS = ("int", "float")
+FRAGMENTS = ("ident", "literal", "lifetime", "block", "vis", "tt")
+GRAMMAR = "expr expr_2021 ty pat pat_param path stmt item meta".split()
+# The numbers of what may be wrong with an arm.
+NO_PATTERN, BEGINS_NOTHING, UNKNOWN_FRAGMENT, UNSUPPORTED_FRAGMENT, NAME_TWICE, NEEDLESS_SEPARATOR = range(1, 7)
+EMPTY_REPETITION, NO_ARROW, NO_TEMPLATE, STILL_REPEATS, NOTHING_REPEATS, NO_SEMICOLON = range(7, 13)
+
+
+class ArmFault(Exception):
+    """What is wrong with a macro: the number of the arm, and that of its fault."""
+
+
+class TooManyUnits(Exception):
+    """An input that is too long for brute force."""
+
+
+class Unit(tuple):
+    """A unit of plain_macros.py, and the trees that it is."""
+
+    def __new__(cls, unit, trees):
+        made = super().__new__(cls, unit)
+        made.trees = trees
+        return made
+
+
+def is_punct(trees, chars):
+    """Whether a punct of one of those characters stands first."""
+    return bool(trees) and isinstance(trees[0], Punct) and trees[0].char in chars
+
+
+def is_ident(trees):
+    """Whether an ident stands first."""
+    return bool(trees) and isinstance(trees[0], Ident)
+
+
+def unit_size(trees):
+    """How many trees stand as one at the front."""
+    if is_punct(trees, "'"):
+        return 2 if is_ident(trees[1:]) else 1
+    return glued_front(trees) if isinstance(trees[0], Punct) else 1
+
+
+def word(ident):
+    """What tells an ident from others."""
+    return (RAW if ident.raw == "raw" else "") + ident.text
+
+
+def unit_of(trees):
+    """The unit that these trees are."""
+    first = trees[0]
+    if isinstance(first, Subtree):
+        return Unit(("sub", BRACKETS[first.kind], units_of(first.children)), trees)
+    if isinstance(first, Ident):
+        return Unit(("ident", word(first)), trees)
+    if isinstance(first, Literal):
+        sign = "0" if first.kind in NUMBERS else "x"
+        return Unit(("lit", f"{sign} {first.kind} {first.suffix_len} {first.text}"), trees)
+    if isinstance(trees[-1], Ident):
+        return Unit(("life", word(trees[-1])), trees)
+    return Unit(("op", "".join(punct.char for punct in trees)), trees)
+
+
+def units_of(trees):
+    """The units of the trees."""
+    units = []
+    while trees:
+        count = unit_size(trees)
+        units.append(unit_of(trees[:count]))
+        trees = trees[count:]
+    return units
+
+
+def unit_count(units):
+    """How many there are, at any depth."""
+    return sum(1 + unit_count(unit[2]) if unit[0] == "sub" else 1 for unit in units)
+
+
+def is_operator(trees):
+    """Whether the operator of a repetition stands first."""
+    return is_punct(trees, "*+?") and unit_size(trees) == 1
+
+
+def tail(trees):
+    """The trees of the separator and the operator of a repetition, where they stand first."""
+    if is_operator(trees):
+        return trees[:0], trees[0].char
+    if not trees or isinstance(trees[0], Subtree) or is_punct(trees, "$"):
+        return None
+    count = unit_size(trees)
+    return (trees[:count], trees[count].char) if is_operator(trees[count:]) else None
+
+
+def repetition(trees):
+    """What a repetition holds, the trees of its separator, and its operator, where that stands behind a `$`."""
+    if not trees or not isinstance(trees[0], Subtree) or trees[0].kind != "paren":
+        return None
+    behind = tail(trees[1:])
+    return behind and (trees[0].children, *behind)
+
+
+def is_crate(trees):
+    """Whether `crate` stands first."""
+    return is_ident(trees) and word(trees[0]) == "crate"
+
+
+def pattern_part(trees):
+    """The part of a pattern that stands first, and how many trees it is. ("wrong", NUMBER) is a `$` that begins nothing."""
+    behind = trees[1:]
+    if isinstance(trees[0], Subtree):
+        return ("sub", BRACKETS[trees[0].kind], pattern_of(trees[0].children)), 1
+    if not is_punct(trees, "$"):
+        count = unit_size(trees)
+        return ("unit", unit_of(trees[:count])), count
+    found = repetition(behind)
+    if found:
+        held, separator, operator = found
+        return ("rep", pattern_of(held), unit_of(separator) if separator else None, operator), 3 + len(separator)
+    if is_crate(behind):
+        return ("unit", unit_of(trees[:1])), 1
+    if not is_ident(behind) or not is_punct(behind[1:], ":") or not is_ident(behind[2:]):
+        return ("wrong", BEGINS_NOTHING), 1
+    fragment = behind[2].text
+    if fragment in FRAGMENTS:
+        return ("var", behind[0].text, fragment), 4
+    return ("wrong", UNSUPPORTED_FRAGMENT if fragment in GRAMMAR else UNKNOWN_FRAGMENT), 1
+
+
+def pattern_of(trees):
+    """The parts of a pattern."""
+    parts = []
+    while trees:
+        part, count = pattern_part(trees)
+        parts.append(part)
+        trees = trees[count:]
+    return parts
+
+
+def may_take_nothing(part):
+    """Whether the part may take no unit."""
+    if part[0] == "rep":
+        return part[3] in "*?" or all(map(may_take_nothing, part[1]))
+    return part[0] == "var" and part[2] == "vis"
+
+
+def pattern_fault(parts, names):
+    """The first fault of a pattern in reading order, where variables before it have those names; its own are added."""
+    for part in parts:
+        fault = None
+        if part[0] == "wrong":
+            fault = part[1]
+        elif part[0] == "var":
+            fault = NAME_TWICE if part[1] in names else None
+            names |= {part[1]} - {"_"}
+        elif part[0] == "sub":
+            fault = pattern_fault(part[2], names)
+        elif part[0] == "rep":
+            fault = repetition_fault(part) or pattern_fault(part[1], names)
+        if fault:
+            return fault
+    return None
+
+
+def repetition_fault(part):
+    """What is wrong with a repetition, but for what it holds."""
+    if part[2] is not None and part[3] == "?":
+        return NEEDLESS_SEPARATOR
+    return EMPTY_REPETITION if all(map(may_take_nothing, part[1])) else None
+
+
+def nests_of(parts, depth=0):
+    """In how many repetitions each variable stands, by its name."""
+    nests = {}
+    for part in parts:
+        if part[0] == "var" and part[1] != "_":
+            nests[part[1]] = depth
+        elif part[0] == "sub":
+            nests.update(nests_of(part[2], depth))
+        elif part[0] == "rep":
+            nests.update(nests_of(part[1], depth + 1))
+    return nests
+
+
+def template_part(trees, nests):
+    """The part of a template that stands first, and how many trees it is. A subtree has itself as its bracket."""
+    first, behind = trees[0], trees[1:]
+    if isinstance(first, Subtree):
+        return ("sub", first, template_of(first.children, nests)), 1
+    if not is_punct(trees, "$"):
+        return ("unit", unit_of(alone(trees[:1]) if is_punct(behind, "$") else trees[:1])), 1
+    found = repetition(behind)
+    if found:
+        held, separator, operator = found
+        between = unit_of(alone(separator)) if separator else None
+        return ("rep", template_of(held, nests), between, operator, None), 3 + len(separator)
+    if is_ident(behind) and not is_crate(behind) and behind[0].text in nests:
+        return ("use", behind[0].text), 2
+    return ("unit", unit_of(trees[:1])), 1
+
+
+def template_of(trees, nests):
+    """The parts of a template, where the pattern has those variables."""
+    parts = []
+    while trees:
+        part, count = template_part(trees, nests)
+        parts.append(part)
+        trees = trees[count:]
+    return parts
+
+
+def template_fault(parts, nests, depth=0):
+    """The first fault of a template in reading order, where so many repetitions stand round it."""
+    for part in parts:
+        fault = None
+        if part[0] == "use":
+            fault = STILL_REPEATS if nests[part[1]] > depth else None
+        elif part[0] == "sub":
+            fault = template_fault(part[2], nests, depth)
+        elif part[0] == "rep":
+            deepest = max((nests[name] for name in plain_macros.uses_of(part[1])), default=0)
+            fault = NOTHING_REPEATS if deepest <= depth else template_fault(part[1], nests, depth + 1)
+        if fault:
+            return fault
+    return None
+
+
+def is_arrow(trees):
+    """Whether `=>` stands first, as one token."""
+    return is_punct(trees, "=") and unit_size(trees) == 2 and trees[1].char == ">"
+
+
+def arm_at(trees, number):
+    """The arm of that number, which stands first: its pattern, its template, and the trees behind it and its `;`."""
+    if not trees or not isinstance(trees[0], Subtree):
+        raise ArmFault(number, NO_PATTERN)
+    pattern = pattern_of(trees[0].children)
+    fault = pattern_fault(pattern, set())
+    if fault:
+        raise ArmFault(number, fault)
+    if not is_arrow(trees[1:]):
+        raise ArmFault(number, NO_ARROW)
+    if len(trees) < 4 or not isinstance(trees[3], Subtree):
+        raise ArmFault(number, NO_TEMPLATE)
+    nests = nests_of(pattern)
+    template, left = template_of(trees[3].children, nests), trees[4:]
+    fault = template_fault(template, nests)
+    if fault:
+        raise ArmFault(number, fault)
+    if left and not is_punct(left, ";"):
+        raise ArmFault(number, NO_SEMICOLON)
+    return pattern, [("sub", trees[3], template)], left[1:]
+
+
+def arms_of(trees):
+    """The arms that trees spell. There is one at least."""
+    arms = []
+    while trees or not arms:
+        pattern, template, trees = arm_at(trees, len(arms))
+        arms.append((pattern, template))
+    return arms
+
+
+def placed(units):
+    """What a variable took, as it is written: its last token is alone if it is a punct."""
+    return units[:-1] + [Unit(unit, alone(unit.trees)) for unit in units[-1:]]
+
+
+def trees_of(units):
+    """The trees of what was written."""
+    trees = ()
+    for unit in units:
+        trees += unit.trees if isinstance(unit, Unit) else (unit[1]._replace(children=trees_of(unit[2])),)
+    return trees
+
+
+def made_by_arms(arms, trees):
+    """What the macro that trees spell makes of others: a tree, or the answer that tells why there is none."""
+    arms, units = arms_of(arms), units_of(trees)
+    if unit_count(units) > MOST_UNITS:
+        raise TooManyUnits
+    made = plain_macros.expanded(arms, units, placed)
+    if not isinstance(made, str):
+        (tree,) = trees_of(made)
+        return tree
+    if made.startswith("no match"):
+        return "no match"
+    return "ambiguous" if made.startswith("ambiguous") else "lengths"
