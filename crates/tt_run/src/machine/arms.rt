@@ -11,11 +11,7 @@ use tt_language::{Command, Slot};
 use tt_macro_rules::{Expansion, MacroRules};
 
 // What the macro of these arms makes of the input, or the answer that tells why there is no such tree.
-fn made_by_arms(
-    alloc: Global,
-    arms: &TopSubtree,
-    input: &TopSubtree,
-) -> Result<TopSubtree, Answer>
+fn made_by_arms(alloc: Global, arms: &TopSubtree, input: &TopSubtree) -> Result<TopSubtree, Answer>
     ensures tree { IfOk result (λ tree. IsMadeByArms arms.now input.now tree) }
     ensures none { IfErr result (λ answer. TellsNoneByArms arms.now input.now answer) }
 {
