@@ -1,0 +1,318 @@
+#!/usr/bin/env python3
+"""Makes the constant of tt_grammar, and what it is proved to be, from the lines of docs/GRAMMAR.md.
+
+usage: checks/lay_out_grammar.py, and then `rt fmt` in the crate
+
+Each line of a block of that page is `name = expression   # section`. An expression becomes rules in a list, one for each part, where
+equal parts stand once; a mark of each rule says whether it may take nothing, and its rank. Written are src/rust.rt, specs/Names.antt,
+specs/Rust.antt and proofs/RustLaid.antt.
+"""
+import pathlib
+import re
+
+TOP = pathlib.Path(__file__).resolve().parent.parent
+CRATE = TOP / "crates/tt_grammar"
+WIDTH = 126
+
+WORDS = {"self": "SelfValue", "Self": "SelfType", "_": "Underscore", "macro_rules": "MacroRules"}
+TESTS = {"IDENT": "Name", "SEGMENT": "PathSegment", "BOOL": "TruthValue", "LITERAL": "Literal", "TEXT": "Text", "NUMBER": "Number",
+         "DELIM": "Delimited", "OPAQUE": "Opaque", "BINARY": "BinaryOperator", "ASSIGN": "AssignmentOperator",
+         "BEGINS": "BeginsExpression"}
+KINDS = {"PAREN": "Parenthesis", "BRACK": "Bracket", "BRACE": "Brace"}
+FRAGMENTS = ["expression", "type", "pattern", "pattern_no_top_alt", "type_path", "statement", "item", "meta"]
+
+
+class Parser:
+    """One expression, from its words and signs."""
+
+    def __init__(self, text):
+        self.words = re.findall(r"\^?'[^']+'|\w+|[()/*+?&!]", text)
+        self.at = 0
+
+    def next_is(self, signs):
+        return self.at < len(self.words) and self.words[self.at] in signs
+
+    def take(self):
+        self.at += 1
+        return self.words[self.at - 1]
+
+    def choice(self):
+        parts = [self.sequence()]
+        while self.next_is(["/"]):
+            self.take()
+            parts.append(self.sequence())
+        return parts[0] if len(parts) == 1 else ("choice", parts)
+
+    def sequence(self):
+        parts = []
+        while self.at < len(self.words) and not self.next_is(["/", ")"]):
+            parts.append(self.counted())
+        return parts[0] if len(parts) == 1 else ("sequence", parts)
+
+    def counted(self):
+        if self.next_is(["&", "!"]):
+            return ({"&": "ahead", "!": "never"}[self.take()], self.counted())
+        part = self.part()
+        while self.next_is(["*", "+", "?"]):
+            part = ({"*": "many", "+": "some", "?": "maybe"}[self.take()], part)
+        return part
+
+    def part(self):
+        word = self.take()
+        if word == "(":
+            part = self.choice()
+            assert self.take() == ")"
+            return part
+        if word[0] == "'":
+            return ("unit", word[1:-1])
+        if word[0] == "^":
+            return ("front", word[2:-1])
+        if word == "EMPTY":
+            return ("empty",)
+        return ("test", word) if word.isupper() else ("name", word)
+
+
+def lines_of_page():
+    """Each name with its section and its expression."""
+    names = {}
+    for block in re.findall(r"```text\n(.*?)```", (TOP / "docs/GRAMMAR.md").read_text(), re.S):
+        for line in block.splitlines():
+            body, section = line.rsplit("   # ", 1)
+            name, text = body.split(" = ", 1)
+            parser = Parser(text)
+            names[name] = (section, parser.choice())
+            assert parser.at == len(parser.words), name
+    return names
+
+
+def plain(part):
+    """The same of two parts each, with none of the short forms."""
+    kind = part[0]
+    if kind in ("unit", "front", "test", "name", "empty"):
+        return part
+    if kind in ("choice", "sequence"):
+        parts = [plain(it) for it in part[1]]
+        whole = parts[-1]
+        for it in reversed(parts[:-1]):
+            whole = (kind, it, whole)
+        return whole
+    inner = plain(part[1])
+    return {"maybe": ("choice", inner, ("empty",)), "some": ("sequence", inner, ("many", inner)), "many": ("many", inner),
+            "never": ("never", inner), "ahead": ("never", ("never", inner))}[kind]
+
+
+def laid(names):
+    """The rules, the place of each name's, where the rules of each name begin, and the place of each part."""
+    rules, starts, begins, places = [], {}, {}, {}
+
+    def place(part):
+        if part not in places:
+            at = places[part] = len(rules)
+            rules.append(None)
+            rules[at] = (part[0], *[place(it) for it in part[1:]]) if part[0] in ("choice", "sequence", "many", "never") else part
+        return places[part]
+
+    for name, (_, part) in names.items():
+        begins[name] = len(rules)
+        starts[name] = place(plain(part))
+    return [("name", starts[rule[1]]) if rule[0] == "name" else rule for rule in rules], starts, begins, places
+
+
+def marks_of(rules):
+    """Of each rule whether it may take nothing, and a rank above those of what it reaches before it takes a unit."""
+    loose = [False] * len(rules)
+    while True:
+        new = []
+        for kind, *parts in rules:
+            at = [loose[it] for it in parts] if kind in ("name", "choice", "sequence") else []
+            new.append(kind in ("empty", "many", "never") or bool(at) and (all(at) if kind == "sequence" else any(at)))
+        if new == loose:
+            break
+        loose = new
+    reached = []
+    for kind, *parts in rules:
+        inner = kind in ("name", "choice", "sequence", "many", "never")
+        reached.append(parts[:1] if kind == "sequence" and not loose[parts[0]] else parts if inner else [])
+        assert kind != "many" or not loose[parts[0]], "a repetition of nothing"
+    rank = [0] * len(rules)
+    for _ in rules:
+        new = [1 + max((rank[it] for it in parts), default=-1) for parts in reached]
+        if new == rank:
+            return list(zip(loose, rank))
+        rank = new
+    raise ValueError("left recursion")
+
+
+def filled(items, indent="    "):
+    """The items on as few lines as they need."""
+    lines = [indent[:-1]]
+    for it in items:
+        if len(lines[-1]) + 1 + len(it) > WIDTH:
+            lines.append(indent[:-1])
+        lines[-1] += " " + it
+    return lines
+
+
+def word_named(text):
+    return WORDS.get(text, text.capitalize()) if re.match(r"\w", text) else None
+
+
+def rule_text(rule):
+    """A rule in the form that the macro of the code has."""
+    kind, *parts = rule
+    if kind == "unit":
+        word = word_named(parts[0])
+        return f"(word {word})" if word else "(sign " + " ".join(f"'{char}'" for char in parts[0]) + ")"
+    if kind == "front":
+        return f"(front '{parts[0]}')"
+    if kind == "test":
+        if parts[0] == "LIFETIME":
+            return "(lifetime)"
+        return f"(subtree {KINDS[parts[0]]})" if parts[0] in KINDS else f"(unit {TESTS[parts[0]]})"
+    return "(" + " ".join([kind, *map(str, parts)]) + ")"
+
+
+def expression_text(part, is_argument=False):
+    """An expression in the form that the definition has."""
+    kind = part[0]
+    if kind in ("choice", "sequence"):
+        text = {"choice": "one_of", "sequence": "all_of"}[kind] + " (" + " ∷ ".join(map(expression_text, part[1])) + " ∷ [])"
+    elif kind == "unit":
+        word = word_named(part[1])
+        text = f"word it.{word}" if word else f'sign (codes "{part[1]}")'
+    elif kind == "front":
+        text = f'front (codes "{part[1]}")'
+    elif kind == "test":
+        if part[1] == "LIFETIME":
+            return "lifetime"
+        text = f"subtree {KINDS[part[1]]}" if part[1] in KINDS else f"unit test.{TESTS[part[1]]}"
+    elif kind == "empty":
+        return "nothing"
+    else:
+        text = f"name {part[1]}" if kind == "name" else f"{kind} {expression_text(part[1], True)}"
+    return f"({text})" if is_argument else text
+
+
+def proof_text(part, places):
+    """That the part is laid out: the places of its parts, and the same of each."""
+    if part[0] in ("unit", "front", "test", "name", "empty"):
+        return "refl"
+    parts = part[1:]
+    form = "(both" if len(parts) == 2 else "(one"
+    return " ".join([form, *[str(places[it]) for it in parts], "refl", *[proof_text(it, places) for it in parts]]) + ")"
+
+
+def equation(left, text):
+    line = f"{left} = {text}"
+    return [line] if len(line) <= WIDTH else [f"{left} =", *filled(text.split(" "))]
+
+
+HEAD = """//! Rust's grammar as one table of rules, laid out name by name. docs/GRAMMAR.md tells what each name stands for, and
+//! `checks/lay_out_grammar.py` makes this file of it.
+use crate::rule::{Mark, Rule};
+use crate::test::Test;
+use crate::unit::Unit;
+use crate::words::Word;
+use tt::DelimiterKind;
+
+// One rule.
+macro_rules! rule {
+    (empty) => { Rule::Empty };
+    (word $word:ident) => { Rule::Unit(Test::Is(Unit::Word(Word::$word))) };
+    (sign $one:literal) => { Rule::Unit(Test::Is(Unit::Punct($one))) };
+    (sign $one:literal $two:literal) => { Rule::Unit(Test::Is(Unit::TwoPuncts($one, $two))) };
+    (sign $one:literal $two:literal $three:literal) => {
+        Rule::Unit(Test::Is(Unit::ThreePuncts($one, $two, $three)))
+    };
+    (front $char:literal) => { Rule::Unit(Test::Front($char)) };
+    (lifetime) => { Rule::Unit(Test::Is(Unit::Lifetime)) };
+    (subtree $kind:ident) => { Rule::Unit(Test::Is(Unit::Subtree(DelimiterKind::$kind))) };
+    (unit $test:ident) => { Rule::Unit(Test::$test) };
+    (name $other:literal) => { Rule::Name($other) };
+    (sequence $first:literal $second:literal) => { Rule::Sequence($first, $second) };
+    (choice $first:literal $other:literal) => { Rule::Choice($first, $other) };
+    (many $part:literal) => { Rule::ZeroOrMore($part) };
+    (never $part:literal) => { Rule::Not($part) };
+}
+
+// Rules one after another.
+macro_rules! rules {
+    ($(($($rule:tt)*))*) => { [$(rule!($($rule)*)),*] };
+}
+
+// One mark: `some` of what takes a unit at least, `none` of what may take nothing, and the rank.
+macro_rules! mark {
+    (some $rank:literal) => { Mark::TakesSome($rank) };
+    (none $rank:literal) => { Mark::MayTakeNone($rank) };
+}
+
+// Marks one after another.
+macro_rules! marks {
+    ($($mark:ident $rank:literal)*) => { [$(mark!($mark $rank)),*] };
+}
+"""
+
+
+def code(names, rules, starts, begins):
+    lines = HEAD.splitlines()
+    for name in FRAGMENTS:
+        lines += ["", f"/// Where `{name}` is laid out.", f"pub(crate) const {name.upper()}: usize = {starts[name]};"]
+    lines += ["", "/// The rules.", f"pub(crate) static RULES: [Rule; {len(rules)}] = rules! {{"]
+    ends = [*list(begins.values())[1:], len(rules)]
+    for name, end in zip(names, ends):
+        lines += [f"    // {name}, from {begins[name]} on", *filled(map(rule_text, rules[begins[name]:end]))]
+    marks = [f"{'none' if loose else 'some'} {rank}" for loose, rank in marks_of(rules)]
+    lines += ["};", "", "/// Their marks.", f"pub(crate) static MARKS: [Mark; {len(rules)}] = marks! {{", *filled(marks), "};"]
+    return lines
+
+
+def definition_of_names(names, starts):
+    return ["-- The names of Rust's grammar, and where each is laid out. Made by checks/lay_out_grammar.py.",
+            "use Rattle.std.specs.Prelude.{ℕ}", "",
+            "-- the names, as docs/GRAMMAR.md has them", "pub data Name : Type 0 where", *[f"  {name} : Name" for name in names], "",
+            "-- the place of what a name stands for", "abbrev pub start : Name → ℕ", *[f"start {name} = {starts[name]}" for name in names]]
+
+
+def definition(names):
+    lines = ["-- Rust's grammar: what each name stands for, as docs/GRAMMAR.md has it. Made by checks/lay_out_grammar.py.",
+             "use Rattle.std.specs.Prelude.{[], ◌∷◌, codes}",
+             "use Rattle.tt.specs.Types.DelimiterKind.TheVariants.{Parenthesis, Brace, Bracket}",
+             "use Rattle.tt_grammar.specs.declared.test.Test.TheVariants as test",
+             "use Rattle.tt_grammar.specs.declared.words.Word.TheVariants as it",
+             "use Rattle.tt_grammar.specs.Expressions.{Expression, nothing, unit, name, many, never, maybe, ahead, all_of, one_of, word, "
+             "lifetime, subtree, sign, front}",
+             "use Rattle.tt_grammar.specs.Names.{Name, " + ", ".join(names) + "}", "",
+             "-- what a name stands for", "abbrev pub stands : Name → Expression"]
+    for name, (_, part) in names.items():
+        lines += equation(f"stands {name}", expression_text(part))
+    return lines
+
+
+def proof(names, places):
+    lines = ["-- What each name of Rust's grammar stands for is laid out as the table has it. Made by checks/lay_out_grammar.py.",
+             "use Rattle.std.proofs.Common.{ℕ, refl}",
+             "use Rattle.tt_grammar.specs.declared.rust.TheConstants.{RULES}",
+             "use Rattle.tt_grammar.specs.Layout.{AreLaid}",
+             "use Rattle.tt_grammar.specs.Names.{start, " + ", ".join(names) + "}",
+             "use Rattle.tt_grammar.specs.Rust.{stands}", "",
+             "-- Two parts at their places.",
+             "both : {R : ℕ → ℕ → Type 0} {A B : ℕ → Type 0} (n m : ℕ) → R n m → A n → B m → (k : ℕ) × (l : ℕ) × R k l × A k × B l",
+             "both n m e a b = (n, m, e, a, b)", "",
+             "-- One part at its place.",
+             "one : {R A : ℕ → Type 0} (n : ℕ) → R n → A n → (k : ℕ) × R k × A k",
+             "one n e a = (n, e, a)", "",
+             "pub are_laid : AreLaid RULES start stands"]
+    for name, (_, part) in names.items():
+        lines += equation(f"are_laid {name}", proof_text(plain(part), places))
+    return lines
+
+
+def main():
+    names = lines_of_page()
+    rules, starts, begins, places = laid(names)
+    for path, lines in [("src/rust.rt", code(names, rules, starts, begins)), ("specs/Names.antt", definition_of_names(names, starts)),
+                        ("specs/Rust.antt", definition(names)), ("proofs/RustLaid.antt", proof(names, places))]:
+        (CRATE / path).write_text("\n".join(lines) + "\n")
+
+
+main()

@@ -1,0 +1,74 @@
+-- A text in which other texts take the place of parts of it.
+use Rattle.std.specs.Prelude.{◌≤◌, ◌-◌, ◌++◌, ◌||◌, ◌==◌, ℕ, not, Bool, false, List, [], ◌∷◌, length, take, drop, slice_get, Option, None, Some, codes, string_bytes}
+use Rattle.std.specs.List.{list_any}
+use Rattle.std.specs.Str.{IsCharBoundary}
+use Rattle.tt.specs.TreeText.{space_if}
+use Rattle.tt_expand.specs.declared.output.Output.{Output}
+
+-- white space, brackets, a comma and a semicolon: a token ends before such a byte, and one begins behind it, whatever stands around
+abbrev pub apart_bytes : List ℕ
+apart_bytes = codes " \t\n\r()[]{},;"
+
+-- whether it is one of these
+abbrev pub is_apart : ℕ → Bool
+is_apart byte = list_any (λ it. it == byte) apart_bytes
+
+-- whether a space stands between two texts, of which one ends with a byte and the other begins with one
+abbrev pub wants_space : Option ℕ → Option ℕ → Bool
+wants_space None first = false
+wants_space (Some last) None = false
+wants_space (Some last) (Some first) = not (is_apart last || is_apart first)
+
+-- the one text behind the other, and a space between where their tokens could become one
+abbrev pub joined : (before behind : List ℕ) → List ℕ
+joined before behind = before ++ space_if (wants_space (slice_get before (length before - 1)) (slice_get behind 0)) ++ behind
+
+-- what takes the place of the bytes from a place to another
+pub record Replacement : Type 0 where
+  pub start : ℕ
+  pub end : ℕ
+  pub text : List ℕ
+
+-- what is written so far, and the source that is left, which begins at a byte
+pub record Writing : Type 0 where
+  pub so_far : List ℕ
+  pub rest : List ℕ
+  pub at : ℕ
+
+-- the source up to a replacement is written as it is, and then that
+abbrev pub replaced : Replacement → Writing → Writing
+replaced it writing =
+    record {
+      so_far = joined (joined writing.so_far (take (it.start - writing.at) writing.rest)) it.text;
+      rest = drop (it.end - writing.at) writing.rest;
+      at = it.end;
+    }
+
+-- all of it is written
+abbrev pub finished : Writing → List ℕ
+finished writing = joined writing.so_far writing.rest
+
+-- a range of a text that parts no character
+pub record IsRange (text : List ℕ) (start end : ℕ) : Type 0 where
+  pub order : start ≤ end
+  pub begins : IsCharBoundary text start
+  pub ends : IsCharBoundary text end
+
+-- the bytes from a place to another are left, and no character is parted there
+pub record FitsIn (start end : ℕ) (writing : Writing) : Type 0 where
+  pub left_start : writing.at ≤ start
+  pub left_end : writing.at ≤ end
+  pub range : IsRange writing.rest (start - writing.at) (end - writing.at)
+
+-- nothing of a source is written
+abbrev pub begun : (source : List ℕ) → Writing
+begun source = record { so_far = []; rest = source; at = 0 }
+
+-- a source with all these replacements
+abbrev pub with_all : List Replacement → Writing → List ℕ
+with_all [] writing = finished writing
+with_all (it ∷ others) writing = with_all others (replaced it writing)
+
+-- what the code's value means
+abbrev pub writing_of : Output → Writing
+writing_of it = record { so_far = string_bytes it.text; rest = it.rest.now; at = it.at }

@@ -1,0 +1,140 @@
+-- A walk through trees in which macros are defined and called.
+use Rattle.std.specs.Prelude.{◌≡◌, ◌<◌, ◌+◌, ◌*◌, ◌-◌, ℕ, Bool, true, false, suc, List, [], ◌∷◌, map, reverse, Option, None, Some}
+use Rattle.tt.specs.Forest.{Forest, size}
+use Rattle.tt.specs.Gluing.{after_trees}
+use Rattle.tt.specs.Iters.{rest_of}
+use Rattle.tt.specs.Moves.{after_tree}
+use Rattle.tt.specs.Types.Delimiter.{Delimiter}
+use Rattle.tt.specs.Types.DelimiterKind.{DelimiterKind}
+use Rattle.tt.specs.Types.DelimiterKind.TheVariants.{Brace}
+use Rattle.tt.specs.Types.Leaf.{Leaf}
+use Rattle.tt.specs.Types.Span.{Span}
+use Rattle.tt.specs.Views.{trees_of}
+use Rattle.tt_expand.specs.declared.expander.Expander.{Expander}
+use Rattle.tt_expand.specs.declared.position.Position.{Position}
+use Rattle.tt_expand.specs.declared.walk.Event.{Event}
+use Rattle.tt_expand.specs.declared.walk.Event.TheVariants as event
+use Rattle.tt_expand.specs.declared.walk.Level as rust
+use Rattle.tt_expand.specs.declared.walk.Walk.{Walk}
+use Rattle.tt_expand.specs.Coming.{Setting, Comes}
+use Rattle.tt_expand.specs.Outcomes.{Outcome, nothing, passes, enters, stays, becomes, trees_left, placed}
+use Rattle.tt_expand.specs.Positions.{first_in, behind, behind_leaf, behind_subtree, keeps_macros}
+use Rattle.tt_expand.specs.Scopes.{Macro, AreReady, kept_of}
+
+-- what is left of the trees of a subtree, what stands before them, how many of them are taken as they are, where it closes, and how many
+-- macros are in scope behind it, if not all
+pub record Level : Type 0 where
+  pub rest : Forest
+  pub position : Position
+  pub plain : ℕ
+  pub close : Span
+  pub kept : Option ℕ
+
+-- what the code's values mean: the innermost level stands first
+abbrev pub level_of : rust.Level → Level
+level_of it = record { rest = rest_of it.rest; position = it.position; plain = it.plain; close = it.close; kept = it.kept }
+
+abbrev pub levels_of : Walk → List Level
+levels_of walk = level_of walk.level ∷ map level_of (reverse walk.outer.items)
+
+abbrev pub setting_of : Expander → Setting
+setting_of it = record { root = it.root; everywhere = it.everywhere }
+
+-- the first tree is passed: a leaf, or a subtree of a kind
+abbrev pub past_leaf : Leaf → Level → Level
+past_leaf it level =
+    record level { rest = after_tree level.rest; position = behind_leaf it (after_tree level.rest) level.position; plain = level.plain - 1 }
+
+abbrev pub past_subtree : DelimiterKind → Level → Level
+past_subtree kind level = record level { rest = after_tree level.rest; position = behind_subtree kind level.position; plain = level.plain - 1 }
+
+-- so many trees are passed, which end a statement or an item, or do not
+abbrev pub past : (len : ℕ) → (ends : Bool) → Level → Level
+past len ends level = record level { rest = after_trees len level.rest; position = behind ends level.position }
+
+-- what comes of what is left of each level, the innermost first
+abbrev pub Ends : Setting → (limit : ℕ) → List Level → (before after : List Macro) → List Outcome → Type 0
+Ends setting limit [] before after [] = before ≡ after
+Ends setting limit [] before after (it ∷ others) = ⊥
+Ends setting limit (level ∷ outer) before after [] = ⊥
+Ends setting limit (level ∷ outer) before after (it ∷ others) =
+    (inside : List Macro) × Comes setting limit level.position level.plain before level.rest inside it × Ends setting limit outer (kept_of level.kept inside) after others
+
+-- what comes of levels, where something comes first in the innermost
+abbrev pub first_leaf : Leaf → List Outcome → List Outcome
+first_leaf it [] = []
+first_leaf it (others ∷ outer) = passes it others ∷ outer
+
+abbrev pub first_subtree : Delimiter → List Outcome → List Outcome
+first_subtree delimiter [] = []
+first_subtree delimiter (held ∷ []) = []
+first_subtree delimiter (held ∷ others ∷ outer) = enters delimiter held others ∷ outer
+
+abbrev pub first_stay : Forest → List Outcome → List Outcome
+first_stay trees [] = []
+first_stay trees (others ∷ outer) = stays trees others ∷ outer
+
+abbrev pub first_becomes : (first : Span) → Delimiter → Forest → List Outcome → List Outcome
+first_becomes first delimiter trees [] = []
+first_becomes first delimiter trees (others ∷ outer) = becomes first delimiter trees others ∷ outer
+
+-- the levels and the macros in scope become others, and what comes of those, so grown, comes of these
+abbrev pub Leads : Setting → (limit : ℕ) → List Level → List Macro → (grown : List Outcome → List Outcome) → List Level → List Macro → Type 0
+Leads setting limit levels macros grown nexts others =
+    (after : List Macro) (outcomes : List Outcome) → Ends setting limit nexts others after outcomes → Ends setting limit levels macros after (grown outcomes)
+
+-- where levels close
+abbrev pub closes_of : List Level → List Span
+closes_of levels = map (λ level. level.close) levels
+
+-- how much is left to do
+abbrev pub work_in : List Level → ℕ
+work_in [] = 0
+work_in (level ∷ outer) = suc (2 * size level.rest + work_in outer)
+
+-- before trees that are statements or items
+abbrev pub begun : Forest → (close : Span) → Level
+begun trees close = record { rest = trees; position = first_in Brace; plain = 0; close = close; kept = None }
+
+-- a subtree that stands first in the innermost level is entered, behind which so many macros are in scope, if not all
+abbrev pub kept_behind : (are_kept : Bool) → ℕ → Option ℕ
+kept_behind true macros = None
+kept_behind false macros = Some macros
+
+abbrev pub inside : Delimiter → (children : Forest) → Option ℕ → Level
+inside delimiter children kept = record { rest = children; position = first_in delimiter.kind; plain = 0; close = delimiter.close; kept = kept }
+
+abbrev pub entered : Delimiter → (children : Forest) → (macros : ℕ) → List Level → List Level
+entered delimiter children macros [] = []
+entered delimiter children macros (level ∷ outer) =
+    inside delimiter children (kept_behind (keeps_macros delimiter.kind level.position) macros) ∷ past_subtree delimiter.kind level ∷ outer
+
+-- the level that is left, and those round it
+abbrev pub IsLeft : Walk → Option Span → Walk → Type 0
+IsLeft old None new = map level_of (reverse old.outer.items) ≡ []
+IsLeft old (Some close) new = (close ≡ old.level.close) × (map level_of (reverse old.outer.items) ≡ levels_of new)
+
+-- what comes next in a walk, and how it goes on
+abbrev pub IsNext : Setting → (limit : ℕ) → List Level → List Macro → Event → List Level → List Macro → Type 0
+IsNext setting limit levels macros event.End nexts others = Ends setting limit levels macros others (nothing ∷ [])
+IsNext setting limit levels macros (event.Leaf it) nexts others =
+    Leads setting limit levels macros (first_leaf it) nexts others × (closes_of nexts ≡ closes_of levels) × (work_in nexts < work_in levels)
+IsNext setting limit levels macros (event.Opens header) nexts others =
+    Leads setting limit levels macros (first_subtree header.delimiter) nexts others × (closes_of nexts ≡ header.delimiter.close ∷ closes_of levels)
+    × (work_in nexts < work_in levels)
+IsNext setting limit levels macros (event.Closes close) nexts others =
+    Leads setting limit levels macros (λ outcomes. nothing ∷ outcomes) nexts others × (close ∷ closes_of nexts ≡ closes_of levels)
+    × (work_in nexts < work_in levels)
+IsNext setting limit levels macros (event.Stays trees) nexts others =
+    Leads setting limit levels macros (first_stay (trees_of trees)) nexts others × (closes_of nexts ≡ closes_of levels) × (work_in nexts < work_in levels)
+IsNext setting limit levels macros (event.Invocation it) nexts others =
+    (left : ℕ) × (limit ≡ suc left) × (others ≡ macros)
+    × ((inside : List Macro) (held : Outcome) → Comes setting left (first_in Brace) 0 macros it.tree.children inside held
+    → Leads setting limit levels macros (first_becomes it.first_span it.delimiter (placed it.is_statement it.delimiter (trees_left held))) nexts inside)
+    × (closes_of nexts ≡ closes_of levels) × (work_in nexts < work_in levels)
+
+-- whatever macros are ready, that comes next, and others are ready then
+abbrev pub Goes : (limit : ℕ) → (old : Walk) → (before : Expander) → Event → (new : Walk) → (after : Expander) → Type 0
+Goes limit old before it new after =
+    (macros : List Macro) → AreReady macros before.scope.macros.items
+    → (others : List Macro) × AreReady others after.scope.macros.items × IsNext (setting_of before) limit (levels_of old) macros it (levels_of new) others

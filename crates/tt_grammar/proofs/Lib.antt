@@ -1,0 +1,10 @@
+pub mod Behind
+pub mod Laid
+pub mod Marks
+pub mod OneAnswer
+pub mod Reached
+pub mod Reaching
+pub mod RustLaid
+pub mod Shrinking
+pub mod Steps
+pub mod Total

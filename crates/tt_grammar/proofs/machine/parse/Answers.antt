@@ -1,0 +1,23 @@
+-- It begins at the expression, and each step leaves fewer.
+use Rattle.std.proofs.Common.{rules, ◌≡◌, [], reverse, map, subst, sym}
+use Rattle.tt_grammar.specs.Good.{IsGood}
+use Rattle.tt_grammar.specs.Machine.{IsStep}
+use Rattle.tt_grammar.specs.Machine as machine
+use Rattle.tt_grammar.specs.Places.{position_of}
+use Rattle.tt_grammar.specs.Positions.{takes}
+use Rattle.tt_grammar.specs.Running.{state_of, frame_of}
+use Rattle.tt_grammar.proofs.Reaching.{Reaches, reaches_first, fewer_left}
+use Rattle.tt_grammar.proofs.machine.parse.Goals as goal
+
+pub loop-frames-init : goal.loop-frames-init
+loop-frames-init c =
+    let good : IsGood c.args.table.rules.now = record { marks = c.args.table.marks.now; are_right = c.args.table.good } in
+    let none : map frame_of (reverse c.new-frames.result.items) ≡ [] = search rules in
+    subst (Reaches c.args.table.rules.now c.args.at (position_of c.args.from) (machine.reading c.args.at (position_of c.args.from))) (sym none)
+    (reaches_first c.args.table.rules.now good c.args.at (position_of c.args.from))
+
+pub loop-frames-smaller : goal.loop-frames-smaller
+loop-frames-smaller c =
+    let good : IsGood c.args.table.rules.now = record { marks = c.args.table.marks.now; are_right = c.args.table.good } in
+    let goes : IsStep takes c.args.table.rules.now (state_of c.loop-frames.state) (map frame_of (reverse c.loop-frames.frames.items)) (machine.goes (state_of c.in-Goes.next)) (map frame_of (reverse c.step.new.frames.items)) = search rules in
+    fewer_left c.args.table.rules.now good (state_of c.loop-frames.state) (map frame_of (reverse c.loop-frames.frames.items)) (state_of c.in-Goes.next) (map frame_of (reverse c.step.new.frames.items)) goes

@@ -1,0 +1,23 @@
+//! A table that is good.
+ghost use Rattle.std.specs.Prelude.{◌≡◌, true};
+ghost use Rattle.tt_grammar.specs.Good.{are_good};
+
+use crate::rule::{Mark, Rule};
+
+/// Expressions without left recursion and without a repetition of nothing, as their marks tell.
+#[derive(Clone, Copy)]
+pub struct Table<'t> {
+    pub rules: &'t [Rule],
+    pub marks: &'t [Mark],
+    ghost good: { are_good marks.now 0 rules.now ≡ true },
+}
+
+impl<'t> Table<'t> {
+    /// The table of these expressions.
+    pub fn new(rules: &'t [Rule], marks: &'t [Mark]) -> Table<'t>
+        requires good { are_good marks.now 0 rules.now ≡ true }
+        ensures { result.rules.now ≡ rules.now }
+    {
+        Table { rules, marks }
+    }
+}
