@@ -125,9 +125,7 @@ def stops(parts, units, at):
 def stops_in_rounds(part, units, at):
     _, body, separator, operator = part
     yield from stops(body, units, at)
-    if operator == "?":
-        return
-    for behind, _ in ways(body, units, at):
+    for behind, _ in ways(body, units, at) if operator != "?" else ():
         if separator is None:
             yield from stops_in_rounds(part, units, behind)
         elif behind < len(units) and units[behind] == separator:
