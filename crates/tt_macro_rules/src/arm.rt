@@ -98,7 +98,7 @@ impl Arm {
         };
         let tree = self
             .template
-            .fill(alloc, self.matcher.binders(), &binding, self.delimiter)?;
+            .fill(alloc, self.matcher.binders(), binding, self.delimiter)?;
         Ok(Answer::Tree(tree))
     }
 }

@@ -165,20 +165,22 @@ impl Filling {
     }
 }
 
-/// The template of these parts, filled with what is bound to the variables, under that delimiter.
+/// The template of these parts, filled with what is bound to the variables, under that delimiter. What is bound is let go as soon as
+/// it is no longer read, before what is written is packed.
 pub(crate) fn filled(
     alloc: Global,
     parts: &[Part],
     binders: &[Binder],
-    binding: &Binding<'_>,
+    binding: Binding<'_>,
     delimiter: Delimiter,
 ) -> Result<TopSubtree, FillError>
     requires { are_whole parts.now ≡ true }
-    ensures ok { IfOk result (IsFilled delimiter (filled (whole_of parts.now) (binding_by (map where_of binders.now) (map note_of binding.now.marks.items)))) }
+    ensures ok { IfOk result (IsFilled delimiter (filled (whole_of parts.now) (binding_by (map where_of binders.now) (map note_of binding.entry.marks.items)))) }
     ensures limits { IfOk result (λ tree. IsWithinLimits tree) }
-    ensures err { IfErr result (IsFillError delimiter (filled (whole_of parts.now) (binding_by (map where_of binders.now) (map note_of binding.now.marks.items)))) }
+    ensures err { IfErr result (IsFillError delimiter (filled (whole_of parts.now) (binding_by (map where_of binders.now) (map note_of binding.entry.marks.items)))) }
 {
-    let taken = taken_by(alloc, binders, binding)?;
+    let taken = taken_by(alloc, binders, &binding)?;
+    drop(binding);
     let mut filling = Filling {
         builder: TopSubtreeBuilder::new(alloc, delimiter)?,
         rounds: Vec::new(alloc),
@@ -188,5 +190,6 @@ pub(crate) fn filled(
     while let Some(part) = parts.get(next) {
         next = filling.step(parts, &taken, part, next + 1)?;
     }
+    drop(taken);
     Ok(filling.builder.build()?)
 }

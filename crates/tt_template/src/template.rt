@@ -61,12 +61,12 @@ impl Template {
         &self,
         alloc: Global,
         binders: &[Binder],
-        binding: &Binding<'_>,
+        binding: Binding<'_>,
         delimiter: Delimiter,
     ) -> Result<TopSubtree, FillError>
-        ensures ok { IfOk result (λ tree. (template : IsOf) → IsTemplate (map where_of binders.now) template self.now → IsFilled delimiter (filled template (binding_by (map where_of binders.now) (map note_of binding.now.marks.items))) tree) }
+        ensures ok { IfOk result (λ tree. (template : IsOf) → IsTemplate (map where_of binders.now) template self.now → IsFilled delimiter (filled template (binding_by (map where_of binders.now) (map note_of binding.entry.marks.items))) tree) }
         ensures limits { IfOk result (λ tree. IsWithinLimits tree) }
-        ensures err { IfErr result (λ error. (template : IsOf) → IsTemplate (map where_of binders.now) template self.now → IsFillError delimiter (filled template (binding_by (map where_of binders.now) (map note_of binding.now.marks.items))) error) }
+        ensures err { IfErr result (λ error. (template : IsOf) → IsTemplate (map where_of binders.now) template self.now → IsFillError delimiter (filled template (binding_by (map where_of binders.now) (map note_of binding.entry.marks.items))) error) }
     {
         filled(alloc, &self.parts, binders, binding, delimiter)
     }

@@ -56,7 +56,7 @@ fn filled(
         return None;
     };
     let delimiter = trees.top_subtree().delimiter;
-    Some(template.fill(alloc, matcher.binders(), &binding, delimiter))
+    Some(template.fill(alloc, matcher.binders(), binding, delimiter))
 }
 
 // Whether it is filled with these tokens.

@@ -19,7 +19,7 @@ use Rattle.tt_template.proofs.filling.filled.Goals as goal
 
 pub loop-part-init : goal.loop-part-init
 loop-part-init c =
-    let binding = binding_by (map where_of c.args.binders.now) (map note_of c.args.binding.now.marks.items) in
+    let binding = binding_by (map where_of c.args.binders.now) (map note_of c.args.binding.marks.items) in
     let builder : c.in_ok-new.field-0 ≡ empty_builder c.args.delimiter = search rules in
     record {
       levels = first_level c.args.parts.now binding ∷ [];
@@ -32,7 +32,7 @@ pub returns-in_err-next-clause-err : goal.returns-in_err-next-clause-err
 returns-in_err-next-clause-err c =
     let parts = c.args.parts.now in
     let bits = map bit_of parts in
-    let binding = binding_by (map where_of c.args.binders.now) (map note_of c.args.binding.now.marks.items) in
+    let binding = binding_by (map where_of c.args.binders.now) (map note_of c.args.binding.marks.items) in
     let at = c.loop-part.next in
     let part = c.in-Some.part.now in
     let inv = c.loop-part.invariant in
@@ -51,7 +51,7 @@ pub loop-part-smaller : goal.loop-part-smaller
 loop-part-smaller c =
     let parts = c.args.parts.now in
     let bits = map bit_of parts in
-    let binding = binding_by (map where_of c.args.binders.now) (map note_of c.args.binding.now.marks.items) in
+    let binding = binding_by (map where_of c.args.binders.now) (map note_of c.args.binding.marks.items) in
     let at = c.loop-part.next in
     let part = c.in-Some.part.now in
     let inv = c.loop-part.invariant in
@@ -74,7 +74,7 @@ pub loop-part-preserved : goal.loop-part-preserved
 loop-part-preserved c =
     let parts = c.args.parts.now in
     let bits = map bit_of parts in
-    let binding = binding_by (map where_of c.args.binders.now) (map note_of c.args.binding.now.marks.items) in
+    let binding = binding_by (map where_of c.args.binders.now) (map note_of c.args.binding.marks.items) in
     let at = c.loop-part.next in
     let part = c.in-Some.part.now in
     let inv = c.loop-part.invariant in
@@ -97,7 +97,7 @@ pub build-requires : goal.build-requires
 build-requires c =
     let parts = c.args.parts.now in
     let bits = map bit_of parts in
-    let binding = binding_by (map where_of c.args.binders.now) (map note_of c.args.binding.now.marks.items) in
+    let binding = binding_by (map where_of c.args.binders.now) (map note_of c.args.binding.marks.items) in
     let all = filled (whole_of parts) binding in
     let inv = c.loop-part.invariant in
     let beyond : length parts ≤ c.loop-part.next = search rules in
@@ -112,7 +112,7 @@ pub returns-in_err-build-clause-err : goal.returns-in_err-build-clause-err
 returns-in_err-build-clause-err c =
     let parts = c.args.parts.now in
     let bits = map bit_of parts in
-    let binding = binding_by (map where_of c.args.binders.now) (map note_of c.args.binding.now.marks.items) in
+    let binding = binding_by (map where_of c.args.binders.now) (map note_of c.args.binding.marks.items) in
     let all = filled (whole_of parts) binding in
     let inv = c.loop-part.invariant in
     let beyond : length parts ≤ c.loop-part.next = search rules in
@@ -132,7 +132,7 @@ pub returns-clause-ok : goal.returns-clause-ok
 returns-clause-ok c =
     let parts = c.args.parts.now in
     let bits = map bit_of parts in
-    let binding = binding_by (map where_of c.args.binders.now) (map note_of c.args.binding.now.marks.items) in
+    let binding = binding_by (map where_of c.args.binders.now) (map note_of c.args.binding.marks.items) in
     let all = filled (whole_of parts) binding in
     let inv = c.loop-part.invariant in
     let beyond : length parts ≤ c.loop-part.next = search rules in

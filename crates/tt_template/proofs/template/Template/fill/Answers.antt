@@ -11,7 +11,7 @@ use Rattle.tt_template.proofs.template.Template.fill.Goals as goal
 
 pub returns-clause-ok : goal.returns-clause-ok
 returns-clause-ok c =
-    let binding = binding_by (map where_of c.args.binders.now) (map note_of c.args.binding.now.marks.items) in
+    let binding = binding_by (map where_of c.args.binders.now) (map note_of c.args.binding.marks.items) in
     ok_so c.filled.result
     (λ tree is template spelled.
     subst (λ t. IsFilled c.args.delimiter (filled t binding) tree) (ap whole_of c.deref.ensures.value ∙ told_by c.args.self.now.parts.items template spelled.parts) is)
@@ -19,7 +19,7 @@ returns-clause-ok c =
 
 pub returns-clause-err : goal.returns-clause-err
 returns-clause-err c =
-    let binding = binding_by (map where_of c.args.binders.now) (map note_of c.args.binding.now.marks.items) in
+    let binding = binding_by (map where_of c.args.binders.now) (map note_of c.args.binding.marks.items) in
     err_so c.filled.result
     (λ error is template spelled.
     subst (λ t. IsFillError c.args.delimiter (filled t binding) error) (ap whole_of c.deref.ensures.value ∙ told_by c.args.self.now.parts.items template spelled.parts) is)
