@@ -8,7 +8,7 @@ use Rattle.tt.specs.Types.DelimiterKind.TheVariants.{Brace}
 use Rattle.tt.specs.Types.Leaf.{Leaf}
 use Rattle.tt_expand.specs.declared.walk.Event.{Event}
 use Rattle.tt_expand.specs.declared.walk.Event.TheVariants as event
-use Rattle.tt_expand.specs.Coming.{Setting, IsPlain, Comes, ends, on_leaf, on_node, on_definition, on_other_call, into_other_call, on_call, front_trees, begin_at, macros_behind}
+use Rattle.tt_expand.specs.Coming.{Setting, IsPlain, Comes, ends, on_leaf, on_node, on_definition, on_other_call, into_other_call, on_call, begin_at, macros_behind}
 use Rattle.tt_expand.specs.Items.{Definition, Call, defines, calls, item_in}
 use Rattle.tt_expand.specs.Macros.{IsDefinedBy, arms_for}
 use Rattle.tt_expand.specs.Outcomes.{Outcome, nothing, passes, enters, stays, becomes, trees_left, placed}
@@ -18,7 +18,7 @@ use Rattle.tt_expand.specs.Walks.{Level, past_leaf, past_subtree, past, kept_beh
 use Rattle.tt_macro_rules.specs.Arms.{Arm}
 use Rattle.tt_macro_rules.specs.Expansions.{IsExpansion}
 use Rattle.tt_macro_rules.specs.declared.macro_rules.Expansion.TheVariants as expansion
-use Rattle.tt_matcher.specs.Fragments.{is_brace}
+use Rattle.tt_matcher.specs.Fragments.{front_trees, is_brace}
 
 module _ (setting : Setting) (limit : ℕ) (level : Level) (outer : List Level) (macros : List Macro) where
   -- Past a leaf.

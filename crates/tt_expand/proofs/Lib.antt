@@ -1,4 +1,3 @@
-pub mod Fronts
 pub mod Lasts
 pub mod Leading
 pub mod Lengths

@@ -1,5 +1,5 @@
 -- What comes of trees in which macros are defined and called.
-use Rattle.std.specs.Prelude.{◌≡◌, ◌⊎◌, ◌<◌, ◌++◌, ◌-◌, ℕ, zero, suc, Bool, true, false, List, [], ◌∷◌, length, take, Option, None, Some, option_map}
+use Rattle.std.specs.Prelude.{◌≡◌, ◌⊎◌, ◌<◌, ◌++◌, ◌-◌, ℕ, suc, Bool, true, false, List, [], ◌∷◌, length, take, Option, None, Some, option_map}
 use Rattle.tt.specs.Forest.{Forest, Root, end, leaf, node}
 use Rattle.tt.specs.Gluing.{after_trees}
 use Rattle.tt.specs.Moves.{first_token}
@@ -17,19 +17,12 @@ use Rattle.tt_expand.specs.Scopes.{Macro}
 use Rattle.tt_macro_rules.specs.Arms.{Arm}
 use Rattle.tt_macro_rules.specs.Expansions.{IsExpansion}
 use Rattle.tt_macro_rules.specs.declared.macro_rules.Expansion.TheVariants as expansion
-use Rattle.tt_matcher.specs.Fragments.{is_brace}
+use Rattle.tt_matcher.specs.Fragments.{front_trees, is_brace}
 
 -- the word that stands for the root of the crate, and whether calls that are not expanded are gone into
 pub record Setting : Type 0 where
   pub root : List ℕ
   pub everywhere : Bool
-
--- so many of the first trees
-abbrev pub front_trees : ℕ → Forest → Forest
-front_trees zero trees = end
-front_trees (suc n) end = end
-front_trees (suc n) (leaf it rest) = leaf it (front_trees n rest)
-front_trees (suc n) (node delimiter children rest) = node delimiter children (front_trees n rest)
 
 -- the first tree is taken as it is: it is one of so many that are, or begins neither a definition nor a call
 abbrev pub IsPlain : Setting → (plain : ℕ) → Forest → Type 0

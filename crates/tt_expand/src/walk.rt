@@ -5,11 +5,12 @@ ghost use Rattle.tt.specs.Iters.{rest_of};
 ghost use Rattle.tt.specs.Types.TtFault.TheVariants.{Memory};
 ghost use Rattle.tt.specs.Views.{trees_of};
 ghost use Rattle.tt_expand.specs.declared.fault.ExpandTextError.TheVariants.{Limit};
-ghost use Rattle.tt_expand.specs.Coming.{front_trees, begin_at, IsPlain};
+ghost use Rattle.tt_expand.specs.Coming.{begin_at, IsPlain};
 ghost use Rattle.tt_expand.specs.Items.{defines, calls, item_in, definition_of, call_of};
 ghost use Rattle.tt_expand.specs.Macros.{IsDefinitionError, IsCallError};
 ghost use Rattle.tt_expand.specs.Roots.{rooted};
 ghost use Rattle.tt_expand.specs.Scopes.{Macro as MacroOf, AreReady};
+ghost use Rattle.tt_matcher.specs.Fragments.{front_trees};
 ghost use Rattle.tt_expand.specs.Walks.{level_of, levels_of, setting_of, past_leaf, past_subtree, past, begun, entered, IsLeft, Goes};
 
 use crate::expander::Expander;

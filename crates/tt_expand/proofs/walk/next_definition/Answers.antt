@@ -1,7 +1,7 @@
 use Rattle.std.proofs.Common.{◌≡◌, ◌∷◌, ◌++◌, [], map, reverse, true, refl, sym, subst, arith}
 use Rattle.tt.specs.Views.{trees_of}
 use Rattle.tt_expand.specs.declared.walk.Event.TheVariants as event
-use Rattle.tt_expand.specs.Coming.{front_trees}
+use Rattle.tt_matcher.specs.Fragments.{front_trees}
 use Rattle.tt_expand.specs.Items.{Definition, definition_of}
 use Rattle.tt_expand.specs.Walks.{Level, level_of, setting_of, past, first_stay, IsNext, Leads}
 use Rattle.tt_expand.proofs.Leading.{leads_definition}

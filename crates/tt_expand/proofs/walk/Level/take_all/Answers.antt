@@ -3,8 +3,8 @@ use Rattle.tt.specs.Forest.{join}
 use Rattle.tt.specs.Gluing.{after_trees}
 use Rattle.tt.specs.Iters.{rest_of, saved_of}
 use Rattle.tt.specs.Views.{trees_of}
-use Rattle.tt_expand.specs.Coming.{front_trees}
-use Rattle.tt_expand.proofs.Fronts.{front_split, front_is}
+use Rattle.tt_matcher.specs.Fragments.{front_trees}
+use Rattle.tt_matcher.proofs.FrontTrees.{front_joined, front_told}
 use Rattle.tt_expand.proofs.walk.Level.take_all.Goals as goal
 
 pub from_savepoint-requires : goal.from_savepoint-requires
@@ -12,7 +12,7 @@ from_savepoint-requires c =
     let trees = rest_of c.args.self.now.rest in
     let kept : saved_of c.savepoint-start.result ≡ trees = search rules in
     let left : rest_of c.pass_all.new.self.rest ≡ after_trees c.args.len trees = ap (λ l. l.rest) c.pass_all.ensures in
-    (front_trees c.args.len trees, kept ∙ sym (front_split c.args.len trees) ∙ ap (join (front_trees c.args.len trees)) (sym left))
+    (front_trees c.args.len trees, kept ∙ front_joined c.args.len trees ∙ ap (join (front_trees c.args.len trees)) (sym left))
 
 pub returns-clause-taken : goal.returns-clause-taken
 returns-clause-taken c =
@@ -20,4 +20,4 @@ returns-clause-taken c =
     let kept : saved_of c.savepoint-start.result ≡ trees = search rules in
     let left : rest_of c.pass_all.new.self.rest ≡ after_trees c.args.len trees = ap (λ l. l.rest) c.pass_all.ensures in
     let is : join (trees_of c.from_savepoint.result) (rest_of c.pass_all.new.self.rest) ≡ saved_of c.savepoint-start.result = search rules in
-    front_is c.args.len trees (trees_of c.from_savepoint.result) (rest_of c.pass_all.new.self.rest) left (is ∙ kept)
+    front_told c.args.len trees (trees_of c.from_savepoint.result) (ap (join (trees_of c.from_savepoint.result)) (sym left) ∙ is ∙ kept)
