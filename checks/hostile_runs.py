@@ -17,10 +17,10 @@ BAD_LINES = (
 )
 
 # Together they have each command.
-SCRIPTS = ("stored", "saved", "siblings", "walk", "builder", "append", "counts", "texts", "edits", "rewrite", "macro")
+SCRIPTS = ("stored", "saved", "siblings", "walk", "builder", "append", "counts", "texts", "edits", "rewrite", "macro", "arms", "rust")
 COMMANDS = (
     "item clear list new open push close append alone unwrap point restore expected counts build skip copy kind spans set"
-    " ids rewrite expand show pretty debug flat siblings walk glue split bytes parts symbols equal save load"
+    " ids rewrite expand arms read text show pretty debug flat siblings walk glue split bytes parts symbols equal save load"
 ).split()
 
 # Their answers end with a line `end`, where the slot is not empty; all others are one line.
