@@ -8,7 +8,7 @@ from random_macros import Maker, macro, macro_text, units_text
 
 # Words that mostly make a fault where they stand among those of a macro.
 WORDS = (
-    "$", "$x", "$v1", "$v2", "$v1 : tt", "$v2:expr", "$v3:pat_param", "$v1:what", "$_:tt", "$r#v1:tt", "$v1:r#vis", "$_", "$crate",
+    "$", "$x", "$v1", "$v2", "$v1 : tt", "$v2:exp", "$v3:pat_", "$v1:what", "$_:tt", "$r#v1:tt", "$v1:r#vis", "$_", "$crate",
     "$crate:tt", "$v1::tt", "$(a),?", "$(a)=?", "$(a)?", "$($w:vis)*", "$($(a)*)+", "$($($w:vis)+)?", "$()*", "$(a)$*", "$(b)**",
     "$[b]*", "$(b)", "$(b)'x*", "$($v1)*", "$($($v2),*);*", "$(x $v1 $v2)+", "$(c)?", "$$", "$$v1", ":$v1", "+$v2", "a", "_",
     "r#true", "r#pub", "= >", "=>", "==", "=", ";", "; ;", ", ;", "()", "{}", "() => []", "() => a", "[] => {};", "'r#x", "->",
@@ -28,7 +28,7 @@ MACROS = (
     ("([$x:tt] $x:tt) => {}", "[a] a"),
     ("($($x:tt),* $x:tt) => {}", "a"),
     ("($x:word) => {}", "a"),
-    ("() => {}; ($x:stmt) => {}", "a"),
+    ("() => {}; ($x:statement) => {}", "a"),
     ("($($x:tt)* $($y:tt)*) => {}; ($x:tt) => {}", "a"),
     ("(a) == {b}", "a"),
     ("(a) => {b};", "a"),

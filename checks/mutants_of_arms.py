@@ -31,8 +31,7 @@ SPELLING = [
     ("a template's repetition holds no tokens", "template_of(held, nests), between", "[part for part in template_of(held, nests) if part[0] != 'unit'], between"),
 ]
 FAULTS = [
-    ("an unknown fragment is one of the grammar", "UNSUPPORTED_FRAGMENT if fragment in GRAMMAR else UNKNOWN_FRAGMENT", "UNSUPPORTED_FRAGMENT"),
-    ("a fragment of the grammar is unknown", "UNSUPPORTED_FRAGMENT if fragment in GRAMMAR else UNKNOWN_FRAGMENT", "UNKNOWN_FRAGMENT"),
+    ("an unknown fragment begins nothing", '("wrong", UNKNOWN_FRAGMENT), 1', '("wrong", BEGINS_NOTHING), 1'),
     ("_ is given twice", 'names |= {part[1]} - {"_"}', "names |= {part[1]}"),
     ("names below are let go", "fault = pattern_fault(part[2], names)", "fault = pattern_fault(part[2], set(names))"),
     ("names of a repetition are let go", "or pattern_fault(part[1], names)", "or pattern_fault(part[1], set(names))"),

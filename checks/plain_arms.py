@@ -1,7 +1,7 @@
 """Macros of several arms on plain trees (docs/LANGUAGE.md, "Macros of several arms").
 
 Trees are read as units, patterns and templates as parts of plain_macros.py, which tells what comes of an input; that is then
-trees again.
+trees again. The fragments of Rust's grammar are left out: no script has one.
 """
 import plain_macros
 from plain_trees import Ident, Literal, Punct, Subtree, alone, glued_front
@@ -13,9 +13,8 @@ BRACKETS = {"paren": "(", "brace": "{", "bracket": "[", "invisible": "invisible"
 RAW = "\n"
 NUMBERS = ("int", "float")
 FRAGMENTS = ("ident", "literal", "lifetime", "block", "vis", "tt")
-GRAMMAR = "expr expr_2021 ty pat pat_param path stmt item meta".split()
 # The numbers of what may be wrong with an arm.
-NO_PATTERN, BEGINS_NOTHING, UNKNOWN_FRAGMENT, UNSUPPORTED_FRAGMENT, NAME_TWICE, NEEDLESS_SEPARATOR = range(1, 7)
+NO_PATTERN, BEGINS_NOTHING, UNKNOWN_FRAGMENT, NAME_TWICE, NEEDLESS_SEPARATOR = 1, 2, 3, 5, 6
 EMPTY_REPETITION, NO_ARROW, NO_TEMPLATE, STILL_REPEATS, NOTHING_REPEATS, NO_SEMICOLON = range(7, 13)
 
 
@@ -135,7 +134,7 @@ def pattern_part(trees):
     fragment = behind[2].text
     if fragment in FRAGMENTS:
         return ("var", behind[0].text, fragment), 4
-    return ("wrong", UNSUPPORTED_FRAGMENT if fragment in GRAMMAR else UNKNOWN_FRAGMENT), 1
+    return ("wrong", UNKNOWN_FRAGMENT), 1
 
 
 def pattern_of(trees):

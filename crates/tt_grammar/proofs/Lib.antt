@@ -1,4 +1,5 @@
 pub mod Behind
+pub mod FragmentAnswers
 pub mod Laid
 pub mod Marks
 pub mod OneAnswer

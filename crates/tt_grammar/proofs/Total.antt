@@ -62,7 +62,8 @@ module _ (takes : Test → Position → Option Position) (size : Position → �
       let yes = (not_split good.marks at part g).1 in (omega (arith, ap size same), λ never. absurd (cc (never, yes)))
   sound_by P f at from to (Some (rule.Not part)) g (inr h) = absurd (cc (h.2))
 
-  sound : (depth : ℕ) → Sound (ParsesIn takes rules depth)
+  -- What an expression takes leaves no more.
+  pub sound : (depth : ℕ) → Sound (ParsesIn takes rules depth)
   sound zero at from to h = absurd h
   sound (suc depth) at from to h = sound_by (ParsesIn takes rules depth) (sound depth) at from to (slice_get rules at) (good_at at) h
 

@@ -108,8 +108,103 @@ const EXPANSIONS: [(&str, &str, &str); 25] = [
     ),
 ];
 
-fn are_expanded(alloc: Global) -> bool {
-    for (arms, input, wanted) in &EXPANSIONS {
+// What a fragment of Rust's grammar took: an expression, a type or a pattern of more than one token stands as one subtree, others stand
+// as the trees that they are.
+const PIECES: [(&str, &str, &str); 10] = [
+    ("($e:expr) => {$e * 2}", "a + b", "{6<3a + b * 2 "),
+    ("($e:expr) => {$e * 2}", "a", "{3a * 2 "),
+    (
+        "($($e:expr),* $(,)?) => {[$($e),*]}",
+        "1 + 2, f(x),",
+        "{a[9<31 + 2 , <3f (1x ",
+    ),
+    ("($t:ty) => {Vec<$t>}", "&'a u8", "{8Vec < <4& ' a u8 > "),
+    (
+        "($p:pat) => {match x {$p => 1}}",
+        "Some(1) | None",
+        "{cmatch x {9<5Some (11 | None = > 1 ",
+    ),
+    ("($p:pat) => {[$p, x]}", "..", "{5[4. . , x "),
+    ("($p:path) => {$p::new()}", "a::b", "{8a : : b : : new (0"),
+    (
+        "($($i:item)*) => {mod m {$($i)*}}",
+        "struct A; fn f() {}",
+        "{amod m {7struct A ; fn f (0{0",
+    ),
+    (
+        "($(#[$m:meta])* struct $n:ident;) => {$(#[$m])* enum $n {}}",
+        "#[a] #[b = 1] struct S;",
+        "{b# [1a # [3b = 1 enum S {0",
+    ),
+    (
+        "($($s:stmt;)*) => {{$($s;)*}}",
+        "let a = 1; f();",
+        "{9{8let a = 1 ; f (0; ",
+    ),
+];
+
+// What comes of what comes of an input, by other arms.
+fn told_again(alloc: Global, arms: &str, input: &str, others: &str) -> Option<String> {
+    let arms = tree_of(alloc, arms)?;
+    let input = tree_of(alloc, input)?;
+    let rules = MacroRules::new(alloc, arms.token_trees().iter()).ok()?;
+    let Ok(Expansion::Tree(middle)) = rules.expand(alloc, input.token_trees().iter()) else {
+        return None;
+    };
+    let others = tree_of(alloc, others)?;
+    let rules = MacroRules::new(alloc, others.token_trees().iter()).ok()?;
+    match rules.expand(alloc, middle.token_trees().iter()) {
+        Ok(Expansion::Tree(tree)) => written(alloc, &tree),
+        _ => None,
+    }
+}
+
+// What stands as one is taken as one: by `tt`, and by its own fragment, which then writes it as it is, or as a part of more.
+const AGAIN: [(&str, &str, &str, &str); 5] = [
+    (
+        "($e:expr) => {$e * 2}",
+        "a + b",
+        "($x:tt * $y:tt) => {$y $x}",
+        "{52 <3a + b ",
+    ),
+    (
+        "($e:expr) => {$e * 2}",
+        "a + b",
+        "($e:expr) => {$e;}",
+        "{8<6<3a + b * 2 ; ",
+    ),
+    (
+        "($e:expr) => {$e}",
+        "a + b",
+        "($e:expr) => {$e;}",
+        "{5<3a + b ; ",
+    ),
+    (
+        "($t:ty) => {Vec<$t>}",
+        "&'a u8",
+        "(Vec<$t:ty>) => {$t}",
+        "{5<4& ' a u8 ",
+    ),
+    (
+        "($p:pat) => {$p = x}",
+        "A | B",
+        "($p:pat_param = x) => {$p}",
+        "{4<3A | B ",
+    ),
+];
+
+fn are_taken_as_one(alloc: Global) -> bool {
+    for (arms, input, others, wanted) in &AGAIN {
+        match told_again(alloc, arms, input, others) {
+            Some(text) if text.as_str() == *wanted => {}
+            _ => return false,
+        }
+    }
+    true
+}
+
+fn are_expanded(alloc: Global, rows: &[(&str, &str, &str)]) -> bool {
+    for (arms, input, wanted) in rows {
         match told(alloc, arms, input) {
             Some(text) if text.as_str() == *wanted => {}
             _ => return false,
@@ -162,7 +257,7 @@ const FAULTS: [(&str, usize, &str, usize); 17] = [
     ("() => {};;", 1, "no pattern", 5),
     ("() => {}; (a $) => {}", 1, "begins nothing", 1),
     ("() => {}; ($x:tt $x:tt) b", 1, "twice", 4),
-    ("(a) => {}; ($x:expr) => {}", 1, "unsupported", 0),
+    ("(a) => {}; ($x:exp) => {}", 1, "unknown", 0),
     ("($($x:tt)*) => {a $x} b", 0, "still repeats", 1),
     ("(a) => {$(b)*}", 0, "nothing repeats", 0),
 ];
@@ -186,7 +281,17 @@ fn are_faults(alloc: Global) -> bool {
 
 #[test]
 fn macros_expand(rt: HostRuntime) -> Result<(), Fail> {
-    holds(are_expanded(rt.alloc()))
+    holds(are_expanded(rt.alloc(), &EXPANSIONS))
+}
+
+#[test]
+fn pieces_of_rust_stand_as_they_were_bound(rt: HostRuntime) -> Result<(), Fail> {
+    holds(are_expanded(rt.alloc(), &PIECES))
+}
+
+#[test]
+fn what_stands_as_one_is_taken_as_one(rt: HostRuntime) -> Result<(), Fail> {
+    holds(are_taken_as_one(rt.alloc()))
 }
 
 #[test]

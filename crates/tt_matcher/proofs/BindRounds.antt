@@ -2,14 +2,15 @@
 use Rattle.std.proofs.Common.{◌≡◌, inl, inr, ◌+◌, ◌<◌, ◌≤◌, ◌∙◌, ℕ, suc, true, List, [], ◌∷◌, ◌++◌, map, length, refl, ap, ap₂, sym, subst, arith, cond}
 use Rattle.std.proofs.lemmas.Bool.Decides.{nat_tests}
 use Rattle.std.proofs.Math.Seq.{take-length}
-use Rattle.std.specs.Prelude.{nat_eq, Option}
+use Rattle.std.specs.Prelude.{nat_eq}
 use Rattle.tt.specs.Forest.{Forest, end}
 use Rattle.tt.specs.Gluing.{after_trees}
 use Rattle.tt.specs.Moves.{after_tree}
 use Rattle.tt.specs.Siblings.{children_of}
 use Rattle.tt.specs.Types.Leaf.{Leaf}
 use Rattle.tt_pattern.specs.declared.pattern.RepeatKind.{RepeatKind}
-use Rattle.tt_matcher.specs.Bindings.{Bound, one, first, Named, Binding, names_of, unbound, joined, of_rounds, behind_rounds, binding_of}
+use Rattle.tt_pattern.specs.declared.pattern.Variable.{Variable}
+use Rattle.tt_matcher.specs.Bindings.{Bound, one, first, Named, Binding, variables_in, unbound, joined, of_rounds, behind_rounds, binding_of}
 use Rattle.tt_matcher.specs.Fragments.{left_by, taken as trees_of_fragment}
 use Rattle.tt_matcher.specs.Grouping.{Where, held_in, variables_of, taken_by, counts_by, listed, grouped, bounds_by, first_bound, binding_by}
 use Rattle.tt_matcher.specs.Marks.{Note, taken, begun, ended, step_count, notes_before, notes_of}
@@ -22,43 +23,43 @@ use Rattle.tt_matcher.proofs.GroupSteps.{total, counted, Lacks, LacksAll, IsWhol
 same_number : (n : ℕ) → nat_eq n n ≡ true
 same_number n = grind (arith, nat_tests)
 
--- the variables have these names
-abbrev pub AreNamed : List Where → List (Option (List ℕ)) → Type 0
-AreNamed [] [] = Unit {0}
-AreNamed [] (name ∷ names) = ⊥
-AreNamed (it ∷ its) [] = ⊥
-AreNamed (it ∷ its) (name ∷ names) = (it.name ≡ name) × AreNamed its names
+-- they are these variables
+abbrev pub AreOf : List Where → List Variable → Type 0
+AreOf [] [] = Unit {0}
+AreOf [] (other ∷ those) = ⊥
+AreOf (it ∷ its) [] = ⊥
+AreOf (it ∷ its) (other ∷ those) = (it.variable ≡ other) × AreOf its those
 
-named_both : (its others : List Where) (names more : List (Option (List ℕ))) → AreNamed its names → AreNamed others more → AreNamed (its ++ others) (names ++ more)
-named_both [] others [] more x y = y
-named_both [] others (name ∷ names) more x y = absurd x
-named_both (it ∷ its) others [] more x y = absurd x
-named_both (it ∷ its) others (name ∷ names) more x y = (x.0, named_both its others names more x.1 y)
+of_both : (its others : List Where) (those more : List Variable) → AreOf its those → AreOf others more → AreOf (its ++ others) (those ++ more)
+of_both [] others [] more x y = y
+of_both [] others (other ∷ those) more x y = absurd x
+of_both (it ∷ its) others [] more x y = absurd x
+of_both (it ∷ its) others (other ∷ those) more x y = (x.0, of_both its others those more x.1 y)
 
-named_held : (number : ℕ) (its : List Where) (names : List (Option (List ℕ))) → AreNamed its names → AreNamed (map (held_in number) its) names
-named_held number [] [] x = tt
-named_held number [] (name ∷ names) x = absurd x
-named_held number (it ∷ its) [] x = absurd x
-named_held number (it ∷ its) (name ∷ names) x = (x.0, named_held number its names x.1)
+of_held : (number : ℕ) (its : List Where) (those : List Variable) → AreOf its those → AreOf (map (held_in number) its) those
+of_held number [] [] x = tt
+of_held number [] (other ∷ those) x = absurd x
+of_held number (it ∷ its) [] x = absurd x
+of_held number (it ∷ its) (other ∷ those) x = (x.0, of_held number its those x.1)
 
--- The variables of a pattern have its names.
-names_are : (pattern : Pattern) (behind : ℕ) → AreNamed (variables_of pattern behind) (names_of pattern)
-names_are nothing behind = tt
-names_are (variable it others) behind = (refl, names_are others behind)
-names_are (token its others) behind = names_are others behind
-names_are (subtree kind inner others) behind =
-    named_both (variables_of inner (suc (step_count others + behind))) (variables_of others behind) (names_of inner) (names_of others)
-    (names_are inner (suc (step_count others + behind))) (names_are others behind)
-names_are (repetition inner separator op others) behind =
+-- The variables of a pattern are those in it.
+variables_are : (pattern : Pattern) (behind : ℕ) → AreOf (variables_of pattern behind) (variables_in pattern)
+variables_are nothing behind = tt
+variables_are (variable it others) behind = (refl, variables_are others behind)
+variables_are (token its others) behind = variables_are others behind
+variables_are (subtree kind inner others) behind =
+    of_both (variables_of inner (suc (step_count others + behind))) (variables_of others behind) (variables_in inner) (variables_in others)
+    (variables_are inner (suc (step_count others + behind))) (variables_are others behind)
+variables_are (repetition inner separator op others) behind =
     let number = step_count others + behind in
-    named_both (map (held_in number) (variables_of inner (suc number))) (variables_of others behind) (names_of inner) (names_of others)
-    (named_held number (variables_of inner (suc number)) (names_of inner) (names_are inner (suc number))) (names_are others behind)
+    of_both (map (held_in number) (variables_of inner (suc number))) (variables_of others behind) (variables_in inner) (variables_in others)
+    (of_held number (variables_of inner (suc number)) (variables_in inner) (variables_are inner (suc number))) (variables_are others behind)
 
 module _ (number hi : ℕ) where
-  -- the notes of rounds bind to the variable a list of what each does, and it is named with that list
+  -- the notes of rounds bind to the variable a list of what each does, and just that list
   pub record IsListed (it : Where) (notes : List Note) (named : Named) : Type 0 where
     pub its : List Bound
-    pub name : it.name ≡ named.name
+    pub variable : it.variable ≡ named.variable
     pub bound : named.bound ≡ listed its
     pub bounds : bounds_by it.nest it.number notes ≡ its
     pub counts : (so_far : ℕ) → counts_by number so_far notes ≡ (so_far + length its) ∷ []
@@ -83,22 +84,22 @@ module _ (number hi : ℕ) where
   ended_own = ((omega arith, omega arith), tt)
 
   -- Where there is no further round.
-  over_listed : (its : List Where) (names : List (Option (List ℕ))) → AreNamed its names → VariablesFrom (suc number) hi its → AreListed its (ended number ∷ []) (map unbound names)
+  over_listed : (its : List Where) (those : List Variable) → AreOf its those → VariablesFrom (suc number) hi its → AreListed its (ended number ∷ []) (map unbound those)
   over_listed [] [] x from = tt
-  over_listed [] (name ∷ names) x from = absurd x
+  over_listed [] (other ∷ those) x from = absurd x
   over_listed (it ∷ its) [] x from = absurd x
-  over_listed (it ∷ its) (name ∷ names) x from =
+  over_listed (it ∷ its) (other ∷ those) x from =
       let lacks = lacks_own it (ended number) from.0 ended_own in (
         record {
           its = [];
-          name = x.0;
+          variable = x.0;
           bound = refl;
           bounds = bounds-lacks it.nest it.number (ended number ∷ []) lacks;
           counts = λ so_far. let plus : so_far ≡ so_far + 0 = omega arith in ap (λ b. cond b (so_far ∷ []) []) (same_number number) ∙ ap (λ n. n ∷ []) plus;
           told = λ so_far. ap (λ b. cond b 0 so_far) (same_number number);
           whole = whole-lacks it.nest it.number (ended number ∷ []) lacks;
         },
-        over_listed its names x.1 from.1,
+        over_listed its those x.1 from.1,
       )
 
   -- Where there is one.
@@ -112,7 +113,7 @@ module _ (number hi : ℕ) where
       let own = lacks_own it (begun number) from.0 begun_own in (
         record {
           its = named.bound ∷ y.0.its;
-          name = x.0.name;
+          variable = x.0.variable;
           bound = ap (first named.bound) y.0.bound;
           bounds =
               bounds_behind_others it.nest it.number (begun number ∷ []) (notes ++ others) own
@@ -136,7 +137,7 @@ module _ (number hi : ℕ) where
         round_listed its notes others a b lacks from.1 x.1 y.1,
       )
 
-  -- So what stands in the repetition is named with its lists.
+  -- So what stands in the repetition is bound to its lists.
   held_agree : (its : List Where) (notes : List Note) (a : Binding) → AreListed its notes a → AllAgree (map (held_in number) its) notes a
   held_agree [] notes [] x = tt
   held_agree [] notes (named ∷ a) x = absurd x
@@ -146,7 +147,7 @@ module _ (number hi : ℕ) where
       let plus : 0 + length x.0.its ≡ length x.0.its = omega arith in
       let counts : counts_by number 0 notes ≡ length x.0.its ∷ [] = x.0.counts 0 ∙ ap (λ n. n ∷ []) plus in (
         record {
-          name = x.0.name;
+          variable = x.0.variable;
           bounds = ap₂ grouped counts x.0.bounds ∙ ap (λ l. listed l ∷ []) (take-length x.0.its) ∙ ap (λ l. l ∷ []) (sym x.0.bound);
           whole = (ap total counts ∙ all_of (length x.0.its) (length (bounds_by it.nest it.number notes)) same, x.0.told 0, x.0.whole);
         },
@@ -157,26 +158,26 @@ module _ (number hi : ℕ) where
       all_of n m is = omega (arith, is)
 
   -- All rounds of a repetition.
-  module _ (its : List Where) (names : List (Option (List ℕ))) (One : Reading → List Note) (binds : Reading → Binding) (op : RepeatKind) (separator : List Leaf)
-      (Takes_one : Forest → Reading → Forest → Type 0) (Takes_behind : Forest → Reading → Type 0) (named : AreNamed its names) (from : VariablesFrom (suc number) hi its)
+  module _ (its : List Where) (those : List Variable) (One : Reading → List Note) (binds : Reading → Binding) (op : RepeatKind) (separator : List Leaf)
+      (Takes_one : Forest → Reading → Forest → Type 0) (Takes_behind : Forest → Reading → Type 0) (are_of : AreOf its those) (from : VariablesFrom (suc number) hi its)
       (lacks : (this : Reading) → Lacks number (One this)) (agree : (input : Forest) (this : Reading) (rest : Forest) → Takes_one input this rest → AllAgree its (One this) (binds this)) where
     others_listed : (reading : Reading) (input : Forest) → AreOtherRounds op separator Takes_one Takes_behind input reading
-        → AreListed its (rounds_only number One reading) (of_rounds names binds reading)
+        → AreListed its (rounds_only number One reading) (of_rounds those binds reading)
     others_listed done input are = absurd are
     others_listed (took trees more) input are = absurd are
     others_listed (held inside more) input are = absurd are
     others_listed (round this others) input (start, rest, may, separates, takes, are) =
-        round_listed its (One this) (rounds_only number One others) (binds this) (of_rounds names binds others) (lacks this) from (agree start this rest takes) (others_listed others rest are)
-    others_listed (over more) input are = over_listed its names named from
+        round_listed its (One this) (rounds_only number One others) (binds this) (of_rounds those binds others) (lacks this) from (agree start this rest takes) (others_listed others rest are)
+    others_listed (over more) input are = over_listed its those are_of from
 
     pub rounds_listed : (reading : Reading) (input : Forest) → AreRounds op separator Takes_one Takes_behind input reading
-        → AreListed its (rounds_only number One reading) (of_rounds names binds reading)
+        → AreListed its (rounds_only number One reading) (of_rounds those binds reading)
     rounds_listed done input are = absurd are
     rounds_listed (took trees more) input are = absurd are
     rounds_listed (held inside more) input are = absurd are
     rounds_listed (round this others) input (rest, takes, are) =
-        round_listed its (One this) (rounds_only number One others) (binds this) (of_rounds names binds others) (lacks this) from (agree input this rest takes) (others_listed others rest are)
-    rounds_listed (over more) input are = over_listed its names named from
+        round_listed its (One this) (rounds_only number One others) (binds this) (of_rounds those binds others) (lacks this) from (agree input this rest takes) (others_listed others rest are)
+    rounds_listed (over more) input are = over_listed its those are_of from
 
 -- So it is for all patterns.
 pub all_agree : (pattern : Pattern) (behind : ℕ) (input : Forest) (reading : Reading) (rest : Forest) → Takes pattern input reading rest
@@ -186,7 +187,7 @@ all_agree (variable it others) behind input reading rest (more, is, takes, furth
     let number = step_count others + behind in
     subst (λ r. AllAgree (variables_of (variable it others) behind) (taken number (trees_taken r) ∷ notes_before others behind (more_of r) []) (binding_of (variable it others) r)) (sym is) (
       record {
-        name = refl;
+        variable = refl;
         bounds =
             ap (λ b. map one (cond b (trees_taken (took (trees_of_fragment it.fragment input) more) ∷ taken_by number (notes_before others behind more [])) (taken_by number (notes_before others behind more [])))) (same_number number)
             ∙ ap (λ l. one (trees_of_fragment it.fragment input) ∷ map one l)
@@ -228,10 +229,10 @@ all_agree (repetition inner separator op others) behind input reading rest are =
     let R_from : AreFrom number most R =
     rounds_from number most number One (omega arith) (omega arith) (λ this. notes_from inner (suc number) number most this [] (omega arith) (omega arith) tt) reading in
     let inner_from : VariablesFrom (suc number) most (variables_of inner (suc number)) = variables_from inner (suc number) in
-    let rounds : AllAgree (map (held_in number) (variables_of inner (suc number))) R (of_rounds (names_of inner) (binding_of inner) reading) =
-    held_agree number most (variables_of inner (suc number)) R (of_rounds (names_of inner) (binding_of inner) reading)
-    (rounds_listed number most (variables_of inner (suc number)) (names_of inner) One (binding_of inner) op separator (Takes inner) (λ trees more. Takes others trees more rest)
-    (names_are inner (suc number)) inner_from
+    let rounds : AllAgree (map (held_in number) (variables_of inner (suc number))) R (of_rounds (variables_in inner) (binding_of inner) reading) =
+    held_agree number most (variables_of inner (suc number)) R (of_rounds (variables_in inner) (binding_of inner) reading)
+    (rounds_listed number most (variables_of inner (suc number)) (variables_in inner) One (binding_of inner) op separator (Takes inner) (λ trees more. Takes others trees more rest)
+    (variables_are inner (suc number)) inner_from
     (λ this. lacks_apart number (suc number) (suc number) most (inl (omega arith)) number (One this) (omega arith) (omega arith)
     (notes_from inner (suc number) (suc number) most this [] (omega arith) (omega arith) tt))
     (λ trees this middle takes. all_agree inner (suc number) trees this middle takes)
@@ -239,11 +240,11 @@ all_agree (repetition inner separator op others) behind input reading rest are =
     let held_variables : VariablesFrom number most (map (held_in number) (variables_of inner (suc number))) =
     held_from number most number (variables_of inner (suc number)) (omega arith) (omega arith)
     (variables_wider (suc number) most number most (variables_of inner (suc number)) (omega arith) (omega arith) inner_from) in
-    subst (λ l. AllAgree (map (held_in number) (variables_of inner (suc number)) ++ variables_of others behind) l (of_rounds (names_of inner) (binding_of inner) reading ++ binding_of others (behind_rounds reading)))
+    subst (λ l. AllAgree (map (held_in number) (variables_of inner (suc number)) ++ variables_of others behind) l (of_rounds (variables_in inner) (binding_of inner) reading ++ binding_of others (behind_rounds reading)))
     (sym (rounds_split number (notes_before inner (suc number)) (λ more. notes_before others behind more []) op separator (Takes inner) (λ trees more. Takes others trees more rest)
     (λ trees this middle left takes. notes_split inner (suc number) trees this middle left takes) reading input are))
-    (agree_both (map (held_in number) (variables_of inner (suc number))) (variables_of others behind) (R ++ low) (of_rounds (names_of inner) (binding_of inner) reading) (binding_of others (behind_rounds reading))
-    (agree_before number most behind number (inr (omega arith)) R low low_from (map (held_in number) (variables_of inner (suc number))) (of_rounds (names_of inner) (binding_of inner) reading) held_variables rounds)
+    (agree_both (map (held_in number) (variables_of inner (suc number))) (variables_of others behind) (R ++ low) (of_rounds (variables_in inner) (binding_of inner) reading) (binding_of others (behind_rounds reading))
+    (agree_before number most behind number (inr (omega arith)) R low low_from (map (held_in number) (variables_of inner (suc number))) (of_rounds (variables_in inner) (binding_of inner) reading) held_variables rounds)
     (agree_behind behind number number most (inl (omega arith)) low R R_from (variables_of others behind) (binding_of others (behind_rounds reading)) (variables_from others behind)
     (all_agree others behind further.0 (behind_rounds reading) rest further.1)))
 
@@ -254,7 +255,7 @@ bound_as [] notes (named ∷ a) x = absurd x
 bound_as (it ∷ its) notes [] x = absurd x
 bound_as (it ∷ its) notes (named ∷ a) x =
     ap₂ (λ (n : Named) (others : Binding). n ∷ others)
-    (ap₂ (λ (n : Option (List ℕ)) (b : Bound). record { name = n; bound = b }) x.0.name (ap first_bound x.0.bounds)) (bound_as its notes a x.1)
+    (ap₂ (λ (v : Variable) (b : Bound). record { variable = v; bound = b }) x.0.variable (ap first_bound x.0.bounds)) (bound_as its notes a x.1)
 
 -- The notes of a reading bind what it does.
 pub binds : (pattern : Pattern) (input : Forest) (reading : Reading) → IsInstance pattern input reading

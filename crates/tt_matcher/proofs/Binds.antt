@@ -217,7 +217,7 @@ module _ (lo hi least most : ℕ) (apart : (hi ≤ least) ⊎ (most ≤ lo)) whe
 
 -- the notes bind to the variable just what it is named with
 pub record Agrees (it : Where) (notes : List Note) (named : Named) : Type 0 where
-  pub name : it.name ≡ named.name
+  pub variable : it.variable ≡ named.variable
   pub bounds : bounds_by it.nest it.number notes ≡ named.bound ∷ []
   pub whole : IsWhole it.nest it.number notes
 
@@ -242,7 +242,7 @@ module _ (lo hi least most : ℕ) (apart : (hi ≤ least) ⊎ (most ≤ lo)) (no
   agree_behind (it ∷ its) (named ∷ a) from x =
       let lacks = lacks_all lo hi least most apart it.nest it.number foreign from.0.2 from.0.0 from.0.1 are in (
         record {
-          name = x.0.name;
+          variable = x.0.variable;
           bounds = bounds_behind_others it.nest it.number foreign notes lacks ∙ x.0.bounds;
           whole = whole-append it.nest it.number foreign notes (whole-lacks it.nest it.number foreign lacks) x.0.whole;
         },
@@ -257,7 +257,7 @@ module _ (lo hi least most : ℕ) (apart : (hi ≤ least) ⊎ (most ≤ lo)) (no
   agree_before (it ∷ its) (named ∷ a) from x =
       let lacks = lacks_all lo hi least most apart it.nest it.number foreign from.0.2 from.0.0 from.0.1 are in (
         record {
-          name = x.0.name;
+          variable = x.0.variable;
           bounds = bounds_before_others it.nest it.number notes foreign x.0.whole lacks ∙ x.0.bounds;
           whole = whole-append it.nest it.number notes foreign x.0.whole (whole-lacks it.nest it.number foreign lacks);
         },

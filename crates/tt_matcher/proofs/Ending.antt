@@ -21,6 +21,7 @@ use Rattle.tt_pattern.specs.Units.{IsUnitLike}
 use Rattle.tt_matcher.proofs.Leading.{Config, thread, threads, IsMany, Leads, Has, HasMany, AreApart, Told}
 use Rattle.tt_matcher.proofs.Telling as telling
 use Rattle.tt_pattern.proofs.Passing.{after_end}
+use Rattle.tt_matcher.proofs.GrammarTaken.{takes_no_tree}
 
 -- No fragment takes a tree where none is.
 pub takes_none : (which : Fragment) → takes which end ≡ true → takes_nothing which end ≡ false → ⊥
@@ -30,6 +31,7 @@ takes_none fragment.Lifetime t some = cc t
 takes_none fragment.Block t some = cc t
 takes_none fragment.Vis t some = cc some
 takes_none fragment.Tt t some = cc t
+takes_none (fragment.Grammar which) t some = takes_no_tree which t
 
 -- Nor does a token stand there.
 pub no_unit : (its : List Leaf) → IsUnitLike its end → ⊥

@@ -14,6 +14,7 @@ pub mod FrontCompiling
 pub mod FrontTold
 pub mod FrontTrees
 pub mod Fronts
+pub mod GrammarTaken
 pub mod GroupSteps
 pub mod Leading
 pub mod LeafSteps

@@ -12,6 +12,7 @@ use Rattle.tt.specs.Types.Leaf.{Leaf}
 use Rattle.tt_matcher.specs.Fragments.{is_at_negative, is_at_word, is_at_scope, takes_nothing, reach}
 use Rattle.tt_matcher.specs.Places.{passed}
 use Rattle.tt_pattern.specs.Units.{is_at_ident, unit_from, unit_size, quote, IsUnitLike}
+use Rattle.tt_matcher.proofs.GrammarTaken.{reach_full}
 
 -- it is one at least
 abbrev pub IsSome : ℕ → Type 0
@@ -69,6 +70,7 @@ reach_some fragment.Lifetime trees there = refl
 reach_some fragment.Block trees there = refl
 reach_some fragment.Vis trees there = visible_some (is_at_word (codes "pub") trees) (is_at_scope (after_tree trees)) there
 reach_some fragment.Tt trees there = unit_some trees
+reach_some (fragment.Grammar which) trees there = reach_full which trees
 
 -- Behind the first tree the rest of it is left to pass.
 pub take_onward : (which : Fragment) (trees seen : Forest) (outer : List Forest) → seen ≡ trees → takes_nothing which trees ≡ false

@@ -4,7 +4,9 @@ use Rattle.tt.specs.Forest.{Forest, end, join}
 use Rattle.tt.specs.Types.DelimiterKind.TheVariants.{Parenthesis, Brace}
 use Rattle.tt.specs.Types.Spacing.TheVariants.{Alone, Joint}
 use Rattle.tt_base.proofs.Samples.{punct, subtree}
+use Rattle.tt_pattern.specs.declared.pattern.Fragment.{Fragment}
 use Rattle.tt_pattern.specs.declared.pattern.Fragment.TheVariants as fragment
+use Rattle.tt_pattern.specs.declared.pattern.Variable.{Variable}
 use Rattle.tt_matcher.specs.declared.steps.Step.TheVariants as step
 use Rattle.tt_matcher.specs.Asks as ask
 use Rattle.tt_matcher.specs.Bindings.{one, none, first, binding_of, bound_to}
@@ -83,6 +85,13 @@ life_taken = refl
 nothing_left : takes fragment.Tt end ≡ false
 nothing_left = refl
 
+-- variables
+abbrev x_of : Fragment → Variable
+x_of which = record { name = Some (codes "x"); fragment = which }
+
+abbrev nameless : Variable
+nameless = record { name = None; fragment = fragment.Tt }
+
 -- `a, b,` is an instance of `$($x:ident),* $(,)?`; the last comma is the second repetition's.
 abbrev a_b : Forest
 a_b = word (codes "a") (comma (word (codes "b") (comma end)))
@@ -94,7 +103,7 @@ listed_instance : IsInstance (pattern_of listed) a_b a_b_reading
 listed_instance = (_, (done, refl, refl, (refl, refl)), (_, _, refl, ((refl, (refl, tt)), refl), (done, refl, refl, (refl, refl)), (_, ((refl, (refl, tt)), (refl, refl)), (refl, refl))))
 
 -- It binds to `x` the list of both.
-listed_binds : binding_of (pattern_of listed) a_b_reading ≡ record { name = Some (codes "x"); bound = first (one (word (codes "a") end)) (first (one (word (codes "b") end)) none) } ∷ []
+listed_binds : binding_of (pattern_of listed) a_b_reading ≡ record { variable = x_of fragment.Ident; bound = first (one (word (codes "a") end)) (first (one (word (codes "b") end)) none) } ∷ []
 listed_binds = refl
 
 -- What is noted of it: two rounds of the first repetition, behind which 4 steps stand, and one of the other, behind which one stands.
@@ -102,7 +111,7 @@ listed_notes : notes_of (pattern_of listed) a_b_reading
     ≡ begun 4 ∷ took_by 5 (word (codes "a") end) ∷ begun 4 ∷ took_by 5 (word (codes "b") end) ∷ ended 4 ∷ begun 1 ∷ ended 1 ∷ []
 listed_notes = refl
 
-listed_variables : variables_of (pattern_of listed) 1 ≡ record { name = Some (codes "x"); number = 5; nest = 4 ∷ [] } ∷ []
+listed_variables : variables_of (pattern_of listed) 1 ≡ record { variable = x_of fragment.Ident; number = 5; nest = 4 ∷ [] } ∷ []
 listed_variables = refl
 
 -- Its steps: the first repetition with its separator, its variable and its end, the other, and the end of all.
@@ -113,7 +122,7 @@ listed_steps : steps_of (pattern_of listed)
 listed_steps = refl
 
 -- Where there is no round an empty list is bound.
-listed_none : binding_of (pattern_of listed) (over (over done)) ≡ record { name = Some (codes "x"); bound = none } ∷ []
+listed_none : binding_of (pattern_of listed) (over (over done)) ≡ record { variable = x_of fragment.Ident; bound = none } ∷ []
 listed_none = refl
 
 -- A variable in a subtree, and one that is written `_`.
@@ -121,7 +130,7 @@ abbrev in_brace : Pattern
 in_brace = pattern_of (join (subtree Brace (var (codes "x") (codes "tt") end)) (var (codes "_") (codes "tt") end))
 
 brace_binds : binding_of in_brace (held (took (arrow end) done) (took (life end) done))
-    ≡ record { name = Some (codes "x"); bound = one (arrow end) } ∷ record { name = None; bound = one (life end) } ∷ []
+    ≡ record { variable = x_of fragment.Tt; bound = one (arrow end) } ∷ record { variable = nameless; bound = one (life end) } ∷ []
 brace_binds = refl
 
 -- A list in a list: `$( $($x:ident)+ );*` on `a b; c` binds `a` and `b` in the first round, and `c` in the second.
@@ -144,10 +153,10 @@ nested_noted = refl
 
 -- Of two variables of one name the first is found, and of an unknown name none is.
 twice_bound : bound_to (codes "x")
-    (record { name = None; bound = none } ∷ record { name = Some (codes "x"); bound = one end } ∷ record { name = Some (codes "x"); bound = none } ∷ []) ≡ Some (one end)
+    (record { variable = nameless; bound = none } ∷ record { variable = x_of fragment.Tt; bound = one end } ∷ record { variable = x_of fragment.Tt; bound = none } ∷ []) ≡ Some (one end)
 twice_bound = refl
 
-none_bound : bound_to (codes "y") (record { name = Some (codes "x"); bound = one end } ∷ []) ≡ None
+none_bound : bound_to (codes "y") (record { variable = x_of fragment.Tt; bound = one end } ∷ []) ≡ None
 none_bound = refl
 
 -- Its places: the variable, its comma, the other comma, the end. It begins with a name, with the other comma, or ends at once.
@@ -155,7 +164,7 @@ listed_starts : starts_of (pattern_of listed) ≡ 0 ∷ 2 ∷ 3 ∷ []
 listed_starts = refl
 
 listed_stops : all_stops (pattern_of listed)
-    ≡ record { asked = ask.take (record { name = Some (codes "x"); fragment = fragment.Ident }); edges = 1 ∷ 2 ∷ 3 ∷ [] }
+    ≡ record { asked = ask.take (x_of fragment.Ident); edges = 1 ∷ 2 ∷ 3 ∷ [] }
     ∷ record { asked = ask.same (punct 44 Joint ∷ []); edges = 0 ∷ [] }
     ∷ record { asked = ask.same (punct 44 Alone ∷ []); edges = 3 ∷ [] }
     ∷ record { asked = ask.leave; edges = [] }

@@ -31,6 +31,7 @@ takes_it fragment.Lifetime trees h = absurd (cc h)
 takes_it fragment.Block trees h = absurd (cc h)
 takes_it fragment.Vis trees h = refl
 takes_it fragment.Tt trees h = absurd (cc h)
+takes_it (fragment.Grammar it) trees h = absurd (cc h)
 
 not_there : (b c : Bool) → not b ≡ true → ◌≡◌ {A = ℕ} (cond b (cond c 2 1) 0) 0
 not_there true c h = absurd (cc h)
@@ -43,6 +44,7 @@ reach_none fragment.Lifetime trees h = absurd (cc h)
 reach_none fragment.Block trees h = absurd (cc h)
 reach_none fragment.Vis trees h = not_there (is_at_word (codes "pub") trees) (is_at_scope (after_tree trees)) h
 reach_none fragment.Tt trees h = absurd (cc h)
+reach_none (fragment.Grammar it) trees h = absurd (cc h)
 
 -- It is a fragment that may.
 may_none : (which : Fragment) (trees : Forest) → takes_nothing which trees ≡ true → may_take_none which ≡ true
@@ -52,6 +54,7 @@ may_none fragment.Lifetime trees h = absurd (cc h)
 may_none fragment.Block trees h = absurd (cc h)
 may_none fragment.Vis trees h = refl
 may_none fragment.Tt trees h = absurd (cc h)
+may_none (fragment.Grammar it) trees h = absurd (cc h)
 
 may_ask : (it : Ask) (trees : Forest) → asks_nothing it trees ≡ true → may_ask_nothing it ≡ true
 may_ask (ask.take which) trees h = may_none which.fragment trees h

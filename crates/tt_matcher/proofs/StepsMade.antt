@@ -95,7 +95,7 @@ past_separator (suc n) steps = refl
 -- the variables of a pattern before others, behind which so many steps stand, and which stands in these repetitions
 abbrev placed_before : Pattern → (behind : ℕ) → (nest : List ℕ) → (left : List Where) → List Where
 placed_before nothing behind nest left = left
-placed_before (variable it others) behind nest left = record { name = it.name; number = step_count others + behind; nest = nest } ∷ placed_before others behind nest left
+placed_before (variable it others) behind nest left = record { variable = it; number = step_count others + behind; nest = nest } ∷ placed_before others behind nest left
 placed_before (token its others) behind nest left = placed_before others behind nest left
 placed_before (subtree kind inner others) behind nest left = placed_before inner (suc (step_count others + behind)) nest (placed_before others behind nest left)
 placed_before (repetition inner separator op others) behind nest left =
@@ -125,7 +125,7 @@ taken_pattern at (variable it others) behind taken =
     ∙ ap (λ (n : ℕ). record {
       steps = step.Take it.fragment ∷ steps_before (suc at) others after.steps;
       ends = after.ends;
-      variables = record { name = it.name; number = n; nest = nest } ∷ placed_before others (length after.steps) nest after.variables;
+      variables = record { variable = it; number = n; nest = nest } ∷ placed_before others (length after.steps) nest after.variables;
     }) (length-steps (suc at) others after.steps)
 taken_pattern at (token its others) behind taken = ap (taken_with (place at (ask.same its))) (taken_pattern (suc at) others behind taken)
 taken_pattern at (subtree kind inner others) behind taken =
@@ -155,13 +155,13 @@ taken_pattern at (repetition inner separator op others) behind taken =
 
 -- a variable that stands in these repetitions too
 abbrev under : List ℕ → Where → Where
-under nest it = record { name = it.name; number = it.number; nest = nest ++ it.nest }
+under nest it = record { variable = it.variable; number = it.number; nest = nest ++ it.nest }
 
 -- Variables that stand in one repetition more.
 under_held : (nest : List ℕ) (number : ℕ) (its : List Where) → map (under (nest ++ number ∷ [])) its ≡ map (under nest) (map (held_in number) its)
 under_held nest number [] = refl
 under_held nest number (it ∷ its) =
-    ap₂ (λ (n : List ℕ) (l : List Where). record { name = it.name; number = it.number; nest = n } ∷ l) (append_assoc nest (number ∷ []) it.nest) (under_held nest number its)
+    ap₂ (λ (n : List ℕ) (l : List Where). record { variable = it.variable; number = it.number; nest = n } ∷ l) (append_assoc nest (number ∷ []) it.nest) (under_held nest number its)
 
 under_none : (its : List Where) → map (under []) its ≡ its
 under_none [] = refl
@@ -171,7 +171,7 @@ under_none (it ∷ its) = ap (λ l. it ∷ l) (under_none its)
 placed_as : (pattern : Pattern) (behind : ℕ) (nest : List ℕ) (left : List Where) → placed_before pattern behind nest left ≡ map (under nest) (variables_of pattern behind) ++ left
 placed_as nothing behind nest left = refl
 placed_as (variable it others) behind nest left =
-    ap₂ (λ (n : List ℕ) (l : List Where). record { name = it.name; number = step_count others + behind; nest = n } ∷ l) (sym (append-nil nest)) (placed_as others behind nest left)
+    ap₂ (λ (n : List ℕ) (l : List Where). record { variable = it; number = step_count others + behind; nest = n } ∷ l) (sym (append-nil nest)) (placed_as others behind nest left)
 placed_as (token its others) behind nest left = placed_as others behind nest left
 placed_as (subtree kind inner others) behind nest left =
     let number = suc (step_count others + behind) in

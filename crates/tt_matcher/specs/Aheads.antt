@@ -1,5 +1,5 @@
 -- The tree that an input goes on with.
-use Rattle.std.specs.Prelude.{◌≡◌, Some}
+use Rattle.std.specs.Prelude.{◌≡◌, ◌-◌, ℕ, true, false, Some}
 use Rattle.tt.specs.Forest.{Forest, leaf, node}
 use Rattle.tt.specs.Iters.{rest_of, IsFirstElement}
 use Rattle.tt.specs.Moves.{after_tree}
@@ -9,6 +9,8 @@ use Rattle.tt.specs.Types.Leaf.{Leaf}
 use Rattle.tt_matcher.specs.declared.ahead.Ahead.{Ahead}
 use Rattle.tt_matcher.specs.declared.threads.Move.{Move}
 use Rattle.tt_matcher.specs.declared.threads.Move.TheVariants as move
+use Rattle.tt_matcher.specs.Fragments.{takes, takes_nothing, reach}
+use Rattle.tt_pattern.specs.declared.pattern.Fragment.{Fragment}
 
 -- the first of its trees was decoded
 abbrev pub IsAhead : Ahead → Type 0
@@ -27,3 +29,11 @@ IsLeafAhead trees = (it : Leaf) × (trees ≡ leaf it (after_tree trees))
 -- a subtree of that kind that holds these trees stands first
 abbrev pub IsNodeAhead : (trees : Forest) → DelimiterKind → (children : Forest) → Type 0
 IsNodeAhead trees kind children = (delimiter : Delimiter) × (delimiter.kind ≡ kind) × (trees ≡ node delimiter children (after_tree trees))
+
+-- the fragment takes no tree of these
+abbrev pub TakesNone : Fragment → Forest → Type 0
+TakesNone which trees = takes which trees ≡ true → takes_nothing which trees ≡ true
+
+-- it takes one at least, and behind the first a thread waits for so many
+abbrev pub WaitsFor : Fragment → Forest → (wait : ℕ) → Type 0
+WaitsFor which trees wait = (takes which trees ≡ true) × (takes_nothing which trees ≡ false) × (wait ≡ reach which trees - 1)

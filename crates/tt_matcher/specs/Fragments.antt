@@ -15,6 +15,7 @@ use Rattle.tt.specs.Types.LitKind.{LitKind}
 use Rattle.tt.specs.Types.LitKind.TheVariants as literal
 use Rattle.tt.specs.Types.Leaf.{Leaf}
 use Rattle.tt.specs.Types.Leaf.TheVariants as leaf_of
+use Rattle.tt_matcher.specs.GrammarReach.{grammar_reach}
 use Rattle.tt_pattern.specs.declared.pattern.Fragment.{Fragment}
 use Rattle.tt_pattern.specs.declared.pattern.Fragment.TheVariants as fragment
 use Rattle.tt_pattern.specs.Spelling.{is_parenthesis}
@@ -53,6 +54,10 @@ is_at_number (node delimiter children rest) = false
 -- a `-` and a number stand first
 abbrev pub is_at_negative : Forest → Bool
 is_at_negative trees = is_at_punct (codes "-") trees && is_at_number (after_tree trees)
+
+-- how many trees a literal is
+abbrev pub literal_size : Forest → ℕ
+literal_size trees = if is_at_negative trees then 2 else 1
 
 -- a `'` and an ident stand first
 abbrev pub is_at_lifetime : Forest → Bool
@@ -100,7 +105,7 @@ abbrev pub visibility_size : Forest → ℕ
 visibility_size trees = if is_at_word (codes "pub") trees then (if is_at_scope (after_tree trees) then 2 else 1) else 0
 
 -- the fragment takes what stands first: an ident other than `_`; a literal, a truth value, or a number behind `-`; a lifetime; a
--- subtree in braces; a visibility, or nothing where none stands; or any token or subtree
+-- subtree in braces; a visibility, or nothing where none stands; any token or subtree; or what Rust's grammar does
 abbrev pub takes : Fragment → Forest → Bool
 takes fragment.Ident trees = is_some (unless_underscore (first_leaf_as as_ident_or_underscore trees))
 takes fragment.Literal trees = is_at_literal trees || is_at_negative trees
@@ -108,6 +113,7 @@ takes fragment.Lifetime trees = is_at_lifetime trees
 takes fragment.Block trees = is_at_block trees
 takes fragment.Vis trees = true
 takes fragment.Tt trees = not (is_end trees)
+takes (fragment.Grammar which) trees = is_some (grammar_reach which trees)
 
 -- it takes nothing of them
 abbrev pub takes_nothing : Fragment → Forest → Bool
@@ -117,15 +123,22 @@ takes_nothing fragment.Lifetime trees = false
 takes_nothing fragment.Block trees = false
 takes_nothing fragment.Vis trees = not (is_at_word (codes "pub") trees)
 takes_nothing fragment.Tt trees = false
+takes_nothing (fragment.Grammar which) trees = false
+
+-- that number, or one
+abbrev pub or_one : Option ℕ → ℕ
+or_one None = 1
+or_one (Some n) = n
 
 -- how many trees that is
 abbrev pub reach : Fragment → Forest → ℕ
 reach fragment.Ident trees = 1
-reach fragment.Literal trees = if is_at_negative trees then 2 else 1
+reach fragment.Literal trees = literal_size trees
 reach fragment.Lifetime trees = 2
 reach fragment.Block trees = 1
 reach fragment.Vis trees = visibility_size trees
 reach fragment.Tt trees = unit_size trees
+reach (fragment.Grammar which) trees = or_one (grammar_reach which trees)
 
 -- so many trees at the front, if there are as many
 abbrev pub front_trees : ℕ → Forest → Forest

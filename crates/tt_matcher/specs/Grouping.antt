@@ -1,24 +1,25 @@
 -- What marks bind to the variables of a pattern.
-use Rattle.std.specs.Prelude.{ℕ, suc, ◌+◌, List, [], ◌∷◌, ◌++◌, map, take, drop, nat_eq, Option, if◌then◌else◌}
+use Rattle.std.specs.Prelude.{ℕ, suc, ◌+◌, List, [], ◌∷◌, ◌++◌, map, take, drop, nat_eq, if◌then◌else◌}
 use Rattle.tt.specs.Forest.{Forest}
 use Rattle.tt_matcher.specs.Bindings.{Bound, one, none, first, Named, Binding}
 use Rattle.tt_matcher.specs.Marks.{Note, taken, begun, ended, step_count}
+use Rattle.tt_pattern.specs.declared.pattern.Variable.{Variable}
 use Rattle.tt_pattern.specs.Patterns.{Pattern, nothing, variable, token, subtree, repetition}
 
--- a variable: its name, if it has one, its number, and those of the repetitions that it stands in, the outermost first
+-- a variable, its number, and those of the repetitions that it stands in, the outermost first
 pub record Where : Type 0 where
-  pub name : Option (List ℕ)
+  pub variable : Variable
   pub number : ℕ
   pub nest : List ℕ
 
 -- a variable that stands in one repetition more
 abbrev pub held_in : (number : ℕ) → Where → Where
-held_in number it = record { name = it.name; number = it.number; nest = number ∷ it.nest }
+held_in number it = record { variable = it.variable; number = it.number; nest = number ∷ it.nest }
 
 -- the variables of a pattern, in reading order, behind which so many steps stand
 abbrev pub variables_of : Pattern → (behind : ℕ) → List Where
 variables_of nothing behind = []
-variables_of (variable it others) behind = record { name = it.name; number = step_count others + behind; nest = [] } ∷ variables_of others behind
+variables_of (variable it others) behind = record { variable = it; number = step_count others + behind; nest = [] } ∷ variables_of others behind
 variables_of (token its others) behind = variables_of others behind
 variables_of (subtree kind inner others) behind = variables_of inner (suc (step_count others + behind)) ++ variables_of others behind
 variables_of (repetition inner separator op others) behind =
@@ -60,7 +61,7 @@ first_bound (it ∷ others) = it
 
 -- what is bound to a variable in all
 abbrev pub named_by : List Note → Where → Named
-named_by notes it = record { name = it.name; bound = first_bound (bounds_by it.nest it.number notes) }
+named_by notes it = record { variable = it.variable; bound = first_bound (bounds_by it.nest it.number notes) }
 
 -- what the notes bind to variables
 abbrev pub binding_by : List Where → List Note → Binding

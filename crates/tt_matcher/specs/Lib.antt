@@ -7,6 +7,7 @@ pub mod Cutting
 pub mod Ends
 pub mod Fragments
 pub mod Fronts
+pub mod GrammarReach
 pub mod Grouping
 pub mod Levels
 pub mod Linking

@@ -37,7 +37,7 @@ bound_with it taken =
     record {
       steps = taken.steps;
       ends = taken.ends;
-      variables = record { name = it.name; number = length taken.steps; nest = map number_of (reverse taken.ends) } ∷ taken.variables;
+      variables = record { variable = it; number = length taken.steps; nest = map number_of (reverse taken.ends) } ∷ taken.variables;
     }
 
 -- the step of a place, and its variable
@@ -52,7 +52,7 @@ placed_with ask.leave taken = with_step step.Leave taken
 
 -- what a variable of a matcher stands for
 abbrev pub where_of : Binder → Where
-where_of it = record { name = it.name; number = it.number; nest = it.nest.items }
+where_of it = record { variable = record { name = it.name; fragment = it.fragment }; number = it.number; nest = it.nest.items }
 
 -- the beginning of the innermost repetition that is open
 abbrev pub with_beginning : List End → Taken → Taken

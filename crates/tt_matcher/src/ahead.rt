@@ -1,13 +1,15 @@
 //! The tree that an input goes on with, decoded once for all threads.
-ghost use Rattle.std.specs.Prelude.{◌≡◌, ◌↔◌, ◌-◌, IsTrue, MatchOption, true, false};
+ghost use Rattle.std.specs.Prelude.{◌≡◌, ◌↔◌, IfOk, IsTrue, MatchOption};
 ghost use Rattle.tt.specs.Iters.{rest_of};
-ghost use Rattle.tt_matcher.specs.Aheads.{IsAhead, IsLeafAhead, IsNodeAhead};
-ghost use Rattle.tt_matcher.specs.Fragments.{takes, takes_nothing, reach};
+ghost use Rattle.tt_matcher.specs.Aheads.{IsAhead, IsLeafAhead, IsNodeAhead, TakesNone, WaitsFor};
+ghost use Rattle.tt_matcher.specs.Fragments.{takes, reach};
+ghost use Rattle.tt_pattern.specs.declared.pattern.Fragment.TheVariants as fragment_of;
 ghost use Rattle.tt_pattern.specs.Units.{unit_size, IsLeafLike, IsUnitLike};
 
-use crate::asks::{are_leaves_like, is_same_leaf, reach, takes, takes_nothing};
+use crate::asks::{are_leaves_like, grammar_reach, is_same_leaf, reach, takes, takes_nothing};
+use std::alloc::{AllocError, Global};
 use tt::{DelimiterKind, Leaf, Spacing, TtElement, TtIter};
-use tt_pattern::{Fragment, unit_size};
+use tt_pattern::{Fragment, GrammarFragment, unit_size};
 
 /// The tree that stands first, and where it stands.
 #[derive(Drop)]
@@ -73,39 +75,62 @@ impl<'i> Ahead<'i> {
     }
 
     // Whether the fragment takes what stands first.
-    fn takes(&self, fragment: Fragment) -> bool
+    fn takes(&self, alloc: Global, fragment: Fragment) -> Result<bool, AllocError>
         requires { IsAhead self.now }
-        ensures { result ≡ takes fragment (rest_of self.now.trees) }
+        ensures { IfOk result (λ answer. answer ≡ takes fragment (rest_of self.now.trees)) }
     {
         match (fragment, &self.first) {
-            (Fragment::Tt, _) => true,
-            (Fragment::Ident, TtElement::Leaf(Leaf::Ident(ident))) => ident.sym.as_str() != "_",
-            (Fragment::Literal, TtElement::Leaf(Leaf::Literal(_))) => true,
-            _ => takes(fragment, self.trees.remaining().iter()),
+            (Fragment::Tt, _) => Ok(true),
+            (Fragment::Ident, TtElement::Leaf(Leaf::Ident(ident))) => Ok(ident.sym.as_str() != "_"),
+            (Fragment::Literal, TtElement::Leaf(Leaf::Literal(_))) => Ok(true),
+            _ => takes(alloc, fragment, self.trees.remaining().iter()),
         }
     }
 
     // How many trees it takes.
-    fn reach(&self, fragment: Fragment) -> usize
+    fn reach(&self, alloc: Global, fragment: Fragment) -> Result<usize, AllocError>
         requires { IsAhead self.now }
-        ensures { result ≡ reach fragment (rest_of self.now.trees) }
+        ensures { IfOk result (λ count. count ≡ reach fragment (rest_of self.now.trees)) }
     {
         match (fragment, &self.first) {
-            (Fragment::Tt, _) => self.unit_size(),
-            (Fragment::Literal, TtElement::Leaf(Leaf::Literal(_))) => 1,
-            _ => reach(fragment, self.trees.remaining().iter()),
+            (Fragment::Tt, _) => Ok(self.unit_size()),
+            (Fragment::Literal, TtElement::Leaf(Leaf::Literal(_))) => Ok(1),
+            _ => reach(alloc, fragment, self.trees.remaining().iter()),
         }
     }
 
-    /// For how many trees behind the first a thread waits that takes what the fragment takes, where that is a tree at least.
-    pub(crate) fn wait_behind(&self, fragment: Fragment) -> Option<usize>
+    // The same as `wait_behind` of a fragment of Rust's grammar, which is asked once.
+    fn wait_by_grammar(
+        &self,
+        alloc: Global,
+        fragment: GrammarFragment,
+    ) -> Result<Option<usize>, AllocError>
         requires { IsAhead self.now }
-        ensures { MatchOption result (((takes fragment (rest_of self.now.trees) ≡ true) → takes_nothing fragment (rest_of self.now.trees) ≡ true)) (λ wait. (takes fragment (rest_of self.now.trees) ≡ true) × (takes_nothing fragment (rest_of self.now.trees) ≡ false) × (wait ≡ reach fragment (rest_of self.now.trees) - 1)) }
+        ensures { IfOk result (λ found. MatchOption found (TakesNone (fragment_of.Grammar fragment) (rest_of self.now.trees)) (WaitsFor (fragment_of.Grammar fragment) (rest_of self.now.trees))) }
     {
-        if self.takes(fragment) && !takes_nothing(fragment, self.trees.remaining().iter()) {
-            Some(self.reach(fragment).saturating_sub(1))
+        match grammar_reach(alloc, fragment, self.trees.remaining().iter())? {
+            Some(count) => Ok(Some(count.saturating_sub(1))),
+            None => Ok(None),
+        }
+    }
+
+    /// For how many trees behind the first a thread waits that takes what the fragment takes, where that is a tree at least. It is
+    /// refused only where memory is.
+    pub(crate) fn wait_behind(
+        &self,
+        alloc: Global,
+        fragment: Fragment,
+    ) -> Result<Option<usize>, AllocError>
+        requires { IsAhead self.now }
+        ensures { IfOk result (λ found. MatchOption found (TakesNone fragment (rest_of self.now.trees)) (WaitsFor fragment (rest_of self.now.trees))) }
+    {
+        if let Fragment::Grammar(which) = fragment {
+            return self.wait_by_grammar(alloc, which);
+        }
+        if self.takes(alloc, fragment)? && !takes_nothing(fragment, self.trees.remaining().iter()) {
+            Ok(Some(self.reach(alloc, fragment)?.saturating_sub(1)))
         } else {
-            None
+            Ok(None)
         }
     }
 }

@@ -1,12 +1,16 @@
 //! What stands first among trees: the tokens of a pattern, and what its fragments take.
-ghost use Rattle.std.specs.Prelude.{◌≡◌, ◌↔◌, IsTrue};
+ghost use Rattle.std.specs.Prelude.{◌≡◌, ◌↔◌, IfOk, IsTrue};
 ghost use Rattle.tt.specs.Iters.{rest_of};
 ghost use Rattle.tt.specs.Moves.{after_tree};
-ghost use Rattle.tt_matcher.specs.Fragments.{is_at_number, is_at_negative, is_at_lifetime, is_at_block, is_at_word, is_scope, is_at_scope, visibility_size, takes, takes_nothing, reach};
+ghost use Rattle.tt_grammar.specs.Fragments.{Reaches};
+ghost use Rattle.tt_matcher.specs.Fragments.{is_at_number, is_at_negative, is_at_lifetime, is_at_block, is_at_word, is_scope, is_at_scope, visibility_size, literal_size, takes, takes_nothing, reach};
+ghost use Rattle.tt_matcher.specs.GrammarReach.{grammar_reach};
 ghost use Rattle.tt_pattern.specs.Units.{is_at_ident, unit_size, IsSameLeaf, IsLeafLike, AreLeavesLike};
 
+use std::alloc::{AllocError, Global};
 use tt::{DelimiterKind, IdentIsRaw, Leaf, LitKind, TtElement, TtIter};
-use tt_pattern::{Fragment, unit_size};
+use tt_grammar::reach as reach_by_grammar;
+use tt_pattern::{Fragment, GrammarFragment, unit_size};
 
 /// Whether the leaves are the same, spans and spacing put aside.
 pub(crate) fn is_same_leaf(leaf: &Leaf, other: &Leaf) -> bool
@@ -136,20 +140,37 @@ fn visibility_size(mut trees: TtIter<'_>) -> usize
     if is_at_scope(trees) { 2 } else { 1 }
 }
 
-/// Whether the fragment takes what stands first.
-pub(crate) fn takes(fragment: Fragment, mut trees: TtIter<'_>) -> bool
-    ensures { result ≡ takes fragment (rest_of trees.entry) }
+/// How many trees the fragment of Rust's grammar takes, if it takes what stands first. It is refused only where memory is.
+pub(crate) fn grammar_reach(
+    alloc: Global,
+    fragment: GrammarFragment,
+    trees: TtIter<'_>,
+) -> Result<Option<usize>, AllocError>
+    ensures reaches { IfOk result (λ count. Reaches fragment (rest_of trees.entry) count) }
+    ensures told { IfOk result (λ count. count ≡ grammar_reach fragment (rest_of trees.entry)) }
+{
+    reach_by_grammar(alloc, fragment, trees)
+}
+
+/// Whether the fragment takes what stands first. It is refused only where memory is.
+pub(crate) fn takes(
+    alloc: Global,
+    fragment: Fragment,
+    mut trees: TtIter<'_>,
+) -> Result<bool, AllocError>
+    ensures { IfOk result (λ answer. answer ≡ takes fragment (rest_of trees.entry)) }
 {
     match fragment {
-        Fragment::Ident => trees.expect_ident().is_ok(),
+        Fragment::Ident => Ok(trees.expect_ident().is_ok()),
         Fragment::Literal => {
             let ahead = trees.remaining().iter();
-            trees.expect_literal().is_ok() || is_at_negative(ahead)
+            Ok(trees.expect_literal().is_ok() || is_at_negative(ahead))
         }
-        Fragment::Lifetime => is_at_lifetime(trees),
-        Fragment::Block => is_at_block(trees),
-        Fragment::Vis => true,
-        Fragment::Tt => !trees.is_empty(),
+        Fragment::Lifetime => Ok(is_at_lifetime(trees)),
+        Fragment::Block => Ok(is_at_block(trees)),
+        Fragment::Vis => Ok(true),
+        Fragment::Tt => Ok(!trees.is_empty()),
+        Fragment::Grammar(which) => Ok(grammar_reach(alloc, which, trees)?.is_some()),
     }
 }
 
@@ -159,20 +180,36 @@ pub(crate) fn takes_nothing(fragment: Fragment, trees: TtIter<'_>) -> bool
 {
     match fragment {
         Fragment::Vis => !is_at_word(trees, "pub"),
-        Fragment::Ident | Fragment::Literal | Fragment::Lifetime | Fragment::Block | Fragment::Tt =>
-            false,
+        Fragment::Ident
+        | Fragment::Literal
+        | Fragment::Lifetime
+        | Fragment::Block
+        | Fragment::Tt
+        | Fragment::Grammar(_) => false,
     }
 }
 
-/// How many trees it takes.
-pub(crate) fn reach(fragment: Fragment, trees: TtIter<'_>) -> usize
-    ensures { result ≡ reach fragment (rest_of trees.entry) }
+// How many trees a literal is.
+fn literal_size(trees: TtIter<'_>) -> usize
+    ensures { result ≡ literal_size (rest_of trees.entry) }
+{
+    if is_at_negative(trees) { 2 } else { 1 }
+}
+
+/// How many trees it takes. It is refused only where memory is.
+pub(crate) fn reach(
+    alloc: Global,
+    fragment: Fragment,
+    trees: TtIter<'_>,
+) -> Result<usize, AllocError>
+    ensures { IfOk result (λ count. count ≡ reach fragment (rest_of trees.entry)) }
 {
     match fragment {
-        Fragment::Ident | Fragment::Block => 1,
-        Fragment::Literal => { if is_at_negative(trees) { 2 } else { 1 } }
-        Fragment::Lifetime => 2,
-        Fragment::Vis => visibility_size(trees),
-        Fragment::Tt => unit_size(trees),
+        Fragment::Ident | Fragment::Block => Ok(1),
+        Fragment::Literal => Ok(literal_size(trees)),
+        Fragment::Lifetime => Ok(2),
+        Fragment::Vis => Ok(visibility_size(trees)),
+        Fragment::Tt => Ok(unit_size(trees)),
+        Fragment::Grammar(which) => Ok(grammar_reach(alloc, which, trees)?.unwrap_or(1)),
     }
 }

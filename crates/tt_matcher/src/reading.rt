@@ -49,6 +49,7 @@ fn level_of<'i>(alloc: Global, rest: TtIter<'i>, until: usize) -> Level<'i>
 
 // The level, to which the threads move so.
 fn moved<'i>(
+    alloc: Global,
     places: &[Place],
     threads: &[Thread],
     by: &Move<'_>,
@@ -68,7 +69,7 @@ fn moved<'i>(
         until,
         threads: mut next,
     } = to;
-    step_all(places, threads, by, log, &mut next)?;
+    step_all(alloc, places, threads, by, log, &mut next)?;
     Ok(Level {
         rest,
         until,
@@ -127,13 +128,13 @@ fn pass<'i>(
     } = behind;
     let inner_until = until.saturating_sub(rest.remaining().len());
     let next = level_of(alloc, rest, until);
-    let next = moved(places, &threads, &Move::Passes(ahead), next, log)?;
+    let next = moved(alloc, places, &threads, &Move::Passes(ahead), next, log)?;
     levels.push(next)?;
     let Some((kind, children)) = entered else {
         return Ok(());
     };
     let inside = level_of(alloc, children, inner_until);
-    let inside = moved(places, &threads, &Move::Enters(kind), inside, log)?;
+    let inside = moved(alloc, places, &threads, &Move::Enters(kind), inside, log)?;
     if inside.threads.is_empty() {
         return Ok(());
     }
@@ -163,7 +164,7 @@ fn advance<'i>(
     match levels.pop() {
         None => Ok(Some(level.threads)),
         Some(outer) => {
-            let next = moved(places, &level.threads, &Move::Ends, outer, log)?;
+            let next = moved(alloc, places, &level.threads, &Move::Ends, outer, log)?;
             levels.push(next)?;
             Ok(None)
         }

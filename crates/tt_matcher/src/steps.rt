@@ -39,10 +39,12 @@ pub(crate) struct End {
     behind: usize,
 }
 
-/// A variable of a pattern: its name, if it has one, its number, and those of the repetitions that it stands in, the outermost first.
+/// A variable of a pattern: its name, if it has one, what it takes, its number, and those of the repetitions that it stands in, the
+/// outermost first.
 #[derive(Drop)]
 pub struct Binder {
     pub name: Option<Symbol>,
+    pub fragment: Fragment,
     pub number: usize,
     pub nest: Vec<usize>,
 }
@@ -119,6 +121,7 @@ impl Stepped {
         Ok(
             self.binders.push(Binder {
                 name: name_again(&variable.name)?,
+                fragment: variable.fragment,
                 number: self.steps.len(),
                 nest: nest_of(alloc, &self.ends)?,
             })?,

@@ -1,12 +1,12 @@
 //! Threads: the places at which the paths through an input are.
-ghost use Rattle.std.specs.Prelude.{◌≡◌, ◌≤◌, OnOk, length, MatchOption};
+ghost use Rattle.std.specs.Prelude.{◌≡◌, ◌≤◌, IfOk, OnOk, length, MatchOption};
 ghost use Rattle.tt_matcher.specs.Aheads.{IsAheadIn};
 ghost use Rattle.tt_matcher.specs.Asks.{ask_of};
 ghost use Rattle.tt_matcher.specs.Threads.{threads_meet, thread_added, threads_spread, view_of, views_of, AreWithin, IsGrown, IsMoved, wait_of, is_waiting, threads_waited, StepsOn, Steps, AllStep};
 
 use crate::ahead::Ahead;
 use crate::places::{Atom, Place};
-use std::alloc::AllocError;
+use std::alloc::{AllocError, Global};
 use tt::DelimiterKind;
 
 /// A turn of a path: the number of the edge that it takes, and that of the turn before it. Turns are numbered from 1, and 0 is
@@ -38,22 +38,22 @@ pub(crate) enum Move<'i> {
 }
 
 // Where what the atom asks is there: for how many trees behind the first a thread then waits.
-fn moved(by: &Move<'_>, atom: &Atom) -> Option<usize>
+fn moved(alloc: Global, by: &Move<'_>, atom: &Atom) -> Result<Option<usize>, AllocError>
     requires { IsAheadIn by.now }
-    ensures { MatchOption result (IsMoved by.now (ask_of atom.now) → ⊥) (λ wait. IsMoved by.now (ask_of atom.now) × (wait ≡ wait_of by.now (ask_of atom.now))) }
+    ensures { IfOk result (λ found. MatchOption found (IsMoved by.now (ask_of atom.now) → ⊥) (λ wait. IsMoved by.now (ask_of atom.now) × (wait ≡ wait_of by.now (ask_of atom.now)))) }
 {
     match (by, atom) {
-        (Move::Passes(ahead), Atom::Take(variable)) => ahead.wait_behind(variable.fragment),
+        (Move::Passes(ahead), Atom::Take(variable)) => ahead.wait_behind(alloc, variable.fragment),
         (Move::Passes(ahead), Atom::Same(leaves)) => {
             if ahead.is_unit_like(leaves) {
-                Some(leaves.len().saturating_sub(1))
+                Ok(Some(leaves.len().saturating_sub(1)))
             } else {
-                None
+                Ok(None)
             }
         }
-        (Move::Enters(kind), Atom::Enter(other)) if *kind == *other => Some(0),
-        (Move::Ends, Atom::Leave) => Some(0),
-        _ => None,
+        (Move::Enters(kind), Atom::Enter(other)) if *kind == *other => Ok(Some(0)),
+        (Move::Ends, Atom::Leave) => Ok(Some(0)),
+        _ => Ok(None),
     }
 }
 
@@ -107,6 +107,7 @@ pub(crate) fn spread_to(
 
 // Adds what comes of a thread that is at its place, as the input goes on.
 fn step_on(
+    alloc: Global,
     places: &[Place],
     thread: Thread,
     by: &Move<'_>,
@@ -123,7 +124,7 @@ fn step_on(
     let Some(place) = places.get(thread.at) else {
         return Ok(());
     };
-    let Some(wait) = moved(by, &place.atom) else {
+    let Some(wait) = moved(alloc, by, &place.atom)? else {
         return Ok(());
     };
     log.push(thread.last)?;
@@ -158,6 +159,7 @@ fn step_nearer(thread: Thread, by: &Move<'_>, next: &mut Vec<Thread>) -> Result<
 
 // Adds what comes of a thread, as the input goes on.
 fn step_one(
+    alloc: Global,
     places: &[Place],
     thread: Thread,
     by: &Move<'_>,
@@ -174,12 +176,13 @@ fn step_one(
     if is_waiting(by, thread.wait) {
         step_nearer(thread, by, next)
     } else {
-        step_on(places, thread, by, log, next)
+        step_on(alloc, places, thread, by, log, next)
     }
 }
 
 // Adds what comes of each of the threads, as the input goes on.
 pub(crate) fn step_all(
+    alloc: Global,
     places: &[Place],
     threads: &[Thread],
     by: &Move<'_>,
@@ -194,7 +197,7 @@ pub(crate) fn step_all(
     ensures now_within { OnOk result (AreWithin log.new.items next.new.items) }
 {
     for thread in threads {
-        step_one(places, *thread, by, log, next)?;
+        step_one(alloc, places, *thread, by, log, next)?;
     }
     Ok(())
 }

@@ -52,6 +52,7 @@ fn take<'i>(trees: &mut TtIter<'i>, count: usize) -> TokenTreesView<'i>
 
 // What the fragment takes of the innermost level.
 fn take_of<'i>(
+    alloc: Global,
     levels: &mut Vec<TtIter<'i>>,
     fragment: Fragment,
 ) -> Result<TokenTreesView<'i>, AllocError>
@@ -61,7 +62,7 @@ fn take_of<'i>(
     let Some(mut trees) = levels.pop() else {
         return Ok(TokenTreesView::empty());
     };
-    let count = reach(fragment, trees.remaining().iter());
+    let count = reach(alloc, fragment, trees.remaining().iter())?;
     let view = take(&mut trees, count);
     levels.push(trees)?;
     Ok(view)
@@ -111,7 +112,12 @@ fn behind(steps: &[Step], count: usize) -> &[Step]
 
 impl<'s, 'i> Walk<'s, 'i> {
     // A variable takes trees.
-    fn take(self, rest: &'s [Step], fragment: Fragment) -> Result<Walk<'s, 'i>, AllocError>
+    fn take(
+        self,
+        alloc: Global,
+        rest: &'s [Step],
+        fragment: Fragment,
+    ) -> Result<Walk<'s, 'i>, AllocError>
         ensures { IfOk result (λ next. IsWalked (forward rest.now (passed (reach fragment (front (spot_of self.entry).levels)) (spot_of self.entry).levels) (spot_of self.entry)) (taken_note (length rest.now) (taken fragment (front (spot_of self.entry).levels)) ∷ []) self.entry next) }
     {
         let Walk {
@@ -121,7 +127,7 @@ impl<'s, 'i> Walk<'s, 'i> {
             mut marks,
             ..
         } = self;
-        let view = take_of(&mut levels, fragment)?;
+        let view = take_of(alloc, &mut levels, fragment)?;
         marks.push(Mark::Took(rest.len(), view))?;
         Ok(Walk {
             here: rest,
@@ -263,12 +269,12 @@ impl<'s, 'i> Walk<'s, 'i> {
     }
 
     // One step, by a turn.
-    fn advance(self, turn: usize) -> Result<Walk<'s, 'i>, AllocError>
+    fn advance(self, alloc: Global, turn: usize) -> Result<Walk<'s, 'i>, AllocError>
         ensures { IfOk result (λ next. walked_by turn self.entry next) }
     {
         match self.here.split_first() {
             None => Ok(self),
-            Some((Step::Take(fragment), rest)) => self.take(rest, *fragment),
+            Some((Step::Take(fragment), rest)) => self.take(alloc, rest, *fragment),
             Some((Step::Pass(count), rest)) => self.pass(rest, *count),
             Some((Step::Enter, rest)) => self.enter(rest),
             Some((Step::Leave, rest)) => Ok(self.leave(rest)),
@@ -300,7 +306,7 @@ pub(crate) fn marks_along<'i>(
         marks: Vec::new(alloc),
     };
     while let Some(turn) = walk.path.pop() {
-        walk = walk.advance(turn)?;
+        walk = walk.advance(alloc, turn)?;
     }
     Ok(walk.marks)
 }

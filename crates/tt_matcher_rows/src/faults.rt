@@ -2,7 +2,7 @@
 use crate::rows::{holds, tree_of};
 use std::alloc::Global;
 use std::test::Fail;
-use tt_matcher::{GrammarFragment, Matcher, PatternError};
+use tt_matcher::{Matcher, PatternError};
 
 // Whether nothing is wrong with the one pattern, and that with the other.
 fn is_told(alloc: Global, sound: &str, faulty: &str, fault: PatternError) -> Option<bool> {
@@ -15,8 +15,8 @@ fn is_told(alloc: Global, sound: &str, faulty: &str, fault: PatternError) -> Opt
     Some(error == fault)
 }
 
-// A sound pattern, a faulty one, and what is wrong with that: a `$` that begins nothing, fragments that are none, or none of those that
-// are supported, a name that is given twice, repetitions that may take no tree, a separator before `?`; and the first of several.
+// A sound pattern, a faulty one, and what is wrong with that: a `$` that begins nothing, fragments that are none, a name that is given
+// twice, repetitions that may take no tree, a separator before `?`; and the first of several.
 const FAULTS: [(&str, &str, PatternError); 60] = [
     ("a", "$", PatternError::BeginsNothing(0)),
     ("$crate", "$$crate", PatternError::BeginsNothing(0)),
@@ -48,55 +48,27 @@ const FAULTS: [(&str, &str, PatternError); 60] = [
         "a ($x:bloc)",
         PatternError::UnknownFragment(2),
     ),
+    ("$x:expr", "$x:exp", PatternError::UnknownFragment(0)),
     (
-        "$x:tt",
-        "$x:expr",
-        PatternError::UnsupportedFragment(0, GrammarFragment::Expr),
-    ),
-    (
-        "$x:tt",
         "$x:expr_2021",
-        PatternError::UnsupportedFragment(0, GrammarFragment::Expr2021),
+        "$x:expr_2024",
+        PatternError::UnknownFragment(0),
     ),
+    ("$x:ty", "$x:type", PatternError::UnknownFragment(0)),
+    ("$x:pat", "$x:pattern", PatternError::UnknownFragment(0)),
     (
-        "$x:tt",
-        "$x:ty",
-        PatternError::UnsupportedFragment(0, GrammarFragment::Ty),
-    ),
-    (
-        "$x:tt",
-        "$x:pat",
-        PatternError::UnsupportedFragment(0, GrammarFragment::Pat),
-    ),
-    (
-        "$x:tt",
         "$x:pat_param",
-        PatternError::UnsupportedFragment(0, GrammarFragment::PatParam),
+        "$x:pat_params",
+        PatternError::UnknownFragment(0),
     ),
+    ("$x:path", "$x:paths", PatternError::UnknownFragment(0)),
+    ("$x:stmt", "$x:statement", PatternError::UnknownFragment(0)),
+    ("$x:item", "$x:items", PatternError::UnknownFragment(0)),
+    ("$x:meta", "$x:Meta", PatternError::UnknownFragment(0)),
     (
-        "$x:tt",
-        "$x:path",
-        PatternError::UnsupportedFragment(0, GrammarFragment::Path),
-    ),
-    (
-        "$x:tt",
-        "$x:stmt",
-        PatternError::UnsupportedFragment(0, GrammarFragment::Stmt),
-    ),
-    (
-        "$x:tt",
-        "$x:item",
-        PatternError::UnsupportedFragment(0, GrammarFragment::Item),
-    ),
-    (
-        "$x:tt",
-        "$x:meta",
-        PatternError::UnsupportedFragment(0, GrammarFragment::Meta),
-    ),
-    (
-        "$x:lifetime $y:literal",
         "$x:lifetime $y:r#ty",
-        PatternError::UnsupportedFragment(4, GrammarFragment::Ty),
+        "$x:lifetime $y:r#t",
+        PatternError::UnknownFragment(4),
     ),
     ("$x:tt $y:tt", "$x:tt $x:tt", PatternError::NameTwice(4)),
     ("$x:tt $r#y:tt", "$x:tt $r#x:tt", PatternError::NameTwice(4)),
@@ -155,9 +127,9 @@ const FAULTS: [(&str, &str, PatternError); 60] = [
         PatternError::UnknownFragment(6),
     ),
     (
-        "$($x:tt $(b)*)? c",
-        "$($x:expr $(b)*)? $",
-        PatternError::UnsupportedFragment(2, GrammarFragment::Expr),
+        "$($x:expr $(b)*)? c",
+        "$($x:exp $(b)*)? $",
+        PatternError::UnknownFragment(2),
     ),
     (
         "$(a $(b)*)* c",

@@ -156,12 +156,15 @@ colon_alone = refl
 parentheses_alone : pattern_fault (rounds (comma end) end) ≡ Some (error.BeginsNothing 0)
 parentheses_alone = refl
 
--- `$x:foo` and `$x:expr`.
+-- `$x:foo`, and `$x:expr`, which spells a variable of Rust's grammar.
 unknown_fragment : pattern_fault (comma (var x (codes "foo") end)) ≡ Some (error.UnknownFragment 1)
 unknown_fragment = refl
 
-known_fragment : pattern_fault (comma (var x (codes "expr") end)) ≡ Some (error.UnsupportedFragment 1 grammar.Expr)
+known_fragment : pattern_fault (comma (var x (codes "expr") end)) ≡ None
 known_fragment = refl
+
+grammar_spells : pattern_of (var x (codes "expr_2021") end) ≡ variable (record { name = Some x; fragment = fragment.Grammar grammar.Expr2021 }) nothing
+grammar_spells = refl
 
 -- `$x:tt $x:tt` and `$x:tt $r#x:tt`; `[$x:tt] $($x:tt)*`.
 name_twice : pattern_fault (var x tts (var x tts end)) ≡ Some (error.NameTwice 4)

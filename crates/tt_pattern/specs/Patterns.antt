@@ -45,6 +45,7 @@ may_take_none fragment.Lifetime = false
 may_take_none fragment.Block = false
 may_take_none fragment.Vis = true
 may_take_none fragment.Tt = false
+may_take_none (fragment.Grammar which) = false
 
 -- the pattern may take no tree at all
 abbrev pub may_be_empty : Pattern → Bool

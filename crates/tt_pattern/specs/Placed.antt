@@ -1,5 +1,5 @@
 -- A pattern whose `$` have their places, and how trees spell it.
-use Rattle.std.specs.Prelude.{◌-◌, ℕ, zero, suc, Bool, true, false, List, [], ◌∷◌, Option, None, Some, codes, bytes_eq, if◌then◌else◌}
+use Rattle.std.specs.Prelude.{◌-◌, ℕ, zero, suc, Bool, true, false, List, [], ◌∷◌, Option, None, Some, codes, if◌then◌else◌}
 use Rattle.tt.specs.Expectations.{first_leaf_as, as_ident_or_underscore}
 use Rattle.tt.specs.Forest.{Forest, end, leaf, node, size}
 use Rattle.tt.specs.Moves.{after_tree}
@@ -8,8 +8,6 @@ use Rattle.tt.specs.Types.Ident.{Ident}
 use Rattle.tt.specs.Types.Leaf.{Leaf}
 use Rattle.tt_pattern.specs.declared.error.PatternError.{PatternError}
 use Rattle.tt_pattern.specs.declared.error.PatternError.TheVariants as error
-use Rattle.tt_pattern.specs.declared.pattern.GrammarFragment.{GrammarFragment}
-use Rattle.tt_pattern.specs.declared.pattern.GrammarFragment.TheVariants as grammar
 use Rattle.tt_pattern.specs.declared.pattern.RepeatKind.{RepeatKind}
 use Rattle.tt_pattern.specs.declared.pattern.Variable.{Variable}
 use Rattle.tt_pattern.specs.Patterns.{Pattern}
@@ -45,29 +43,13 @@ inner_part (token its others) = nothing
 inner_part (subtree kind inner others) = inner
 inner_part (repetition at inner separator op others) = inner
 
--- the fragment of Rust's grammar that has that name
-abbrev pub grammar_named : List ℕ → Option GrammarFragment
-grammar_named text =
-    if bytes_eq text (codes "expr") then Some grammar.Expr
-    else (if bytes_eq text (codes "expr_2021") then Some grammar.Expr2021
-    else (if bytes_eq text (codes "ty") then Some grammar.Ty
-    else (if bytes_eq text (codes "pat") then Some grammar.Pat
-    else (if bytes_eq text (codes "pat_param") then Some grammar.PatParam
-    else (if bytes_eq text (codes "path") then Some grammar.Path
-    else (if bytes_eq text (codes "stmt") then Some grammar.Stmt
-    else (if bytes_eq text (codes "item") then Some grammar.Item else (if bytes_eq text (codes "meta") then Some grammar.Meta else None))))))))
-
--- what is wrong with a variable whose fragment is none, or is one of Rust's grammar
-abbrev pub fragment_fault : (at : ℕ) → Option GrammarFragment → PatternError
-fragment_fault at None = error.UnknownFragment at
-fragment_fault at (Some it) = error.UnsupportedFragment at it
-
--- what is wrong with a `$` at that place: a name, a colon and an ident are there, and else it begins nothing
+-- what is wrong with a `$` at that place that begins nothing: a name, a colon and an ident are there, which names no fragment, or else it
+-- begins nothing
 abbrev pub fault_from : (at : ℕ) → (name : Option Ident) → (colon : Bool) → (fragment : Option Ident) → PatternError
 fault_from at None colon fragment = error.BeginsNothing at
 fault_from at (Some it) false fragment = error.BeginsNothing at
 fault_from at (Some it) true None = error.BeginsNothing at
-fault_from at (Some it) true (Some word) = fragment_fault at (grammar_named word.sym)
+fault_from at (Some it) true (Some word) = error.UnknownFragment at
 
 -- what is wrong with a `$` at that place that begins nothing, before these siblings
 abbrev pub fault_in : (at : ℕ) → Forest → PatternError

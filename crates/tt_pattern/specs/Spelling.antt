@@ -1,5 +1,5 @@
 -- What pattern trees spell.
-use Rattle.std.specs.Prelude.{◌==◌, ◌-◌, not, ℕ, suc, zero, Bool, true, false, List, [], ◌∷◌, length, Option, None, Some, codes, bytes_eq, if◌then◌else◌}
+use Rattle.std.specs.Prelude.{◌==◌, ◌-◌, not, ℕ, suc, zero, Bool, true, false, List, [], ◌∷◌, length, Option, None, Some, option_map, codes, bytes_eq, if◌then◌else◌}
 use Rattle.tt.specs.Expectations.{first_leaf_as, as_ident_or_underscore}
 use Rattle.tt.specs.Forest.{Forest, end, leaf, node}
 use Rattle.tt.specs.Gluing.{after_trees}
@@ -13,6 +13,8 @@ use Rattle.tt.specs.Types.Leaf.{Leaf}
 use Rattle.tt.specs.Types.Leaf.TheVariants as leaf_of
 use Rattle.tt_pattern.specs.declared.pattern.Fragment.{Fragment}
 use Rattle.tt_pattern.specs.declared.pattern.Fragment.TheVariants as fragment
+use Rattle.tt_pattern.specs.declared.pattern.GrammarFragment.{GrammarFragment}
+use Rattle.tt_pattern.specs.declared.pattern.GrammarFragment.TheVariants as grammar
 use Rattle.tt_pattern.specs.declared.pattern.RepeatKind.{RepeatKind}
 use Rattle.tt_pattern.specs.declared.pattern.RepeatKind.TheVariants as repeat
 use Rattle.tt_pattern.specs.declared.pattern.Variable.{Variable}
@@ -26,6 +28,18 @@ is_dollar (leaf_of.Literal it) = false
 is_dollar (leaf_of.Punct it) = it.char == 36
 is_dollar (leaf_of.Ident it) = false
 
+-- the fragment of Rust's grammar that has that name
+abbrev pub grammar_named : List ℕ → Option GrammarFragment
+grammar_named text =
+    if bytes_eq text (codes "expr") then Some grammar.Expr
+    else (if bytes_eq text (codes "expr_2021") then Some grammar.Expr2021
+    else (if bytes_eq text (codes "ty") then Some grammar.Ty
+    else (if bytes_eq text (codes "pat") then Some grammar.Pat
+    else (if bytes_eq text (codes "pat_param") then Some grammar.PatParam
+    else (if bytes_eq text (codes "path") then Some grammar.Path
+    else (if bytes_eq text (codes "stmt") then Some grammar.Stmt
+    else (if bytes_eq text (codes "item") then Some grammar.Item else (if bytes_eq text (codes "meta") then Some grammar.Meta else None))))))))
+
 -- the fragment of that name
 abbrev pub fragment_named : List ℕ → Option Fragment
 fragment_named text =
@@ -33,7 +47,8 @@ fragment_named text =
     else (if bytes_eq text (codes "literal") then Some fragment.Literal
     else (if bytes_eq text (codes "lifetime") then Some fragment.Lifetime
     else (if bytes_eq text (codes "block") then Some fragment.Block
-    else (if bytes_eq text (codes "vis") then Some fragment.Vis else (if bytes_eq text (codes "tt") then Some fragment.Tt else None)))))
+    else (if bytes_eq text (codes "vis") then Some fragment.Vis
+    else (if bytes_eq text (codes "tt") then Some fragment.Tt else option_map fragment.Grammar (grammar_named text))))))
 
 -- the fragment that an ident names, raw or not
 abbrev pub fragment_from : Option Ident → Option Fragment

@@ -15,7 +15,7 @@ pub enum PatternError {
     /// No fragment has the name that the variable gives.
     #[error("there is no such fragment")]
     UnknownFragment(usize),
-    /// The variable's fragment is one of Rust's grammar, and those are not supported yet.
+    /// The variable's fragment is one of Rust's grammar that is not supported. All of them are, so this does not come.
     #[error("the fragment is not supported")]
     UnsupportedFragment(usize, GrammarFragment),
     /// The name was given to a variable before, raw or not.

@@ -3,15 +3,15 @@ ghost use Rattle.std.specs.Prelude.{◌≡◌, ◌-◌, true, IfOk};
 ghost use Rattle.tt.specs.Forest.{leaf, size};
 ghost use Rattle.tt.specs.Iters.{rest_of};
 ghost use Rattle.tt_pattern.specs.Judging.{IsFirst};
-ghost use Rattle.tt_pattern.specs.Placed.{grammar_named, fragment_fault, fault_in, placed_until};
+ghost use Rattle.tt_pattern.specs.Placed.{fault_in, placed_until};
 ghost use Rattle.tt_pattern.specs.Spelling.{is_dollar};
 
 use crate::error::PatternError;
-use crate::pattern::{GrammarFragment, Variable};
+use crate::pattern::Variable;
 use crate::signs::{Sign, Tail, is_dollar, pass, sign_in};
 use crate::units::unit_size;
 use std::alloc::{AllocError, Global};
-use tt::{DelimiterKind, Leaf, Symbol, TtElement, TtIter};
+use tt::{DelimiterKind, Leaf, TtElement, TtIter};
 
 /// The part of a pattern that comes first. A variable and a repetition have the flat place of their `$`, and what a subtree or a
 /// repetition holds has the one behind its last token.
@@ -27,36 +27,6 @@ pub(crate) enum First<'p> {
     Repetition(usize, TtIter<'p>, usize, Tail),
 }
 
-impl GrammarFragment {
-    // The fragment of Rust's grammar that has that name.
-    fn named(name: &Symbol) -> Option<GrammarFragment>
-        ensures { result ≡ grammar_named name.now }
-    {
-        match name.as_str() {
-            "expr" => Some(GrammarFragment::Expr),
-            "expr_2021" => Some(GrammarFragment::Expr2021),
-            "ty" => Some(GrammarFragment::Ty),
-            "pat" => Some(GrammarFragment::Pat),
-            "pat_param" => Some(GrammarFragment::PatParam),
-            "path" => Some(GrammarFragment::Path),
-            "stmt" => Some(GrammarFragment::Stmt),
-            "item" => Some(GrammarFragment::Item),
-            "meta" => Some(GrammarFragment::Meta),
-            _ => None,
-        }
-    }
-}
-
-// What is wrong with a variable whose fragment has that name, which is no fragment that is supported.
-fn fragment_fault(at: usize, name: &Symbol) -> PatternError
-    ensures { result ≡ fragment_fault at (grammar_named name.now) }
-{
-    match GrammarFragment::named(name) {
-        Some(fragment) => PatternError::UnsupportedFragment(at, fragment),
-        None => PatternError::UnknownFragment(at),
-    }
-}
-
 // What is wrong with a `$` at that place that begins nothing, behind which the siblings stand.
 fn fault_in(at: usize, mut siblings: TtIter<'_>) -> PatternError
     ensures { result ≡ fault_in at (rest_of siblings.entry) }
@@ -65,7 +35,7 @@ fn fault_in(at: usize, mut siblings: TtIter<'_>) -> PatternError
         return PatternError::BeginsNothing(at);
     }
     match siblings.expect_ident_or_underscore() {
-        Ok(ident) => fragment_fault(at, &ident.sym),
+        Ok(_) => PatternError::UnknownFragment(at),
         Err(()) => PatternError::BeginsNothing(at),
     }
 }

@@ -87,8 +87,12 @@ fn may_take_none(fragment: Fragment) -> bool
 {
     match fragment {
         Fragment::Vis => true,
-        Fragment::Ident | Fragment::Literal | Fragment::Lifetime | Fragment::Block | Fragment::Tt =>
-            false,
+        Fragment::Ident
+        | Fragment::Literal
+        | Fragment::Lifetime
+        | Fragment::Block
+        | Fragment::Tt
+        | Fragment::Grammar(_) => false,
     }
 }
 

@@ -16,6 +16,8 @@ pub enum Fragment {
     Vis,
     /// Any token or subtree.
     Tt,
+    /// A piece of Rust, as far as its grammar reaches.
+    Grammar(GrammarFragment),
 }
 
 /// A variable of a pattern. One that is written `_` has no name.
@@ -36,7 +38,7 @@ pub enum RepeatKind {
     ZeroOrOne,
 }
 
-/// A fragment of Rust's grammar. None of them is supported yet.
+/// A fragment of Rust's grammar.
 #[derive(Debug, Clone, Copy, PartialEq, Eq)]
 pub enum GrammarFragment {
     /// `expr`.

@@ -4,10 +4,10 @@ ghost use Rattle.tt.specs.Forest.{size};
 ghost use Rattle.tt.specs.Gluing.{after_trees};
 ghost use Rattle.tt.specs.Iters.{rest_of};
 ghost use Rattle.tt_pattern.specs.Signs.{tail_of, sign_of};
-ghost use Rattle.tt_pattern.specs.Spelling.{is_dollar, fragment_named, fragment_in, name_of, variable_in, repeat_kind_of, as_repeat_kind, is_separator, tail_in, is_parenthesis, repetition_in, is_crate_in, sign_in};
+ghost use Rattle.tt_pattern.specs.Spelling.{is_dollar, grammar_named, fragment_named, fragment_in, name_of, variable_in, repeat_kind_of, as_repeat_kind, is_separator, tail_in, is_parenthesis, repetition_in, is_crate_in, sign_in};
 ghost use Rattle.tt_pattern.specs.Units.{front_leaves, first_unit};
 
-use crate::pattern::{Fragment, RepeatKind, Variable};
+use crate::pattern::{Fragment, GrammarFragment, RepeatKind, Variable};
 use crate::units::unit_size;
 use std::alloc::{AllocError, Global};
 use tt::{DelimiterKind, Ident, IdentIsRaw, Leaf, Symbol, TtElement, TtIter};
@@ -71,6 +71,26 @@ pub(crate) fn first_unit(alloc: Global, trees: TtIter<'_>) -> Result<Vec<Leaf>, 
     front_leaves(alloc, count, trees)
 }
 
+impl GrammarFragment {
+    // The fragment of Rust's grammar that has that name.
+    fn named(name: &Symbol) -> Option<GrammarFragment>
+        ensures { result ≡ grammar_named name.now }
+    {
+        match name.as_str() {
+            "expr" => Some(GrammarFragment::Expr),
+            "expr_2021" => Some(GrammarFragment::Expr2021),
+            "ty" => Some(GrammarFragment::Ty),
+            "pat" => Some(GrammarFragment::Pat),
+            "pat_param" => Some(GrammarFragment::PatParam),
+            "path" => Some(GrammarFragment::Path),
+            "stmt" => Some(GrammarFragment::Stmt),
+            "item" => Some(GrammarFragment::Item),
+            "meta" => Some(GrammarFragment::Meta),
+            _ => None,
+        }
+    }
+}
+
 impl Fragment {
     // The fragment of that name.
     fn named(name: &Symbol) -> Option<Fragment>
@@ -83,7 +103,7 @@ impl Fragment {
             "block" => Some(Fragment::Block),
             "vis" => Some(Fragment::Vis),
             "tt" => Some(Fragment::Tt),
-            _ => None,
+            _ => Some(Fragment::Grammar(GrammarFragment::named(name)?)),
         }
     }
 }

@@ -2,9 +2,10 @@
 use Rattle.std.proofs.Common.{◌≡◌, ◌+◌, ◌<◌, ℕ, suc, List, [], ◌∷◌, ◌++◌, length, take, get_or, inl, inr, Ok, Err, Result, refl, ap, sym, subst, ◌∙◌, arith}
 use Rattle.std.specs.Prelude.{OnOk, IfOk, IfErr}
 use Rattle.std.proofs.lemmas.List.{take_more, length-take-le}
-use Rattle.tt.specs.Building.{alone, Stack, lowest, above, close_innermost, extended, tokens_held, HasRoom, IsAbove, IsGrowthFault}
+use Rattle.tt.specs.Building.{alone, BuilderState, Stack, lowest, above, append, close_innermost, opened, extended, closed, tokens_held, HasRoom, IsAbove, IsGrowthFault}
 use Rattle.tt.specs.Forest.{Forest, end, leaf, node, join, size}
 use Rattle.tt.specs.Siblings.{leaves}
+use Rattle.tt.specs.Types.DelimiterKind.TheVariants.{InvisibleOpaque}
 use Rattle.tt.specs.Types.Leaf.{Leaf}
 use Rattle.tt.specs.Types.Span.{Span}
 use Rattle.tt.specs.Types.TtFault.{TtFault}
@@ -17,7 +18,8 @@ pub grows_by : (more : Forest) (old new : Filling) → new.builder ≡ extended 
     → new.closes ≡ old.closes → Grows more old new
 grows_by more old new builder room rounds closes =
     record {
-      builder = builder;
+      stack = ap (λ b. b.stack) builder;
+      top = ap (λ b. b.top) builder;
       few = λ few. omega (arith, ap (λ b. tokens_held b.stack) builder, held-append more old.builder.stack, room);
       rounds = rounds;
       closes = closes;
@@ -30,14 +32,14 @@ growth_wants more old fault (inr (e, many)) = inr (e, many)
 
 -- Nothing is written.
 pub grows_none : (old : Filling) → Grows end old old
-grows_none old = record { builder = ap (λ s. record old.builder { stack = s }) (sym (append-end old.builder.stack)); few = λ few. few; rounds = refl; closes = refl }
+grows_none old = record { stack = sym (append-end old.builder.stack); top = refl; few = λ few. few; rounds = refl; closes = refl }
 
 -- Trees, and then others.
 grows_both : (f g : Forest) (old between new : Filling) → Grows f old between → Grows g between new → Grows (join f g) old new
 grows_both f g old between new first then =
     record {
-      builder =
-          then.builder ∙ ap (extended g) first.builder ∙ ap (λ s. record old.builder { stack = s }) (sym (append-join f g old.builder.stack));
+      stack = then.stack ∙ ap (append g) first.stack ∙ sym (append-join f g old.builder.stack);
+      top = then.top ∙ first.top;
       few = λ few. then.few (first.few few);
       rounds = then.rounds ∙ first.rounds;
       closes = then.closes ∙ first.closes;
@@ -68,7 +70,7 @@ wants_more its n old between fault within first (inr (e, many)) =
         arith,
         many,
         within,
-        ap (λ b. tokens_held b.stack) first.builder,
+        ap tokens_held first.stack,
         held-append (leaves (take n its)) old.builder.stack,
         size_leaves (take n its),
         size_leaves its,
@@ -82,6 +84,10 @@ none_closed span (lowest trees) none = refl
 none_closed span (above outer kind open_span trees) none = absurd (none tt)
 
 -- What holds of an answer, from what does.
+pub on_ok : {A E P Q : Type 0} (result : Result A E) → (P → Q) → OnOk result P → OnOk result Q
+on_ok (Ok x) then p = then p
+on_ok (Err e) then p = tt
+
 pub ok_both : {A E P Q R : Type 0} (result : Result A E) → (P → Q → R) → OnOk result P → OnOk result Q → OnOk result R
 ok_both (Ok x) then p q = then p q
 ok_both (Err e) then p q = tt
@@ -103,3 +109,33 @@ size-alone (leaf it (node next children rest)) = ap suc (size-alone (node next c
 size-alone (node delimiter children end) = omega (arith, size-alone children)
 size-alone (node delimiter children (leaf next rest)) = omega (arith, size-alone (leaf next rest))
 size-alone (node delimiter children (node next inner rest)) = omega (arith, size-alone (node next inner rest))
+
+module _ (old : Filling) (trees : Forest) (first last : Span) where
+  -- an opaque subtree of these
+  abbrev pub held : Forest
+  held = node (record { open_span = first; close = last; kind = InvisibleOpaque }) trees end
+
+  abbrev pub within : BuilderState
+  within = extended trees (opened InvisibleOpaque first old.builder)
+
+  -- Trees that are written between where a subtree opens and closes are written in it.
+  pub grows_held : (new : Filling) → new.builder ≡ closed last within → HasRoom 1 old.builder → HasRoom (size trees) (opened InvisibleOpaque first old.builder)
+      → new.rounds ≡ old.rounds → new.closes ≡ old.closes → Grows held old new
+  grows_held new builder room inside rounds closes =
+      let stack : new.builder.stack ≡ append held old.builder.stack = ap (λ b. b.stack) builder in
+      record {
+        stack = stack;
+        top = ap (λ b. b.top) builder;
+        few = λ few. omega (arith, ap tokens_held stack, held-append held old.builder.stack, room, inside);
+        rounds = rounds;
+        closes = closes;
+      }
+
+  -- It is refused where it is opened, or what it holds is.
+  pub opening_wants : (fault : TtFault) → IsGrowthFault 1 old.builder fault → IsWant (size held) old fault
+  opening_wants fault (inl (e, room)) = inl e
+  opening_wants fault (inr (e, many)) = inr (e, omega (arith, many))
+
+  pub holding_wants : (fault : TtFault) → IsGrowthFault (size trees) (opened InvisibleOpaque first old.builder) fault → IsWant (size held) old fault
+  holding_wants fault (inl (e, room)) = inl e
+  holding_wants fault (inr (e, many)) = inr (e, omega (arith, many))

@@ -11,7 +11,7 @@ use Rattle.tt_template.specs.Standing.{later, bound_here}
 -- One way of narrowing, and then another, where that is the one in all.
 in_rounds : (f g h : Bound → Bound) → ((bound : Bound) → f (g bound) ≡ h bound) → (binding : Binding) → map (in_round f) (map (in_round g) binding) ≡ map (in_round h) binding
 in_rounds f g h same [] = refl
-in_rounds f g h same (it ∷ others) = ap₂ (λ b l. record { name = it.name; bound = b } ∷ l) (same it.bound) (in_rounds f g h same others)
+in_rounds f g h same (it ∷ others) = ap₂ (λ b l. record { variable = it.variable; bound = b } ∷ l) (same it.bound) (in_rounds f g h same others)
 
 -- The first of the rounds from one on is that one, and the others are those from the next on.
 first_later : (n : ℕ) (bound : Bound) → first_of (later n bound) ≡ round_at n bound

@@ -1,13 +1,17 @@
 -- Worked templates: each holds by computation.
 use Rattle.std.proofs.Common.{◌≡◌, ℕ, List, [], ◌∷◌, Option, None, Some, codes, refl}
-use Rattle.tt.specs.Forest.{Forest, end, leaf, join}
-use Rattle.tt.specs.Types.DelimiterKind.TheVariants.{Parenthesis, Brace}
+use Rattle.tt.specs.Forest.{Forest, end, leaf, node, join}
+use Rattle.tt.specs.Types.DelimiterKind.TheVariants.{Parenthesis, Brace, InvisibleOpaque}
 use Rattle.tt.specs.Types.IdentIsRaw.TheVariants.{Yes}
 use Rattle.tt.specs.Types.Leaf.TheVariants as leaf_of
 use Rattle.tt.specs.Types.Spacing.TheVariants.{Alone, Joint}
 use Rattle.tt_base.specs.Token.{delimiter}
 use Rattle.tt_base.proofs.Samples.{span, punct, ident, subtree}
+use Rattle.tt_pattern.specs.declared.pattern.Fragment.TheVariants as fragment
+use Rattle.tt_pattern.specs.declared.pattern.GrammarFragment.{GrammarFragment}
+use Rattle.tt_pattern.specs.declared.pattern.GrammarFragment.TheVariants as grammar
 use Rattle.tt_pattern.specs.declared.pattern.RepeatKind.TheVariants as repeat
+use Rattle.tt_pattern.specs.declared.pattern.Variable.{Variable}
 use Rattle.tt_matcher.specs.Bindings.{Bound, one, none, first, Named, Binding}
 use Rattle.tt_matcher.specs.Grouping.{Where}
 use Rattle.tt_template.specs.declared.error.TemplateError.{TemplateError}
@@ -42,12 +46,16 @@ y = codes "y"
 abbrev z : List ℕ
 z = codes "z"
 
+-- a variable without a name
+abbrev nameless : Variable
+nameless = record { name = None; fragment = fragment.Tt }
+
 -- variables of those names, in no repetition, in one, and in two; and one without a name
 abbrev variable : List ℕ → List ℕ → Where
-variable name nest = record { name = Some name; number = 0; nest = nest }
+variable name nest = record { variable = record { name = Some name; fragment = fragment.Tt }; number = 0; nest = nest }
 
 abbrev variables : List Where
-variables = record { name = None; number = 0; nest = [] } ∷ variable x [] ∷ variable y (1 ∷ []) ∷ variable z (1 ∷ 2 ∷ []) ∷ []
+variables = record { variable = nameless; number = 0; nest = [] } ∷ variable x [] ∷ variable y (1 ∷ []) ∷ variable z (1 ∷ 2 ∷ []) ∷ []
 
 -- `$x` is a use, and `$r#x` too.
 use_spelled : template_of variables (alone 36 (word x (alone 59 end))) ≡ use_of 0 1 (token (punct 59 Alone) nothing)
@@ -144,11 +152,11 @@ abbrev b_tree : Forest
 b_tree = word (codes "b") end
 
 abbrev bind : List ℕ → Bound → Named
-bind name bound = record { name = Some name; bound = bound }
+bind name bound = record { variable = record { name = Some name; fragment = fragment.Tt }; bound = bound }
 
 abbrev binding : Binding
 binding =
-    record { name = None; bound = one b_tree } ∷ bind x (one a_tree) ∷ bind y (first (one a_tree) (first (one b_tree) none))
+    record { variable = nameless; bound = one b_tree } ∷ bind x (one a_tree) ∷ bind y (first (one a_tree) (first (one b_tree) none))
     ∷ bind z (first (first (one a_tree) none) (first none none)) ∷ []
 
 -- what becomes of trees
@@ -173,7 +181,7 @@ nested_filled = refl
 
 -- Where `+` wants a round there must be one; and `$y` and `$z` must have as many.
 abbrev empty : Binding
-empty = record { name = None; bound = one b_tree } ∷ bind x (one a_tree) ∷ bind y none ∷ bind z (first none none) ∷ []
+empty = record { variable = nameless; bound = one b_tree } ∷ bind x (one a_tree) ∷ bind y none ∷ bind z (first none none) ∷ []
 
 none_wanted : becomes empty (rounds (alone 36 (word y end)) (alone 43 end)) ≡ record { trees = end; fault = Some (no_round 0) }
 none_wanted = refl
@@ -200,3 +208,29 @@ joint_separator = refl
 
 joint_bound : filled (use_of 0 0 (token (punct 61 Alone) nothing)) (bind x (one (joint 61 (joint 62 end))) ∷ []) ≡ all_filled (joint 61 (alone 62 (alone 61 end)))
 joint_bound = refl
+
+-- What a fragment of Rust's grammar took: an expression of more than one token stands as one opaque subtree, which has the spans of its
+-- ends. One of a single token stands as it is, and so does a path.
+abbrev bound_as : GrammarFragment → Forest → Binding
+bound_as which trees = record { variable = record { name = Some x; fragment = fragment.Grammar which }; bound = one trees } ∷ []
+
+-- `a + b`, where `a` and `b` have these spans
+abbrev sum : Forest
+sum = leaf (leaf_of.Ident (record { sym = codes "a"; span = span 0 1; is_raw = Yes })) (alone 43 (leaf (leaf_of.Ident (record { sym = codes "b"; span = span 4 5; is_raw = Yes })) end))
+
+sum_bound : filled (use_of 0 0 nothing) (bound_as grammar.Expr sum)
+    ≡ all_filled (node (record { open_span = span 0 1; close = span 4 5; kind = InvisibleOpaque }) sum end)
+sum_bound = refl
+
+sum_again : filled (use_of 0 0 nothing) (bound_as grammar.Pat (node (delimiter InvisibleOpaque (span 0 1) (span 4 5)) sum end))
+    ≡ all_filled (node (delimiter InvisibleOpaque (span 0 1) (span 4 5)) sum end)
+sum_again = refl
+
+token_bound : filled (use_of 0 0 nothing) (bound_as grammar.Ty (word (codes "a") end)) ≡ all_filled (word (codes "a") end)
+token_bound = refl
+
+dots_bound : filled (use_of 0 0 nothing) (bound_as grammar.PatParam (joint 46 (alone 46 end))) ≡ all_filled (joint 46 (alone 46 end))
+dots_bound = refl
+
+path_bound : filled (use_of 0 0 nothing) (bound_as grammar.Path sum) ≡ all_filled sum
+path_bound = refl

@@ -1,7 +1,8 @@
 -- What is bound in rounds that are one in the other, seen repetition by repetition.
 use Rattle.std.proofs.Common.{◌≡◌, ◌+◌, ◌<◌, ◌≤◌, ℕ, zero, suc, List, [], ◌∷◌, ◌++◌, map, length, drop, get_or, Some, None, refl, ap, ap₂, sym, subst, ◌∙◌, arith}
 use Rattle.std.proofs.lemmas.List.{length-map}
-use Rattle.std.specs.Prelude.{slice_get}
+use Rattle.std.proofs.lemmas.Option.{slice_get-map}
+use Rattle.std.specs.Prelude.{Option, option_map, slice_get}
 use Rattle.tt.specs.Forest.{Forest}
 use Rattle.tt.specs.Views.{trees_of}
 use Rattle.tt_matcher.specs.Bindings.{Bound, one, none, Named, Binding}
@@ -9,7 +10,8 @@ use Rattle.tt_matcher.specs.Ends.{sums}
 use Rattle.tt_matcher.specs.Grouping.{grouped}
 use Rattle.tt_template.specs.declared.taken.Round.{Round}
 use Rattle.tt_template.specs.declared.taken.Taken.{Taken}
-use Rattle.tt_template.specs.Rounds.{bound_in, dones, rounds, seen_of, time_seen, nested, IsTaken, AreTaken, first_at, count_at, times_in, times_at}
+use Rattle.tt_template.specs.Filling.{in_round, fragment_of}
+use Rattle.tt_template.specs.Rounds.{bound_in, binding_in, dones, rounds, seen_of, time_seen, nested, IsTaken, IsTakenBy, AreTaken, first_at, count_at, times_in, times_at}
 use Rattle.tt_template.proofs.Nesting.{seen_rounds, in_one, in_none, seen_trees_at, first_is}
 
 module _ {A B : Type 0} (f : A → B) where
@@ -121,7 +123,7 @@ pub first_here : (self : Taken) (bound : Bound) (taken : IsTaken bound self) (be
 first_here self bound taken begun = ap (bound_in (dones begun)) (taken.is ∙ first_is (nested taken.counts (map trees_of self.trees.items)))
 
 -- A variable more.
-pub taken_more : (binding : Binding) (its : List Taken) (named : Named) (it : Taken) → AreTaken binding its → IsTaken named.bound it
+pub taken_more : (binding : Binding) (its : List Taken) (named : Named) (it : Taken) → AreTaken binding its → IsTakenBy named it
     → AreTaken (binding ++ named ∷ []) (its ++ it ∷ [])
 taken_more [] [] named it are is = (is, tt)
 taken_more [] (other ∷ its) named it are is = absurd are
@@ -130,12 +132,12 @@ taken_more (more ∷ binding) (other ∷ its) named it are is = (are.0, taken_mo
 
 -- What is bound to each variable is seen.
 pub taken_at : (binding : Binding) (its : List Taken) (number : ℕ) (it : Taken) → AreTaken binding its → slice_get its number ≡ Some it
-    → (named : Named) × (slice_get binding number ≡ Some named) × IsTaken named.bound it
+    → (named : Named) × (slice_get binding number ≡ Some named) × IsTakenBy named it
 taken_at [] [] zero it are is = absurd (cc is)
 taken_at [] [] (suc number) it are is = absurd (cc is)
 taken_at [] (other ∷ its) number it are is = absurd are
 taken_at (named ∷ binding) [] number it are is = absurd are
-taken_at (named ∷ binding) (other ∷ its) zero it are is = (named, refl, subst (IsTaken named.bound) (cc is) (are.0))
+taken_at (named ∷ binding) (other ∷ its) zero it are is = (named, refl, subst (IsTakenBy named) (cc is) (are.0))
 taken_at (named ∷ binding) (other ∷ its) (suc number) it are is = taken_at binding its number it (are.1) is
 
 pub none_at : (binding : Binding) (its : List Taken) (number : ℕ) → AreTaken binding its → slice_get its number ≡ None → slice_get binding number ≡ None
@@ -145,3 +147,12 @@ none_at [] (other ∷ its) number are is = absurd are
 none_at (named ∷ binding) [] number are is = absurd are
 none_at (named ∷ binding) (other ∷ its) zero are is = absurd (cc is)
 none_at (named ∷ binding) (other ∷ its) (suc number) are is = none_at binding its number (are.1) is
+
+-- In a round a variable has its fragment still.
+pub fragment_here : (numbers : List ℕ) (binding : Binding) (number : ℕ) → fragment_of (slice_get (binding_in numbers binding) number) ≡ fragment_of (slice_get binding number)
+fragment_here numbers binding number =
+    ap fragment_of (slice_get-map (in_round (bound_in numbers)) binding number) ∙ by (slice_get binding number)
+  where
+    by : (it : Option Named) → fragment_of (option_map (in_round (bound_in numbers)) it) ≡ fragment_of it
+    by None = refl
+    by (Some it) = refl

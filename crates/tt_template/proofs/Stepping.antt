@@ -2,7 +2,7 @@
 use Rattle.std.proofs.Common.{◌≡◌, ◌+◌, ◌<◌, ◌≤◌, ℕ, suc, List, [], ◌∷◌, ◌++◌, drop, reverse, Some, Ok, Err, inl, inr, refl, ap, sym, subst, ◌∙◌, arith}
 use Rattle.std.proofs.lemmas.List.{reverse-append}
 use Rattle.std.specs.Prelude.{slice_get}
-use Rattle.tt.specs.Building.{Stack, above, append, close_innermost, extended, tokens_held}
+use Rattle.tt.specs.Building.{Stack, above, append, close_innermost, tokens_held}
 use Rattle.tt.specs.Forest.{end, leaf, size}
 use Rattle.tt.specs.Siblings.{leaves}
 use Rattle.tt.specs.Stored.{most_tokens}
@@ -71,8 +71,7 @@ module _ (bits : List Bit) (whole : Binding) (levels : List Level) (left : List 
     use_steps new at variable is grows =
         let trees = trees_placed (slice_get (bound_here whole rounds) variable) in
         goes_on old new rounds closes (append trees) (goes_use bits whole rounds closes left at variable levels is.stand)
-        (ap (λ r. reverse r.items) grows.rounds) (ap (λ r. reverse r.items) grows.closes) (ap (λ b. b.stack) grows.builder)
-        (grows.few is.few) (ap (λ b. b.top) grows.builder)
+        (ap (λ r. reverse r.items) grows.rounds) (ap (λ r. reverse r.items) grows.closes) grows.stack (grows.few is.few) grows.top
 
     pub use_stops : (at variable : ℕ) (fault : TtFault) → IsAt bits whole levels old (uses at variable ∷ left)
         → IsWant (size (trees_placed (slice_get (bound_here whole rounds) variable))) old fault → IsStop (finished levels (written_by old)) (error.Tree fault)
@@ -84,8 +83,7 @@ module _ (bits : List Bit) (whole : Binding) (levels : List Level) (left : List 
     pub token_steps : (new : Filling) (it : Leaf) → IsAt bits whole levels old (same it ∷ left) → Grows (leaf it end) old new → Goes bits whole levels old new left
     token_steps new it is grows =
         goes_on old new rounds closes (append (leaf it end)) (goes_token bits whole rounds closes left it levels is.stand)
-        (ap (λ r. reverse r.items) grows.rounds) (ap (λ r. reverse r.items) grows.closes) (ap (λ b. b.stack) grows.builder)
-        (grows.few is.few) (ap (λ b. b.top) grows.builder)
+        (ap (λ r. reverse r.items) grows.rounds) (ap (λ r. reverse r.items) grows.closes) grows.stack (grows.few is.few) grows.top
 
     pub token_stops : (it : Leaf) (fault : TtFault) → IsAt bits whole levels old (same it ∷ left) → IsWant 1 old fault
         → IsStop (finished levels (written_by old)) (error.Tree fault)
@@ -176,16 +174,15 @@ module _ (bits : List Bit) (whole : Binding) (levels : List Level) (left : List 
       (omega (arith, ap (λ b. tokens_held b.stack) builder, is.few)) (ap (λ b. b.top) builder)
 
   -- There is another.
-  pub again_steps : (new : Filling) → it.done < it.last → new.builder ≡ extended (leaves separator) old.builder
+  pub again_steps : (new : Filling) → it.done < it.last → new.builder.stack ≡ append (leaves separator) old.builder.stack → new.builder.top ≡ old.builder.top
       → (tokens_held old.builder.stack ≤ most_tokens → tokens_held new.builder.stack ≤ most_tokens) → new.closes ≡ old.closes
       → new.rounds.items ≡ before ++ record { body = it.body; done = suc it.done; last = it.last } ∷ []
       → Goes bits whole levels old new (drop it.body bits)
-  again_steps new within builder few same_closes same_rounds =
+  again_steps new within stack top few same_closes same_rounds =
       let next : Round = record { body = it.body; done = suc it.done; last = it.last } in
       goes_on bits whole levels (drop it.body bits) old new (next ∷ reverse before) (reverse old.closes.items) (append (leaves separator))
       (goes_again bits whole left (reverse old.closes.items) separator kind it (reverse before) levels stand within)
-      (ap reverse same_rounds ∙ reverse-append before (next ∷ [])) (ap (λ r. reverse r.items) same_closes) (ap (λ b. b.stack) builder)
-      (few is.few) (ap (λ b. b.top) builder)
+      (ap reverse same_rounds ∙ reverse-append before (next ∷ [])) (ap (λ r. reverse r.items) same_closes) stack (few is.few) top
 
   -- The separator is refused.
   pub again_stops : (fault : TtFault) → it.done < it.last → IsWant (size (leaves separator)) old fault → IsStop (finished levels (written_by old)) (error.Tree fault)

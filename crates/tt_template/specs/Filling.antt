@@ -1,12 +1,13 @@
 -- What becomes of a template under a binding.
 use Rattle.std.specs.Prelude.{ℕ, zero, suc, Bool, true, false, List, [], ◌∷◌, ◌++◌, map, Option, None, Some, Result, Ok, Err, nat_eq, slice_get, if◌then◌else◌}
-use Rattle.tt.specs.Building.{alone}
 use Rattle.tt.specs.Forest.{Forest, end, leaf, node, join}
 use Rattle.tt.specs.Siblings.{leaves}
 use Rattle.tt.specs.Types.Delimiter.{Delimiter}
+use Rattle.tt_pattern.specs.declared.pattern.Fragment.{Fragment}
 use Rattle.tt_pattern.specs.declared.pattern.RepeatKind.{RepeatKind}
 use Rattle.tt_pattern.specs.declared.pattern.RepeatKind.TheVariants as repeat
 use Rattle.tt_matcher.specs.Bindings.{Bound, one, none, first, Named, Binding}
+use Rattle.tt_template.specs.Placing.{placed}
 use Rattle.tt_template.specs.Templates.{Template, nothing, use_of, token, subtree, repetition}
 
 -- why a template cannot be filled, at the flat place of a repetition's `$`: one of its variables has more rounds than another, or none is
@@ -77,7 +78,7 @@ others_of none = none
 others_of (first it others) = others
 
 abbrev pub in_round : (Bound → Bound) → Named → Named
-in_round f it = record { name = it.name; bound = f it.bound }
+in_round f it = record { variable = it.variable; bound = f it.bound }
 
 -- the trees of a use
 abbrev pub trees_in : Bound → Forest
@@ -89,9 +90,14 @@ abbrev pub trees_used : Option Named → Forest
 trees_used None = end
 trees_used (Some it) = trees_in it.bound
 
--- those that stand in its place: their last token does not stand as one with what comes behind
+-- the fragment of its variable
+abbrev pub fragment_of : Option Named → Option Fragment
+fragment_of None = None
+fragment_of (Some it) = Some it.variable.fragment
+
+-- those that stand in its place
 abbrev pub trees_placed : Option Named → Forest
-trees_placed it = alone (trees_used it)
+trees_placed it = placed (fragment_of it) (trees_used it)
 
 -- trees, and no fault
 abbrev pub all_filled : Forest → Filled

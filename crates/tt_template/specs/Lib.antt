@@ -5,6 +5,7 @@ pub mod Filling
 pub mod Judging
 pub mod Marks
 pub mod Parts
+pub mod Placing
 pub mod Results
 pub mod Rounds
 pub mod Spelling

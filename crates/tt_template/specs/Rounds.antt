@@ -54,12 +54,17 @@ pub record IsTaken (bound : Bound) (it : Taken) : Type 0 where
   pub ends : map (λ its. its.items) it.ends.items ≡ map (sums 0) counts
   pub is : bound ≡ first_bound (nested counts (map trees_of it.trees.items))
 
+-- they are of what is bound to the variable, and it is its fragment
+pub record IsTakenBy (named : Named) (it : Taken) : Type 0 where
+  pub fragment : named.variable.fragment ≡ it.fragment
+  pub bound : IsTaken named.bound it
+
 -- so are those of all variables
 abbrev pub AreTaken : Binding → List Taken → Type 0
 AreTaken [] [] = Unit {0}
 AreTaken [] (it ∷ others) = ⊥
 AreTaken (named ∷ more) [] = ⊥
-AreTaken (named ∷ more) (it ∷ others) = IsTaken named.bound it × AreTaken more others
+AreTaken (named ∷ more) (it ∷ others) = IsTakenBy named it × AreTaken more others
 
 -- the lesser: the one, less by how much it is more than the other
 abbrev pub lesser : ℕ → ℕ → ℕ

@@ -14,7 +14,7 @@ use Rattle.tt_template.specs.Templates as template
 
 -- it is the variable of that name
 abbrev pub has_name : List ℕ → Where → Bool
-has_name text it = is_name text it.name
+has_name text it = is_name text it.variable.name
 
 -- the place of the first variable that an ident names, raw or not
 abbrev pub variable_from : List Where → Option Ident → Option ℕ

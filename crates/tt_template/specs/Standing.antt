@@ -1,6 +1,6 @@
 -- Where the filling of a template stands, and how it goes on.
 use Rattle.std.specs.Prelude.{◌≡◌, ◌+◌, ◌<◌, ◌≤◌, ◌⊎◌, ℕ, zero, suc, List, [], ◌∷◌, ◌++◌, map, drop, reverse, Some}
-use Rattle.tt.specs.Building.{tokens_held, close_innermost, extended, opened, HasRoom}
+use Rattle.tt.specs.Building.{tokens_held, append, close_innermost, opened, HasRoom}
 use Rattle.tt.specs.Forest.{Forest}
 use Rattle.tt.specs.Stored.{most_tokens}
 use Rattle.tt.specs.Types.Delimiter.{Delimiter}
@@ -68,7 +68,8 @@ pub record Goes (bits : List Bit) (whole : Binding) (levels : List Level) (old n
 
 -- the trees are written, and there is room for them
 pub record Grows (more : Forest) (old new : Filling) : Type 0 where
-  pub builder : new.builder ≡ extended more old.builder
+  pub stack : new.builder.stack ≡ append more old.builder.stack
+  pub top : new.builder.top ≡ old.builder.top
   pub few : tokens_held old.builder.stack ≤ most_tokens → tokens_held new.builder.stack ≤ most_tokens
   pub rounds : new.rounds ≡ old.rounds
   pub closes : new.closes ≡ old.closes

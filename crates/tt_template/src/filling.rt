@@ -1,6 +1,7 @@
 //! A template is filled, part by part.
 ghost use Rattle.std.specs.Prelude.{◌≡◌, true, List, map, slice_get, reverse, IfOk, IfErr, OnOk};
 ghost use Rattle.tt.specs.Forest.{end, leaf as leaf_of, size};
+ghost use Rattle.tt.specs.Building.{alone};
 ghost use Rattle.tt.specs.Siblings.{leaves};
 ghost use Rattle.tt.specs.Stored.{IsWithinLimits};
 ghost use Rattle.tt.specs.Types.TtFault.TheVariants.{Memory};
@@ -12,6 +13,7 @@ ghost use Rattle.tt_matcher.specs.Stepping.{where_of};
 ghost use Rattle.tt_template.specs.declared.taken.Taken.{Taken};
 ghost use Rattle.tt_template.specs.Filling.{filled, trees_used, trees_placed};
 ghost use Rattle.tt_template.specs.Parts.{bit_of, begin, close};
+ghost use Rattle.tt_template.specs.Placing.{enclosed, placed};
 ghost use Rattle.tt_template.specs.Results.{IsFilled, IsFillError};
 ghost use Rattle.tt_template.specs.Rounds.{AreTaken, binding_in, dones};
 ghost use Rattle.tt_template.specs.Standing.{bound_here, Grows, IsWant, Enters, Leaves, StepsTo, StopsAt};
@@ -20,11 +22,14 @@ ghost use Rattle.tt_template.specs.Wholes.{are_whole, whole_of};
 use crate::counting::{rounds_by, scan};
 use crate::fill_error::FillError;
 use crate::parts::Part;
-use crate::taken::{Round, Seen, Taken, seen_in, taken_by};
+use crate::placing::is_enclosed;
+use crate::taken::{Round, Seen, Taken, fragment_of, seen_in, taken_by};
 use std::alloc::Global;
-use tt::{Delimiter, Leaf, Span, TokenTreesView, TopSubtree, TopSubtreeBuilder, TtFault};
+use tt::{
+    Delimiter, DelimiterKind, Leaf, Span, TokenTreesView, TopSubtree, TopSubtreeBuilder, TtFault,
+};
 use tt_matcher::{Binder, Binding};
-use tt_pattern::Tail;
+use tt_pattern::{Fragment, Tail};
 
 /// What was filled, the rounds that are begun, and the close spans of the subtrees that are open, the innermost last.
 #[derive(Drop)]
@@ -45,13 +50,50 @@ fn trees_of<'i>(taken: &[Taken<'i>], number: usize, rounds: &[Round]) -> TokenTr
 }
 
 impl Filling {
+    // Trees, of which the last token does not stand as one with what comes behind.
+    fn append(&mut self, trees: TokenTreesView<'_>) -> Result<(), TtFault>
+        ensures ok { OnOk result (Grows (alone (trees_of trees.entry)) self.old self.new) }
+        ensures err { IfErr result (IsWant (size (alone (trees_of trees.entry))) self.old) }
+    {
+        self.builder.extend_with_tt_alone(trees)
+    }
+
+    // The same trees in an opaque subtree, which has the spans of their first token and their last.
+    fn enclose(&mut self, trees: TokenTreesView<'_>) -> Result<(), TtFault>
+        ensures ok { OnOk result (Grows (enclosed (trees_of trees.entry)) self.old self.new) }
+        ensures err { IfErr result (IsWant (size (enclosed (trees_of trees.entry))) self.old) }
+    {
+        let (Some(first), Some(last)) = (trees.first_span(), trees.last_span()) else {
+            return self.append(trees);
+        };
+        self.builder.open(DelimiterKind::InvisibleOpaque, first)?;
+        self.builder.extend_with_tt_alone(trees)?;
+        self.builder.close(last)
+    }
+
+    // What a fragment took.
+    fn write(
+        &mut self,
+        fragment: Option<Fragment>,
+        trees: TokenTreesView<'_>,
+    ) -> Result<(), TtFault>
+        ensures ok { OnOk result (Grows (placed fragment (trees_of trees.entry)) self.old self.new) }
+        ensures err { IfErr result (IsWant (size (placed fragment (trees_of trees.entry))) self.old) }
+    {
+        if is_enclosed(fragment, trees) {
+            self.enclose(trees)
+        } else {
+            self.append(trees)
+        }
+    }
+
     // A use of the variable of that index.
     fn place(&mut self, taken: &[Taken<'_>], number: usize) -> Result<(), TtFault>
         ensures ok { OnOk result ((binding : Bindings) → AreTaken binding taken.now → Grows (trees_placed (slice_get (bound_here binding (reverse self.old.rounds.items)) number)) self.old self.new) }
         ensures err { IfErr result (λ fault. (binding : Bindings) → AreTaken binding taken.now → IsWant (size (trees_placed (slice_get (bound_here binding (reverse self.old.rounds.items)) number))) self.old fault) }
     {
-        self.builder
-            .extend_with_tt_alone(trees_of(taken, number, &self.rounds))
+        let trees = trees_of(taken, number, &self.rounds);
+        self.write(fragment_of(taken, number), trees)
     }
 
     // A token.

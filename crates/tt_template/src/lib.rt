@@ -11,6 +11,7 @@ mod filling;
 mod first;
 mod judging;
 mod parts;
+mod placing;
 mod seams;
 mod taken;
 mod template;

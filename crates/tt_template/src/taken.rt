@@ -5,15 +5,18 @@ ghost use Rattle.tt_matcher.specs.Bindings.{Bound, Binding as Bindings};
 ghost use Rattle.tt_matcher.specs.Grouping.{binding_by, named_by};
 ghost use Rattle.tt_matcher.specs.Marks.{note_of};
 ghost use Rattle.tt_matcher.specs.Stepping.{where_of};
-ghost use Rattle.tt_template.specs.Rounds.{IsTaken, AreTaken, seen_as, seen_of, seen_at, time_seen, bound_in, dones, binding_in, times_at, lesser, first_at, count_at};
+ghost use Rattle.tt_template.specs.Filling.{fragment_of};
+ghost use Rattle.tt_template.specs.Rounds.{IsTaken, IsTakenBy, AreTaken, seen_as, seen_of, seen_at, time_seen, bound_in, dones, binding_in, times_at, lesser, first_at, count_at};
 
 use std::alloc::{AllocError, Global};
 use tt::TokenTreesView;
 use tt_matcher::{Binder, Binding};
+use tt_pattern::Fragment;
 
-/// What a variable took, each time, and for each repetition that it stands in, the outermost first, where its rounds end, each time.
+/// What a variable takes, and what it took, each time, and for each repetition that it stands in, the outermost first, where its rounds end, each time.
 #[derive(Drop)]
 pub(crate) struct Taken<'i> {
+    pub(crate) fragment: Fragment,
     pub(crate) trees: Vec<TokenTreesView<'i>>,
     pub(crate) ends: Vec<Vec<usize>>,
 }
@@ -119,14 +122,18 @@ impl<'i> Taken<'i> {
 
     // What a variable took.
     fn of(alloc: Global, binder: &Binder, binding: &Binding<'i>) -> Result<Taken<'i>, AllocError>
-        ensures { IfOk result (IsTaken (named_by (map note_of binding.now.marks.items) (where_of binder.now)).bound) }
+        ensures { IfOk result (IsTakenBy (named_by (map note_of binding.now.marks.items) (where_of binder.now))) }
     {
         let trees = binding.trees(alloc, binder.number)?;
         let mut ends = Vec::new(alloc);
         for number in &binder.nest {
             ends.push(binding.ends(alloc, *number)?)?;
         }
-        Ok(Taken { trees, ends })
+        Ok(Taken {
+            fragment: binder.fragment,
+            trees,
+            ends,
+        })
     }
 }
 
@@ -153,5 +160,15 @@ pub(crate) fn seen_in<'i>(taken: &[Taken<'i>], number: usize, rounds: &[Round]) 
     match taken.get(number) {
         Some(taken) => taken.seen_in(rounds),
         None => Seen::Trees(TokenTreesView::empty()),
+    }
+}
+
+/// The fragment of the variable of that index; none where there is no such variable.
+pub(crate) fn fragment_of(taken: &[Taken<'_>], number: usize) -> Option<Fragment>
+    ensures { (binding : Bindings) → AreTaken binding taken.now → result ≡ fragment_of (slice_get binding number) }
+{
+    match taken.get(number) {
+        Some(taken) => Some(taken.fragment),
+        None => None,
     }
 }

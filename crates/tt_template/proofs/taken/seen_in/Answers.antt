@@ -15,7 +15,7 @@ returns-in-Some c binding are =
     let there : it ≡ get_or its number it = search rules in
     let found : slice_get its number ≡ Some it = slice_get-get_or its number it lt ∙ ap Some (sym there) in
     let (named, at, is) = taken_at binding its number it are found in
-    c.seen_in.ensures named.bound is
+    c.seen_in.ensures named.bound is.bound
     ∙ sym (ap seen_at (slice_get-map (in_round (bound_in (dones c.args.rounds.now))) binding number ∙ ap (option_map (in_round (bound_in (dones c.args.rounds.now)))) at))
 
 pub returns-in-None : goal.returns-in-None

@@ -3,7 +3,7 @@ use Rattle.std.proofs.lemmas.List.{map-append, take_more}
 use Rattle.tt_matcher.specs.Grouping.{named_by, binding_by}
 use Rattle.tt_matcher.specs.Marks.{note_of}
 use Rattle.tt_matcher.specs.Stepping.{where_of}
-use Rattle.tt_template.specs.Rounds.{IsTaken, AreTaken}
+use Rattle.tt_template.specs.Rounds.{IsTakenBy, AreTaken}
 use Rattle.tt_template.proofs.Seeing.{taken_more}
 use Rattle.tt_template.proofs.taken.taken_by.Goals as goal
 
@@ -17,7 +17,7 @@ loop-binder-preserved c =
     let there : binder ≡ get_or binders index binder = search rules in
     let before = take index binders in
     let more : take (index + 1) binders ≡ before ++ binder ∷ [] = take_more binders index binder lt ∙ ap (λ it. before ++ it ∷ []) (sym there) in
-    let is : IsTaken (named_by notes (where_of binder)).bound c.in_ok-of.field-0 = search rules in
+    let is : IsTakenBy (named_by notes (where_of binder)) c.in_ok-of.field-0 = search rules in
     let pushed : c.push.new.self.items ≡ c.loop-binder.taken.items ++ c.in_ok-of.field-0 ∷ [] = search rules in
     let split : binding_by (map where_of (take (index + 1) binders)) notes ≡ binding_by (map where_of before) notes ++ named_by notes (where_of binder) ∷ [] =
     ap (λ l. binding_by (map where_of l) notes) more ∙ ap (map (named_by notes)) (map-append where_of before (binder ∷ [])) ∙ map-append (named_by notes) (map where_of before) (where_of binder ∷ []) in

@@ -56,5 +56,5 @@ returns-clause-ok c taken whole levels are is =
     subst (Goes (map bit_of parts) whole levels old (record { builder = c.separate.new.self.builder; rounds = c.push.new.self; closes = c.separate.new.self.closes }))
     (drop-map bit_of round.body parts)
     (again_steps (map bit_of parts) whole levels (bits_from parts c.args.behind) old tail.separator.items tail.kind c.pop.new.self.items round was is
-    _ (omega (arith, c.if-round.false)) grown.builder grown.few grown.closes
+    _ (omega (arith, c.if-round.false)) grown.stack grown.top grown.few grown.closes
     (pushed ∙ ap (λ l. l ++ next ∷ []) (ap (λ r. r.items) grown.rounds) ∙ ap (λ r. c.pop.new.self.items ++ r ∷ []) one_more))

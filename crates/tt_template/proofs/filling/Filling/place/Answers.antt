@@ -1,33 +1,37 @@
-use Rattle.std.proofs.Common.{refl, ap, subst, sym, ◌∙◌}
+use Rattle.std.proofs.Common.{◌≡◌, ap, ap₂, reverse, subst, sym, ◌∙◌}
 use Rattle.std.proofs.lemmas.List.{reverse-reverse}
 use Rattle.std.specs.Prelude.{slice_get}
-use Rattle.tt.specs.Building.{alone, HasRoom, IsGrowthFault}
 use Rattle.tt.specs.Forest.{size}
 use Rattle.tt.specs.Views.{trees_of}
-use Rattle.tt_template.specs.Filling.{trees_used}
-use Rattle.tt_template.specs.Rounds.{binding_in, dones}
-use Rattle.tt_template.specs.Standing.{Grows, IsWant}
-use Rattle.tt_template.proofs.Growing.{grows_by, growth_wants, ok_both, err_so, size-alone}
+use Rattle.tt_matcher.specs.Bindings.{Binding}
+use Rattle.tt_template.specs.Filling.{trees_used, trees_placed}
+use Rattle.tt_template.specs.Placing.{placed}
+use Rattle.tt_template.specs.Rounds.{AreTaken, binding_in, dones}
+use Rattle.tt_template.specs.Standing.{Grows, IsWant, bound_here}
+use Rattle.tt_template.proofs.Growing.{on_ok, err_so}
+use Rattle.tt_template.proofs.Seeing.{fragment_here}
 use Rattle.tt_template.proofs.filling.Filling.place.Goals as goal
 
 pub returns-clause-ok : goal.returns-clause-ok
 returns-clause-ok c =
     let old = c.args.self.now in
-    let trees = trees_of c.trees_of.result in
-    ok_both c.extend_with_tt_alone.result
-    (λ grown room binding are.
-    subst (λ f. Grows (alone f) old (record { builder = c.extend_with_tt_alone.new.self; rounds = old.rounds; closes = old.closes }))
-    (c.trees_of.ensures binding are ∙ ap (λ l. trees_used (slice_get (binding_in (dones l) binding) c.args.number)) (c.deref.ensures.value ∙ sym (reverse-reverse old.rounds.items)))
-    (grows_by (alone trees) old _ grown (subst (λ n. HasRoom n old.builder) (sym (size-alone trees)) room) refl refl))
-    c.extend_with_tt_alone.ensures.ok c.extend_with_tt_alone.ensures.room
+    let number = c.args.number in
+    on_ok c.write.result
+    (λ grown binding are.
+    let rounds = reverse old.rounds.items in
+    let trees : trees_of c.trees_of.result ≡ trees_used (slice_get (bound_here binding rounds) number) =
+    c.trees_of.ensures binding are ∙ ap (λ l. trees_used (slice_get (binding_in (dones l) binding) number)) (c.deref.ensures.value ∙ sym (reverse-reverse old.rounds.items)) in
+    subst (λ f. Grows f old c.write.new.self) (ap₂ placed (c.fragment_of.ensures binding are ∙ sym (fragment_here (dones (reverse rounds)) binding number)) trees) grown)
+    c.write.ensures.ok
 
 pub returns-clause-err : goal.returns-clause-err
 returns-clause-err c =
     let old = c.args.self.now in
-    let trees = trees_of c.trees_of.result in
-    err_so c.extend_with_tt_alone.result
-    (λ fault refused binding are.
-    subst (λ f. IsWant (size (alone f)) old fault)
-    (c.trees_of.ensures binding are ∙ ap (λ l. trees_used (slice_get (binding_in (dones l) binding) c.args.number)) (c.deref.ensures.value ∙ sym (reverse-reverse old.rounds.items)))
-    (growth_wants (size (alone trees)) old fault (subst (λ n. IsGrowthFault n old.builder fault) (sym (size-alone trees)) refused)))
-    c.extend_with_tt_alone.ensures.fault
+    let number = c.args.number in
+    err_so c.write.result
+    (λ fault want binding are.
+    let rounds = reverse old.rounds.items in
+    let trees : trees_of c.trees_of.result ≡ trees_used (slice_get (bound_here binding rounds) number) =
+    c.trees_of.ensures binding are ∙ ap (λ l. trees_used (slice_get (binding_in (dones l) binding) number)) (c.deref.ensures.value ∙ sym (reverse-reverse old.rounds.items)) in
+    subst (λ f. IsWant (size f) old fault) (ap₂ placed (c.fragment_of.ensures binding are ∙ sym (fragment_here (dones (reverse rounds)) binding number)) trees) want)
+    c.write.ensures.err

@@ -16,9 +16,13 @@ returns c =
     let all : take c.loop-number.number-index binder.nest.items ≡ binder.nest.items = ap (λ n. take n binder.nest.items) last ∙ take-length binder.nest.items in
     let trees : map trees_of c.in_ok-trees.trees.items ≡ taken_by binder.number notes = search rules in
     record {
-      counts = map (λ r. counts_by r 0 notes) binder.nest.items;
-      ends = c.loop-number.invariant ∙ ap (map (λ r. sums 0 (counts_by r 0 notes))) all ∙ sym (twice (λ r. counts_by r 0 notes) (sums 0) binder.nest.items);
-      is =
-          ap first_bound (bounds_nested binder.nest.items binder.number notes)
-          ∙ ap (λ its. first_bound (nested (map (λ r. counts_by r 0 notes) binder.nest.items) its)) (sym trees);
+      fragment = refl;
+      bound =
+          record {
+            counts = map (λ r. counts_by r 0 notes) binder.nest.items;
+            ends = c.loop-number.invariant ∙ ap (map (λ r. sums 0 (counts_by r 0 notes))) all ∙ sym (twice (λ r. counts_by r 0 notes) (sums 0) binder.nest.items);
+            is =
+                ap first_bound (bounds_nested binder.nest.items binder.number notes)
+                ∙ ap (λ its. first_bound (nested (map (λ r. counts_by r 0 notes) binder.nest.items) its)) (sym trees);
+          };
     }
