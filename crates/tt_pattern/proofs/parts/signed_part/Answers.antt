@@ -1,12 +1,14 @@
-use Rattle.std.proofs.Common.{rules, ◌≡◌, ◌≤◌, ap, sym, ◌∙◌, length, arith}
+use Rattle.std.proofs.Common.{rules, ◌≡◌, ◌≤◌, false, ap, sym, ◌∙◌, length, arith}
+use Rattle.tt.specs.Expectations.{is_at_node}
 use Rattle.tt.specs.Forest.{node, size}
 use Rattle.tt.specs.Gluing.{after_trees}
 use Rattle.tt.specs.Iters.{rest_of, IsFirstSubtree}
 use Rattle.tt.specs.Moves.{after_tree}
-use Rattle.tt_pattern.specs.Spelling.{is_dollar, sign_in}
+use Rattle.tt_pattern.specs.Signs.{tail_of}
+use Rattle.tt_pattern.specs.Spelling.{sign_in}
 use Rattle.tt_pattern.specs.Spelling as spelling
 use Rattle.tt_pattern.proofs.FirstTrees.{node_before}
-use Rattle.tt_pattern.proofs.PartSteps.{signed_repetition}
+use Rattle.tt_pattern.proofs.PartSteps.{node_there, signed_repetition}
 use Rattle.tt_pattern.proofs.Passing.{after_less}
 use Rattle.tt_pattern.proofs.parts.signed_part.Goals as goal
 
@@ -34,3 +36,12 @@ returns-in-Ok-clause-less c =
     let next : rest_of c.next.new.self ≡ after_tree (after_tree rest) = search rules in
     let passed : size (rest_of c.pass-in-Ok.new.trees) ≤ size (rest_of c.next.new.self) = search rules in
     omega (arith, ap size begins, ap size next, passed, after_less 1 (after_tree rest))
+
+pub unreachable-requires : goal.unreachable-requires
+unreachable-requires c =
+    let rest = rest_of c.args.siblings.now in
+    let tail = tail_of c.in-Repetition.tail in
+    let seen : rest_of c.iter.result ≡ rest = search rules in
+    let told : spelling.repetition tail ≡ sign_in (rest_of c.iter.result) = search rules in
+    let none : is_at_node rest ≡ false = search rules in
+    node_there rest tail (sym (told ∙ ap sign_in seen)) none
