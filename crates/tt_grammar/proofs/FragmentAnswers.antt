@@ -82,7 +82,7 @@ one_answer which trees count other h k =
 
 -- What it takes leaves less.
 less_left : (which : GrammarFragment) (trees : Forest) (n : ℕ) → Reaches which trees (Some n) → size (after_trees n trees) < size trees
-unfolding Parses
+unfolding Parses good
 less_left which trees n h =
     let it = parsed which trees (Some n) h in
     (sound takes size_left takes_shrinks rust_rules good it.0 (start (name_of which)) (first_position trees) (behind n (first_position trees)) it.1).1 (takes_some which)

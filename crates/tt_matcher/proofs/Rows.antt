@@ -143,7 +143,7 @@ nested_reading =
 
 nested_binds : binding_of nested nested_reading
     ≡ record {
-      name = Some (codes "x");
+      variable = x_of fragment.Ident;
       bound = first (first (one (word (codes "a") end)) (first (one (word (codes "b") end)) none)) (first (first (one (word (codes "c") end)) none) none);
     } ∷ []
 nested_binds = refl

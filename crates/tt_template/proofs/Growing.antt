@@ -10,6 +10,7 @@ use Rattle.tt.specs.Types.Leaf.{Leaf}
 use Rattle.tt.specs.Types.Span.{Span}
 use Rattle.tt.specs.Types.TtFault.{TtFault}
 use Rattle.tt_template.specs.declared.filling.Filling.{Filling}
+use Rattle.tt_template.specs.Placing.{enclosed_between}
 use Rattle.tt_template.specs.Standing.{Grows, IsWant}
 use Rattle.tt_template.proofs.Writes.{append-end, append-join, held-append}
 
@@ -112,10 +113,10 @@ size-alone (node delimiter children (node next inner rest)) = omega (arith, size
 
 module _ (old : Filling) (trees : Forest) (first last : Span) where
   -- an opaque subtree of these
-  abbrev pub held : Forest
-  held = node (record { open_span = first; close = last; kind = InvisibleOpaque }) trees end
+  abbrev held : Forest
+  held = enclosed_between first last trees
 
-  abbrev pub within : BuilderState
+  abbrev within : BuilderState
   within = extended trees (opened InvisibleOpaque first old.builder)
 
   -- Trees that are written between where a subtree opens and closes are written in it.

@@ -46,15 +46,19 @@ abbrev pub is_enclosed : Option Fragment → Forest → Bool
 is_enclosed None trees = false
 is_enclosed (Some which) trees = is_bound_as_one which && is_more trees
 
--- the trees in an opaque subtree of these spans, if there are any
-abbrev pub enclosed_between : Option Span → Option Span → Forest → Forest
-enclosed_between None last trees = trees
-enclosed_between (Some first) None trees = trees
-enclosed_between (Some first) (Some last) trees = node (record { open_span = first; close = last; kind = InvisibleOpaque }) trees end
+-- the trees in an opaque subtree of these spans
+abbrev pub enclosed_between : (first last : Span) → Forest → Forest
+enclosed_between first last trees = node (record { open_span = first; close = last; kind = InvisibleOpaque }) trees end
+
+-- the same, if there are such spans
+abbrev pub enclosed_if : Option Span → Option Span → Forest → Forest
+enclosed_if None last trees = trees
+enclosed_if (Some first) None trees = trees
+enclosed_if (Some first) (Some last) trees = enclosed_between first last trees
 
 -- the trees in an opaque subtree, which has the spans of their first token and their last
 abbrev pub enclosed : Forest → Forest
-enclosed trees = enclosed_between (option_map first_span (first_token trees)) (last_span trees) (alone trees)
+enclosed trees = enclosed_if (option_map first_span (first_token trees)) (last_span trees) (alone trees)
 
 -- what stands in the place of what the fragment took: its last token does not stand as one with what comes behind
 abbrev pub placed : Option Fragment → Forest → Forest

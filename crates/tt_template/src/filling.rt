@@ -13,7 +13,7 @@ ghost use Rattle.tt_matcher.specs.Stepping.{where_of};
 ghost use Rattle.tt_template.specs.declared.taken.Taken.{Taken};
 ghost use Rattle.tt_template.specs.Filling.{filled, trees_used, trees_placed};
 ghost use Rattle.tt_template.specs.Parts.{bit_of, begin, close};
-ghost use Rattle.tt_template.specs.Placing.{enclosed, placed};
+ghost use Rattle.tt_template.specs.Placing.{enclosed_between, enclosed, placed};
 ghost use Rattle.tt_template.specs.Results.{IsFilled, IsFillError};
 ghost use Rattle.tt_template.specs.Rounds.{AreTaken, binding_in, dones};
 ghost use Rattle.tt_template.specs.Standing.{bound_here, Grows, IsWant, Enters, Leaves, StepsTo, StopsAt};
@@ -58,17 +58,30 @@ impl Filling {
         self.builder.extend_with_tt_alone(trees)
     }
 
-    // The same trees in an opaque subtree, which has the spans of their first token and their last.
+    // The same trees in an opaque subtree of these spans.
+    fn enclose_between(
+        &mut self,
+        trees: TokenTreesView<'_>,
+        first: Span,
+        last: Span,
+    ) -> Result<(), TtFault>
+        ensures ok { OnOk result (Grows (enclosed_between first last (alone (trees_of trees.entry))) self.old self.new) }
+        ensures err { IfErr result (IsWant (size (enclosed_between first last (alone (trees_of trees.entry)))) self.old) }
+    {
+        self.builder.open(DelimiterKind::InvisibleOpaque, first)?;
+        self.builder.extend_with_tt_alone(trees)?;
+        self.builder.close(last)
+    }
+
+    // The same, where the spans are those of their first token and their last.
     fn enclose(&mut self, trees: TokenTreesView<'_>) -> Result<(), TtFault>
         ensures ok { OnOk result (Grows (enclosed (trees_of trees.entry)) self.old self.new) }
         ensures err { IfErr result (IsWant (size (enclosed (trees_of trees.entry))) self.old) }
     {
-        let (Some(first), Some(last)) = (trees.first_span(), trees.last_span()) else {
-            return self.append(trees);
-        };
-        self.builder.open(DelimiterKind::InvisibleOpaque, first)?;
-        self.builder.extend_with_tt_alone(trees)?;
-        self.builder.close(last)
+        match (trees.first_span(), trees.last_span()) {
+            (Some(first), Some(last)) => self.enclose_between(trees, first, last),
+            _ => self.append(trees),
+        }
     }
 
     // What a fragment took.

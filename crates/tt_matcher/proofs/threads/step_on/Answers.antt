@@ -16,7 +16,7 @@ returns-clause-steps c =
     let next = c.args.next.now.items in
     let news = c.spread_to.new.threads.items in
     let place = c.in-Some.place.now in
-    let wait = c.in-Some-moved.wait in
+    let wait = c.in-Some-2.wait in
     let noted : new ≡ log ++ thread.last ∷ [] = search rules in
     let lt : thread.at < length c.args.places.now = search rules in
     let there : place ≡ get_or c.args.places.now thread.at place = search rules in
@@ -36,7 +36,7 @@ returns-clause-now_within c =
     let next = c.args.next.now.items in
     let news = c.spread_to.new.threads.items in
     let place = c.in-Some.place.now in
-    let wait = c.in-Some-moved.wait in
+    let wait = c.in-Some-2.wait in
     let noted : new ≡ log ++ thread.last ∷ [] = search rules in
     let spreads : OnOk c.spread_to.result (news ≡ threads_spread wait thread.is_many (length new) 0 place.edges.items next) = search rules in
     on_ok c.spread_to.result (λ is. step_within log new thread noted wait place.edges.items next news c.requires.within is) spreads
