@@ -19,8 +19,8 @@ returns-clause-ok c =
     on_ok c.write.result
     (λ grown binding are.
     let rounds = reverse old.rounds.items in
-    let trees : trees_of c.trees_of.result ≡ trees_used (slice_get (bound_here binding rounds) number) =
-    c.trees_of.ensures binding are ∙ ap (λ l. trees_used (slice_get (binding_in (dones l) binding) number)) (c.deref.ensures.value ∙ sym (reverse-reverse old.rounds.items)) in
+    let trees : trees_of c.trees_of-trees.result ≡ trees_used (slice_get (bound_here binding rounds) number) =
+    c.trees_of-trees.ensures binding are ∙ ap (λ l. trees_used (slice_get (binding_in (dones l) binding) number)) (c.deref.ensures.value ∙ sym (reverse-reverse old.rounds.items)) in
     subst (λ f. Grows f old c.write.new.self) (ap₂ placed (c.fragment_of.ensures binding are ∙ sym (fragment_here (dones (reverse rounds)) binding number)) trees) grown)
     c.write.ensures.ok
 
@@ -31,7 +31,7 @@ returns-clause-err c =
     err_so c.write.result
     (λ fault want binding are.
     let rounds = reverse old.rounds.items in
-    let trees : trees_of c.trees_of.result ≡ trees_used (slice_get (bound_here binding rounds) number) =
-    c.trees_of.ensures binding are ∙ ap (λ l. trees_used (slice_get (binding_in (dones l) binding) number)) (c.deref.ensures.value ∙ sym (reverse-reverse old.rounds.items)) in
+    let trees : trees_of c.trees_of-trees.result ≡ trees_used (slice_get (bound_here binding rounds) number) =
+    c.trees_of-trees.ensures binding are ∙ ap (λ l. trees_used (slice_get (binding_in (dones l) binding) number)) (c.deref.ensures.value ∙ sym (reverse-reverse old.rounds.items)) in
     subst (λ f. IsWant (size f) old fault) (ap₂ placed (c.fragment_of.ensures binding are ∙ sym (fragment_here (dones (reverse rounds)) binding number)) trees) want)
     c.write.ensures.err
