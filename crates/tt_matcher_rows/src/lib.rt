@@ -4,4 +4,6 @@
 #[cfg(test)]
 mod faults;
 #[cfg(test)]
+mod pieces;
+#[cfg(test)]
 mod rows;
