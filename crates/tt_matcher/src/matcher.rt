@@ -71,7 +71,8 @@ impl Matcher {
     /// with what it binds, or in two and maybe more.
     ///
     /// Time is in proportion to the length of the input times the number of edges that are taken at a tree, and memory to how many
-    /// places are passed. It is refused only where memory is.
+    /// places are passed. A fragment of Rust's grammar is asked at each tree before which a thread wants it, and looks ahead as far as it
+    /// reaches. It is refused only where memory is.
     pub fn read<'i>(&self, alloc: Global, input: TtIter<'i>) -> Result<Found<'i>, AllocError>
         ensures { IfOk result (λ found. (pattern : Pattern) → IsMatcherOf pattern self.now → Tells pattern (rest_of input.entry) found) }
     {
