@@ -3,10 +3,9 @@ use Rattle.std.proofs.lemmas.List.{reverse-reverse}
 use Rattle.std.specs.Prelude.{slice_get}
 use Rattle.tt.specs.Forest.{size}
 use Rattle.tt.specs.Views.{trees_of}
-use Rattle.tt_matcher.specs.Bindings.{Binding}
-use Rattle.tt_template.specs.Filling.{trees_used, trees_placed}
+use Rattle.tt_template.specs.Filling.{trees_used}
 use Rattle.tt_template.specs.Placing.{placed}
-use Rattle.tt_template.specs.Rounds.{AreTaken, binding_in, dones}
+use Rattle.tt_template.specs.Rounds.{binding_in, dones}
 use Rattle.tt_template.specs.Standing.{Grows, IsWant, bound_here}
 use Rattle.tt_template.proofs.Growing.{on_ok, err_so}
 use Rattle.tt_template.proofs.Seeing.{fragment_here}
