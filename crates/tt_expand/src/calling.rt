@@ -39,12 +39,7 @@ pub(crate) enum Called {
 }
 
 // What rules make of a call, with so many expansions one inside the other.
-fn made(
-    alloc: Global,
-    limit: usize,
-    rules: &MacroRules,
-    call: &Call<'_>,
-) -> Result<Made, TtFault>
+fn make(alloc: Global, limit: usize, rules: &MacroRules, call: &Call<'_>) -> Result<Made, TtFault>
     ensures { IfOk result (λ made. (arms : List Arm) → AreMade arms rules.now.arms.items → IsMade limit arms (call_of call.now) made) }
 {
     let at = start_of(call.name.span);
@@ -95,7 +90,7 @@ pub(crate) fn expand_call(
         known.find(name, start_of(call.name.span), MacroFault::Left, defined_at)?;
         return Ok(Called::Other);
     };
-    match made(setting.alloc, limit, rules, call)? {
+    match make(setting.alloc, limit, rules, call)? {
         Made::Tree(tree) => Ok(Called::Tree(tree)),
         Made::Faulty(at, fault) => {
             known.find(name, at, fault, defined_at)?;

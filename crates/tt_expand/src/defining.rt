@@ -45,11 +45,7 @@ fn rules_of(setting: &Setting, definition: &Definition<'_>) -> Result<Rules, TtF
 }
 
 // The macro is in scope from then on. Where its arms have a fault, that is found, and the macro is left as it is.
-fn define(
-    setting: &Setting,
-    known: &mut Known,
-    definition: &Definition<'_>,
-) -> Result<(), TtFault>
+fn define(setting: &Setting, known: &mut Known, definition: &Definition<'_>) -> Result<(), TtFault>
     ensures { OnOk result ((before : KnownOf) → IsKnown before known.old → (after : KnownOf) × IsDefined (definition_of definition.now) (rooted setting.now.root (rest_of definition.now.arms)) before after × IsKnown after known.new) }
 {
     let name = definition.name.sym.clone()?;

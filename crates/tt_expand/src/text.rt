@@ -7,7 +7,7 @@ use crate::output::Output;
 use crate::places::{end_of, start_at, start_of};
 use crate::setting::Setting;
 use crate::walk::{Event, Invocation, Walk, next};
-use std::alloc::{AllocError, Global};
+use std::alloc::Global;
 use tt::{
     Delimiter, DelimiterKind, ErasedFileAstId, FileId, SpanAnchor, Symbol, SyntaxContext,
     TopSubtree, TopSubtreeBuilder, TtFault,
@@ -81,7 +81,7 @@ fn expand_source(
 }
 
 // How trees are gone through.
-fn setting_of(alloc: Global, options: ExpandOptions<'_>) -> Result<Setting, AllocError> {
+fn setting_of(alloc: Global, options: ExpandOptions<'_>) -> Result<Setting, TtFault> {
     let only = match options.only {
         None => None,
         Some(name) => Some(Symbol::new(alloc, name)?),
