@@ -1,46 +1,48 @@
 //! What is told of a text that has no tree.
 use crate::failure::Failure;
+use crate::style::style_of;
 use std::alloc::{AllocError, Global};
-use tt_source::{Diagnostic, Spot, diagnostic_text, line_of, place_of};
+use tt_source::{Diagnostic, Level, SourceFile, Style, diagnostic_text};
 use tt_text::{SyntaxFault, TextFault};
 
 /// What is told of why the text of that name is refused.
-pub fn told(alloc: Global, name: &str, text: &str, fault: TextFault) -> Failure {
-    let made = match fault {
-        TextFault::Syntax(fault) => syntax_text(alloc, name, text, fault),
-        _ => format!(in alloc; "error: {name}: {fault}\n"),
-    };
-    match made {
-        Ok(text) => Failure::Told(text),
-        Err(_refused) => Failure::Memory,
+pub fn told(rt: &HostRuntime, name: &str, text: &str, fault: TextFault) -> Failure {
+    let alloc = rt.alloc();
+    match fault {
+        TextFault::Syntax(fault) => {
+            Failure::told(syntax_text(alloc, style_of(rt), name, text, fault))
+        }
+        _ => match format!(in alloc; "{name}: {fault}") {
+            Ok(message) => Failure::plain(rt, message.as_str()),
+            Err(_refused) => Failure::Memory,
+        },
     }
 }
 
 // What is told of a fault that has a place.
 fn syntax_text(
     alloc: Global,
+    style: Style,
     name: &str,
     text: &str,
     fault: SyntaxFault,
 ) -> Result<String, AllocError> {
+    let source = SourceFile::new(alloc, name, text)?;
     let message = message(alloc, fault)?;
     let mut notes = Vec::new(alloc);
     if let SyntaxFault::Mismatched { open, .. } = fault {
-        let place = place_of(text, open.at as usize);
+        let place = source.spot(open.at as usize).place;
         let bracket = open.bracket.opening();
         notes.push(format!(in alloc; "'{bracket}' is opened at {name}:{place}")?)?;
     }
-    let place = place_of(text, byte_of(fault) as usize);
     let diagnostic = Diagnostic {
+        level: Level::Error,
         message: message.as_str(),
-        spot: Some(Spot {
-            file: name,
-            place,
-            line: line_of(text, place.line),
-        }),
+        spot: Some(source.spot(byte_of(fault) as usize)),
         notes,
+        placed_note: None,
     };
-    diagnostic_text(alloc, &diagnostic)
+    diagnostic_text(alloc, style, &diagnostic)
 }
 
 // What is wrong.

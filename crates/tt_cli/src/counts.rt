@@ -1,0 +1,95 @@
+//! How many errors and warnings were told.
+ghost use Rattle.std.specs.Prelude.{◌≡◌, IsTrue, ◌↔◌, ◌<◌};
+ghost use Rattle.tt_cli.specs.Counts.{counts_of};
+
+use std::alloc::{AllocError, Global};
+use std::process::ExitCode;
+use tt_expand::Finding;
+use tt_source::Level;
+
+/// How many errors and warnings were told.
+#[derive(Debug, Clone, Copy, PartialEq, Eq)]
+pub struct Counts {
+    /// How many errors.
+    pub errors: usize,
+    /// How many warnings.
+    pub warnings: usize,
+}
+
+// So many of a thing.
+fn counted(alloc: Global, count: usize, one: &str, many: &str) -> Result<String, AllocError> {
+    let what = if count == 1 { one } else { many };
+    format!(in alloc; "{count} {what}")
+}
+
+impl Counts {
+    /// None.
+    pub const NONE: Counts = Counts {
+        errors: 0,
+        warnings: 0,
+    };
+
+    /// One error.
+    pub const ONE_ERROR: Counts = Counts {
+        errors: 1,
+        warnings: 0,
+    };
+
+    /// Those of what is found.
+    pub fn of(findings: &[Finding]) -> Counts
+        ensures { result ≡ counts_of findings.now }
+    {
+        Counts {
+            errors: findings.iter().filter(|it| !it.fault.is_warning()).count(),
+            warnings: findings.iter().filter(|it| it.fault.is_warning()).count(),
+        }
+    }
+
+    /// Those of both.
+    pub fn plus(self, other: Counts) -> Counts {
+        Counts {
+            errors: self.errors.saturating_add(other.errors),
+            warnings: self.warnings.saturating_add(other.warnings),
+        }
+    }
+
+    /// Whether there is an error.
+    pub fn has_errors(self) -> bool
+        ensures { IsTrue result ↔ (0 < self.errors) }
+    {
+        self.errors > 0
+    }
+
+    /// The exit status: 1 where there is an error, else 0.
+    pub fn status(self) -> ExitCode {
+        if self.has_errors() {
+            ExitCode::FAILURE
+        } else {
+            ExitCode::SUCCESS
+        }
+    }
+
+    /// How grave the gravest is, if there is one.
+    pub fn level(self) -> Option<Level> {
+        if self.has_errors() {
+            Some(Level::Error)
+        } else if self.warnings > 0 {
+            Some(Level::Warning)
+        } else {
+            None
+        }
+    }
+
+    /// What is said of them in the end.
+    pub fn message(self, alloc: Global) -> Result<String, AllocError> {
+        let errors = counted(alloc, self.errors, "error", "errors")?;
+        let warnings = counted(alloc, self.warnings, "warning", "warnings")?;
+        if self.warnings == 0 {
+            format!(in alloc; "found {errors}")
+        } else if self.errors == 0 {
+            format!(in alloc; "found {warnings}")
+        } else {
+            format!(in alloc; "found {errors} and {warnings}")
+        }
+    }
+}
