@@ -146,10 +146,7 @@ pub fn file_of<'a>(matches: &ArgMatches<'a>) -> Option<&'a str> {
 
 /// The files that a command is to read.
 pub fn files_of<'m, 'a>(matches: &'m ArgMatches<'a>) -> &'m [&'a str] {
-    match matches.get_strs(FILE) {
-        Some(names) => names,
-        None => &[],
-    }
+    matches.get_strs(FILE).unwrap_or(&[])
 }
 
 /// Whether calls that are not expanded are gone into.

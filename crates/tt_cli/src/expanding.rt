@@ -6,7 +6,7 @@ use crate::finding::findings_text;
 use crate::input::Input;
 use crate::style::style_of;
 use std::alloc::{AllocError, Global};
-use std::io::Write;
+use std::io::{self, Write};
 use std::process::ExitCode;
 use tt::TtFault;
 use tt_expand::{ExpandOptions, ExpandTextError, Expanded, Finding, expand_leniently};
@@ -24,13 +24,13 @@ struct Outcome {
 }
 
 // What is told of a byte of a text.
-fn told_at(
+fn told_at<'x>(
     alloc: Global,
     style: Style,
-    name: &str,
-    text: &str,
+    name: &'x str,
+    text: &'x str,
     at: u32,
-    message: &str,
+    message: &'x str,
 ) -> Result<String, AllocError> {
     let source = SourceFile::new(alloc, name, text)?;
     let diagnostic = Diagnostic {
@@ -79,11 +79,11 @@ fn refused(
 }
 
 // What is told of all that is found in a text.
-fn told_of(
+fn told_of<'x>(
     alloc: Global,
     style: Style,
-    name: &str,
-    text: &str,
+    name: &'x str,
+    text: &'x str,
     limit: usize,
     findings: &[Finding],
 ) -> Result<String, AllocError> {
@@ -148,24 +148,32 @@ fn tell_counts(rt: &HostRuntime, counts: Counts) -> Result<(), Failure> {
     Ok(())
 }
 
+// Writes a text, behind a byte order mark if there was one.
+fn write(rt: &HostRuntime, has_mark: bool, text: &str) -> io::Result<()> {
+    if has_mark {
+        rt.stdout().write_all(BYTE_ORDER_MARK.as_bytes())?;
+    }
+    rt.stdout().write_all(text.as_bytes())
+}
+
 /// Writes the text of an input in which calls are expanded. Where something is wrong in it, nothing is written.
 pub fn expand(
     rt: &HostRuntime,
     input: Input<'_>,
     options: ExpandOptions<'_>,
 ) -> Result<ExitCode, Failure> {
-    let outcome = outcome_of(rt, input, options);
-    tell_counts(rt, outcome.counts)?;
-    if outcome.counts.has_errors() {
-        return Ok(outcome.counts.status());
+    let Outcome {
+        text,
+        has_mark,
+        counts,
+    } = outcome_of(rt, input, options);
+    tell_counts(rt, counts)?;
+    if let Some(text) = text {
+        if !counts.has_errors() {
+            write(rt, has_mark, text.as_str())?;
+        }
     }
-    if outcome.has_mark {
-        rt.stdout().write_all(BYTE_ORDER_MARK.as_bytes())?;
-    }
-    if let Some(text) = outcome.text {
-        rt.stdout().write_all(text.as_bytes())?;
-    }
-    Ok(outcome.counts.status())
+    Ok(counts.status())
 }
 
 /// Tells what is wrong in the macros of the files of these names, one after the other.

@@ -20,11 +20,11 @@ pub fn told(rt: &HostRuntime, name: &str, text: &str, fault: TextFault) -> Failu
 }
 
 // What is told of a fault that has a place.
-fn syntax_text(
+fn syntax_text<'x>(
     alloc: Global,
     style: Style,
-    name: &str,
-    text: &str,
+    name: &'x str,
+    text: &'x str,
     fault: SyntaxFault,
 ) -> Result<String, AllocError> {
     let source = SourceFile::new(alloc, name, text)?;

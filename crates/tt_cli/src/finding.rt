@@ -25,6 +25,16 @@ fn notes_of(alloc: Global, limit: usize, fault: MacroFault) -> Result<Vec<String
     Ok(notes)
 }
 
+// A note at a byte, if there is one.
+fn note_at<'x>(
+    source: &SourceFile<'x>,
+    message: &'x str,
+    at: Option<u32>,
+) -> Option<PlacedNote<'x>> {
+    let spot = source.spot(at? as usize);
+    Some(PlacedNote { message, spot })
+}
+
 // What is told of something that is found.
 fn finding_text(
     alloc: Global,
@@ -36,13 +46,7 @@ fn finding_text(
     let name = finding.name.as_str();
     let message = message(alloc, name, finding.fault)?;
     let defined = format!(in alloc; "`{name}` is defined here")?;
-    let placed_note = match finding.defined_at {
-        Some(at) => Some(PlacedNote {
-            message: defined.as_str(),
-            spot: source.spot(at as usize),
-        }),
-        None => None,
-    };
+    let placed_note = note_at(source, defined.as_str(), finding.defined_at);
     let diagnostic = Diagnostic {
         level: level_of(&finding.fault),
         message: message.as_str(),
