@@ -144,9 +144,9 @@ pub fn file_of<'a>(matches: &ArgMatches<'a>) -> Option<&'a str> {
     matches.get_str(FILE)
 }
 
-/// The files that a command is to read.
-pub fn files_of<'m, 'a>(matches: &'m ArgMatches<'a>) -> &'m [&'a str] {
-    matches.get_strs(FILE).unwrap_or(&[])
+/// The files that a command is to read, if some are named.
+pub fn files_of<'m, 'a>(matches: &'m ArgMatches<'a>) -> Option<&'m [&'a str]> {
+    matches.get_strs(FILE)
 }
 
 /// Whether calls that are not expanded are gone into.

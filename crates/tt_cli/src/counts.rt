@@ -1,6 +1,7 @@
 //! How many errors and warnings were told.
-ghost use Rattle.std.specs.Prelude.{◌≡◌, IsTrue, ◌↔◌, ◌<◌};
-ghost use Rattle.tt_cli.specs.Counts.{counts_of};
+ghost use Rattle.std.specs.Prelude.{◌≡◌, ◌+◌, ◌^◌, ◌<◌, IfOk, codes, nat_lt, string_bytes};
+ghost use Rattle.std.specs.Process.{exit_status};
+ghost use Rattle.tt_cli.specs.Counts.{counts_of, counted, level_of, message_of, status_of};
 
 use std::alloc::{AllocError, Global};
 use std::process::ExitCode;
@@ -8,7 +9,7 @@ use tt_expand::Finding;
 use tt_source::Level;
 
 /// How many errors and warnings were told.
-#[derive(Debug, Clone, Copy, PartialEq, Eq)]
+#[derive(Clone, Copy)]
 pub struct Counts {
     /// How many errors.
     pub errors: usize,
@@ -17,7 +18,9 @@ pub struct Counts {
 }
 
 // So many of a thing.
-fn counted(alloc: Global, count: usize, one: &str, many: &str) -> Result<String, AllocError> {
+fn counted(alloc: Global, count: usize, one: &str, many: &str) -> Result<String, AllocError>
+    ensures { IfOk result (λ text. string_bytes text ≡ counted count one.now many.now) }
+{
     let what = if count == 1 { one } else { many };
     format!(in alloc; "{count} {what}")
 }
@@ -45,8 +48,11 @@ impl Counts {
         }
     }
 
-    /// Those of both.
-    pub fn plus(self, other: Counts) -> Counts {
+    /// Those of both, as far as a number of 64 bits goes.
+    pub fn plus(self, other: Counts) -> Counts
+        ensures errors { self.errors + other.errors < 2 ^ 64 → result.errors ≡ self.errors + other.errors }
+        ensures warnings { self.warnings + other.warnings < 2 ^ 64 → result.warnings ≡ self.warnings + other.warnings }
+    {
         Counts {
             errors: self.errors.saturating_add(other.errors),
             warnings: self.warnings.saturating_add(other.warnings),
@@ -55,22 +61,22 @@ impl Counts {
 
     /// Whether there is an error.
     pub fn has_errors(self) -> bool
-        ensures { IsTrue result ↔ (0 < self.errors) }
+        ensures { result ≡ nat_lt 0 self.errors }
     {
         self.errors > 0
     }
 
     /// The exit status: 1 where there is an error, else 0.
-    pub fn status(self) -> ExitCode {
-        if self.has_errors() {
-            ExitCode::FAILURE
-        } else {
-            ExitCode::SUCCESS
-        }
+    pub fn status(self) -> ExitCode
+        ensures { exit_status result ≡ status_of self }
+    {
+        ExitCode::from(u8::from(self.has_errors()))
     }
 
     /// How grave the gravest is, if there is one.
-    pub fn level(self) -> Option<Level> {
+    pub fn level(self) -> Option<Level>
+        ensures { result ≡ level_of self }
+    {
         if self.has_errors() {
             Some(Level::Error)
         } else if self.warnings > 0 {
@@ -81,7 +87,9 @@ impl Counts {
     }
 
     /// What is said of them in the end.
-    pub fn message(self, alloc: Global) -> Result<String, AllocError> {
+    pub fn message(self, alloc: Global) -> Result<String, AllocError>
+        ensures { IfOk result (λ text. string_bytes text ≡ message_of self) }
+    {
         let errors = counted(alloc, self.errors, "error", "errors")?;
         let warnings = counted(alloc, self.warnings, "warning", "warnings")?;
         if self.warnings == 0 {

@@ -19,6 +19,22 @@ pub fn told(rt: &HostRuntime, name: &str, text: &str, fault: TextFault) -> Failu
     }
 }
 
+// What is to be known beside it: where the bracket is opened that another one does not close.
+fn notes_of(
+    alloc: Global,
+    name: &str,
+    source: &SourceFile<'_>,
+    fault: SyntaxFault,
+) -> Result<Vec<String>, AllocError> {
+    let mut notes = Vec::new(alloc);
+    if let SyntaxFault::Mismatched { open, .. } = fault {
+        let place = source.spot(open.at as usize).place;
+        let bracket = open.bracket.opening();
+        notes.push(format!(in alloc; "'{bracket}' is opened at {name}:{place}")?)?;
+    }
+    Ok(notes)
+}
+
 // What is told of a fault that has a place.
 fn syntax_text<'x>(
     alloc: Global,
@@ -29,17 +45,11 @@ fn syntax_text<'x>(
 ) -> Result<String, AllocError> {
     let source = SourceFile::new(alloc, name, text)?;
     let message = message(alloc, fault)?;
-    let mut notes = Vec::new(alloc);
-    if let SyntaxFault::Mismatched { open, .. } = fault {
-        let place = source.spot(open.at as usize).place;
-        let bracket = open.bracket.opening();
-        notes.push(format!(in alloc; "'{bracket}' is opened at {name}:{place}")?)?;
-    }
     let diagnostic = Diagnostic {
         level: Level::Error,
         message: message.as_str(),
         spot: Some(source.spot(byte_of(fault) as usize)),
-        notes,
+        notes: notes_of(alloc, name, &source, fault)?,
         placed_note: None,
     };
     diagnostic_text(alloc, style, &diagnostic)

@@ -35,7 +35,10 @@ fn run_command(rt: &HostRuntime, matches: &ArgMatches<'_>) -> Result<ExitCode, F
     };
     match name {
         "expand" => expand(rt, Input::new(file_of(given)), options_of(rt, given)?),
-        "check" => check(rt, files_of(given), options_of(rt, given)?),
+        "check" => match files_of(given) {
+            Some(names) => check(rt, names, options_of(rt, given)?),
+            None => Ok(ExitCode::SUCCESS),
+        },
         _ => {
             run_on_file(rt, name, given)?;
             Ok(ExitCode::SUCCESS)
