@@ -1,12 +1,12 @@
 #!/usr/bin/env python3
-"""Texts whose macros are expanded, beside rustc: compare_expansions.py PROGRAM [--crates FOLDER..] [--made N] [--first SEED] [--rustc RUSTC]
+"""Texts whose macros are expanded, beside rustc: compare_expansions.py PROGRAM [--crates FOLDER..] [--made N] [--first SEED]
 
-PROGRAM is `cuvolemin`. Each file of a crate in a FOLDER, which needs no other crate, is expanded by it, and put back in a copy of the
-crate. What rustc then expands that copy to is compared with what it expands the crate to, token by token, as PROGRAM tells tokens.
-The same is done with N files that are made by chance, each a crate of its own; these are run too, as they are and expanded, and
-what they print is compared. It prints how many files agree, how many do but for parentheses, how many are refused or have calls
-that are left, by what is told first, and each file that differs. A `;` behind a call that was an item, where rustc wants none,
-is taken out, and such files are counted apart. No part of the gate: it needs rustc.
+PROGRAM is `cuvolemin`. Each file of a crate in a FOLDER, which needs no other crate, is expanded by it, and put back in a copy of
+the crate. What rustc then expands that copy to is compared with what it expands the crate to, token by token, as PROGRAM tells
+tokens. The same is done with N files that are made by chance, each a crate of its own; these are run too, as they are and
+expanded, and what they print is compared. It prints how many files agree, how many do but for parentheses, how many are refused
+or have calls that are left, by what is told first, and each file that differs. A `;` behind a call that was an item, where rustc
+wants none, is taken out, and such files are counted apart. No part of the gate: it needs rustc (--rustc tells which).
 """
 import argparse
 import collections

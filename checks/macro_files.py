@@ -172,7 +172,8 @@ def try_long(files):
     wants("the run", (status, written), (1, b""))
     wants("the count", told.split(b"\n")[-2], f"error: found {CALLS} errors".encode())
     wants("the places", told.count(b"error: no rule"), CALLS)
-    wants("the last place", told.split(b"\n\n")[-2].split(b"\n")[1], f"     --> {name}:{CALLS + 1}:5".encode())
+    last = f"{' ' * len(str(CALLS + 1))}--> {name}:{CALLS + 1}:5"
+    wants("the last place", told.split(b"\n\n")[-2].split(b"\n")[1], last.encode())
 
 
 def try_closed_pipe(files):
@@ -204,8 +205,8 @@ def try_colours(files):
     plain = files.run("check", "-", given=text)[2]
     coloured = told_on_terminal(files, "check", "-", given=text)
     wants("what is told without colours", re.sub(rb"\x1b\[[0-9;]*m", b"", coloured), plain)
-    for word in (b"\x1b[1;31merror\x1b[0m: no rule", b"\x1b[1;31m^\x1b[0m", b"\x1b[1;32mnote\x1b[0m: `m`", b"\x1b[1;34m-->\x1b[0m"):
-        wants("a colour", word in coloured, True)
+    for colour, word in ((31, b"error"), (31, b"^"), (32, b"note"), (34, b"-->"), (34, b"|")):
+        wants("a colour", b"\x1b[1;%dm%s\x1b[0m" % (colour, word) in coloured, True)
     wants("what is told to one who wants none", told_on_terminal(files, "check", "-", given=text, NO_COLOR="1"), plain)
     wants("what is told without a terminal", b"\x1b" in plain, False)
 

@@ -41,7 +41,8 @@ class Files:
     def started(self, *words, stderr, environment):
         """A run that is begun, with a stream for what it tells, and some variables more."""
         return subprocess.Popen(
-            [self.program, *words], stdin=subprocess.PIPE, stdout=subprocess.PIPE, stderr=stderr, env={**os.environ, **environment}
+            [self.program, *words],
+            stdin=subprocess.PIPE, stdout=subprocess.PIPE, stderr=stderr, env={**os.environ, **environment},
         )
 
     def gives(self, expected, *words, given=b""):

@@ -22,20 +22,39 @@ pub fn told(rt: &HostRuntime, name: &str, text: &str, fault: TextFault) -> Failu
 // What is to be known beside it: where the bracket is opened that another one does not close.
 fn notes_of(
     alloc: Global,
-    name: &str,
     source: &SourceFile<'_>,
     fault: SyntaxFault,
 ) -> Result<Vec<String>, AllocError> {
     let mut notes = Vec::new(alloc);
     if let SyntaxFault::Mismatched { open, .. } = fault {
-        let place = source.spot(open.at as usize).place;
+        let spot = source.spot(open.at as usize);
+        let file = spot.file;
+        let place = spot.place;
         let bracket = open.bracket.opening();
-        notes.push(format!(in alloc; "'{bracket}' is opened at {name}:{place}")?)?;
+        notes.push(format!(in alloc; "'{bracket}' is opened at {file}:{place}")?)?;
     }
     Ok(notes)
 }
 
-// What is told of a fault that has a place.
+// What is told of a fault of a text, by a message.
+fn fault_text<'x>(
+    alloc: Global,
+    style: Style,
+    source: &SourceFile<'x>,
+    message: &'x str,
+    fault: SyntaxFault,
+) -> Result<String, AllocError> {
+    let diagnostic = Diagnostic {
+        level: Level::Error,
+        message,
+        spot: Some(source.spot(byte_of(fault) as usize)),
+        notes: notes_of(alloc, source, fault)?,
+        placed_note: None,
+    };
+    diagnostic_text(alloc, style, &diagnostic)
+}
+
+// The same, of a text of that name.
 fn syntax_text<'x>(
     alloc: Global,
     style: Style,
@@ -43,16 +62,9 @@ fn syntax_text<'x>(
     text: &'x str,
     fault: SyntaxFault,
 ) -> Result<String, AllocError> {
-    let source = SourceFile::new(alloc, name, text)?;
     let message = message(alloc, fault)?;
-    let diagnostic = Diagnostic {
-        level: Level::Error,
-        message: message.as_str(),
-        spot: Some(source.spot(byte_of(fault) as usize)),
-        notes: notes_of(alloc, name, &source, fault)?,
-        placed_note: None,
-    };
-    diagnostic_text(alloc, style, &diagnostic)
+    let source = SourceFile::new(alloc, name, text)?;
+    fault_text(alloc, style, &source, message.as_str(), fault)
 }
 
 // What is wrong.
