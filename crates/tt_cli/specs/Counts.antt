@@ -19,9 +19,13 @@ status_of counts = if nat_lt 0 counts.errors then 1 else 0
 abbrev pub level_of : Counts → Option Level
 level_of counts = if nat_lt 0 counts.errors then Some Error else if nat_lt 0 counts.warnings then Some Warning else None
 
+-- the word for so many
+abbrev pub word : ℕ → (one many : List ℕ) → List ℕ
+word count one many = if count == 1 then one else many
+
 -- so many of a thing
 abbrev pub counted : ℕ → (one many : List ℕ) → List ℕ
-counted count one many = decimal count ++ codes " " ++ (if count == 1 then one else many)
+counted count one many = decimal count ++ codes " " ++ word count one many
 
 -- how many errors and warnings, where there are some
 abbrev pub all_counted : Counts → List ℕ

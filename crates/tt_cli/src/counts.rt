@@ -1,7 +1,7 @@
 //! How many errors and warnings were told.
-ghost use Rattle.std.specs.Prelude.{◌≡◌, ◌+◌, ◌^◌, ◌<◌, IfOk, codes, nat_lt, string_bytes};
+ghost use Rattle.std.specs.Prelude.{◌≡◌, ◌+◌, ◌^◌, ◌<◌, ◌++◌, IfOk, codes, nat_lt, string_bytes};
 ghost use Rattle.std.specs.Process.{exit_status};
-ghost use Rattle.tt_cli.specs.Counts.{counts_of, counted, level_of, message_of, status_of};
+ghost use Rattle.tt_cli.specs.Counts.{all_counted, counted, counts_of, level_of, message_of, status_of, word};
 
 use std::alloc::{AllocError, Global};
 use std::process::ExitCode;
@@ -17,12 +17,28 @@ pub struct Counts {
     pub warnings: usize,
 }
 
+// The word for so many.
+fn word<'x>(count: usize, one: &'x str, many: &'x str) -> &'x str
+    ensures { result.now ≡ word count one.entry.now many.entry.now }
+{
+    if count == 1 { one } else { many }
+}
+
 // So many of a thing.
 fn counted(alloc: Global, count: usize, one: &str, many: &str) -> Result<String, AllocError>
     ensures { IfOk result (λ text. string_bytes text ≡ counted count one.now many.now) }
 {
-    let what = if count == 1 { one } else { many };
-    format!(in alloc; "{count} {what}")
+    let mut text = count.to_string(alloc)?;
+    text.push_str(" ")?;
+    text.push_str(word(count, one, many))?;
+    Ok(text)
+}
+
+// Both of these.
+fn both(alloc: Global, errors: &str, warnings: &str) -> Result<String, AllocError>
+    ensures { IfOk result (λ text. string_bytes text ≡ errors.now ++ codes " and " ++ warnings.now) }
+{
+    format!(in alloc; "{errors} and {warnings}")
 }
 
 impl Counts {
@@ -86,18 +102,26 @@ impl Counts {
         }
     }
 
+    // How many errors and warnings, where there are some.
+    fn all_counted(self, alloc: Global) -> Result<String, AllocError>
+        ensures { IfOk result (λ text. string_bytes text ≡ all_counted self) }
+    {
+        let errors = counted(alloc, self.errors, "error", "errors")?;
+        if self.warnings == 0 {
+            return Ok(errors);
+        }
+        let warnings = counted(alloc, self.warnings, "warning", "warnings")?;
+        if self.errors == 0 {
+            return Ok(warnings);
+        }
+        both(alloc, errors.as_str(), warnings.as_str())
+    }
+
     /// What is said of them in the end.
     pub fn message(self, alloc: Global) -> Result<String, AllocError>
         ensures { IfOk result (λ text. string_bytes text ≡ message_of self) }
     {
-        let errors = counted(alloc, self.errors, "error", "errors")?;
-        let warnings = counted(alloc, self.warnings, "warning", "warnings")?;
-        if self.warnings == 0 {
-            format!(in alloc; "found {errors}")
-        } else if self.errors == 0 {
-            format!(in alloc; "found {warnings}")
-        } else {
-            format!(in alloc; "found {errors} and {warnings}")
-        }
+        let all = self.all_counted(alloc)?;
+        format!(in alloc; "found {all}")
     }
 }

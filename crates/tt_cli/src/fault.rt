@@ -36,35 +36,36 @@ fn notes_of(
     Ok(notes)
 }
 
-// What is told of a fault of a text, by a message.
+// What is told of a fault of the text of that name, by a message.
 fn fault_text<'x>(
     alloc: Global,
     style: Style,
-    source: &SourceFile<'x>,
+    name: &'x str,
+    text: &'x str,
     message: &'x str,
     fault: SyntaxFault,
 ) -> Result<String, AllocError> {
+    let source = SourceFile::new(alloc, name, text)?;
     let diagnostic = Diagnostic {
         level: Level::Error,
         message,
         spot: Some(source.spot(byte_of(fault) as usize)),
-        notes: notes_of(alloc, source, fault)?,
+        notes: notes_of(alloc, &source, fault)?,
         placed_note: None,
     };
     diagnostic_text(alloc, style, &diagnostic)
 }
 
-// The same, of a text of that name.
-fn syntax_text<'x>(
+// What is told of a fault of the text of that name.
+fn syntax_text(
     alloc: Global,
     style: Style,
-    name: &'x str,
-    text: &'x str,
+    name: &str,
+    text: &str,
     fault: SyntaxFault,
 ) -> Result<String, AllocError> {
     let message = message(alloc, fault)?;
-    let source = SourceFile::new(alloc, name, text)?;
-    fault_text(alloc, style, &source, message.as_str(), fault)
+    fault_text(alloc, style, name, text, message.as_str(), fault)
 }
 
 // What is wrong.
