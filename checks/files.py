@@ -11,61 +11,14 @@ import subprocess
 import sys
 import tempfile
 
+import macro_files
+from program_files import SECONDS, Files, Wrong, wants
+
 EXAMPLES = pathlib.Path(__file__).resolve().parent.parent / "examples" / "rust"
 DEPTH = 100_000
 # The tree's lines are indented by all levels above them.
 TREE_DEPTH = 1_000
 WORDS = 100_000
-SECONDS = 60
-# A pipe holds less.
-FIRST_BYTES = 300
-
-
-class Wrong(Exception):
-    """What a run did, and should not have."""
-
-
-def wants(what, found, expected):
-    """Refuses a value that is not the expected one."""
-    if found != expected:
-        raise Wrong(f"{what}: {str(found)[:200]} in place of {str(expected)[:200]}")
-
-
-class Files:
-    """A program, and a folder for files that are made."""
-
-    def __init__(self, program, room):
-        self.program = program
-        self.room = pathlib.Path(room)
-
-    def made(self, name, contents):
-        """The name of a new file that holds these bytes."""
-        path = self.room / name
-        path.write_bytes(contents)
-        return str(path)
-
-    def run(self, *words, given=b""):
-        """The status of a run, what it wrote, and its errors."""
-        done = subprocess.run(
-            [self.program, *words], input=given, capture_output=True, timeout=SECONDS, check=False
-        )
-        return done.returncode, done.stdout, done.stderr
-
-    def gives(self, expected, *words, given=b""):
-        """Refuses a run that does not write just that, with status 0."""
-        wants("the run", self.run(*words, given=given), (0, expected, b""))
-
-    def tells(self, expected, *words, given=b""):
-        """Refuses a run that does not tell just that, with status 1."""
-        wants("the run", self.run(*words, given=given), (1, b"", expected.encode()))
-
-    def mistake(self, *words):
-        """Refuses a run that does not tell of a mistake in the arguments."""
-        status, written, told = self.run(*words)
-        wants("the status", status, 2)
-        wants("what is written", written, b"")
-        if b"cuvolemin" not in told or b"Usage:" not in told:
-            raise Wrong(f"the usage is not told: {told[:200]}")
 
 
 def without_spans(lines):
@@ -207,10 +160,10 @@ def try_help(files):
     """`--help` tells each command, of the program and of a command."""
     status, written, told = files.run("--help")
     wants("the run", (status, told), (0, b""))
-    for word in (b"Usage: cuvolemin", b"tokens", b"tree", b"unpack", b"--version"):
+    for word in (b"Usage: cuvolemin", b"expand", b"check", b"tokens", b"tree", b"unpack", b"--version"):
         if word not in written:
             raise Wrong(f"{word} is not told")
-    for command in ("tokens", "tree", "pack", "unpack"):
+    for command in ("expand", "check", "tokens", "tree", "pack", "unpack"):
         status, written, told = files.run(command, "--help")
         wants("the run", (status, told), (0, b""))
         if f"Usage: cuvolemin {command}".encode() not in written:
@@ -228,29 +181,19 @@ def try_mistakes(files):
     files.mistake("frobnicate")
     files.mistake("tokens", "--no-such")
     files.mistake("tree", "a", "b")
+    files.mistake("expand", "a", "b")
+    files.mistake("check")
     files.mistake("pack", "-")
     files.mistake("pack", "-o", "/no/out")
     files.mistake("unpack")
 
 
-def reads_some(files, *words, given):
-    """The first bytes that a run writes, and what it tells where the pipe is closed then."""
-    name = files.made("given", given)
-    started = subprocess.Popen([files.program, *words, name], stdout=subprocess.PIPE, stderr=subprocess.PIPE)
-    first = started.stdout.read(FIRST_BYTES)
-    started.stdout.close()
-    told = started.stderr.read()
-    started.stderr.close()
-    started.wait(timeout=SECONDS)
-    return first, told
-
-
 def try_closed_pipe(files):
     """Who closes the pipe has read enough: nothing is told."""
-    first, told = reads_some(files, "tokens", given=b"a " * WORDS)
+    first, told = files.reads_some("tokens", given=b"a " * WORDS)
     wants("the first line", first.split(b"\n")[0], b'0..1 Ident "a"')
     wants("what is told", told, b"")
-    first, told = reads_some(files, "tree", given=b"(" * DEPTH + b")" * DEPTH)
+    first, told = files.reads_some("tree", given=b"(" * DEPTH + b")" * DEPTH)
     wants("the first line", first.split(b"\n")[0], f"SUBTREE () 1:1..1:2 1:{2 * DEPTH}..1:{2 * DEPTH + 1}".encode())
     wants("what is told", told, b"")
 
@@ -290,15 +233,33 @@ def try_long(files):
     files.gives(lines.encode(), "tree", given="é\n".encode() * WORDS)
 
 
+# What is tried of an example, by the ending of what stands beside it.
+OF_EXAMPLES = (
+    (".tokens", "tokens", try_tokens),
+    (".err", "fault", try_fault),
+    (".tree", "tree", try_tree),
+    (".text", "piece", try_pieces),
+)
+
+
+def tried_examples(files):
+    """What is tried of each example, by its name. Nothing stands beside no text, and no text is tried in no way."""
+    for example in sorted(EXAMPLES.glob("*.rs")):
+        of_it = [
+            (f"{what} of {example.name}", lambda example=example, try_one=try_one: try_one(files, example))
+            for ending, what, try_one in OF_EXAMPLES
+            if example.with_suffix(ending).exists()
+        ]
+        of_it += macro_files.tried_example(files, example)
+        if not of_it:
+            raise Wrong(f"nothing is tried of {example.name}")
+        yield from of_it
+
+
 def tried(files):
     """Each thing that is tried, by its name."""
-    for example in sorted(EXAMPLES.glob("*.rs")):
-        yield f"tokens of {example.name}", lambda example=example: try_tokens(files, example)
-        if example.with_suffix(".err").exists():
-            yield f"fault of {example.name}", lambda example=example: try_fault(files, example)
-        else:
-            yield f"tree of {example.name}", lambda example=example: try_tree(files, example)
-            yield f"piece of {example.name}", lambda example=example: try_pieces(files, example)
+    yield from tried_examples(files)
+    yield from macro_files.tried(files, EXAMPLES)
     for try_one in (
         try_missing, try_folder, try_unreadable, try_empty, try_no_utf8, try_mark, try_faults, try_bad_pieces, try_help,
         try_version, try_mistakes, try_closed_pipe, try_deep, try_deep_tree, try_long,

@@ -1,14 +1,17 @@
 //! Why a command did not do its work.
-use std::alloc::{AllocError, AllocFailed, Global};
+use crate::style::style_of;
+use std::alloc::{AllocError, AllocFailed};
 use std::io::{self, ErrorKind};
 use std::process::ExitCode;
-use tt_source::{Diagnostic, diagnostic_text};
+use tt_source::{Diagnostic, Level, diagnostic_text};
 
 /// Why a command did not do its work.
 #[derive(Drop)]
 pub enum Failure {
     /// What is told of it: whole lines.
     Told(String),
+    /// What is told of a mistake in the arguments: whole lines.
+    Mistake(String),
     /// The arguments could not be had, or standard output did not take what was written.
     Stream(io::Error),
     /// Memory was refused.
@@ -33,16 +36,36 @@ impl From<io::Error> for Failure {
     }
 }
 
+/// What is told of something that has no place in a text.
+pub fn plain_text(rt: &HostRuntime, level: Level, message: &str) -> Result<String, AllocError> {
+    let diagnostic = Diagnostic {
+        level,
+        message,
+        spot: None,
+        notes: Vec::new(rt.alloc()),
+        placed_note: None,
+    };
+    diagnostic_text(rt.alloc(), style_of(rt), &diagnostic)
+}
+
 impl Failure {
-    /// One that is told by its message alone, with no place in a text.
-    pub fn plain(alloc: Global, message: &str) -> Failure {
-        let diagnostic = Diagnostic {
-            message,
-            spot: None,
-            notes: Vec::new(alloc),
-        };
-        match diagnostic_text(alloc, &diagnostic) {
+    /// One of which that is told.
+    pub fn told(text: Result<String, AllocError>) -> Failure {
+        match text {
             Ok(text) => Failure::Told(text),
+            Err(_refused) => Failure::Memory,
+        }
+    }
+
+    /// One that is told by its message alone, with no place in a text.
+    pub fn plain(rt: &HostRuntime, message: &str) -> Failure {
+        Failure::told(plain_text(rt, Level::Error, message))
+    }
+
+    /// A mistake in the arguments.
+    pub fn mistake(rt: &HostRuntime, message: &str) -> Failure {
+        match plain_text(rt, Level::Error, message) {
+            Ok(text) => Failure::Mistake(text),
             Err(_refused) => Failure::Memory,
         }
     }
@@ -53,6 +76,10 @@ impl Failure {
         match self {
             Failure::Told(text) => {
                 let _ = eprint!(rt; "{text}");
+            }
+            Failure::Mistake(text) => {
+                let _ = eprint!(rt; "{text}");
+                return ExitCode::from(2);
             }
             Failure::Stream(error) => {
                 if error.kind() == ErrorKind::BrokenPipe {

@@ -1,12 +1,19 @@
-//! The program `cuvolemin`, for people who write Rust: the tokens and the tree of a text, and a tree as one piece of bytes.
+//! The program `cuvolemin`, for people who write Rust: what the macros of a text become, its tokens and its tree, and a tree as
+//! one piece of bytes.
 #![tactic(auto)]
 
 mod arguments;
+mod counts;
+mod expanding;
 mod failure;
 mod fault;
+mod finding;
 mod input;
+mod messages;
+mod options;
 mod packing;
 mod program;
+mod style;
 mod token_lines;
 mod tree_lines;
 

@@ -2,7 +2,6 @@
 use crate::failure::Failure;
 use crate::input::Input;
 use crate::tree_lines::tree_of;
-use std::alloc::Global;
 use std::fmt::Display;
 use std::fs;
 use std::io::Write;
@@ -10,9 +9,9 @@ use tt_bytes::{from_bytes, to_bytes};
 use tt_unparse::rust_text;
 
 // What is told of a file, in one line.
-fn of_file(alloc: Global, name: &str, what: impl Display + Drop) -> Failure {
-    match format!(in alloc; "{name}: {what}") {
-        Ok(message) => Failure::plain(alloc, message.as_str()),
+fn of_file(rt: &HostRuntime, name: &str, what: impl Display + Drop) -> Failure {
+    match format!(in rt.alloc(); "{name}: {what}") {
+        Ok(message) => Failure::plain(rt, message.as_str()),
         Err(_refused) => Failure::Memory,
     }
 }
@@ -22,16 +21,16 @@ pub fn pack(rt: &HostRuntime, input: Input<'_>, out: &str) -> Result<(), Failure
     let alloc = rt.alloc();
     let bytes = input.bytes(rt)?;
     let text = input.text(rt, bytes.as_slice())?;
-    let tree = tree_of(alloc, input.name(), text)?;
+    let tree = tree_of(rt, input.name(), text)?;
     let piece = match to_bytes(alloc, &tree) {
         Ok(piece) => piece,
-        Err(fault) => return Err(of_file(alloc, input.name(), fault)),
+        Err(fault) => return Err(of_file(rt, input.name(), fault)),
     };
     match fs::write(rt, out, piece.as_slice()) {
         Ok(()) => Ok(()),
         Err(error) => {
             let message = format!(in alloc; "couldn't write {out}: {error}")?;
-            Err(Failure::plain(alloc, message.as_str()))
+            Err(Failure::plain(rt, message.as_str()))
         }
     }
 }
@@ -42,11 +41,11 @@ pub fn unpack(rt: &HostRuntime, input: Input<'_>) -> Result<(), Failure> {
     let bytes = input.bytes(rt)?;
     let tree = match from_bytes(alloc, bytes.as_slice()) {
         Ok(tree) => tree,
-        Err(fault) => return Err(of_file(alloc, input.name(), fault)),
+        Err(fault) => return Err(of_file(rt, input.name(), fault)),
     };
     let mut text = match rust_text(alloc, tree.token_trees()) {
         Ok(text) => text,
-        Err(fault) => return Err(of_file(alloc, input.name(), fault)),
+        Err(fault) => return Err(of_file(rt, input.name(), fault)),
     };
     if !text.is_empty() {
         text.push_str("\n")?;

@@ -11,14 +11,14 @@ use tt_source::Places;
 use tt_text::parse_to_token_tree;
 
 /// The tree of a text, or what is told of its first fault.
-pub fn tree_of(alloc: Global, name: &str, text: &str) -> Result<TopSubtree, Failure> {
+pub fn tree_of(rt: &HostRuntime, name: &str, text: &str) -> Result<TopSubtree, Failure> {
     let anchor = SpanAnchor {
         file_id: FileId(0),
         ast_id: ErasedFileAstId(0),
     };
-    match parse_to_token_tree(alloc, anchor, SyntaxContext(0), text) {
+    match parse_to_token_tree(rt.alloc(), anchor, SyntaxContext(0), text) {
         Ok(tree) => Ok(tree),
-        Err(fault) => Err(told(alloc, name, text, fault)),
+        Err(fault) => Err(told(rt, name, text, fault)),
     }
 }
 

@@ -7,14 +7,14 @@ use Rattle.tt.specs.Types.DelimiterKind.TheVariants.{InvisibleOpaque}
 use Rattle.tt.specs.Types.Leaf.{Leaf}
 use Rattle.tt.specs.Types.Span.{Span}
 
--- what becomes of trees: leaves that stay, subtrees that are gone into, trees that stay with all that they hold, and calls that begin at a
--- span and have a subtree under a delimiter, in whose place trees stand
+-- what becomes of trees: leaves that stay, subtrees that are gone into, trees that stay with all that they hold, and what stands from a span
+-- to another, in whose place trees stand
 pub data Outcome : Type 0 where
   nothing : Outcome
   passes : Leaf → Outcome → Outcome
   enters : Delimiter → (inside behind : Outcome) → Outcome
   stays : Forest → Outcome → Outcome
-  becomes : (first : Span) → Delimiter → Forest → Outcome → Outcome
+  becomes : (first last : Span) → Forest → Outcome → Outcome
 
 -- the trees that it leaves
 abbrev pub trees_left : Outcome → Forest
@@ -22,7 +22,7 @@ trees_left nothing = end
 trees_left (passes it behind) = leaf it (trees_left behind)
 trees_left (enters delimiter inside behind) = node delimiter (trees_left inside) (trees_left behind)
 trees_left (stays trees behind) = join trees (trees_left behind)
-trees_left (becomes first delimiter trees behind) = join trees (trees_left behind)
+trees_left (becomes first last trees behind) = join trees (trees_left behind)
 
 -- what comes of a call stands as it is where a statement or an item does, and else as one opaque subtree
 abbrev pub placed : (is_statement : Bool) → Delimiter → Forest → Forest

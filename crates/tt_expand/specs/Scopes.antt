@@ -5,9 +5,10 @@ use Rattle.tt_macro_rules.specs.Expansions.{AreMade}
 use Rattle.tt_macro_rules.specs.declared.macro_rules.MacroRules.{MacroRules}
 use Rattle.tt_expand.specs.declared.scope.Macro as rust
 
--- a macro: its name, and its arms, unless it is left as it is
+-- a macro: its name, the byte where that stands in its definition, and its arms, unless it is left as it is
 pub record Macro : Type 0 where
   pub name : List ℕ
+  pub defined_at : ℕ
   pub arms : Option (List Arm)
 
 -- the one, or else the other
@@ -39,6 +40,7 @@ AreRules (Some arms) (Some rules) = AreMade arms rules.arms.items
 -- a macro is made ready to expand
 pub record IsReady (macro : Macro) (it : rust.Macro) : Type 0 where
   pub name : it.name ≡ macro.name
+  pub defined_at : it.defined_at ≡ macro.defined_at
   pub rules : AreRules macro.arms it.rules
 
 -- all of them are, one by one
@@ -47,3 +49,10 @@ AreReady [] [] = Unit {0}
 AreReady [] (it ∷ others) = ⊥
 AreReady (macro ∷ more) [] = ⊥
 AreReady (macro ∷ more) (it ∷ others) = IsReady macro it × AreReady more others
+
+-- the one is made ready of the other, or there is neither
+abbrev pub IsReadyIf : Option Macro → Option rust.Macro → Type 0
+IsReadyIf None None = Unit {0}
+IsReadyIf None (Some it) = ⊥
+IsReadyIf (Some macro) None = ⊥
+IsReadyIf (Some macro) (Some it) = IsReady macro it

@@ -10,16 +10,17 @@ use Rattle.tt.specs.Types.DelimiterKind.TheVariants.{Brace}
 use Rattle.tt.specs.Types.Leaf.{Leaf}
 use Rattle.tt.specs.Types.Span.{Span}
 use Rattle.tt.specs.Views.{trees_of}
-use Rattle.tt_expand.specs.declared.expander.Expander.{Expander}
+use Rattle.tt_expand.specs.declared.known.Known as known
 use Rattle.tt_expand.specs.declared.position.Position.{Position}
 use Rattle.tt_expand.specs.declared.walk.Event.{Event}
 use Rattle.tt_expand.specs.declared.walk.Event.TheVariants as event
 use Rattle.tt_expand.specs.declared.walk.Level as rust
 use Rattle.tt_expand.specs.declared.walk.Walk.{Walk}
-use Rattle.tt_expand.specs.Coming.{Setting, Comes}
+use Rattle.tt_expand.specs.Coming.{Comes}
+use Rattle.tt_expand.specs.Items.{Item, item_in}
+use Rattle.tt_expand.specs.Knowing.{Setting, Known, IsKnown, left_in_scope, setting_of}
 use Rattle.tt_expand.specs.Outcomes.{Outcome, nothing, passes, enters, stays, becomes, trees_left, placed}
 use Rattle.tt_expand.specs.Positions.{first_in, behind, behind_leaf, behind_subtree, keeps_macros}
-use Rattle.tt_expand.specs.Scopes.{Macro, AreReady, kept_of}
 
 -- what is left of the trees of a subtree, what stands before them, how many of them are taken as they are, where it closes, and how many
 -- macros are in scope behind it, if not all
@@ -37,9 +38,6 @@ level_of it = record { rest = rest_of it.rest; position = it.position; plain = i
 abbrev pub levels_of : Walk → List Level
 levels_of walk = level_of walk.level ∷ map level_of (reverse walk.outer.items)
 
-abbrev pub setting_of : Expander → Setting
-setting_of it = record { root = it.root; everywhere = it.everywhere }
-
 -- the first tree is passed: a leaf, or a subtree of a kind
 abbrev pub past_leaf : Leaf → Level → Level
 past_leaf it level =
@@ -53,12 +51,12 @@ abbrev pub past : (len : ℕ) → (ends : Bool) → Level → Level
 past len ends level = record level { rest = after_trees len level.rest; position = behind ends level.position }
 
 -- what comes of what is left of each level, the innermost first
-abbrev pub Ends : Setting → (limit : ℕ) → List Level → (before after : List Macro) → List Outcome → Type 0
+abbrev pub Ends : Setting → (limit : ℕ) → List Level → (before after : Known) → List Outcome → Type 0
 Ends setting limit [] before after [] = before ≡ after
 Ends setting limit [] before after (it ∷ others) = ⊥
 Ends setting limit (level ∷ outer) before after [] = ⊥
 Ends setting limit (level ∷ outer) before after (it ∷ others) =
-    (inside : List Macro) × Comes setting limit level.position level.plain before level.rest inside it × Ends setting limit outer (kept_of level.kept inside) after others
+    (inside : Known) × Comes setting limit level.position level.plain before level.rest inside it × Ends setting limit outer (left_in_scope level.kept inside) after others
 
 -- what comes of levels, where something comes first in the innermost
 abbrev pub first_leaf : Leaf → List Outcome → List Outcome
@@ -74,14 +72,14 @@ abbrev pub first_stay : Forest → List Outcome → List Outcome
 first_stay trees [] = []
 first_stay trees (others ∷ outer) = stays trees others ∷ outer
 
-abbrev pub first_becomes : (first : Span) → Delimiter → Forest → List Outcome → List Outcome
-first_becomes first delimiter trees [] = []
-first_becomes first delimiter trees (others ∷ outer) = becomes first delimiter trees others ∷ outer
+abbrev pub first_becomes : (first last : Span) → Forest → List Outcome → List Outcome
+first_becomes first last trees [] = []
+first_becomes first last trees (others ∷ outer) = becomes first last trees others ∷ outer
 
--- the levels and the macros in scope become others, and what comes of those, so grown, comes of these
-abbrev pub Leads : Setting → (limit : ℕ) → List Level → List Macro → (grown : List Outcome → List Outcome) → List Level → List Macro → Type 0
-Leads setting limit levels macros grown nexts others =
-    (after : List Macro) (outcomes : List Outcome) → Ends setting limit nexts others after outcomes → Ends setting limit levels macros after (grown outcomes)
+-- the levels and what is known become others, and what comes of those, so grown, comes of these
+abbrev pub Leads : Setting → (limit : ℕ) → List Level → Known → (grown : List Outcome → List Outcome) → List Level → Known → Type 0
+Leads setting limit levels known grown nexts others =
+    (after : Known) (outcomes : List Outcome) → Ends setting limit nexts others after outcomes → Ends setting limit levels known after (grown outcomes)
 
 -- where levels close
 abbrev pub closes_of : List Level → List Span
@@ -115,26 +113,32 @@ IsLeft old None new = map level_of (reverse old.outer.items) ≡ []
 IsLeft old (Some close) new = (close ≡ old.level.close) × (map level_of (reverse old.outer.items) ≡ levels_of new)
 
 -- what comes next in a walk, and how it goes on
-abbrev pub IsNext : Setting → (limit : ℕ) → List Level → List Macro → Event → List Level → List Macro → Type 0
-IsNext setting limit levels macros event.End nexts others = Ends setting limit levels macros others (nothing ∷ [])
-IsNext setting limit levels macros (event.Leaf it) nexts others =
-    Leads setting limit levels macros (first_leaf it) nexts others × (closes_of nexts ≡ closes_of levels) × (work_in nexts < work_in levels)
-IsNext setting limit levels macros (event.Opens header) nexts others =
-    Leads setting limit levels macros (first_subtree header.delimiter) nexts others × (closes_of nexts ≡ header.delimiter.close ∷ closes_of levels)
+abbrev pub IsNext : Setting → (limit : ℕ) → List Level → Known → Event → List Level → Known → Type 0
+IsNext setting limit levels known event.End nexts others = Ends setting limit levels known others (nothing ∷ [])
+IsNext setting limit levels known (event.Leaf it) nexts others =
+    Leads setting limit levels known (first_leaf it) nexts others × (closes_of nexts ≡ closes_of levels) × (work_in nexts < work_in levels)
+IsNext setting limit levels known (event.Opens header) nexts others =
+    Leads setting limit levels known (first_subtree header.delimiter) nexts others × (closes_of nexts ≡ header.delimiter.close ∷ closes_of levels)
     × (work_in nexts < work_in levels)
-IsNext setting limit levels macros (event.Closes close) nexts others =
-    Leads setting limit levels macros (λ outcomes. nothing ∷ outcomes) nexts others × (close ∷ closes_of nexts ≡ closes_of levels)
+IsNext setting limit levels known (event.Closes close) nexts others =
+    Leads setting limit levels known (λ outcomes. nothing ∷ outcomes) nexts others × (close ∷ closes_of nexts ≡ closes_of levels)
     × (work_in nexts < work_in levels)
-IsNext setting limit levels macros (event.Stays trees) nexts others =
-    Leads setting limit levels macros (first_stay (trees_of trees)) nexts others × (closes_of nexts ≡ closes_of levels) × (work_in nexts < work_in levels)
-IsNext setting limit levels macros (event.Invocation it) nexts others =
-    (left : ℕ) × (limit ≡ suc left) × (others ≡ macros)
-    × ((inside : List Macro) (held : Outcome) → Comes setting left (first_in Brace) 0 macros it.tree.children inside held
-    → Leads setting limit levels macros (first_becomes it.first_span it.delimiter (placed it.is_statement it.delimiter (trees_left held))) nexts inside)
+IsNext setting limit levels known (event.Stays trees) nexts others =
+    Leads setting limit levels known (first_stay (trees_of trees)) nexts others × (closes_of nexts ≡ closes_of levels) × (work_in nexts < work_in levels)
+IsNext setting limit levels known (event.Invocation it) nexts others =
+    (left : ℕ) × (limit ≡ suc left) × (others ≡ known)
+    × ((inside : Known) (held : Outcome) → Comes setting left (first_in Brace) 0 known it.tree.children inside held
+    → Leads setting limit levels known (first_becomes it.first_span it.delimiter.close (placed it.is_statement it.delimiter (trees_left held))) nexts inside)
     × (closes_of nexts ≡ closes_of levels) × (work_in nexts < work_in levels)
 
--- whatever macros are ready, that comes next, and others are ready then
-abbrev pub Goes : (limit : ℕ) → (old : Walk) → (before : Expander) → Event → (new : Walk) → (after : Expander) → Type 0
-Goes limit old before it new after =
-    (macros : List Macro) → AreReady macros before.scope.macros.items
-    → (others : List Macro) × AreReady others after.scope.macros.items × IsNext (setting_of before) limit (levels_of old) macros it (levels_of new) others
+-- whatever is known, if that may be known there, that comes next, and something is known then
+abbrev pub Goes : (may : Known → Type 0) → Setting → (limit : ℕ) → (old : Walk) → (before : known.Known) → Event → (new : Walk) → (after : known.Known) → Type 0
+Goes may setting limit old before it new after =
+    (known : Known) → IsKnown known before → may known
+    → (others : Known) × IsKnown others after × IsNext setting limit (levels_of old) known it (levels_of new) others
+
+-- that stands first, no tree is to be taken as it is, and calls are expanded still
+pub record IsAtItem (it : Item) (setting : Setting) (walk : Walk) (known : Known) : Type 0 where
+  pub first : walk.level.plain ≡ 0
+  pub goes_on : known.is_over ≡ false
+  pub item : item_in setting.root (rest_of walk.level.rest) ≡ it

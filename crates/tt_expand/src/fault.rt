@@ -1,24 +1,29 @@
-//! Why a text is not expanded, and what is left in it as it is.
+//! What is found in the macros of a text, and why a text is not expanded.
 ghost use Rattle.std.specs.Prelude.{◌≡◌};
 ghost use Rattle.tt.specs.Types.TtFault.TheVariants.{Memory};
-ghost use Rattle.tt_expand.specs.declared.fault.ExpandTextError.TheVariants.{Limit};
+ghost use Rattle.tt_expand.specs.Findings.{is_warning, is_too_deep};
+ghost use Rattle.tt_expand.specs.declared.fault.ExpandTextError.TheVariants.{Text, Limit};
 
 use std::alloc::{AllocError, AllocFailed};
 use thiserror::Error;
 use tt::{Refused, Symbol, TtFault};
-use tt_macro_rules::{ExpandError, RulesError};
-use tt_pattern::GrammarFragment;
+use tt_macro_rules::{ArmFault, ExpandError, RulesError};
+use tt_pattern::PatternError;
+use tt_text::TextFault;
 
-/// What is wrong with a macro, or with a call of one.
+/// What is wrong with a macro, or with a call of one, or is left as it is.
 #[derive(Debug, Clone, Copy, PartialEq, Eq, Error)]
 pub enum MacroFault {
-    /// Its definition is no macro.
+    /// Its definition is no macro; or a fragment in it is not supported, and it is left as it is.
     #[error("{0}")]
     Definition(RulesError),
-    /// No arm takes the input. The arm that comes farthest stops at that flat place of it: how many of its tokens stand before that.
+    /// A call of a macro whose definition has such a fault is left as it is.
+    #[error("its definition is left as it is")]
+    Left,
+    /// No arm takes the input. Where that shows, the arm that comes farthest stops.
     #[error("no arm takes this")]
-    NoMatch(usize),
-    /// The arm of that number, from 0, takes the input in two ways, and none before it does.
+    NoMatch,
+    /// The arm of that number, from 0, takes the input in two ways, and none before it takes it.
     #[error("arm {0} takes this in two ways")]
     Ambiguous(usize),
     /// The arm that takes the input is not filled.
@@ -29,47 +34,72 @@ pub enum MacroFault {
     TooDeep,
 }
 
-/// What is wrong, in which macro, and where.
+/// What is found in a macro or in a call of one, and where.
 #[derive(Debug, PartialEq, Eq, Drop, Error)]
 #[error("{name} at {at}: {fault}")]
-pub struct MacroError {
+pub struct Finding {
     /// The name of the macro.
     pub name: Symbol,
-    /// The byte of the text where that shows.
+    /// The byte of the text where it shows.
     pub at: u32,
-    /// What is wrong.
+    /// What is wrong, or is left.
     pub fault: MacroFault,
+    /// The byte of the text where the macro's name stands in its definition, if this is about a call.
+    pub defined_at: Option<u32>,
 }
 
 /// Why a text is not expanded.
 #[derive(Debug, PartialEq, Eq, Drop, Error)]
 pub enum ExpandTextError {
-    /// Something is wrong in a macro. This is the first such fault.
+    /// The text is not read as trees.
     #[error("{0}")]
-    Macro(MacroError),
+    Text(TextFault),
+    /// Something is wrong in a macro or in a call of one. This is the first such finding.
+    #[error("{0}")]
+    Macro(Finding),
     /// Memory is wanting, or a limit of trees is passed.
     #[error("{0}")]
     Limit(TtFault),
+    /// A call becomes a token that reads back as something else. The token comes from that byte of the text, or the call begins there.
+    #[error("what comes of macros cannot be written at {0}")]
+    NotWritable(u32),
+    /// The call that begins at that byte of the text becomes a text that is too long.
+    #[error("too long a text comes of the call at {0}")]
+    TooLong(u32),
 }
 
-/// What is left as it is.
-#[derive(Debug, Clone, Copy, PartialEq, Eq)]
-pub enum Left {
-    /// A definition, for a fragment that is not supported.
-    Definition(GrammarFragment),
-    /// A call of a macro whose definition is left.
-    Call,
+impl MacroFault {
+    /// Whether nothing is wrong, but something is left as it is.
+    pub fn is_warning(&self) -> bool
+        ensures { result ≡ is_warning self.now }
+    {
+        match self {
+            MacroFault::Definition(error) => matches!(
+                error.fault,
+                ArmFault::Pattern(PatternError::UnsupportedFragment(_, _)),
+            ),
+            MacroFault::Left => true,
+            MacroFault::NoMatch
+            | MacroFault::Ambiguous(_)
+            | MacroFault::Expansion(_)
+            | MacroFault::TooDeep => false,
+        }
+    }
+
+    // Whether nothing is expanded any more.
+    pub(crate) fn is_too_deep(&self) -> bool
+        ensures { result ≡ is_too_deep self.now }
+    {
+        matches!(self, MacroFault::TooDeep)
+    }
 }
 
-/// What is left as it is, of which macro, and where.
-#[derive(Debug, PartialEq, Eq, Drop)]
-pub struct Warning {
-    /// The name of the macro.
-    pub name: Symbol,
-    /// The byte of the text where it stands.
-    pub at: u32,
-    /// What is left.
-    pub left: Left,
+impl From<TextFault> for ExpandTextError {
+    ghost from_gives = { λ fault error. error ≡ Text fault };
+
+    fn from(fault: TextFault) -> ExpandTextError {
+        ExpandTextError::Text(fault)
+    }
 }
 
 impl From<TtFault> for ExpandTextError {

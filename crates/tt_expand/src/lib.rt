@@ -3,13 +3,23 @@
 //! What contracts speak of stands in `specs/` of this crate.
 #![tactic(auto)]
 
-mod expander;
+mod calling;
+mod defining;
+mod expanding;
 mod fault;
 mod item;
 mod keyword;
+mod known;
+mod options;
 mod output;
 mod places;
 mod position;
 mod root;
 mod scope;
+mod setting;
+mod text;
 mod walk;
+
+pub use fault::{ExpandTextError, Finding, MacroFault};
+pub use options::{ExpandOptions, USUAL_LIMIT};
+pub use text::{Expanded, expand_leniently, expand_text};

@@ -1,7 +1,6 @@
 //! The macros in scope.
-ghost use Rattle.std.specs.Prelude.{◌≡◌, ◌++◌, ◌∷◌, [], take, length, option_copied, OnOk, MatchOption, List, None, Some};
+ghost use Rattle.std.specs.Prelude.{◌≡◌, ◌++◌, ◌∷◌, [], take, length, option_copied, OnOk};
 
-use crate::item::Call;
 use std::alloc::{AllocError, Global};
 use tt::Symbol;
 use tt_macro_rules::MacroRules;
@@ -10,6 +9,8 @@ use tt_macro_rules::MacroRules;
 #[derive(Drop)]
 pub(crate) struct Macro {
     pub(crate) name: Symbol,
+    /// The byte of the text where that stands in its definition.
+    pub(crate) defined_at: u32,
     pub(crate) rules: Option<MacroRules>,
 }
 
@@ -20,11 +21,7 @@ pub(crate) struct Scope {
 }
 
 impl Scope {
-    ghost use Rattle.tt_expand.specs.Scopes.{Macro as MacroOf, last_by, AreReady};
-    ghost use Rattle.tt_expand.specs.Items.{call_of};
-    ghost use Rattle.tt_expand.specs.Macros.{arms_for};
-    ghost use Rattle.tt_macro_rules.specs.Arms.{Arm};
-    ghost use Rattle.tt_macro_rules.specs.Expansions.{AreMade};
+    ghost use Rattle.tt_expand.specs.Scopes.{last_by};
 
     /// None.
     pub(crate) fn new(alloc: Global) -> Scope
@@ -72,21 +69,5 @@ impl Scope {
             }
         }
         None
-    }
-
-    /// The rules that expand a call, if there are some.
-    pub(crate) fn rules_for(&self, call: &Call<'_>) -> Option<&MacroRules>
-        ensures { (macros : List MacroOf) → AreReady macros self.now.macros.items → MatchOption result (arms_for macros (call_of call.now) ≡ None) (λ rules. (arms : List Arm) × (arms_for macros (call_of call.now) ≡ Some arms) × AreMade arms rules.now.arms.items) }
-    {
-        if call.is_elsewhere {
-            return None;
-        }
-        match self.last(&call.name.sym) {
-            None => None,
-            Some(it) => match &it.rules {
-                None => None,
-                Some(rules) => Some(rules),
-            },
-        }
     }
 }

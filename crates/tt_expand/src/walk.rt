@@ -1,25 +1,24 @@
 //! The walk through trees in which macros are defined and called.
-ghost use Rattle.std.specs.Prelude.{◌≡◌, ◌∷◌, [], ℕ, List, IfOk, IfErr, OnOk};
-ghost use Rattle.tt.specs.Gluing.{after_trees};
+ghost use Rattle.std.specs.Prelude.{◌≡◌, ◌∷◌, [], ℕ, IfOk, OnOk};
 ghost use Rattle.tt.specs.Iters.{rest_of};
-ghost use Rattle.tt.specs.Types.TtFault.TheVariants.{Memory};
 ghost use Rattle.tt.specs.Views.{trees_of};
-ghost use Rattle.tt_expand.specs.declared.fault.ExpandTextError.TheVariants.{Limit};
 ghost use Rattle.tt_expand.specs.Coming.{begin_at, IsPlain};
-ghost use Rattle.tt_expand.specs.Items.{defines, calls, item_in, definition_of, call_of};
-ghost use Rattle.tt_expand.specs.Macros.{IsDefinitionError, IsCallError};
-ghost use Rattle.tt_expand.specs.Roots.{rooted};
-ghost use Rattle.tt_expand.specs.Scopes.{Macro as MacroOf, AreReady};
+ghost use Rattle.tt_expand.specs.Items.{defines, calls, definition_of, call_of};
+ghost use Rattle.tt_expand.specs.Knowing.{Setting as SettingOf, setting_of};
+ghost use Rattle.tt_expand.specs.Passing.{IsStay, IsInvoked};
+ghost use Rattle.tt_expand.specs.Walks.{level_of, levels_of, past_leaf, past_subtree, past, begun, entered, IsLeft, IsAtItem, Goes};
 ghost use Rattle.tt_matcher.specs.Fragments.{front_trees};
-ghost use Rattle.tt_expand.specs.Walks.{level_of, levels_of, setting_of, past_leaf, past_subtree, past, begun, entered, IsLeft, Goes};
 
-use crate::expander::Expander;
-use crate::fault::ExpandTextError;
+use crate::calling::{Called, expand_call};
+use crate::defining::read;
 use crate::item::{Call, Definition, Item, item_in};
+use crate::known::Known;
 use crate::position::Position;
+use crate::setting::Setting;
 use std::alloc::{AllocError, Global};
 use tt::{
-    Delimiter, DelimiterKind, Leaf, Span, Subtree, TokenTreesView, TopSubtree, TtElement, TtIter,
+    Delimiter, DelimiterKind, Leaf, Span, Subtree, TokenTreesView, TopSubtree, TtElement, TtFault,
+    TtIter,
 };
 use tt_pattern::pass;
 
@@ -168,14 +167,12 @@ impl<'a> Walk<'a> {
 }
 
 // The first tree as it is, or the end of a level.
-fn next_tree<'a>(walk: &mut Walk<'a>, expander: &mut Expander) -> Result<Event<'a>, ExpandTextError>
-    ensures ok { IfOk result (λ event. (limit : ℕ) → IsPlain (setting_of expander.old) walk.old.level.plain (rest_of walk.old.level.rest) → Goes limit walk.old expander.old event walk.new expander.new) }
-    ensures err { IfErr result (λ error. error ≡ Limit Memory) }
-    ensures setting { setting_of expander.new ≡ setting_of expander.old }
+fn next_tree<'a>(walk: &mut Walk<'a>, known: &mut Known) -> Result<Event<'a>, AllocError>
+    ensures { IfOk result (λ event. (setting : SettingOf) (limit : ℕ) → Goes (λ before. IsPlain setting before walk.old.level.plain (rest_of walk.old.level.rest)) setting limit walk.old known.old event walk.new known.new) }
 {
     match walk.level.rest.peek() {
         None => {
-            expander.leave(walk.level.kept);
+            known.leave(walk.level.kept);
             match walk.leave() {
                 Some(close) => Ok(Event::Closes(close)),
                 None => Ok(Event::End),
@@ -186,7 +183,7 @@ fn next_tree<'a>(walk: &mut Walk<'a>, expander: &mut Expander) -> Result<Event<'
             Ok(Event::Leaf(leaf))
         }
         Some(TtElement::Subtree(header, children)) => {
-            walk.enter(header.delimiter, children, expander.scope.len())?;
+            walk.enter(header.delimiter, children, known.scope.len())?;
             Ok(Event::Opens(header))
         }
     }
@@ -195,13 +192,81 @@ fn next_tree<'a>(walk: &mut Walk<'a>, expander: &mut Expander) -> Result<Event<'
 // Past a definition that stands first, which is in scope from then on.
 fn next_definition<'a>(
     walk: &mut Walk<'a>,
-    expander: &mut Expander,
-    definition: Definition<'a>,
-) -> Result<Event<'a>, ExpandTextError>
-    ensures ok { IfOk result (λ event. (limit : ℕ) → walk.old.level.plain ≡ 0 → item_in expander.old.root (rest_of walk.old.level.rest) ≡ defines (definition_of definition.entry) → Goes limit walk.old expander.old event walk.new expander.new) }
-    ensures err { IfErr result (IsDefinitionError (rooted expander.old.root (rest_of definition.entry.arms)) definition.entry.name.sym) }
-    ensures setting { setting_of expander.new ≡ setting_of expander.old }
+    setting: &Setting,
+    known: &mut Known,
+    definition: &Definition<'a>,
+) -> Result<Event<'a>, TtFault>
+    ensures { IfOk result (λ event. (limit : ℕ) → Goes (IsAtItem (defines (definition_of definition.now)) (setting_of setting.now) walk.old) (setting_of setting.now) limit walk.old known.old event walk.new known.new) }
 {
-    expander.define(&definition)?;
+    read(setting, known, definition)?;
     Ok(Event::Stays(walk.level.take_all(definition.len, true)))
+}
+
+// Past a call that stands first, which stays as it is.
+fn stay<'a>(walk: &mut Walk<'a>, call: &Call<'a>) -> Event<'a>
+    ensures { IsStay (call_of call.now) walk.old result walk.new }
+{
+    let ends = call.header.delimiter.kind == DelimiterKind::Brace;
+    Event::Stays(walk.level.take_all(call.len, ends))
+}
+
+// Past a call that stands first, of which that tree comes.
+fn invoke<'a>(walk: &mut Walk<'a>, call: &Call<'a>, tree: TopSubtree) -> Event<'a>
+    ensures { IsInvoked (call_of call.now) tree walk.old result walk.new }
+{
+    let delimiter = call.header.delimiter;
+    let first_span = begin_at(&walk.level.rest, call.name.span);
+    let position = walk.level.position;
+    walk.level
+        .pass_all(call.len, delimiter.kind == DelimiterKind::Brace);
+    let behind = walk.level.rest.remaining().iter();
+    Event::Invocation(Invocation {
+        first_span,
+        delimiter,
+        is_statement: position.is_statement(delimiter.kind, behind),
+        tree,
+    })
+}
+
+// Past a call that stands first, or into it.
+fn next_call<'a>(
+    walk: &mut Walk<'a>,
+    setting: &Setting,
+    known: &mut Known,
+    limit: usize,
+    call: &Call<'a>,
+) -> Result<Event<'a>, TtFault>
+    ensures { IfOk result (λ event. Goes (IsAtItem (calls (call_of call.now)) (setting_of setting.now) walk.old) (setting_of setting.now) limit walk.old known.old event walk.new known.new) }
+{
+    match expand_call(setting, known, limit, call)? {
+        Called::Tree(tree) => Ok(invoke(walk, call, tree)),
+        Called::Faulty => Ok(stay(walk, call)),
+        Called::Other => {
+            if setting.everywhere {
+                walk.level.plain = call.len;
+                Ok(next_tree(walk, known)?)
+            } else {
+                Ok(stay(walk, call))
+            }
+        }
+    }
+}
+
+/// What comes next, with so many expansions one inside the other. What is defined is in scope from then on.
+pub(crate) fn next<'a>(
+    walk: &mut Walk<'a>,
+    setting: &Setting,
+    known: &mut Known,
+    limit: usize,
+) -> Result<Event<'a>, TtFault>
+    ensures { IfOk result (λ event. Goes (λ _. Unit {0}) (setting_of setting.now) limit walk.old known.old event walk.new known.new) }
+{
+    if walk.level.plain > 0 || known.is_over {
+        return Ok(next_tree(walk, known)?);
+    }
+    match item_in(walk.level.rest.remaining().iter(), setting.root.as_str()) {
+        Item::Definition(definition) => next_definition(walk, setting, known, &definition),
+        Item::Call(call) => next_call(walk, setting, known, limit, &call),
+        Item::Other => Ok(next_tree(walk, known)?),
+    }
 }

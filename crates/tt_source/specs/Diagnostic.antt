@@ -1,49 +1,59 @@
 -- What is written of a fault.
-use Rattle.std.specs.Prelude.{ℕ, List, ◌++◌, length, replicate, Option, Some, None, codes, decimal, string_bytes, String}
+use Rattle.std.specs.Prelude.{ℕ, List, [], ◌++◌, max, replicate, Option, Some, None, codes, string_bytes, String}
 use Rattle.std.specs.Global.{Global}
 use Rattle.std.specs.List.{flat_map}
-use Rattle.tt_source.specs.Mark.{indent}
-use Rattle.tt_source.specs.Place.{place_text}
+use Rattle.tt_source.specs.Level.{colour_of, word_of}
+use Rattle.tt_source.specs.Paint.{painted}
+use Rattle.tt_source.specs.Spot.{line, number_width, spot_text}
 use Rattle.tt_source.specs.declared.diagnostic.Diagnostic.{Diagnostic}
-use Rattle.tt_source.specs.declared.diagnostic.Spot.{Spot}
+use Rattle.tt_source.specs.declared.diagnostic.PlacedNote.{PlacedNote}
+use Rattle.tt_source.specs.declared.level.Level.{Level}
+use Rattle.tt_source.specs.declared.paint.Colour.TheVariants.{Blue, Green}
+use Rattle.tt_source.specs.declared.paint.Style.{Style}
+use Rattle.tt_source.specs.declared.spot.Spot.{Spot}
 
--- a line
-abbrev pub line : List ℕ → List ℕ
-line words = words ++ codes "\n"
+-- how many columns the number of a place's line takes: one where there is no place
+abbrev pub spot_width : Option Spot → ℕ
+spot_width None = 1
+spot_width (Some spot) = number_width spot.place.line
 
--- file:line:column, behind an arrow and as many spaces as the numbers of lines take columns
-abbrev pub arrow_line : (width : ℕ) → Spot → List ℕ
-arrow_line width spot = replicate width 32 ++ codes "--> " ++ spot.file.now ++ codes ":" ++ place_text spot.place ++ codes "\n"
+-- the same of a note with a place
+abbrev pub note_width : Option PlacedNote → ℕ
+note_width None = 1
+note_width (Some note) = number_width note.spot.place.line
 
--- the line of the text, behind its number
-abbrev pub source_line : Spot → List ℕ
-source_line spot = decimal spot.place.line ++ codes " | " ++ line spot.line.now
+-- how many columns the numbers of lines take, the longest
+abbrev pub width_of : Diagnostic → ℕ
+width_of diagnostic = max (spot_width diagnostic.spot) (note_width diagnostic.placed_note)
 
--- a mark under the column
-abbrev pub marked_line : (width : ℕ) → Spot → List ℕ
-marked_line width spot = replicate width 32 ++ codes " | " ++ indent spot.line.now spot.place.column ++ codes "^\n"
+-- how grave it is, and what is wrong
+abbrev pub message_line : Style → Diagnostic → List ℕ
+message_line style diagnostic = painted style (colour_of diagnostic.level) (word_of diagnostic.level) ++ codes ": " ++ line diagnostic.message.now
 
--- the lines above that of the text
-abbrev pub head_lines : (width : ℕ) → Spot → List ℕ
-head_lines width spot = arrow_line width spot ++ replicate width 32 ++ codes " |\n"
+-- where it is, if it is somewhere
+abbrev pub place_lines : Style → Level → (width : ℕ) → Option Spot → List ℕ
+place_lines style level width None = []
+place_lines style level width (Some spot) = spot_text style (colour_of level) width spot
 
--- where a fault is
-abbrev pub spot_text : (width : ℕ) → Spot → List ℕ
-spot_text width spot = head_lines width spot ++ source_line spot ++ marked_line width spot
+-- the word before a note
+abbrev pub note_word : Style → List ℕ
+note_word style = painted style Green (codes "note") ++ codes ": "
 
 -- a note
-abbrev pub note_line : (width : ℕ) → (note : List ℕ) → List ℕ
-note_line width note = replicate width 32 ++ codes " = note: " ++ line note
+abbrev pub note_line : Style → (width : ℕ) → (note : List ℕ) → List ℕ
+note_line style width note = replicate width 32 ++ codes " " ++ painted style Blue (codes "=") ++ codes " " ++ note_word style ++ line note
 
 -- all notes
-abbrev pub notes_text : (width : ℕ) → List (String Global) → List ℕ
-notes_text width notes = flat_map (λ note. note_line width (string_bytes note)) notes
+abbrev pub notes_text : Style → (width : ℕ) → List (String Global) → List ℕ
+notes_text style width notes = flat_map (λ note. note_line style width (string_bytes note)) notes
 
--- what stands below the message
-abbrev pub below : Option Spot → List (String Global) → List ℕ
-below None notes = notes_text 1 notes
-below (Some spot) notes = spot_text (length (decimal spot.place.line)) spot ++ notes_text (length (decimal spot.place.line)) notes
+-- a note with a place, if there is one
+abbrev pub placed_lines : Style → (width : ℕ) → Option PlacedNote → List ℕ
+placed_lines style width None = []
+placed_lines style width (Some note) = note_word style ++ line note.message.now ++ spot_text style Green width note.spot
 
 -- the message, and what stands below it
-abbrev pub diagnostic_text : Diagnostic → List ℕ
-diagnostic_text diagnostic = codes "error: " ++ line diagnostic.message.now ++ below diagnostic.spot diagnostic.notes.items
+abbrev pub diagnostic_text : Style → Diagnostic → List ℕ
+diagnostic_text style diagnostic =
+    message_line style diagnostic ++ place_lines style diagnostic.level (width_of diagnostic) diagnostic.spot
+    ++ notes_text style (width_of diagnostic) diagnostic.notes.items ++ placed_lines style (width_of diagnostic) diagnostic.placed_note

@@ -1,141 +1,162 @@
 //! What is told of a fault, as rustc tells it.
-ghost use Rattle.std.specs.Prelude.{◌≡◌, ◌++◌, IfOk, OnOk, codes, decimal, length, replicate, string_bytes};
-ghost use Rattle.tt_source.specs.Diagnostic.{arrow_line, diagnostic_text, head_lines, line, marked_line, note_line, notes_text, source_line, spot_text};
-ghost use Rattle.tt_source.specs.Place.{place_text};
+ghost use Rattle.std.specs.Prelude.{◌≡◌, ◌++◌, IfOk, OnOk, codes, string_bytes};
+ghost use Rattle.tt_source.specs.Diagnostic.{diagnostic_text, message_line, note_line, note_width, note_word, notes_text, place_lines, placed_lines, spot_width, width_of};
 
-use crate::mark::add_indent;
-use crate::place::Place;
+use crate::level::Level;
+use crate::paint::{Colour, Style, add_painted};
+use crate::spot::{Spot, add_line, add_spaces, add_spot, number_width};
 use std::alloc::{AllocError, Global};
 
-/// Where a fault is.
+/// What is to be known beside a fault, and where it stands.
 #[derive(Clone, Copy)]
-pub struct Spot<'a> {
-    /// What the text is called.
-    pub file: &'a str,
-    /// The place in it.
-    pub place: Place,
-    /// The text of that line, without what ends it.
-    pub line: &'a str,
+pub struct PlacedNote<'a> {
+    /// What is to be known.
+    pub message: &'a str,
+    /// Where it stands.
+    pub spot: Spot<'a>,
 }
 
 /// A fault as a user is told it.
 #[derive(Drop)]
 pub struct Diagnostic<'a> {
+    /// How grave it is.
+    pub level: Level,
     /// What is wrong.
     pub message: &'a str,
     /// Where it is, if it is somewhere in a text.
     pub spot: Option<Spot<'a>>,
     /// What is to be known beside it, each in one line.
     pub notes: Vec<String>,
+    /// What is to be known beside it of another place.
+    pub placed_note: Option<PlacedNote<'a>>,
 }
 
-// So many spaces are added.
-fn add_spaces(text: &mut String, count: usize) -> Result<(), AllocError>
-    ensures { OnOk result (string_bytes text.new ≡ string_bytes text.old ++ replicate count 32) }
+// How many columns the number of a place's line takes.
+fn spot_width(alloc: Global, spot: Option<Spot<'_>>) -> Result<usize, AllocError>
+    ensures { IfOk result (λ width. width ≡ spot_width spot.entry) }
 {
-    for _ in 0..count {
-        text.push_str(" ")?;
+    match spot {
+        None => Ok(1),
+        Some(spot) => Ok(number_width(alloc, spot.place.line)?),
     }
-    Ok(())
 }
 
-// A line is added.
-fn add_line(text: &mut String, words: &str) -> Result<(), AllocError>
-    ensures { OnOk result (string_bytes text.new ≡ string_bytes text.old ++ line words.now) }
+// The same of a note with a place.
+fn note_width(alloc: Global, note: Option<PlacedNote<'_>>) -> Result<usize, AllocError>
+    ensures { IfOk result (λ width. width ≡ note_width note.entry) }
 {
-    text.push_str(words)?;
-    text.push_str("\n")
+    match note {
+        None => Ok(1),
+        Some(note) => Ok(number_width(alloc, note.spot.place.line)?),
+    }
 }
 
-// The line that tells the place is added; the numbers of lines take that many columns.
-fn add_arrow(text: &mut String, width: usize, spot: &Spot<'_>) -> Result<(), AllocError>
-    ensures { OnOk result (string_bytes text.new ≡ string_bytes text.old ++ arrow_line width spot.now) }
+// How many columns the numbers of lines take.
+fn width_of(alloc: Global, diagnostic: &Diagnostic<'_>) -> Result<usize, AllocError>
+    ensures { IfOk result (λ width. width ≡ width_of diagnostic.now) }
 {
-    add_spaces(text, width)?;
-    text.push_str("--> ")?;
-    text.push_str(spot.file)?;
-    text.push_str(":")?;
-    let place = spot.place;
-    write!(text, "{place}")?;
-    text.push_str("\n")
+    let spot = spot_width(alloc, diagnostic.spot)?;
+    let note = note_width(alloc, diagnostic.placed_note)?;
+    Ok(spot.max(note))
 }
 
-// The line of the text is added.
-fn add_source(text: &mut String, number: &str, spot: &Spot<'_>) -> Result<(), AllocError>
-    requires { number.now ≡ decimal spot.now.place.line }
-    ensures { OnOk result (string_bytes text.new ≡ string_bytes text.old ++ source_line spot.now) }
+// The message is added.
+fn add_message(
+    text: &mut String,
+    style: Style,
+    diagnostic: &Diagnostic<'_>,
+) -> Result<(), AllocError>
+    ensures { OnOk result (string_bytes text.new ≡ string_bytes text.old ++ message_line style diagnostic.now) }
 {
-    text.push_str(number)?;
-    text.push_str(" | ")?;
-    add_line(text, spot.line)
+    let level = diagnostic.level;
+    add_painted(text, style, level.colour(), level.word())?;
+    text.push_str(": ")?;
+    add_line(text, diagnostic.message)
 }
 
-// The mark under it is added.
-fn add_mark(text: &mut String, width: usize, spot: &Spot<'_>) -> Result<(), AllocError>
-    ensures { OnOk result (string_bytes text.new ≡ string_bytes text.old ++ marked_line width spot.now) }
+// Where it is, is added.
+fn add_place(
+    text: &mut String,
+    alloc: Global,
+    style: Style,
+    width: usize,
+    diagnostic: &Diagnostic<'_>,
+) -> Result<(), AllocError>
+    ensures { OnOk result (string_bytes text.new ≡ string_bytes text.old ++ place_lines style diagnostic.now.level width diagnostic.now.spot) }
 {
-    add_spaces(text, width)?;
-    text.push_str(" | ")?;
-    add_indent(text, spot.line, spot.place.column)?;
-    text.push_str("^\n")
+    match diagnostic.spot {
+        None => Ok(()),
+        Some(spot) => add_spot(text, alloc, style, diagnostic.level.colour(), width, &spot),
+    }
 }
 
-// The lines above that of the text are added.
-fn add_head(text: &mut String, width: usize, spot: &Spot<'_>) -> Result<(), AllocError>
-    ensures { OnOk result (string_bytes text.new ≡ string_bytes text.old ++ head_lines width spot.now) }
+// The word before a note is added.
+fn add_note_word(text: &mut String, style: Style) -> Result<(), AllocError>
+    ensures { OnOk result (string_bytes text.new ≡ string_bytes text.old ++ note_word style) }
 {
-    add_arrow(text, width, spot)?;
-    add_spaces(text, width)?;
-    text.push_str(" |\n")
-}
-
-// What tells where a fault is, is added.
-fn add_spot(text: &mut String, number: &str, spot: &Spot<'_>) -> Result<(), AllocError>
-    requires { number.now ≡ decimal spot.now.place.line }
-    ensures { OnOk result (string_bytes text.new ≡ string_bytes text.old ++ spot_text (length number.now) spot.now) }
-{
-    let width = number.len();
-    add_head(text, width, spot)?;
-    add_source(text, number, spot)?;
-    add_mark(text, width, spot)?;
-    Ok(())
+    add_painted(text, style, Colour::Green, "note")?;
+    text.push_str(": ")
 }
 
 // A note is added.
-fn add_note(text: &mut String, width: usize, note: &str) -> Result<(), AllocError>
-    ensures { OnOk result (string_bytes text.new ≡ string_bytes text.old ++ note_line width note.now) }
+fn add_note(text: &mut String, style: Style, width: usize, note: &str) -> Result<(), AllocError>
+    ensures { OnOk result (string_bytes text.new ≡ string_bytes text.old ++ note_line style width note.now) }
 {
     add_spaces(text, width)?;
-    text.push_str(" = note: ")?;
+    text.push_str(" ")?;
+    add_painted(text, style, Colour::Blue, "=")?;
+    text.push_str(" ")?;
+    add_note_word(text, style)?;
     add_line(text, note)
 }
 
 // All notes are added.
-fn add_notes(text: &mut String, width: usize, notes: &[String]) -> Result<(), AllocError>
-    ensures { OnOk result (string_bytes text.new ≡ string_bytes text.old ++ notes_text width notes.now) }
+fn add_notes(
+    text: &mut String,
+    style: Style,
+    width: usize,
+    notes: &[String],
+) -> Result<(), AllocError>
+    ensures { OnOk result (string_bytes text.new ≡ string_bytes text.old ++ notes_text style width notes.now) }
 {
     for note in notes {
-        add_note(text, width, note.as_str())?;
+        add_note(text, style, width, note.as_str())?;
     }
     Ok(())
 }
 
-/// What is written of a fault: a line with the message; where it has a place, that, the line of the text and a mark under
-/// it; and a line for each note.
-pub fn diagnostic_text(alloc: Global, diagnostic: &Diagnostic<'_>) -> Result<String, AllocError>
-    ensures { IfOk result (λ text. string_bytes text ≡ diagnostic_text diagnostic.now) }
+// The note with a place is added.
+fn add_placed_note(
+    text: &mut String,
+    alloc: Global,
+    style: Style,
+    width: usize,
+    note: Option<PlacedNote<'_>>,
+) -> Result<(), AllocError>
+    ensures { OnOk result (string_bytes text.new ≡ string_bytes text.old ++ placed_lines style width note.entry) }
 {
+    let Some(note) = note else {
+        return Ok(());
+    };
+    add_note_word(text, style)?;
+    add_line(text, note.message)?;
+    add_spot(text, alloc, style, Colour::Green, width, &note.spot)
+}
+
+/// What is written of a fault: a line with how grave it is and the message; where it has a place, that, the line of the text
+/// and a mark under it; a line for each note; and the same of a note that has a place.
+pub fn diagnostic_text(
+    alloc: Global,
+    style: Style,
+    diagnostic: &Diagnostic<'_>,
+) -> Result<String, AllocError>
+    ensures { IfOk result (λ text. string_bytes text ≡ diagnostic_text style diagnostic.now) }
+{
+    let width = width_of(alloc, diagnostic)?;
     let mut text = String::new(alloc);
-    text.push_str("error: ")?;
-    add_line(&mut text, diagnostic.message)?;
-    match diagnostic.spot {
-        Some(spot) => {
-            let line = spot.place.line;
-            let number = line.to_string(alloc)?;
-            add_spot(&mut text, number.as_str(), &spot)?;
-            add_notes(&mut text, number.len(), &diagnostic.notes)?;
-        }
-        None => add_notes(&mut text, 1, &diagnostic.notes)?,
-    }
+    add_message(&mut text, style, diagnostic)?;
+    add_place(&mut text, alloc, style, width, diagnostic)?;
+    add_notes(&mut text, style, width, &diagnostic.notes)?;
+    add_placed_note(&mut text, alloc, style, width, diagnostic.placed_note)?;
     Ok(text)
 }

@@ -3,15 +3,21 @@
 
 mod diagnostic;
 pub mod laws;
-mod line;
+mod level;
 mod mark;
+mod paint;
 mod place;
 mod places;
 mod source;
+mod source_file;
+mod spot;
 
-pub use diagnostic::{Diagnostic, Spot, diagnostic_text};
-pub use line::line_of;
+pub use diagnostic::{Diagnostic, PlacedNote, diagnostic_text};
+pub use level::Level;
 pub use mark::add_indent;
+pub use paint::Style;
 pub use place::{Place, place_of};
 pub use places::Places;
 pub use source::source_text;
+pub use source_file::SourceFile;
+pub use spot::Spot;

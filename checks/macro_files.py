@@ -1,0 +1,222 @@
+"""The commands `expand` and `check` of `cuvolemin` over files; files.py runs them.
+
+Beside a text of examples/rust with macros stands what `expand` must write of it (`.expanded`), and what it must tell
+(`.messages`). The file small.cases there has one text after the other, each with a name, options, and both.
+"""
+import os
+import pty
+import re
+
+from program_files import SECONDS, Wrong, wants
+
+LINES = 100_000
+DEPTH = 100_000
+CALLS = 10_000
+MOST_LIMIT = 1000
+MISSING = "error: couldn't read /no/file: No such file or directory (os error 2)\n"
+ONE_ERROR = "\nerror: found 1 error\n"
+DEFINITION = b"macro_rules! m { ($a:tt, $b:tt) => { $a + $b }; }\n"
+
+
+def judge(files, written, told, *words, given=b""):
+    """Refuses a run of `expand` or `check` that does not write and tell that; None is a text that has an error."""
+    options, names = words[:-1], words[-1]
+    status = int(written is None)
+    found = files.run("expand", *options, names, given=given)
+    wants("what is expanded", found, (status, written or b"", told.encode()))
+    found = files.run("check", *options, names, given=given)
+    wants("what is checked", found, (status, b"", told.encode()))
+
+
+# ---- the examples
+
+def try_expanded(files, example):
+    """What it becomes, and what is told, stand beside it: of a file, and of standard input."""
+    written, told = None, ""
+    if example.with_suffix(".expanded").exists():
+        written = example.with_suffix(".expanded").read_bytes()
+    if example.with_suffix(".messages").exists():
+        told = example.with_suffix(".messages").read_text(encoding="utf-8")
+    judge(files, written, told.replace("FILE", str(example)), str(example))
+    judge(files, written, told.replace("FILE", "<stdin>"), "-", given=example.read_bytes())
+
+
+def tried_example(files, example):
+    """What is tried of an example, by its name."""
+    if example.with_suffix(".expanded").exists() or example.with_suffix(".messages").exists():
+        return [(f"expansion of {example.name}", lambda: try_expanded(files, example))]
+    return []
+
+
+def parts_of(case):
+    """The name, the options, the text, and what is written and told of a case: its lines by their first characters."""
+    lines = {sign: [] for sign in "#$<>!"}
+    for line in case.split("\n"):
+        if line[:2].rstrip() not in lines:
+            raise Wrong(f"a line of a case: {line}")
+        lines[line[0]].append(line[2:])
+    name, = lines["#"]
+    options = " ".join(lines["$"]).split()
+    written = "\n".join(lines[">"]).encode() if lines[">"] else None
+    told = "".join(f"{line}\n" for line in lines["!"])
+    return name, options, "\n".join(lines["<"]).encode(), written, told
+
+
+def tried_cases(files, path):
+    """What is tried of the cases of a file, by their names."""
+    for case in path.read_text(encoding="utf-8").rstrip("\n").split("\n\n"):
+        name, options, text, written, told = parts_of(case)
+        yield f"case: {name}", lambda options=options, text=text, written=written, told=told: judge(
+            files, written, told, *options, "-", given=text
+        )
+
+
+# ---- other files
+
+def try_missing(files):
+    """A file that is not there, a folder, and one that may not be read."""
+    judge(files, None, MISSING + ONE_ERROR, "/no/file")
+    judge(files, None, "error: couldn't read /: Is a directory (os error 21)\n" + ONE_ERROR, "/")
+    for command in ("expand", "check"):
+        status, written, told = files.run(command, "/proc/self/mem")
+        wants("the run", (status, written), (1, b""))
+        if not told.startswith(b"error: couldn't read /proc/self/mem: "):
+            raise Wrong(f"it is told: {told[:200]}")
+
+
+def try_several(files):
+    """What is wrong with one file does not hide what is wrong with the next; one that is right says nothing."""
+    right = files.made("right", DEFINITION + b"const A: u8 = m!(1, 2);")
+    wrong = files.made("wrong", DEFINITION + b"m!(1);\nm!(2);")
+    open_ = files.made("open", b"a (")
+    left = files.made("left", b"macro_rules! k { ($a:ty) => {}; }")
+    calls = "".join(
+        f"error: no rule of `m` takes this\n --> {wrong}:{line}:5\n  |\n{line} | m!({line - 1});\n  |     ^\n"
+        f"note: `m` is defined here\n --> {wrong}:1:14\n  |\n1 | {DEFINITION.decode()}  |              ^\n\n"
+        for line in (2, 3)
+    )
+    unclosed = f"error: unclosed '('\n --> {open_}:1:3\n  |\n1 | a (\n  |   ^\n\n"
+    warning = (
+        f"warning: `k` is left as it is: the fragment `ty` is not supported\n --> {left}:1:19\n  |\n"
+        "1 | macro_rules! k { ($a:ty) => {}; }\n  |                   ^\n\n"
+    )
+    names = (right, open_, "/no/file", left, wrong, right)
+    told = f"{unclosed}{MISSING}\n{warning}{calls}error: found 4 errors and 1 warning\n"
+    wants("the run", files.run("check", *names), (1, b"", told.encode()))
+    wants("the run", files.run("check", right, left, right), (0, b"", f"{warning}warning: found 1 warning\n".encode()))
+    wants("the run", files.run("check", right, "-", given=b"a"), (0, b"", b""))
+
+
+def try_empty(files):
+    """An empty text stays as it is, and so does one that is nothing but a mark of its order of bytes."""
+    judge(files, b"", "", files.made("empty", b""))
+    judge(files, b"\xef\xbb\xbf", "", files.made("mark", b"\xef\xbb\xbf"))
+
+
+def try_no_utf8(files):
+    """Bytes that are no UTF-8."""
+    name = files.made("bytes", b"fn \xff")
+    judge(files, None, f"error: {name} is not UTF-8 at byte 3\n{ONE_ERROR}", name)
+
+
+def try_bytes_stay(files):
+    """What is no call stays byte for byte: a mark in front, ends of lines, white space, comments, characters of any width."""
+    text = "\ufeff" + DEFINITION.decode().replace("\n", "\r\n") + "é\t= m!(1, 2) ; // 漢 \r\n\r\n \tx\u0301 /* m!(1) */ 'a'\r\n"
+    judge(files, text.replace("m!(1, 2)", "(1 + 2)").encode(), "", files.made("text", text.encode()))
+    wrong = files.made("text", text.replace("m!(1, 2)", "m!(1)").encode())
+    told = (
+        f"error: no rule of `m` takes this\n --> {wrong}:2:9\n  |\n2 | é\t= m!(1) ; // 漢 \n  |  \t      ^\n"
+        f"note: `m` is defined here\n --> {wrong}:1:14\n  |\n1 | {DEFINITION.decode()}  |              ^\n{ONE_ERROR}"
+    )
+    judge(files, None, told, wrong)
+
+
+def try_options(files):
+    """Values that options have not."""
+    for words in (("--limit", "0"), ("--limit", str(MOST_LIMIT + 1)), ("--limit", "x"), ("--limit=-1",), ("--limit",)):
+        status, written, told = files.run("expand", *words)
+        wants("the run", (status, written), (2, b""))
+        if b"--limit" not in told:
+            raise Wrong(f"it is told: {told[:200]}")
+    for option in ("--crate", "--only"):
+        for value in ("", "a b", "1", "a-b", "r#a", "é "):
+            shown = f'error: "{value}" is no name, as {option} wants one\n'
+            wants("the run", files.run("expand", option, value), (2, b"", shown.encode()))
+
+
+def try_deep(files):
+    """Brackets in one another, in a text and in an input."""
+    deep = b"(" * DEPTH + b")" * DEPTH
+    judge(files, deep, "", "-", given=deep)
+    judge(files, DEFINITION + b"x = (" + deep + b" + 1)", "", "-", given=DEFINITION + b"x = m!(" + deep + b", 1)")
+
+
+def try_forever(files):
+    """A macro that calls itself forever ends where it comes too deep, also where each call makes two or whose limit is high."""
+    for options in ((), ("--limit", str(MOST_LIMIT))):
+        text = b"macro_rules! m { ($($a:tt)*) => { m!($($a)* a) + m!() }; } m!()"
+        status, written, told = files.run("expand", *options, given=text)
+        wants("the run", (status, written), (1, b""))
+        wants("the message", told.split(b"\n")[0], b"error: `m` is called in too many expansions, one inside the other")
+        wants("the count", told.split(b"\n")[-2], b"error: found 1 error")
+
+
+def try_long(files):
+    """A text of 10 MB and more with many calls, and one with many faults."""
+    lines = b"let a = m!(1, 2); // what stands behind a call stays as it is, and so does what stands between two of them\n"
+    text = DEFINITION + lines * LINES
+    wants("how long it is", len(text) > 10_000_000, True)
+    files.gives(text.replace(b"m!(1, 2)", b"(1 + 2)"), "expand", files.made("long", text))
+    name = files.made("wrong", DEFINITION + b"m!(1);\n" * CALLS)
+    status, written, told = files.run("check", name)
+    wants("the run", (status, written), (1, b""))
+    wants("the count", told.split(b"\n")[-2], f"error: found {CALLS} errors".encode())
+    wants("the places", told.count(b"error: no rule"), CALLS)
+    last = f"{' ' * len(str(CALLS + 1))}--> {name}:{CALLS + 1}:5"
+    wants("the last place", told.split(b"\n\n")[-2].split(b"\n")[1], last.encode())
+
+
+def try_closed_pipe(files):
+    """Who closes the pipe has read enough: nothing is told."""
+    first, told = files.reads_some("expand", given=DEFINITION + b"m!(1, 2);\n" * LINES)
+    wants("what is read", first, (DEFINITION + b"1 + 2;\n" * LINES)[: len(first)])
+    wants("what is told", told, b"")
+
+
+def told_on_terminal(files, *words, given, **environment):
+    """What a run tells where standard error is a terminal."""
+    ours, theirs = pty.openpty()
+    run = files.started(*words, stderr=theirs, environment=environment)
+    os.close(theirs)
+    run.communicate(input=given, timeout=SECONDS)
+    told = b""
+    try:
+        while more := os.read(ours, 1 << 16):
+            told += more
+    except OSError:
+        pass  # so a terminal ends that nobody writes to
+    os.close(ours)
+    return told.replace(b"\r\n", b"\n")
+
+
+def try_colours(files):
+    """Colours stand on a terminal, and there alone, and not where they are not wanted."""
+    text = DEFINITION + b"m!(1);"
+    plain = files.run("check", "-", given=text)[2]
+    coloured = told_on_terminal(files, "check", "-", given=text)
+    wants("what is told without colours", re.sub(rb"\x1b\[[0-9;]*m", b"", coloured), plain)
+    for colour, word in ((31, b"error"), (31, b"^"), (32, b"note"), (34, b"-->"), (34, b"|")):
+        wants("a colour", b"\x1b[1;%dm%s\x1b[0m" % (colour, word) in coloured, True)
+    wants("what is told to one who wants none", told_on_terminal(files, "check", "-", given=text, NO_COLOR="1"), plain)
+    wants("what is told without a terminal", b"\x1b" in plain, False)
+
+
+def tried(files, examples):
+    """Each thing that is tried, by its name."""
+    yield from tried_cases(files, examples / "small.cases")
+    for try_one in (
+        try_missing, try_several, try_empty, try_no_utf8, try_bytes_stay, try_options, try_deep, try_forever, try_long,
+        try_closed_pipe, try_colours,
+    ):
+        name = try_one.__name__.removeprefix("try_").replace("_", " ")
+        yield f"macros: {name}", lambda try_one=try_one: try_one(files)

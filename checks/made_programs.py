@@ -1,0 +1,154 @@
+"""Rust programs by chance, whose macros have fragments that are supported: `made(seed)`.
+
+A program prints the values that its macros write. Its macros write expressions, statements, items and macros; they have
+repetitions, several rules, and call themselves and each other; they are defined at the top, in modules and in functions.
+"""
+import random
+
+OPERATORS = ("+", "-", "*", "|", "&", "^")
+SEPARATORS = (",", ";", "=>", "")
+
+
+class Maker:
+    """What is made so far."""
+
+    def __init__(self, seed):
+        self.chance = random.Random(seed)
+        self.lines = []
+        self.values = []
+        self.names = 0
+
+    def name(self, first):
+        """A new name."""
+        self.names += 1
+        return f"{first}{self.names}"
+
+    def number(self):
+        """A small number."""
+        return str(self.chance.randrange(10))
+
+    def operator(self):
+        """An operator that cannot overflow with small numbers."""
+        return self.chance.choice(OPERATORS)
+
+    def expression(self, operands):
+        """An expression over these, some of them in parentheses."""
+        words = [operands[0]]
+        for it in operands[1:]:
+            words += [self.operator(), it]
+        text = " ".join(words)
+        return f"({text})" if self.chance.random() < 0.3 else text
+
+    def operand(self, calls):
+        """A number, or a call of one of these macros that write expressions."""
+        if calls and self.chance.random() < 0.5:
+            return self.chance.choice(calls)(self)
+        return self.number()
+
+    # ---- macros that write expressions: each answers what makes a call of it
+
+    def folding(self):
+        """One that repeats an operator."""
+        name, separator = self.name("fold"), self.chance.choice(SEPARATORS)
+        operator, bracket = self.operator(), self.chance.choice(("()", "[]", "{}"))
+        self.lines.append(
+            f"macro_rules! {name} {{ ($first:literal $({separator} $more:literal)*) => {{ $first $({operator} $more)* }}; }}"
+        )
+
+        def call(maker):
+            words = [maker.number() for _ in range(maker.chance.randint(1, 4))]
+            return f"{name}!{bracket[0]}{f' {separator} '.join(words)}{bracket[1]}"
+
+        return call
+
+    def counting(self):
+        """One that calls itself."""
+        name, operator = self.name("count"), self.chance.choice(("+", "^"))
+        self.lines.append(
+            f"macro_rules! {name} {{ () => {{ 0 }}; ($a:tt $($b:tt)*) => {{ 1 {operator} {name}!($($b)*) }}; }}"
+        )
+
+        def call(maker):
+            trees = ("a", "(b c)", "::", "'d", "'e'", "\"f\"", "[1, 2]", "-", "=>", "{}", "..=", "1.5")
+            return f"{name}!({' '.join(maker.chance.choice(trees) for _ in range(maker.chance.randint(0, 5)))})"
+
+        return call
+
+    def choosing(self):
+        """One of several rules, which words tell apart."""
+        name, words = self.name("choose"), ("add", "negate", "first", "both")
+        self.lines.append(
+            f"macro_rules! {name} {{ (add $a:tt $b:tt) => {{ $a {self.operator()} $b }}; (negate $a:literal) => {{ -$a }}; "
+            f"(first $a:literal $(, $b:tt)*) => {{ $a }}; (both $({{ $a:literal : $b:literal }})+) => {{ [$($a {self.operator()} $b),+].len() as i64 }}; }}"
+        )
+
+        def call(maker):
+            inputs = {
+                "add": f"{maker.number()} ({maker.expression([maker.number(), maker.number()])})",
+                "negate": maker.number(),
+                "first": f"{maker.number()}, x, [y]",
+                "both": "{1 : 2} {3 : 4}",
+            }
+            word = maker.chance.choice(words)
+            return f"{name}!({word} {inputs[word]})"
+
+        return call
+
+    # ---- macros that write statements and items
+
+    def statements(self, calls):
+        """A function with statements that a macro writes."""
+        name, function = self.name("set"), self.name("f")
+        end = self.chance.choice(("", "$(;)?"))
+        self.lines.append(f"macro_rules! {name} {{ ($($name:ident = $value:tt);* {end}) => {{ $(let $name: i64 = $value;)* }}; }}")
+        names = [self.name("v") for _ in range(self.chance.randint(1, 3))]
+        bindings = "; ".join(f"{it} = {self.number()}" for it in names)
+        call = self.chance.choice((f"{name}! {{ {bindings} }}", f"{name}!({bindings});"))
+        last = self.expression([self.operand(calls) for _ in range(self.chance.randint(1, 3))] + ["0"])
+        # what begins with a call in braces would be a statement, and not the whole value
+        self.lines.append(f"fn {function}() -> i64 {{\n    {call}\n    let x = {self.operand(calls)};\n    x + {last} // the value\n}}")
+        self.values.append(f"{function}()")
+
+    def constants(self, calls):
+        """Items that a macro writes, in braces or with a `;` behind the call."""
+        name = self.name("constants")
+        self.lines.append(f"macro_rules! {name} {{ ($($name:ident $(: $value:literal)?),+ $(,)?) => {{ $(pub const $name: i64 = 0 $(+ $value)?;)+ }}; }}")
+        names = [self.name("A") for _ in range(self.chance.randint(1, 3))]
+        given = ", ".join(it + (f": {self.number()}" if self.chance.random() < 0.6 else "") for it in names)
+        self.lines.append(self.chance.choice((f"{name}! {{ {given} }}", f"{name}!({given},);")))
+        self.values += names
+        constant = self.name("A")
+        self.lines.append(f"const {constant}: i64 = {self.expression([self.operand(calls) for _ in range(3)])};")
+        self.values.append(constant)
+
+    def defining(self):
+        """A macro that a macro defines."""
+        name, made, constant = self.name("define"), self.name("made"), self.name("A")
+        self.lines.append(f"macro_rules! {name} {{ ($name:ident, $value:literal) => {{ macro_rules! $name {{ () => {{ $value }}; (twice) => {{ 2 * $name!() }}; }} }}; }}")
+        self.lines.append(f"{name}! {{ {made}, {self.number()} }}")
+        self.lines.append(f"const {constant}: i64 = 3 * {made}!({self.chance.choice(('', 'twice'))});")
+        self.values.append(constant)
+
+    def modules(self):
+        """A macro that a module defines again, with the attribute or without."""
+        name, used = self.name("scoped"), self.chance.random() < 0.5
+        first, second, third = self.name("A"), self.name("A"), self.name("A")
+        module = self.name("inner")
+        self.lines.append(f"macro_rules! {name} {{ () => {{ {self.number()} }}; }}\nconst {first}: i64 = {name}!();")
+        self.lines.append(
+            ("#[macro_use]\n" if used else "")
+            + f"mod {module} {{\n    macro_rules! {name} {{ () => {{ {self.number()} + 1 }}; }}\n    pub const {second}: i64 = 2 * {name}!();\n}}"
+        )
+        self.lines.append(f"const {third}: i64 = 2 * {name}!();")
+        self.values += [first, f"{module}::{second}", third]
+
+
+def made(seed):
+    """The program of a number."""
+    maker = Maker(seed)
+    calls = [make() for make in maker.chance.sample((maker.folding, maker.counting, maker.choosing), maker.chance.randint(1, 3))]
+    for _ in range(maker.chance.randint(2, 6)):
+        what = maker.chance.choice(("statements", "constants", "defining", "modules"))
+        getattr(maker, what)(*([calls] if what in ("statements", "constants") else []))
+    printed = "".join(f'    println!("{{}}", {it});\n' for it in maker.values)
+    return "\n".join(maker.lines) + f"\n\nfn main() {{\n{printed}}}\n"

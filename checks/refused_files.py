@@ -1,0 +1,83 @@
+#!/usr/bin/env python3
+"""Each request for memory of a run over a file refused in turn: refused_files.py PROGRAM LIBRARY
+
+PROGRAM is `cuvolemin`, and LIBRARY is checks/refuse.c. The first, second, .. request of a run of `expand` is refused, until it
+makes no more of them. Each run ends: either as with ample memory, or with status 1, nothing written, and a last message that
+says that memory was wanting. A line is printed for each text, `ok NAME` or `FAILED NAME: WHY`; the status is 1 where one
+failed.
+"""
+import os
+import pathlib
+import subprocess
+import sys
+import tempfile
+
+EXAMPLES = pathlib.Path(__file__).resolve().parent.parent / "examples" / "rust"
+# One that is written, one of which warnings are told, one with errors, one with no tree.
+NAMES = ("nested", "unsupported", "faults", "mismatched")
+SECONDS = 60
+# What is told where memory was wanting: by the program, or by the system when it asks for the arguments.
+WANTING = (b"out of memory", b"Cannot allocate memory", b"memory allocation failed")
+
+
+class Wrong(Exception):
+    """What a run did, and should not have."""
+
+
+def run(program, name, **environment):
+    """The status of a run, what it wrote, and what it told."""
+    done = subprocess.run(
+        [program, "expand", str(EXAMPLES / f"{name}.rs")],
+        stdin=subprocess.DEVNULL, capture_output=True, timeout=SECONDS, check=False, env={**os.environ, **environment},
+    )
+    return done.returncode, done.stdout, done.stderr
+
+
+def expected(name):
+    """What a run over an example has to be with ample memory: what stands beside it."""
+    path = EXAMPLES / f"{name}.rs"
+    is_right = path.with_suffix(".expanded").exists()
+    written = path.with_suffix(".expanded").read_bytes() if is_right else b""
+    told = path.with_suffix(".messages").read_bytes() if path.with_suffix(".messages").exists() else b""
+    return int(not is_right), written, told.replace(b"FILE", str(path).encode())
+
+
+def is_refused_well(ended, ample):
+    """Whether a run of which a request was refused ends as it has to."""
+    status, written, told = ended
+    if ended == ample:
+        return True
+    return (status, written) == (1, b"") and any(words in told for words in WANTING)
+
+
+def try_each(program, library, name):
+    """Has each request refused in turn, and finds a run that does not end well."""
+    ample = expected(name)
+    with tempfile.TemporaryDirectory() as room:
+        refused = pathlib.Path(room) / "refused"
+        for nth in range(1, sys.maxsize):
+            ended = run(program, name, REFUSE=str(nth), REFUSED=str(refused), LD_PRELOAD=library)
+            if not refused.exists():
+                break
+            refused.unlink()
+            if not is_refused_well(ended, ample):
+                raise Wrong(f"request {nth} refused: {str(ended)[:300]}")
+        if ended != ample or nth == 1:
+            raise Wrong(f"with none of {nth - 1} requests refused: {str(ended)[:300]}")
+
+
+def main():
+    """Tries all, and says of each how it went."""
+    failed = False
+    for name in NAMES:
+        try:
+            try_each(*sys.argv[1:], name)
+            print(f"ok memory refused over {name}.rs", flush=True)
+        except (Wrong, OSError, subprocess.TimeoutExpired) as why:
+            failed = True
+            print(f"FAILED memory refused over {name}.rs: {why}", flush=True)
+    return int(failed)
+
+
+if __name__ == "__main__":
+    sys.exit(main())

@@ -1,0 +1,2 @@
+-- What is told.
+pub mod Counts

@@ -1,0 +1,37 @@
+-- A call that stands first is passed.
+use Rattle.std.specs.Prelude.{◌≡◌}
+use Rattle.tt.specs.Forest.{Forest, Root}
+use Rattle.tt.specs.Gluing.{after_trees}
+use Rattle.tt.specs.Iters.{rest_of}
+use Rattle.tt.specs.Views.{trees_of}
+use Rattle.tt_expand.specs.declared.position.Position.{Position}
+use Rattle.tt_expand.specs.declared.walk.Event.{Event}
+use Rattle.tt_expand.specs.declared.walk.Event.TheVariants as event
+use Rattle.tt_expand.specs.declared.walk.Invocation.{Invocation}
+use Rattle.tt_expand.specs.declared.walk.Walk.{Walk}
+use Rattle.tt_expand.specs.Coming.{begin_at}
+use Rattle.tt_expand.specs.Items.{Call}
+use Rattle.tt_expand.specs.Positions.{is_statement}
+use Rattle.tt_expand.specs.Walks.{level_of, past}
+use Rattle.tt_matcher.specs.Fragments.{front_trees, is_brace}
+
+-- a call that stands first stays as it is, and is passed
+abbrev pub IsStay : Call → (old : Walk) → Event → (new : Walk) → Type 0
+IsStay it old (event.Stays trees) new =
+    (trees_of trees ≡ front_trees it.len (rest_of old.level.rest)) × (level_of new.level ≡ past it.len (is_brace it.delimiter.kind) (level_of old.level))
+    × (new.outer.items ≡ old.outer.items)
+IsStay it old other new = ⊥
+
+-- what is told of a call that becomes that tree, where these trees stand first
+pub record IsInvocation (it : Call) (trees : Forest) (position : Position) (tree : Root) (invocation : Invocation) : Type 0 where
+  pub first : invocation.first_span ≡ begin_at trees it.name.span
+  pub delimiter : invocation.delimiter ≡ it.delimiter
+  pub is_statement : invocation.is_statement ≡ is_statement it.delimiter.kind (after_trees it.len trees) position
+  pub tree : invocation.tree ≡ tree
+
+-- a call that stands first becomes that tree, and is passed
+abbrev pub IsInvoked : Call → (tree : Root) → (old : Walk) → Event → (new : Walk) → Type 0
+IsInvoked it tree old (event.Invocation invocation) new =
+    IsInvocation it (rest_of old.level.rest) old.level.position tree invocation
+    × (level_of new.level ≡ past it.len (is_brace it.delimiter.kind) (level_of old.level)) × (new.outer.items ≡ old.outer.items)
+IsInvoked it tree old other new = ⊥

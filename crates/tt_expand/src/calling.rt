@@ -1,0 +1,100 @@
+//! What comes of a call.
+ghost use Rattle.std.specs.Prelude.{◌≡◌, List, IfOk, OnOk, option_copied};
+ghost use Rattle.tt.specs.Iters.{rest_of};
+ghost use Rattle.tt_expand.specs.Calling.{IsMade, IsCalled};
+ghost use Rattle.tt_expand.specs.Items.{call_of};
+ghost use Rattle.tt_expand.specs.Knowing.{Known as KnownOf, IsKnown, setting_of};
+ghost use Rattle.tt_expand.specs.Macros.{called_by};
+ghost use Rattle.tt_expand.specs.Scopes.{Macro as MacroOf, AreReady, IsReadyIf};
+ghost use Rattle.tt_macro_rules.specs.Arms.{Arm};
+ghost use Rattle.tt_macro_rules.specs.Expansions.{AreMade};
+
+use crate::fault::MacroFault;
+use crate::item::Call;
+use crate::known::Known;
+use crate::places::{start_at, start_of};
+use crate::scope::{Macro, Scope};
+use crate::setting::Setting;
+use std::alloc::Global;
+use tt::{TopSubtree, TtFault};
+use tt_macro_rules::{Expansion, MacroRules};
+use tt_template::FillError;
+
+/// What rules make of a call: a tree, or what is wrong with it and the byte where that shows.
+#[derive(Drop)]
+pub(crate) enum Made {
+    Tree(TopSubtree),
+    Faulty(u32, MacroFault),
+}
+
+/// What comes of a call.
+#[derive(Drop)]
+pub(crate) enum Called {
+    /// Nothing expands it.
+    Other,
+    /// Something is wrong with it.
+    Faulty,
+    /// That tree.
+    Tree(TopSubtree),
+}
+
+// What rules make of a call, with so many expansions one inside the other.
+fn make(alloc: Global, limit: usize, rules: &MacroRules, call: &Call<'_>) -> Result<Made, TtFault>
+    ensures { IfOk result (λ made. (arms : List Arm) → AreMade arms rules.now.arms.items → IsMade limit arms (call_of call.now) made) }
+{
+    let at = start_of(call.name.span);
+    if limit == 0 {
+        return Ok(Made::Faulty(at, MacroFault::TooDeep));
+    }
+    match rules.expand(alloc, call.input.remaining().iter()) {
+        Ok(Expansion::Tree(tree)) => Ok(Made::Tree(tree)),
+        Ok(Expansion::NoMatch(place)) => {
+            let behind = start_of(call.header.delimiter.close);
+            let stop = start_at(call.input.remaining(), place, behind);
+            Ok(Made::Faulty(stop, MacroFault::NoMatch))
+        }
+        Ok(Expansion::Ambiguous(arm)) => Ok(Made::Faulty(at, MacroFault::Ambiguous(arm))),
+        Err(error) => match error.fault {
+            FillError::Tree(fault) => Err(fault),
+            _ => Ok(Made::Faulty(at, MacroFault::Expansion(error))),
+        },
+    }
+}
+
+// The macro that a call is one of, if there is one.
+fn called_by<'k>(setting: &Setting, scope: &'k Scope, call: &Call<'_>) -> Option<&'k Macro>
+    ensures { (macros : List MacroOf) → AreReady macros scope.now.macros.items → IsReadyIf (called_by (setting_of setting.now) macros (call_of call.now)) (option_copied result) }
+{
+    if call.is_elsewhere || !setting.asks_for(&call.name.sym) {
+        None
+    } else {
+        scope.last(&call.name.sym)
+    }
+}
+
+/// What comes of a call, with so many expansions one inside the other. What is wrong with it, or that it is left as it is, is found.
+pub(crate) fn expand_call(
+    setting: &Setting,
+    known: &mut Known,
+    limit: usize,
+    call: &Call<'_>,
+) -> Result<Called, TtFault>
+    ensures { IfOk result (λ called. (before : KnownOf) → IsKnown before known.old → (after : KnownOf) × IsCalled (setting_of setting.now) limit (call_of call.now) before called after × IsKnown after known.new) }
+{
+    let name = &call.name.sym;
+    let Some(it) = called_by(setting, &known.scope, call) else {
+        return Ok(Called::Other);
+    };
+    let defined_at = Some(it.defined_at);
+    let Some(rules) = &it.rules else {
+        known.find(name, start_of(call.name.span), MacroFault::Left, defined_at)?;
+        return Ok(Called::Other);
+    };
+    match make(setting.alloc, limit, rules, call)? {
+        Made::Tree(tree) => Ok(Called::Tree(tree)),
+        Made::Faulty(at, fault) => {
+            known.find(name, at, fault, defined_at)?;
+            Ok(Called::Faulty)
+        }
+    }
+}
