@@ -1,5 +1,5 @@
 -- What comes of a call.
-use Rattle.std.specs.Prelude.{◌≡◌, ℕ, suc, List, Option, None, Some}
+use Rattle.std.specs.Prelude.{◌≡◌, ◌<◌, ℕ, suc, List, Option, None, Some}
 use Rattle.tt.specs.Forest.{Root}
 use Rattle.tt_expand.specs.declared.calling.Called.{Called}
 use Rattle.tt_expand.specs.declared.calling.Called.TheVariants as called
@@ -18,6 +18,16 @@ use Rattle.tt_macro_rules.specs.declared.macro_rules.Expansion.TheVariants as ex
 abbrev pub IsMade : (limit : ℕ) → List Arm → Call → Made → Type 0
 IsMade limit arms it (made.Tree tree) = (left : ℕ) × (limit ≡ suc left) × IsExpansion arms 0 0 it.input (expansion.Tree tree)
 IsMade limit arms it (made.Faulty at fault) = IsCallFault limit arms it at fault
+
+-- a tree is made only where an expansion may stand inside
+abbrev pub IsMadeWithin : (limit : ℕ) → Made → Type 0
+IsMadeWithin limit (made.Tree tree) = 0 < limit
+IsMadeWithin limit (made.Faulty at fault) = Unit {0}
+
+abbrev pub IsCalledWithin : (limit : ℕ) → Called → Type 0
+IsCalledWithin limit called.Other = Unit {0}
+IsCalledWithin limit called.Faulty = Unit {0}
+IsCalledWithin limit (called.Tree tree) = 0 < limit
 
 -- a call is wrong in some way, and that is found
 pub record IsFaulty (setting : Setting) (limit : ℕ) (it : Call) (before after : Known) : Type 0 where

@@ -2,6 +2,8 @@
 pub mod Calling
 pub mod Coming
 pub mod Defining
+pub mod Expanding
+pub mod Expansion
 pub mod Findings
 pub mod Items
 pub mod Keywords

@@ -126,10 +126,15 @@ IsNext setting limit levels known (event.Closes close) nexts others =
 IsNext setting limit levels known (event.Stays trees) nexts others =
     Leads setting limit levels known (first_stay (trees_of trees)) nexts others × (closes_of nexts ≡ closes_of levels) × (work_in nexts < work_in levels)
 IsNext setting limit levels known (event.Invocation it) nexts others =
-    (left : ℕ) × (limit ≡ suc left) × (others ≡ known)
-    × ((inside : Known) (held : Outcome) → Comes setting left (first_in Brace) 0 known it.tree.children inside held
+    (left : ℕ) × (limit ≡ suc left)
+    × ((inside : Known) (held : Outcome) → Comes setting left (first_in Brace) 0 others it.tree.children inside held
     → Leads setting limit levels known (first_becomes it.first_span it.delimiter.close (placed it.is_statement it.delimiter (trees_left held))) nexts inside)
     × (closes_of nexts ≡ closes_of levels) × (work_in nexts < work_in levels)
+
+-- a call is expanded only where an expansion may stand inside
+abbrev pub IsWithin : (limit : ℕ) → Event → Type 0
+IsWithin limit (event.Invocation it) = 0 < limit
+IsWithin limit other = Unit {0}
 
 -- whatever is known, if that may be known there, that comes next, and something is known then
 abbrev pub Goes : (may : Known → Type 0) → Setting → (limit : ℕ) → (old : Walk) → (before : known.Known) → Event → (new : Walk) → (after : known.Known) → Type 0
