@@ -65,7 +65,7 @@ module _ (setting : Setting) (limit : ℕ) (old : Walk) (known : Known) (it : Ca
       subst (λ os. IsNext setting limit (levels_of old) known (event.Invocation i) (level_of new.level ∷ map level_of (reverse os)) others) (sym outer)
       (subst (λ l. IsNext setting limit (levels_of old) known (event.Invocation i) (l ∷ map level_of (reverse old.outer.items)) others) (sym now) (
         from.left,
-        from.limit,
+        from.fits,
         by,
         refl,
         omega (arith, call_less setting.root (rest_of old.level.rest) it there.item),
@@ -80,7 +80,7 @@ module _ (setting : Setting) (limit : ℕ) (old : Walk) (known : Known) (it : Ca
           subst (λ s. Leads setting limit (levels_of old) known (first_becomes s i.delimiter.close (placed i.is_statement i.delimiter (trees_left held))) nexts inside) (sym is.first)
           (subst (λ d. Leads setting limit (levels_of old) known (first_becomes begin d.close (placed i.is_statement d (trees_left held))) nexts inside) (sym is.delimiter)
           (subst (λ b. Leads setting limit (levels_of old) known (first_becomes begin it.delimiter.close (placed b it.delimiter (trees_left held))) nexts inside) (sym is.is_statement)
-          (subst (λ n. Leads setting n (levels_of old) known (first_becomes begin it.delimiter.close (placed_at old.level.position it (after_trees it.len (rest_of old.level.rest)) (trees_left held))) nexts inside) (sym from.limit)
-          (leads_call setting from.left (level_of old.level) (map level_of (reverse old.outer.items)) known there.first there.goes_on it from.arms tree there.item from.expands from.tree inside held
+          (subst (λ n. Leads setting n (levels_of old) known (first_becomes begin it.delimiter.close (placed_at old.level.position it (after_trees it.len (rest_of old.level.rest)) (trees_left held))) nexts inside) (sym from.fits)
+          (leads_call setting from.left (level_of old.level) (map level_of (reverse old.outer.items)) known there.first there.goes_on it from.arms tree there.item from.expands from.makes inside held
           (subst (λ k. Comes setting from.left (first_in Brace) 0 k tree.children inside held) from.known
-          (subst (λ t. Comes setting from.left (first_in Brace) 0 others t.children inside held) is.tree comes))))))
+          (subst (λ t. Comes setting from.left (first_in Brace) 0 others t.children inside held) is.makes comes))))))

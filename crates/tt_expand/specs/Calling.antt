@@ -44,9 +44,9 @@ pub record IsFaulty (setting : Setting) (limit : ℕ) (it : Call) (before after 
 pub record IsExpanded (setting : Setting) (limit : ℕ) (it : Call) (tree : Root) (before after : Known) : Type 0 where
   pub left : ℕ
   pub arms : List Arm
-  pub limit : limit ≡ suc left
+  pub fits : limit ≡ suc left
   pub expands : arms_of (called_by setting before.macros it) ≡ Some arms
-  pub tree : IsExpansion arms 0 0 it.input (expansion.Tree tree)
+  pub makes : IsExpansion arms 0 0 it.input (expansion.Tree tree)
   pub known : after ≡ before
 
 -- what comes of a call, and what is known then: nothing where no arms expand it, something that is wrong, or a tree

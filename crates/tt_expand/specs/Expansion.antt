@@ -1,5 +1,5 @@
 -- What a text becomes whose macros are expanded.
-use Rattle.std.specs.Prelude.{◌≡◌, ◌<◌, ◌++◌, ℕ, Bool, true, false, List, [], ◌∷◌, Option, None, Some, String, length, slice_get, option_map, string_bytes}
+use Rattle.std.specs.Prelude.{◌≡◌, ◌<◌, ◌++◌, ℕ, Bool, true, false, List, [], ◌∷◌, Option, None, Some, length, slice_get, option_map, string_bytes}
 use Rattle.tt.specs.Forest.{Forest, Root}
 use Rattle.tt.specs.Span.{start_of, end_of}
 use Rattle.tt.specs.Types.DelimiterKind.TheVariants.{Brace}
@@ -34,18 +34,18 @@ replacements (stays trees behind) = replacements behind
 replacements (becomes first last trees behind) = replacement first last trees ∷ replacements behind
 
 -- what comes of a call is written as Rust
-pub record IsInvocationText (setting : Setting) (limit : ℕ) (it : Invocation) (before after : Known) (text : String) : Type 0 where
+pub record IsInvocationText (setting : Setting) (limit : ℕ) (it : Invocation) (before after : Known) (result : List ℕ) : Type 0 where
   pub outcome : Outcome
   pub comes : Comes setting limit (first_in Brace) 0 before it.tree.children after outcome
-  pub text : string_bytes text ≡ text_of (placed it.is_statement it.delimiter (trees_left outcome))
+  pub text : result ≡ text_of (placed it.is_statement it.delimiter (trees_left outcome))
 
 -- a source of these trees is written, where in the place of each call what comes of it stands
-pub record IsSourceText (setting : Setting) (limit : ℕ) (source : List ℕ) (trees : Forest) (before after : Known) (text : String) : Type 0 where
+pub record IsSourceText (setting : Setting) (limit : ℕ) (source : List ℕ) (trees : Forest) (before after : Known) (result : List ℕ) : Type 0 where
   pub outcome : Outcome
   pub comes : Comes setting limit (first_in Brace) 0 before trees after outcome
   pub written : Writing
   pub replaced : AreReplaced (replacements outcome) (begun source) written
-  pub text : string_bytes text ≡ finished written
+  pub text : result ≡ finished written
 
 -- the places in a text are bytes of the first file
 abbrev pub text_part : SpanPart
@@ -56,14 +56,14 @@ abbrev pub setting_by : ExpandOptions → Setting
 setting_by it = record { root = it.root.now; everywhere = it.everywhere; only = option_map (λ name. name.now) it.only }
 
 -- a text that is read as trees, and what comes of it: where it is called, what comes of that call stands, and all else stays byte for byte
-pub record IsExpanded (options : ExpandOptions) (text : List ℕ) (it : Expanded) : Type 0 where
+pub record IsExpanded (options : ExpandOptions) (source : List ℕ) (it : Expanded) : Type 0 where
   pub tree : Root
-  pub read : IsParse text_part text tree
+  pub read : IsParse text_part source tree
   pub after : Known
   pub outcome : Outcome
   pub comes : Comes (setting_by options) options.limit (first_in Brace) 0 knows_nothing tree.children after outcome
-  pub fits : FitAll (replacements outcome) (begun text)
-  pub text : string_bytes it.text ≡ with_all (replacements outcome) (begun text)
+  pub fits : FitAll (replacements outcome) (begun source)
+  pub text : string_bytes it.text ≡ with_all (replacements outcome) (begun source)
   pub findings : it.findings.items ≡ after.findings
 
 -- the first finding that is no warning

@@ -10,7 +10,7 @@ use Rattle.tt.specs.Types.DelimiterKind.TheVariants.{Brace}
 use Rattle.tt.specs.Types.Leaf.{Leaf}
 use Rattle.tt.specs.Types.Span.{Span}
 use Rattle.tt.specs.Views.{trees_of}
-use Rattle.tt_expand.specs.declared.known.Known as known
+use Rattle.tt_expand.specs.declared.known.Known as known_in_code
 use Rattle.tt_expand.specs.declared.position.Position.{Position}
 use Rattle.tt_expand.specs.declared.walk.Event.{Event}
 use Rattle.tt_expand.specs.declared.walk.Event.TheVariants as event
@@ -137,7 +137,7 @@ IsWithin limit (event.Invocation it) = 0 < limit
 IsWithin limit other = Unit {0}
 
 -- whatever is known, if that may be known there, that comes next, and something is known then
-abbrev pub Goes : (may : Known → Type 0) → Setting → (limit : ℕ) → (old : Walk) → (before : known.Known) → Event → (new : Walk) → (after : known.Known) → Type 0
+abbrev pub Goes : (may : Known → Type 0) → Setting → (limit : ℕ) → (old : Walk) → (before : known_in_code.Known) → Event → (new : Walk) → (after : known_in_code.Known) → Type 0
 Goes may setting limit old before it new after =
     (known : Known) → IsKnown known before → may known
     → (others : Known) × IsKnown others after × IsNext setting limit (levels_of old) known it (levels_of new) others

@@ -1,5 +1,5 @@
 //! A source, and what its calls become.
-ghost use Rattle.std.specs.Prelude.{IfOk};
+ghost use Rattle.std.specs.Prelude.{IfOk, string_bytes};
 ghost use Rattle.tt_expand.specs.Expansion.{IsInvocationText, IsSourceText};
 ghost use Rattle.tt_expand.specs.Knowing.{Known as KnownOf, IsKnown, setting_of};
 
@@ -35,7 +35,7 @@ fn invocation_text(
     limit: usize,
     invocation: &Invocation,
 ) -> Result<String, ExpandTextError>
-    ensures { IfOk result (λ text. (before : KnownOf) → IsKnown before known.old → (after : KnownOf) × IsKnown after known.new × IsInvocationText (setting_of setting.now) limit invocation.now before after text) }
+    ensures { IfOk result (λ text. (before : KnownOf) → IsKnown before known.old → (after : KnownOf) × IsKnown after known.new × IsInvocationText (setting_of setting.now) limit invocation.now before after (string_bytes text)) }
 {
     let top = Delimiter {
         kind: DelimiterKind::Invisible,
@@ -55,7 +55,7 @@ pub(crate) fn expand_source(
     source: &str,
     tree: &TopSubtree,
 ) -> Result<String, ExpandTextError>
-    ensures { IfOk result (λ text. (before : KnownOf) → IsKnown before known.old → (after : KnownOf) × IsKnown after known.new × IsSourceText (setting_of setting.now) limit source.now tree.now.children before after text) }
+    ensures { IfOk result (λ text. (before : KnownOf) → IsKnown before known.old → (after : KnownOf) × IsKnown after known.new × IsSourceText (setting_of setting.now) limit source.now tree.now.children before after (string_bytes text)) }
 {
     let mut output = Output::new(setting.alloc, source);
     let close = tree.top_subtree().delimiter.close;

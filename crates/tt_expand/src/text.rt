@@ -23,7 +23,7 @@ pub struct Expanded {
 
 // How a text is gone through.
 fn setting_by(alloc: Global, options: ExpandOptions<'_>) -> Result<Setting, TtFault>
-    ensures { IfOk result (λ setting. setting_of setting ≡ setting_by options) }
+    ensures { IfOk result (λ setting. setting_of setting ≡ setting_by options.entry) }
 {
     let only = match options.only {
         None => None,
@@ -46,7 +46,7 @@ pub fn expand_leniently(
     text: &str,
     options: ExpandOptions<'_>,
 ) -> Result<Expanded, ExpandTextError>
-    ensures ok { IfOk result (IsExpanded options text.now) }
+    ensures ok { IfOk result (IsExpanded options.entry text.now) }
     ensures err { IfErr result (IsLenientError text.now) }
 {
     let anchor = SpanAnchor {
@@ -81,9 +81,9 @@ pub fn expand_text(
     text: &str,
     options: ExpandOptions<'_>,
 ) -> Result<Expanded, ExpandTextError>
-    ensures ok { IfOk result (IsExpanded options text.now) }
+    ensures ok { IfOk result (IsExpanded options.entry text.now) }
     ensures warnings { IfOk result (λ it. first_fault it.findings.items ≡ None) }
-    ensures err { IfErr result (IsExpandTextError options text.now) }
+    ensures err { IfErr result (IsExpandTextError options.entry text.now) }
 {
     let mut expanded = expand_leniently(alloc, text, options)?;
     match first_fault(expanded.findings.as_slice()) {

@@ -9,8 +9,8 @@ use Rattle.tt_expand.proofs.Leading.{leads_definition}
 use Rattle.tt_expand.proofs.Lengths.{definition_less}
 use Rattle.tt_expand.proofs.walk.next_definition.Goals as goal
 
-pub returns-clause : goal.returns-clause
-returns-clause c limit known is there =
+pub returns-clause-next : goal.returns-clause-next
+returns-clause-next c limit known is there =
     let setting = setting_of c.args.setting.now in
     let level : Level = level_of c.args.walk.now.level in
     let outer = map level_of (reverse c.args.walk.now.outer.items) in

@@ -11,8 +11,8 @@ use Rattle.tt_expand.proofs.Readiness.{ready_length}
 use Rattle.tt_expand.proofs.Rooting.{leaf_first, node_first, none_first}
 use Rattle.tt_expand.proofs.walk.next_tree.Goals as goal
 
-pub returns-in-Some-clause : goal.returns-in-Some-clause
-returns-in-Some-clause c setting limit known is plain =
+pub returns-in-Some-clause-next : goal.returns-in-Some-clause-next
+returns-in-Some-clause-next c setting limit known is plain =
     let level : Level = level_of c.args.walk.now.level in
     let outer = map level_of (reverse c.args.walk.now.outer.items) in
     let close = c.in-Some.close in
@@ -26,8 +26,8 @@ returns-in-Some-clause c setting limit known is plain =
           (leads_end setting limit level outer known none, ap (λ s. s ∷ closes_of outer) left.0, omega arith),
     )
 
-pub returns-in-None-leave-clause : goal.returns-in-None-leave-clause
-returns-in-None-leave-clause c setting limit known is plain =
+pub returns-in-None-leave-clause-next : goal.returns-in-None-leave-clause-next
+returns-in-None-leave-clause-next c setting limit known is plain =
     let level : Level = level_of c.args.walk.now.level in
     let outer = map level_of (reverse c.args.walk.now.outer.items) in
     let others = left_in_scope level.kept known in
@@ -39,8 +39,8 @@ returns-in-None-leave-clause c setting limit known is plain =
       leads_end setting limit level outer known none others [] (subst (λ o. Ends setting limit o others others []) (sym last) refl),
     )
 
-pub returns-in-Some-Leaf-clause : goal.returns-in-Some-Leaf-clause
-returns-in-Some-Leaf-clause c setting limit known is plain =
+pub returns-in-Some-Leaf-clause-next : goal.returns-in-Some-Leaf-clause-next
+returns-in-Some-Leaf-clause-next c setting limit known is plain =
     let level : Level = level_of c.args.walk.now.level in
     let outer = map level_of (reverse c.args.walk.now.outer.items) in
     let it = c.in-Some-Leaf.leaf in
@@ -53,8 +53,8 @@ returns-in-Some-Leaf-clause c setting limit known is plain =
           (leads_leaf setting limit level outer known it begins plain, refl, omega (arith, ap size begins)),
     )
 
-pub returns-in_ok-enter-in-Some-Subtree-clause : goal.returns-in_ok-enter-in-Some-Subtree-clause
-returns-in_ok-enter-in-Some-Subtree-clause c setting limit known is plain =
+pub returns-in_ok-enter-in-Some-Subtree-clause-next : goal.returns-in_ok-enter-in-Some-Subtree-clause-next
+returns-in_ok-enter-in-Some-Subtree-clause-next c setting limit known is plain =
     let level : Level = level_of c.args.walk.now.level in
     let outer = map level_of (reverse c.args.walk.now.outer.items) in
     let header = c.in-Some-Subtree.header in

@@ -1,0 +1,27 @@
+-- What is built, with what comes of what is left, is what comes of all; and as many subtrees are open as are entered.
+use Rattle.std.proofs.Common.{◌≡◌, ◌+◌, ◌*◌, length}
+use Rattle.tt.specs.Building.{depth}
+use Rattle.tt.specs.Iters.{rest_of}
+use Rattle.tt_expand.specs.Knowing.{Known, IsKnown, setting_of}
+use Rattle.tt_expand.specs.Walks.{levels_of, work_in}
+use Rattle.tt_expand.proofs.Finishing.{IsGoing}
+use Rattle.tt_expand.proofs.expanding.+expansion.Given as goal
+
+abbrev pub decreases-place : goal.decreases-place
+decreases-place l = l.limit * 2 + 1
+
+abbrev pub decreases-expand_trees : goal.decreases-expand_trees
+decreases-expand_trees l = l.limit * 2
+
+abbrev pub expand_trees-invariant-trees : goal.expand_trees-invariant-trees
+expand_trees-invariant-trees l =
+    record {
+      going :
+          (before : Known) → IsKnown before l.initial.known
+          → (now : Known) × IsKnown now l.known × IsGoing (setting_of l.setting) l.limit (rest_of l.fn.trees) before l.fn.builder.stack (levels_of l.walk) now l.builder.stack;
+      entered : depth l.builder.stack ≡ length l.walk.outer.items + depth l.fn.builder.stack;
+      top : l.builder.top ≡ l.fn.builder.top;
+    }
+
+abbrev pub expand_trees-decreases-trees : goal.expand_trees-decreases-trees
+expand_trees-decreases-trees l = work_in (levels_of l.walk)
