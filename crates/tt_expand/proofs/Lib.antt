@@ -1,6 +1,9 @@
 pub mod Lasts
 pub mod Leading
 pub mod Lengths
+pub mod ManyTrees
+pub mod Nth
+pub mod PlaceRows
 pub mod Readiness
 pub mod Rooting
 pub mod Rows
