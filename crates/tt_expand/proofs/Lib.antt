@@ -1,6 +1,6 @@
-pub mod Lasts
 pub mod Leading
 pub mod Lengths
+pub mod Linking
 pub mod ManyTrees
 pub mod Nth
 pub mod PlaceRows
