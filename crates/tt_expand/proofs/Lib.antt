@@ -1,9 +1,15 @@
+pub mod CallPlaces
+pub mod Fitting
+pub mod LaidFacts
 pub mod Leading
 pub mod Lengths
 pub mod Linking
 pub mod ManyTrees
 pub mod Nth
+pub mod ParsedOrder
+pub mod PieceOrder
 pub mod PlaceRows
+pub mod Quotes
 pub mod Readiness
 pub mod Rooting
 pub mod Rows
