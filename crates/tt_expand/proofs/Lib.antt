@@ -1,10 +1,18 @@
--- What is proved of macros of a text.
+pub mod CallPlaces
 pub mod Calls
 pub mod Finishing
-pub mod Lasts
+pub mod Fitting
+pub mod LaidFacts
 pub mod Leading
 pub mod Lengths
+pub mod Linking
+pub mod ManyTrees
+pub mod Nth
+pub mod ParsedOrder
 pub mod Passing
+pub mod PieceOrder
+pub mod PlaceRows
+pub mod Quotes
 pub mod Readiness
 pub mod Replacing
 pub mod Rooting

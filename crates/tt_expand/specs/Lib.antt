@@ -8,6 +8,8 @@ pub mod Findings
 pub mod Items
 pub mod Keywords
 pub mod Knowing
+pub mod Laid
+pub mod LastPlaces
 pub mod Macros
 pub mod Outcomes
 pub mod Passing
