@@ -16,7 +16,7 @@ use Rattle.tt_expand.specs.Knowing.{Setting, Known, left_in_scope}
 use Rattle.tt_expand.specs.Macros.{IsRead, called_by, arms_of, known_behind}
 use Rattle.tt_expand.specs.Outcomes.{Outcome, nothing, passes, enters, stays, becomes, trees_left, placed}
 use Rattle.tt_expand.specs.Positions.{first_in, behind as past_end, behind_subtree, keeps_macros}
-use Rattle.tt_expand.specs.Walks.{Level, past_leaf, past_subtree, past, kept_behind, inside, Leads, first_leaf, first_subtree, first_stay, first_becomes, closes_of, work_in, IsNext}
+use Rattle.tt_expand.specs.Walks.{Level, past_leaf, past_subtree, past, kept_behind, inside, Leads, first_leaf, first_subtree, first_stay, first_becomes, IsNext}
 use Rattle.tt_macro_rules.specs.Arms.{Arm}
 use Rattle.tt_macro_rules.specs.Expansions.{IsExpansion}
 use Rattle.tt_macro_rules.specs.declared.macro_rules.Expansion.TheVariants as expansion
@@ -128,23 +128,15 @@ module _ (setting : Setting) (left : ℕ) (level : Level) (outer : List Level) (
   )
 
 -- What comes next in other levels to which these lead comes next in these.
-module _ (setting : Setting) (limit : ℕ) (levels others : List Level) (known then : Known) (leads : Leads setting limit levels known (λ outcomes. outcomes) others then)
-    (closes : closes_of others ≡ closes_of levels) (work : work_in others ≡ work_in levels) where
-  pub next_by : (it : Event) (nexts : List Level) (behind : Known) → IsNext setting limit others then it nexts behind
-      → IsNext setting limit levels known it nexts behind
+module _ (setting : Setting) (limit : ℕ) (levels others : List Level) (known then : Known) (leads : Leads setting limit levels known (λ outcomes. outcomes) others then) where
+  pub next_by : (it : Event) (nexts : List Level) (behind : Known) → IsNext setting limit others then it nexts behind → IsNext setting limit levels known it nexts behind
   next_by event.End nexts behind is = leads behind (nothing ∷ []) is
-  next_by (event.Leaf it) nexts behind (is, shut, less) =
-      (λ after outcomes e. leads after (first_leaf it outcomes) (is after outcomes e), shut ∙ closes, omega (arith, less, work))
-  next_by (event.Opens header) nexts behind (is, shut, less) =
-      (λ after outcomes e. leads after (first_subtree header.delimiter outcomes) (is after outcomes e), shut ∙ ap (λ l. header.delimiter.close ∷ l) closes, omega (arith, less, work))
-  next_by (event.Closes close) nexts behind (is, shut, less) =
-      (λ after outcomes e. leads after (nothing ∷ outcomes) (is after outcomes e), shut ∙ closes, omega (arith, less, work))
-  next_by (event.Stays trees) nexts behind (is, shut, less) =
-      (λ after outcomes e. leads after (first_stay (_) outcomes) (is after outcomes e), shut ∙ closes, omega (arith, less, work))
-  next_by (event.Invocation it) nexts behind (left, fits, is, shut, less) = (
+  next_by (event.Leaf it) nexts behind is = λ after outcomes e. leads after (first_leaf it outcomes) (is after outcomes e)
+  next_by (event.Opens header) nexts behind is = λ after outcomes e. leads after (first_subtree header.delimiter outcomes) (is after outcomes e)
+  next_by (event.Closes close) nexts behind is = λ after outcomes e. leads after (nothing ∷ outcomes) (is after outcomes e)
+  next_by (event.Stays trees) nexts behind is = λ after outcomes e. leads after (first_stay (_) outcomes) (is after outcomes e)
+  next_by (event.Invocation it) nexts behind (left, fits, is) = (
     left,
     fits,
     λ within held comes after outcomes e. leads after (first_becomes it.first_span it.delimiter.close (placed it.is_statement it.delimiter (trees_left held)) outcomes) (is within held comes after outcomes e),
-    shut ∙ closes,
-    omega (arith, less, work),
   )

@@ -1,5 +1,5 @@
 -- What comes next where a call is passed.
-use Rattle.std.proofs.Common.{◌≡◌, ◌<◌, ℕ, suc, List, [], ◌∷◌, map, reverse, true, false, Some, None, refl, ap, sym, subst, arith}
+use Rattle.std.proofs.Common.{◌≡◌, ◌<◌, ℕ, suc, List, [], ◌∷◌, map, reverse, true, false, Some, None, refl, ap, ap₂, sym, subst, arith}
 use Rattle.tt.specs.Forest.{Root, size}
 use Rattle.tt.specs.Gluing.{after_trees}
 use Rattle.tt.specs.Iters.{rest_of}
@@ -15,11 +15,12 @@ use Rattle.tt_expand.specs.Macros.{called_by, arms_of, known_behind}
 use Rattle.tt_expand.specs.Outcomes.{Outcome, trees_left, placed}
 use Rattle.tt_expand.specs.Passing.{IsStay, IsInvoked}
 use Rattle.tt_expand.specs.Positions.{first_in}
-use Rattle.tt_expand.specs.Walks.{Level, level_of, levels_of, past, first_stay, first_becomes, Leads, IsNext, IsAtItem}
+use Rattle.tt_expand.specs.Walks.{Level, level_of, levels_of, past, first_stay, first_becomes, Leads, closes_of, work_in, IsNext, IsFirst, IsAtItem, Steps}
 use Rattle.tt_expand.proofs.Leading.{leads_other, leads_faulty, leads_call}
 use Rattle.tt_expand.proofs.Lengths.{call_less}
 use Rattle.tt_matcher.specs.Fragments.{front_trees, is_brace}
 use Rattle.tt.specs.Types.DelimiterKind.TheVariants.{Brace}
+use Rattle.tt.specs.Types.Span.{Span}
 
 module _ (setting : Setting) (limit : ℕ) (old : Walk) (known : Known) (it : Call) (there : IsAtItem (calls it) setting old known) where
   -- What comes next where it stays.
@@ -34,11 +35,8 @@ module _ (setting : Setting) (limit : ℕ) (old : Walk) (known : Known) (it : Ca
   staying (event.Invocation i) new others leads is = absurd is
   staying (event.Stays trees) new others leads (taken, now, outer) =
       subst (λ os. IsNext setting limit (levels_of old) known (event.Stays trees) (level_of new.level ∷ map level_of (reverse os)) others) (sym outer)
-      (subst (λ l. IsNext setting limit (levels_of old) known (event.Stays trees) (l ∷ map level_of (reverse old.outer.items)) others) (sym now) (
-        subst (λ f. Leads setting limit (levels_of old) known (first_stay f) (past it.len (is_brace it.delimiter.kind) (level_of old.level) ∷ map level_of (reverse old.outer.items)) others) (sym taken) leads,
-        refl,
-        omega (arith, call_less setting.root (rest_of old.level.rest) it there.item),
-      ))
+      (subst (λ l. IsNext setting limit (levels_of old) known (event.Stays trees) (l ∷ map level_of (reverse old.outer.items)) others) (sym now)
+      (subst (λ f. Leads setting limit (levels_of old) known (first_stay f) (past it.len (is_brace it.delimiter.kind) (level_of old.level) ∷ map level_of (reverse old.outer.items)) others) (sym taken) leads))
 
   -- It stays where nothing expands it.
   pub next_other : (event : Event) (new : Walk) → arms_of (called_by setting known.macros it) ≡ None → setting.everywhere ≡ false → IsStay it old event new
@@ -67,11 +65,12 @@ module _ (setting : Setting) (limit : ℕ) (old : Walk) (known : Known) (it : Ca
         from.left,
         from.fits,
         by,
-        refl,
-        omega (arith, call_less setting.root (rest_of old.level.rest) it there.item),
       ))
     where
+      begin : Span
       begin = begin_at (rest_of old.level.rest) it.name.span
+
+      nexts : List Level
       nexts = past it.len (is_brace it.delimiter.kind) (level_of old.level) ∷ map level_of (reverse old.outer.items)
 
       by : (inside : Known) (held : Outcome) → Comes setting from.left (first_in Brace) 0 others i.tree.children inside held
@@ -84,3 +83,29 @@ module _ (setting : Setting) (limit : ℕ) (old : Walk) (known : Known) (it : Ca
           (leads_call setting from.left (level_of old.level) (map level_of (reverse old.outer.items)) known there.first there.goes_on it from.arms tree there.item from.expands from.makes inside held
           (subst (λ k. Comes setting from.left (first_in Brace) 0 k tree.children inside held) from.known
           (subst (λ t. Comes setting from.left (first_in Brace) 0 others t.children inside held) is.makes comes))))))
+
+module _ (root : List ℕ) (old : Walk) (it : Call) (there : IsFirst (calls it) root old) where
+  -- Less is left to do behind it.
+  stepped : (it_level : Level) → it_level ≡ past it.len (is_brace it.delimiter.kind) (level_of old.level) → (outer : List Level) → outer ≡ map level_of (reverse old.outer.items)
+      → (closes_of (it_level ∷ outer) ≡ closes_of (levels_of old)) × (work_in (it_level ∷ outer) < work_in (levels_of old))
+  stepped it_level now outer same = (
+    ap₂ (λ l ls. closes_of (l ∷ ls)) now same,
+    omega (arith, call_less root (rest_of old.level.rest) it there, ap₂ (λ l ls. work_in (l ∷ ls)) now same),
+  )
+
+  pub stays_step : (event : Event) (new : Walk) → IsStay it old event new → Steps (levels_of old) event (levels_of new)
+  stays_step event.End new is = absurd is
+  stays_step (event.Leaf l) new is = absurd is
+  stays_step (event.Opens h) new is = absurd is
+  stays_step (event.Closes c) new is = absurd is
+  stays_step (event.Invocation i) new is = absurd is
+  stays_step (event.Stays trees) new (taken, now, outer) = stepped (level_of new.level) now (map level_of (reverse new.outer.items)) (ap (λ os. map level_of (reverse os)) outer)
+
+  pub invoked_step : (tree : Root) (event : Event) (new : Walk) → IsInvoked it tree old event new → Steps (levels_of old) event (levels_of new)
+  invoked_step tree event.End new is = absurd is
+  invoked_step tree (event.Leaf l) new is = absurd is
+  invoked_step tree (event.Opens h) new is = absurd is
+  invoked_step tree (event.Closes c) new is = absurd is
+  invoked_step tree (event.Stays f) new is = absurd is
+  invoked_step tree (event.Invocation i) new (is, now, outer) =
+      stepped (level_of new.level) now (map level_of (reverse new.outer.items)) (ap (λ os. map level_of (reverse os)) outer)

@@ -1,6 +1,6 @@
 -- What is replaced in a source, and what is left to be.
 use Rattle.std.proofs.Common.{◌≡◌, ◌++◌, ℕ, List, [], ◌∷◌, inl, inr, refl, ap, sym, subst, ◌∙◌}
-use Rattle.std.proofs.lemmas.List.{append-assoc, append-nil}
+use Rattle.std.proofs.lemmas.List.{append_assoc, append-nil}
 use Rattle.tt.specs.Forest.{Forest}
 use Rattle.tt.specs.Types.Delimiter.{Delimiter}
 use Rattle.tt.specs.Types.DelimiterKind.TheVariants.{Brace}
@@ -47,7 +47,7 @@ module _ (setting : Setting) (limit : ℕ) (trees : Forest) (before now others :
       by after outcomes e =
           let ended = leads after outcomes e in
           let (outcome, comes, is) = reading.finishes after (grown outcomes) ended in
-          (outcome, comes, append-assoc done more (all_replacements outcomes) ∙ ap (λ l. done ++ l) (sym (same after outcomes ended)) ∙ is)
+          (outcome, comes, append_assoc done more (all_replacements outcomes) ∙ ap (λ l. done ++ l) (sym (same after outcomes ended)) ∙ is)
 
   -- Past a leaf, past trees that stay, into a subtree and out of one nothing is.
   pub reads_leaf : (it : Leaf) → Leads setting limit (level ∷ outer) now (first_leaf it) nexts others → IsReading setting limit trees before nexts others done
@@ -70,7 +70,7 @@ module _ (setting : Setting) (limit : ℕ) (trees : Forest) (before now others :
       same : (after : Known) (outcomes : List Outcome) → Ends setting limit (level ∷ outer) now after (first_subtree it outcomes) → all_replacements (first_subtree it outcomes) ≡ all_replacements outcomes
       same after [] e = refl
       same after (held ∷ []) e = absurd e
-      same after (held ∷ first ∷ more) e = append-assoc (replacements held) (replacements first) (all_replacements more)
+      same after (held ∷ first ∷ more) e = append_assoc (replacements held) (replacements first) (all_replacements more)
 
   pub reads_end : Leads setting limit (level ∷ outer) now (λ outcomes. nothing ∷ outcomes) nexts others → IsReading setting limit trees before nexts others done
   reads_end leads =

@@ -7,21 +7,22 @@ use Rattle.tt_expand.specs.Walks.{levels_of, work_in}
 use Rattle.tt_expand.proofs.Finishing.{IsGoing}
 use Rattle.tt_expand.proofs.expanding.+expansion.Given as goal
 
-abbrev pub decreases-place : goal.decreases-place
-decreases-place l = l.limit * 2 + 1
-
 abbrev pub decreases-expand_trees : goal.decreases-expand_trees
 decreases-expand_trees l = l.limit * 2
 
-abbrev pub expand_trees-invariant-trees : goal.expand_trees-invariant-trees
-expand_trees-invariant-trees l =
+abbrev pub decreases-place : goal.decreases-place
+decreases-place l = l.limit * 2 + 1
+
+abbrev pub invariant-expand_trees-trees : goal.invariant-expand_trees-trees
+invariant-expand_trees-trees l =
     record {
       going :
-          (before : Known) → IsKnown before l.initial.known
-          → (now : Known) × IsKnown now l.known × IsGoing (setting_of l.setting) l.limit (rest_of l.fn.trees) before l.fn.builder.stack (levels_of l.walk) now l.builder.stack;
+          (before : Known) → IsKnown before l.fn.known
+          → (now : Known) × IsKnown now l.known
+          × IsGoing (setting_of l.setting) l.limit (rest_of l.fn.trees) before l.fn.builder.stack (levels_of l.walk) now l.builder.stack;
       entered : depth l.builder.stack ≡ length l.walk.outer.items + depth l.fn.builder.stack;
       top : l.builder.top ≡ l.fn.builder.top;
     }
 
-abbrev pub expand_trees-decreases-trees : goal.expand_trees-decreases-trees
-expand_trees-decreases-trees l = work_in (levels_of l.walk)
+abbrev pub decreases-expand_trees-trees : goal.decreases-expand_trees-trees
+decreases-expand_trees-trees l = work_in (levels_of l.walk)

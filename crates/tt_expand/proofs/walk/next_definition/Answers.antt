@@ -3,7 +3,7 @@ use Rattle.tt.specs.Views.{trees_of}
 use Rattle.tt_expand.specs.declared.walk.Event.TheVariants as event
 use Rattle.tt_expand.specs.Items.{Definition, definition_of}
 use Rattle.tt_expand.specs.Knowing.{setting_of}
-use Rattle.tt_expand.specs.Walks.{Level, level_of, past, first_stay, IsNext, Leads}
+use Rattle.tt_expand.specs.Walks.{Level, level_of, past, first_stay, IsNext, Leads, Steps}
 use Rattle.tt_matcher.specs.Fragments.{front_trees}
 use Rattle.tt_expand.proofs.Leading.{leads_definition}
 use Rattle.tt_expand.proofs.Lengths.{definition_less}
@@ -20,10 +20,15 @@ returns-clause-next c limit known is there =
     let now : level_of c.take_all.new.self ≡ past it.len true level = c.take_all.ensures.level in (
       others,
       then,
-      subst (λ l. IsNext setting limit (level ∷ outer) known (event.Stays c.take_all.result) (l ∷ outer) others) (sym now) (
-        subst (λ f. Leads setting limit (level ∷ outer) known (first_stay f) (past it.len true level ∷ outer) others) (sym taken)
-            (leads_definition setting limit level outer known there.first there.goes_on it others there.item read),
-        refl,
-        omega (arith, definition_less setting.root level.rest it there.item),
-      ),
+      subst (λ l. IsNext setting limit (level ∷ outer) known (event.Stays c.take_all.result) (l ∷ outer) others) (sym now)
+          (subst (λ f. Leads setting limit (level ∷ outer) known (first_stay f) (past it.len true level ∷ outer) others) (sym taken)
+          (leads_definition setting limit level outer known there.first there.goes_on it others there.item read)),
     )
+
+pub returns-clause-steps : goal.returns-clause-steps
+returns-clause-steps c there =
+    let level : Level = level_of c.args.walk.now.level in
+    let outer = map level_of (reverse c.args.walk.now.outer.items) in
+    let it : Definition = definition_of c.args.definition.now in
+    let now : level_of c.take_all.new.self ≡ past it.len true level = c.take_all.ensures.level in
+    subst (λ l. Steps (level ∷ outer) (event.Stays c.take_all.result) (l ∷ outer)) (sym now) (refl, omega (arith, definition_less c.args.setting.now.root level.rest it there))

@@ -5,7 +5,7 @@ use Rattle.tt.specs.Moves.{after_tree}
 use Rattle.tt.specs.Types.TtElement.TheVariants as element
 use Rattle.tt_expand.specs.declared.walk.Event.TheVariants as event
 use Rattle.tt_expand.specs.Knowing.{IsKnown, left_in_scope}
-use Rattle.tt_expand.specs.Walks.{Level, level_of, levels_of, past_leaf, entered, closes_of, Ends, IsLeft, IsNext}
+use Rattle.tt_expand.specs.Walks.{Level, level_of, levels_of, past_leaf, entered, closes_of, Ends, IsLeft, IsNext, Steps}
 use Rattle.tt_expand.proofs.Leading.{leads_leaf, leads_subtree, leads_end}
 use Rattle.tt_expand.proofs.Readiness.{ready_length}
 use Rattle.tt_expand.proofs.Rooting.{leaf_first, node_first, none_first}
@@ -23,7 +23,7 @@ returns-in-Some-clause-next c setting limit known is plain =
       others,
       c.leave.ensures known is,
       subst (λ ls. IsNext setting limit (level ∷ outer) known (event.Closes close) ls others) left.1
-          (leads_end setting limit level outer known none, ap (λ s. s ∷ closes_of outer) left.0, omega arith),
+          (leads_end setting limit level outer known none),
     )
 
 pub returns-in-None-leave-clause-next : goal.returns-in-None-leave-clause-next
@@ -50,7 +50,7 @@ returns-in-Some-Leaf-clause-next c setting limit known is plain =
       known,
       is,
       subst (λ l. IsNext setting limit (level ∷ outer) known (event.Leaf it) (l ∷ outer) known) (sym now)
-          (leads_leaf setting limit level outer known it begins plain, refl, omega (arith, ap size begins)),
+          (leads_leaf setting limit level outer known it begins plain),
     )
 
 pub returns-in_ok-enter-in-Some-Subtree-clause-next : goal.returns-in_ok-enter-in-Some-Subtree-clause-next
@@ -67,5 +67,33 @@ returns-in_ok-enter-in-Some-Subtree-clause-next c setting limit known is plain =
       known,
       is,
       subst (λ ls. IsNext setting limit (level ∷ outer) known (event.Opens header) ls known) (sym now)
-          (leads_subtree setting limit level outer known header.delimiter children begins plain, refl, omega (arith, ap size begins)),
+          (leads_subtree setting limit level outer known header.delimiter children begins plain),
     )
+
+pub returns-in-Some-clause-steps : goal.returns-in-Some-clause-steps
+returns-in-Some-clause-steps c =
+    let level : Level = level_of c.args.walk.now.level in
+    let outer = map level_of (reverse c.args.walk.now.outer.items) in
+    let left : IsLeft c.args.walk.now (Some c.in-Some.close) c.leave-in-None.new.self = c.in-Some.ensures in
+    subst (Steps (level ∷ outer) (event.Closes c.in-Some.close)) left.1 (ap (λ s. s ∷ closes_of outer) left.0, omega arith)
+
+pub returns-in-Some-Leaf-clause-steps : goal.returns-in-Some-Leaf-clause-steps
+returns-in-Some-Leaf-clause-steps c =
+    let level : Level = level_of c.args.walk.now.level in
+    let outer = map level_of (reverse c.args.walk.now.outer.items) in
+    let it = c.in-Some-Leaf.leaf in
+    let first : IsFirstElement level.rest (Some (element.Leaf it)) = search rules in
+    let begins : level.rest ≡ leaf it (after_tree level.rest) = leaf_first level.rest it first in
+    let now : level_of c.pass_leaf.new.self ≡ past_leaf it level = c.pass_leaf.ensures in
+    subst (λ l. Steps (level ∷ outer) (event.Leaf it) (l ∷ outer)) (sym now) (refl, omega (arith, ap size begins))
+
+pub returns-in_ok-enter-in-Some-Subtree-clause-steps : goal.returns-in_ok-enter-in-Some-Subtree-clause-steps
+returns-in_ok-enter-in-Some-Subtree-clause-steps c =
+    let level : Level = level_of c.args.walk.now.level in
+    let outer = map level_of (reverse c.args.walk.now.outer.items) in
+    let header = c.in-Some-Subtree.header in
+    let children = rest_of c.in-Some-Subtree.children in
+    let first : IsFirstElement level.rest (Some (element.Subtree header c.in-Some-Subtree.children)) = search rules in
+    let begins : level.rest ≡ node header.delimiter children (after_tree level.rest) = node_first level.rest header c.in-Some-Subtree.children first in
+    let now : levels_of c.enter.new.self ≡ entered header.delimiter children c.len.result (level ∷ outer) = c.in_ok-enter-in-Some-Subtree.ensures in
+    subst (Steps (level ∷ outer) (event.Opens header)) (sym now) (refl, omega (arith, ap size begins))
