@@ -92,9 +92,9 @@ module _ (root : List ℕ) (trees : Forest) where
       there : trees ≡ end → ⊥
       there e = none (ap (item_in root) (sym e) ∙ is)
 
-  -- Behind a call fewer tokens are left.
-  pub call_less : (it : Call) → item_in root trees ≡ calls it → size (after_trees it.len trees) < size trees
-  call_less it is = less_behind it.len trees (by (definition_in trees) (call_in root trees) (long_call root trees) is) there
+  -- A call is some trees.
+  pub call_long : (it : Call) → item_in root trees ≡ calls it → 0 < it.len
+  call_long it is = by (definition_in trees) (call_in root trees) (long_call root trees) is
     where
       by : (found : Option Definition) (call : Option Call) → IsLongCall call → item_from found call ≡ calls it → 0 < it.len
       by None None long e = absurd (cc e)
@@ -104,6 +104,10 @@ module _ (root : List ℕ) (trees : Forest) where
           same e = cc
       by (Some d) call long e = absurd (cc e)
 
+  -- Behind a call fewer tokens are left.
+  pub call_less : (it : Call) → item_in root trees ≡ calls it → size (after_trees it.len trees) < size trees
+  call_less it is = less_behind it.len trees (call_long it is) there
+    where
       none : item_in root end ≡ calls it → ⊥
       none e = cc
 

@@ -1,5 +1,5 @@
 -- What comes of a call.
-use Rattle.std.specs.Prelude.{◌≡◌, ℕ, suc, List, Option, None, Some}
+use Rattle.std.specs.Prelude.{◌≡◌, ◌<◌, ℕ, suc, List, None, Some}
 use Rattle.tt.specs.Forest.{Root}
 use Rattle.tt_expand.specs.declared.calling.Called.{Called}
 use Rattle.tt_expand.specs.declared.calling.Called.TheVariants as called
@@ -19,6 +19,16 @@ abbrev pub IsMade : (limit : ℕ) → List Arm → Call → Made → Type 0
 IsMade limit arms it (made.Tree tree) = (left : ℕ) × (limit ≡ suc left) × IsExpansion arms 0 0 it.input (expansion.Tree tree)
 IsMade limit arms it (made.Faulty at fault) = IsCallFault limit arms it at fault
 
+-- a tree is made only where an expansion may stand inside
+abbrev pub IsMadeWithin : (limit : ℕ) → Made → Type 0
+IsMadeWithin limit (made.Tree tree) = 0 < limit
+IsMadeWithin limit (made.Faulty at fault) = Unit {0}
+
+abbrev pub IsCalledWithin : (limit : ℕ) → Called → Type 0
+IsCalledWithin limit called.Other = Unit {0}
+IsCalledWithin limit called.Faulty = Unit {0}
+IsCalledWithin limit (called.Tree tree) = 0 < limit
+
 -- a call is wrong in some way, and that is found
 pub record IsFaulty (setting : Setting) (limit : ℕ) (it : Call) (before after : Known) : Type 0 where
   pub macro : Macro
@@ -34,9 +44,9 @@ pub record IsFaulty (setting : Setting) (limit : ℕ) (it : Call) (before after 
 pub record IsExpanded (setting : Setting) (limit : ℕ) (it : Call) (tree : Root) (before after : Known) : Type 0 where
   pub left : ℕ
   pub arms : List Arm
-  pub limit : limit ≡ suc left
+  pub fits : limit ≡ suc left
   pub expands : arms_of (called_by setting before.macros it) ≡ Some arms
-  pub tree : IsExpansion arms 0 0 it.input (expansion.Tree tree)
+  pub makes : IsExpansion arms 0 0 it.input (expansion.Tree tree)
   pub known : after ≡ before
 
 -- what comes of a call, and what is known then: nothing where no arms expand it, something that is wrong, or a tree

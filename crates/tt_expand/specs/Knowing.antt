@@ -1,8 +1,8 @@
 -- What is known while trees are gone through, and how they are gone through.
 use Rattle.std.specs.Prelude.{◌≡◌, ◌++◌, ◌||◌, ℕ, Bool, true, false, List, [], ◌∷◌, Option, None, Some, bytes_eq}
 use Rattle.tt_expand.specs.declared.fault.Finding.{Finding}
-use Rattle.tt_expand.specs.declared.known.Known as known
-use Rattle.tt_expand.specs.declared.setting.Setting as setting
+use Rattle.tt_expand.specs.declared.known.Known as known_in_code
+use Rattle.tt_expand.specs.declared.setting.Setting as setting_in_code
 use Rattle.tt_expand.specs.Findings.{is_too_deep}
 use Rattle.tt_expand.specs.Scopes.{Macro, AreReady, kept_of}
 
@@ -41,10 +41,10 @@ abbrev pub left_in_scope : Option ℕ → Known → Known
 left_in_scope kept known = record known { macros = kept_of kept known.macros }
 
 -- what the code's values mean
-abbrev pub setting_of : setting.Setting → Setting
+abbrev pub setting_of : setting_in_code.Setting → Setting
 setting_of it = record { root = it.root; everywhere = it.everywhere; only = it.only }
 
-pub record IsKnown (known : Known) (it : known.Known) : Type 0 where
+pub record IsKnown (known : Known) (it : known_in_code.Known) : Type 0 where
   pub macros : AreReady known.macros it.scope.macros.items
   pub findings : it.findings.items ≡ known.findings
   pub is_over : it.is_over ≡ known.is_over

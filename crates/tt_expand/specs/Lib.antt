@@ -2,10 +2,14 @@
 pub mod Calling
 pub mod Coming
 pub mod Defining
+pub mod Expanding
+pub mod Expansion
 pub mod Findings
 pub mod Items
 pub mod Keywords
 pub mod Knowing
+pub mod Laid
+pub mod LastPlaces
 pub mod Macros
 pub mod Outcomes
 pub mod Passing

@@ -27,7 +27,7 @@ pub record IsInvocation (it : Call) (trees : Forest) (position : Position) (tree
   pub first : invocation.first_span ≡ begin_at trees it.name.span
   pub delimiter : invocation.delimiter ≡ it.delimiter
   pub is_statement : invocation.is_statement ≡ is_statement it.delimiter.kind (after_trees it.len trees) position
-  pub tree : invocation.tree ≡ tree
+  pub makes : invocation.tree ≡ tree
 
 -- a call that stands first becomes that tree, and is passed
 abbrev pub IsInvoked : Call → (tree : Root) → (old : Walk) → Event → (new : Walk) → Type 0

@@ -1,5 +1,5 @@
 -- A text in which other texts take the place of parts of it.
-use Rattle.std.specs.Prelude.{◌≤◌, ◌-◌, ◌++◌, ◌||◌, ◌==◌, ℕ, not, Bool, false, List, [], ◌∷◌, length, take, drop, slice_get, Option, None, Some, codes, string_bytes}
+use Rattle.std.specs.Prelude.{◌≡◌, ◌⊎◌, ◌≤◌, ◌-◌, ◌++◌, ◌||◌, ◌==◌, ℕ, not, Bool, false, List, [], ◌∷◌, length, take, drop, slice_get, Option, None, Some, codes, string_bytes}
 use Rattle.std.specs.List.{list_any}
 use Rattle.std.specs.Str.{IsCharBoundary}
 use Rattle.tt.specs.TreeText.{space_if}
@@ -68,6 +68,20 @@ begun source = record { so_far = []; rest = source; at = 0 }
 abbrev pub with_all : List Replacement → Writing → List ℕ
 with_all [] writing = finished writing
 with_all (it ∷ others) writing = with_all others (replaced it writing)
+
+-- each of these is left of the source when its turn comes
+abbrev pub FitAll : List Replacement → Writing → Type 0
+FitAll [] writing = Unit {0}
+FitAll (it ∷ others) writing = FitsIn it.start it.end writing × FitAll others (replaced it writing)
+
+-- a replacement is written where it is left of the source, and else nothing is
+abbrev pub IsReplaced : Replacement → (old new : Writing) → Type 0
+IsReplaced it old new = (FitsIn it.start it.end old × (new ≡ replaced it old)) ⊎ ((FitsIn it.start it.end old → ⊥) × (new ≡ old))
+
+-- all of these are, one by one
+abbrev pub AreReplaced : List Replacement → (old new : Writing) → Type 0
+AreReplaced [] old new = new ≡ old
+AreReplaced (it ∷ others) old new = (next : Writing) × IsReplaced it old next × AreReplaced others next new
 
 -- what the code's value means
 abbrev pub writing_of : Output → Writing

@@ -1,5 +1,5 @@
 -- A walk through trees in which macros are defined and called.
-use Rattle.std.specs.Prelude.{◌≡◌, ◌<◌, ◌+◌, ◌*◌, ◌-◌, ℕ, Bool, true, false, suc, List, [], ◌∷◌, map, reverse, Option, None, Some}
+use Rattle.std.specs.Prelude.{◌≡◌, ◌<◌, ◌+◌, ◌*◌, ◌-◌, ℕ, Bool, true, false, suc, List, [], ◌∷◌, length, map, reverse, Option, None, Some}
 use Rattle.tt.specs.Forest.{Forest, size}
 use Rattle.tt.specs.Gluing.{after_trees}
 use Rattle.tt.specs.Iters.{rest_of}
@@ -10,7 +10,7 @@ use Rattle.tt.specs.Types.DelimiterKind.TheVariants.{Brace}
 use Rattle.tt.specs.Types.Leaf.{Leaf}
 use Rattle.tt.specs.Types.Span.{Span}
 use Rattle.tt.specs.Views.{trees_of}
-use Rattle.tt_expand.specs.declared.known.Known as known
+use Rattle.tt_expand.specs.declared.known.Known as known_in_code
 use Rattle.tt_expand.specs.declared.position.Position.{Position}
 use Rattle.tt_expand.specs.declared.walk.Event.{Event}
 use Rattle.tt_expand.specs.declared.walk.Event.TheVariants as event
@@ -18,7 +18,7 @@ use Rattle.tt_expand.specs.declared.walk.Level as rust
 use Rattle.tt_expand.specs.declared.walk.Walk.{Walk}
 use Rattle.tt_expand.specs.Coming.{Comes}
 use Rattle.tt_expand.specs.Items.{Item, item_in}
-use Rattle.tt_expand.specs.Knowing.{Setting, Known, IsKnown, left_in_scope, setting_of}
+use Rattle.tt_expand.specs.Knowing.{Setting, Known, IsKnown, left_in_scope}
 use Rattle.tt_expand.specs.Outcomes.{Outcome, nothing, passes, enters, stays, becomes, trees_left, placed}
 use Rattle.tt_expand.specs.Positions.{first_in, behind, behind_leaf, behind_subtree, keeps_macros}
 
@@ -112,33 +112,44 @@ abbrev pub IsLeft : Walk → Option Span → Walk → Type 0
 IsLeft old None new = map level_of (reverse old.outer.items) ≡ []
 IsLeft old (Some close) new = (close ≡ old.level.close) × (map level_of (reverse old.outer.items) ≡ levels_of new)
 
--- what comes next in a walk, and how it goes on
+-- what comes next in a walk, and what comes then
 abbrev pub IsNext : Setting → (limit : ℕ) → List Level → Known → Event → List Level → Known → Type 0
 IsNext setting limit levels known event.End nexts others = Ends setting limit levels known others (nothing ∷ [])
-IsNext setting limit levels known (event.Leaf it) nexts others =
-    Leads setting limit levels known (first_leaf it) nexts others × (closes_of nexts ≡ closes_of levels) × (work_in nexts < work_in levels)
-IsNext setting limit levels known (event.Opens header) nexts others =
-    Leads setting limit levels known (first_subtree header.delimiter) nexts others × (closes_of nexts ≡ header.delimiter.close ∷ closes_of levels)
-    × (work_in nexts < work_in levels)
-IsNext setting limit levels known (event.Closes close) nexts others =
-    Leads setting limit levels known (λ outcomes. nothing ∷ outcomes) nexts others × (close ∷ closes_of nexts ≡ closes_of levels)
-    × (work_in nexts < work_in levels)
-IsNext setting limit levels known (event.Stays trees) nexts others =
-    Leads setting limit levels known (first_stay (trees_of trees)) nexts others × (closes_of nexts ≡ closes_of levels) × (work_in nexts < work_in levels)
+IsNext setting limit levels known (event.Leaf it) nexts others = Leads setting limit levels known (first_leaf it) nexts others
+IsNext setting limit levels known (event.Opens header) nexts others = Leads setting limit levels known (first_subtree header.delimiter) nexts others
+IsNext setting limit levels known (event.Closes close) nexts others = Leads setting limit levels known (λ outcomes. nothing ∷ outcomes) nexts others
+IsNext setting limit levels known (event.Stays trees) nexts others = Leads setting limit levels known (first_stay (trees_of trees)) nexts others
 IsNext setting limit levels known (event.Invocation it) nexts others =
-    (left : ℕ) × (limit ≡ suc left) × (others ≡ known)
-    × ((inside : Known) (held : Outcome) → Comes setting left (first_in Brace) 0 known it.tree.children inside held
+    (left : ℕ) × (limit ≡ suc left)
+    × ((inside : Known) (held : Outcome) → Comes setting left (first_in Brace) 0 others it.tree.children inside held
     → Leads setting limit levels known (first_becomes it.first_span it.delimiter.close (placed it.is_statement it.delimiter (trees_left held))) nexts inside)
-    × (closes_of nexts ≡ closes_of levels) × (work_in nexts < work_in levels)
+
+-- how levels become others: which are entered and left, and that less is left to do
+abbrev pub Steps : List Level → Event → List Level → Type 0
+Steps levels event.End nexts = length (closes_of levels) ≡ 1
+Steps levels (event.Opens header) nexts = (closes_of nexts ≡ header.delimiter.close ∷ closes_of levels) × (work_in nexts < work_in levels)
+Steps levels (event.Closes close) nexts = (close ∷ closes_of nexts ≡ closes_of levels) × (work_in nexts < work_in levels)
+Steps levels (event.Leaf it) nexts = (closes_of nexts ≡ closes_of levels) × (work_in nexts < work_in levels)
+Steps levels (event.Stays trees) nexts = (closes_of nexts ≡ closes_of levels) × (work_in nexts < work_in levels)
+Steps levels (event.Invocation it) nexts = (closes_of nexts ≡ closes_of levels) × (work_in nexts < work_in levels)
+
+-- a call is expanded only where an expansion may stand inside
+abbrev pub IsWithin : (limit : ℕ) → Event → Type 0
+IsWithin limit (event.Invocation it) = 0 < limit
+IsWithin limit other = Unit {0}
 
 -- whatever is known, if that may be known there, that comes next, and something is known then
-abbrev pub Goes : (may : Known → Type 0) → Setting → (limit : ℕ) → (old : Walk) → (before : known.Known) → Event → (new : Walk) → (after : known.Known) → Type 0
+abbrev pub Goes : (may : Known → Type 0) → Setting → (limit : ℕ) → (old : Walk) → (before : known_in_code.Known) → Event → (new : Walk) → (after : known_in_code.Known) → Type 0
 Goes may setting limit old before it new after =
     (known : Known) → IsKnown known before → may known
     → (others : Known) × IsKnown others after × IsNext setting limit (levels_of old) known it (levels_of new) others
+
+-- that stands first
+abbrev pub IsFirst : Item → (root : List ℕ) → Walk → Type 0
+IsFirst it root walk = item_in root (rest_of walk.level.rest) ≡ it
 
 -- that stands first, no tree is to be taken as it is, and calls are expanded still
 pub record IsAtItem (it : Item) (setting : Setting) (walk : Walk) (known : Known) : Type 0 where
   pub first : walk.level.plain ≡ 0
   pub goes_on : known.is_over ≡ false
-  pub item : item_in setting.root (rest_of walk.level.rest) ≡ it
+  pub item : IsFirst it setting.root walk

@@ -1,7 +1,7 @@
 //! What comes of a call.
 ghost use Rattle.std.specs.Prelude.{◌≡◌, List, IfOk, OnOk, option_copied};
 ghost use Rattle.tt.specs.Iters.{rest_of};
-ghost use Rattle.tt_expand.specs.Calling.{IsMade, IsCalled};
+ghost use Rattle.tt_expand.specs.Calling.{IsMade, IsMadeWithin, IsCalled, IsCalledWithin};
 ghost use Rattle.tt_expand.specs.Items.{call_of};
 ghost use Rattle.tt_expand.specs.Knowing.{Known as KnownOf, IsKnown, setting_of};
 ghost use Rattle.tt_expand.specs.Macros.{called_by};
@@ -40,7 +40,8 @@ pub(crate) enum Called {
 
 // What rules make of a call, with so many expansions one inside the other.
 fn make(alloc: Global, limit: usize, rules: &MacroRules, call: &Call<'_>) -> Result<Made, TtFault>
-    ensures { IfOk result (λ made. (arms : List Arm) → AreMade arms rules.now.arms.items → IsMade limit arms (call_of call.now) made) }
+    ensures limit { IfOk result (IsMadeWithin limit) }
+    ensures made { IfOk result (λ made. (arms : List Arm) → AreMade arms rules.now.arms.items → IsMade limit arms (call_of call.now) made) }
 {
     let at = start_of(call.name.span);
     if limit == 0 {
@@ -79,7 +80,8 @@ pub(crate) fn expand_call(
     limit: usize,
     call: &Call<'_>,
 ) -> Result<Called, TtFault>
-    ensures { IfOk result (λ called. (before : KnownOf) → IsKnown before known.old → (after : KnownOf) × IsCalled (setting_of setting.now) limit (call_of call.now) before called after × IsKnown after known.new) }
+    ensures limit { IfOk result (IsCalledWithin limit) }
+    ensures called { IfOk result (λ called. (before : KnownOf) → IsKnown before known.old → (after : KnownOf) × IsCalled (setting_of setting.now) limit (call_of call.now) before called after × IsKnown after known.new) }
 {
     let name = &call.name.sym;
     let Some(it) = called_by(setting, &known.scope, call) else {

@@ -1,17 +1,28 @@
 //! What comes of trees.
+ghost use Rattle.std.specs.Prelude.{◌≡◌, OnOk};
+ghost use Rattle.tt.specs.Building.{depth};
+ghost use Rattle.tt.specs.Iters.{rest_of};
+ghost use Rattle.tt_expand.specs.Expanding.{IsPlaced, AreExpanded};
+ghost use Rattle.tt_expand.specs.Knowing.{Known as KnownOf, IsKnown, setting_of};
+
 use crate::known::Known;
 use crate::setting::Setting;
 use crate::walk::{Event, Invocation, Walk, next};
 use tt::{DelimiterKind, Span, TopSubtreeBuilder, TtFault, TtIter};
 
 /// Adds what comes of a call, in which so many expansions may stand one inside the other.
+#[cycle(expansion)]
 pub(crate) fn place(
     setting: &Setting,
     known: &mut Known,
     limit: usize,
     invocation: &Invocation,
     builder: &mut TopSubtreeBuilder,
-) -> Result<(), TtFault> {
+) -> Result<(), TtFault>
+    ensures top { OnOk result (builder.new.top ≡ builder.old.top) }
+    ensures open { OnOk result (depth builder.new.stack ≡ depth builder.old.stack) }
+    ensures placed { OnOk result ((before : KnownOf) → IsKnown before known.old → (after : KnownOf) × IsKnown after known.new × IsPlaced (setting_of setting.now) limit invocation.now before builder.old.stack after builder.new.stack) }
+{
     let delimiter = invocation.delimiter;
     let trees = invocation.tree.iter();
     if invocation.is_statement {
@@ -19,13 +30,11 @@ pub(crate) fn place(
     }
     builder.open(DelimiterKind::InvisibleOpaque, delimiter.open_span)?;
     expand_trees(setting, known, limit, trees, delimiter.close, builder)?;
-    if builder.is_open() {
-        builder.close(delimiter.close)?;
-    }
-    Ok(())
+    builder.close(delimiter.close)
 }
 
 /// Adds what comes of trees, with so many expansions one inside the other. It calls itself for each expansion, so at most `limit` deep.
+#[cycle(expansion)]
 pub(crate) fn expand_trees(
     setting: &Setting,
     known: &mut Known,
@@ -33,20 +42,20 @@ pub(crate) fn expand_trees(
     trees: TtIter<'_>,
     close: Span,
     builder: &mut TopSubtreeBuilder,
-) -> Result<(), TtFault> {
+) -> Result<(), TtFault>
+    ensures top { OnOk result (builder.new.top ≡ builder.old.top) }
+    ensures open { OnOk result (depth builder.new.stack ≡ depth builder.old.stack) }
+    ensures expanded { OnOk result ((before : KnownOf) → IsKnown before known.old → (after : KnownOf) × IsKnown after known.new × AreExpanded (setting_of setting.now) limit (rest_of trees.entry) before builder.old.stack after builder.new.stack) }
+{
     let mut walk = Walk::new(setting.alloc, trees, close);
-    loop {
+    'trees: loop {
         match next(&mut walk, setting, known, limit)? {
             Event::End => return Ok(()),
             Event::Leaf(leaf) => builder.push(leaf)?,
             Event::Opens(header) => {
                 builder.open(header.delimiter.kind, header.delimiter.open_span)?;
             }
-            Event::Closes(close) => {
-                if builder.is_open() {
-                    builder.close(close)?;
-                }
-            }
+            Event::Closes(close) => builder.close(close)?,
             Event::Stays(trees) => builder.extend_with_tt(trees)?,
             Event::Invocation(invocation) => {
                 place(setting, known, limit - 1, &invocation, builder)?;

@@ -17,6 +17,7 @@ mod position;
 mod root;
 mod scope;
 mod setting;
+mod source;
 mod text;
 mod walk;
 

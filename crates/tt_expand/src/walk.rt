@@ -6,7 +6,7 @@ ghost use Rattle.tt_expand.specs.Coming.{begin_at, IsPlain};
 ghost use Rattle.tt_expand.specs.Items.{defines, calls, definition_of, call_of};
 ghost use Rattle.tt_expand.specs.Knowing.{Setting as SettingOf, setting_of};
 ghost use Rattle.tt_expand.specs.Passing.{IsStay, IsInvoked};
-ghost use Rattle.tt_expand.specs.Walks.{level_of, levels_of, past_leaf, past_subtree, past, begun, entered, IsLeft, IsAtItem, Goes};
+ghost use Rattle.tt_expand.specs.Walks.{level_of, levels_of, past_leaf, past_subtree, past, begun, entered, IsLeft, IsAtItem, IsFirst, IsWithin, Steps, Goes};
 ghost use Rattle.tt_matcher.specs.Fragments.{front_trees};
 
 use crate::calling::{Called, expand_call};
@@ -168,7 +168,9 @@ impl<'a> Walk<'a> {
 
 // The first tree as it is, or the end of a level.
 fn next_tree<'a>(walk: &mut Walk<'a>, known: &mut Known) -> Result<Event<'a>, AllocError>
-    ensures { IfOk result (λ event. (setting : SettingOf) (limit : ℕ) → Goes (λ before. IsPlain setting before walk.old.level.plain (rest_of walk.old.level.rest)) setting limit walk.old known.old event walk.new known.new) }
+    ensures limit { IfOk result (λ event. (limit : ℕ) → IsWithin limit event) }
+    ensures steps { IfOk result (λ event. Steps (levels_of walk.old) event (levels_of walk.new)) }
+    ensures next { IfOk result (λ event. (setting : SettingOf) (limit : ℕ) → Goes (λ before. IsPlain setting before walk.old.level.plain (rest_of walk.old.level.rest)) setting limit walk.old known.old event walk.new known.new) }
 {
     match walk.level.rest.peek() {
         None => {
@@ -196,7 +198,9 @@ fn next_definition<'a>(
     known: &mut Known,
     definition: &Definition<'a>,
 ) -> Result<Event<'a>, TtFault>
-    ensures { IfOk result (λ event. (limit : ℕ) → Goes (IsAtItem (defines (definition_of definition.now)) (setting_of setting.now) walk.old) (setting_of setting.now) limit walk.old known.old event walk.new known.new) }
+    ensures limit { IfOk result (λ event. (limit : ℕ) → IsWithin limit event) }
+    ensures steps { IfOk result (λ event. IsFirst (defines (definition_of definition.now)) setting.now.root walk.old → Steps (levels_of walk.old) event (levels_of walk.new)) }
+    ensures next { IfOk result (λ event. (limit : ℕ) → Goes (IsAtItem (defines (definition_of definition.now)) (setting_of setting.now) walk.old) (setting_of setting.now) limit walk.old known.old event walk.new known.new) }
 {
     read(setting, known, definition)?;
     Ok(Event::Stays(walk.level.take_all(definition.len, true)))
@@ -236,7 +240,9 @@ fn next_call<'a>(
     limit: usize,
     call: &Call<'a>,
 ) -> Result<Event<'a>, TtFault>
-    ensures { IfOk result (λ event. Goes (IsAtItem (calls (call_of call.now)) (setting_of setting.now) walk.old) (setting_of setting.now) limit walk.old known.old event walk.new known.new) }
+    ensures limit { IfOk result (IsWithin limit) }
+    ensures steps { IfOk result (λ event. IsFirst (calls (call_of call.now)) setting.now.root walk.old → Steps (levels_of walk.old) event (levels_of walk.new)) }
+    ensures next { IfOk result (λ event. Goes (IsAtItem (calls (call_of call.now)) (setting_of setting.now) walk.old) (setting_of setting.now) limit walk.old known.old event walk.new known.new) }
 {
     match expand_call(setting, known, limit, call)? {
         Called::Tree(tree) => Ok(invoke(walk, call, tree)),
@@ -259,7 +265,9 @@ pub(crate) fn next<'a>(
     known: &mut Known,
     limit: usize,
 ) -> Result<Event<'a>, TtFault>
-    ensures { IfOk result (λ event. Goes (λ _. Unit {0}) (setting_of setting.now) limit walk.old known.old event walk.new known.new) }
+    ensures limit { IfOk result (IsWithin limit) }
+    ensures steps { IfOk result (λ event. Steps (levels_of walk.old) event (levels_of walk.new)) }
+    ensures next { IfOk result (λ event. Goes (λ _. Unit {0}) (setting_of setting.now) limit walk.old known.old event walk.new known.new) }
 {
     if walk.level.plain > 0 || known.is_over {
         return Ok(next_tree(walk, known)?);

@@ -1,34 +1,33 @@
-use Rattle.std.proofs.Common.{rules, ◌≡◌, ◌-◌, ◌<◌, suc, length, get_or, drop, true, false, None, Some, sym, ap, subst, ◌∙◌, arith}
-use Rattle.std.specs.Prelude.{bytes_eq, slice_get}
+use Rattle.std.proofs.Common.{rules, arith, ◌≡◌, ◌<◌, get_or, length, map, None, Some, sym, ap, ◌∙◌}
+use Rattle.std.specs.Prelude.{bytes_eq}
 use Rattle.std.proofs.lemmas.Option.{slice_get-get_or}
-use Rattle.tt_expand.specs.Scopes.{last_by}
-use Rattle.tt_expand.proofs.Lasts.{last_found, last_passed}
+use Rattle.indexmap.specs.IndexMap.{get}
+use Rattle.tt_expand.specs.LastPlaces.{last_place}
+use Rattle.tt_expand.proofs.Linking.{last_at, last_none, last_there}
 use Rattle.tt_expand.proofs.scope.Scope.last.Goals as goal
 
-pub returns-then-eq : goal.returns-then-eq
-returns-then-eq c =
+pub index-requires : goal.index-requires
+index-requires c =
     let its = c.args.self.now.macros.items in
     let name = c.args.name.now in
-    let n = c.loop-left.left - 1 in
-    let it = c.index-it.result.now in
-    let lt : n < length its = omega (arith, c.loop-left.invariant.within) in
-    let is : it ≡ get_or its n it = search rules in
-    let there : slice_get its n ≡ Some it = slice_get-get_or its n it lt ∙ ap Some (sym is) in
-    let same : bytes_eq it.name name ≡ true = search rules in
-    let more : c.loop-left.left ≡ suc n = omega arith in
-    let behind : last_by (λ m. m.name) name (drop (suc n) its) ≡ None = subst (λ k. last_by (λ m. m.name) name (drop k its) ≡ None) more c.loop-left.invariant.behind in
-    sym (last_found (λ m. m.name) name its n it there same behind)
+    let found : Some c.in-Some.place.now ≡ get bytes_eq c.args.self.now.places name = search rules in
+    let there : c.in-Some.place.now < length its = last_there (λ it. it.name) name its c.in-Some.place.now (sym (c.args.self.now.indexed name) ∙ sym found) in
+    omega (arith, there)
 
-pub loop-left-preserved : goal.loop-left-preserved
-loop-left-preserved c =
+pub returns-in-Some : goal.returns-in-Some
+returns-in-Some c =
     let its = c.args.self.now.macros.items in
     let name = c.args.name.now in
-    let n = c.loop-left.left - 1 in
-    let it = c.index-it.result.now in
-    let lt : n < length its = omega (arith, c.loop-left.invariant.within) in
-    let is : it ≡ get_or its n it = search rules in
-    let there : slice_get its n ≡ Some it = slice_get-get_or its n it lt ∙ ap Some (sym is) in
-    let other : bytes_eq it.name name ≡ false = search rules in
-    let more : c.loop-left.left ≡ suc n = omega arith in
-    let behind : last_by (λ m. m.name) name (drop (suc n) its) ≡ None = subst (λ k. last_by (λ m. m.name) name (drop k its) ≡ None) more c.loop-left.invariant.behind in
-    record { within = omega (arith, c.loop-left.invariant.within); behind = last_passed (λ m. m.name) name its n it there other behind }
+    let place = c.in-Some.place.now in
+    let it = c.index.result.now in
+    let found : Some place ≡ get bytes_eq c.args.self.now.places name = search rules in
+    let is : last_place (map (λ m. m.name) its) name ≡ Some place = sym (c.args.self.now.indexed name) ∙ sym found in
+    let read : it ≡ get_or its place it = search rules in
+    ap Some read ∙ sym (slice_get-get_or its place it (last_there (λ m. m.name) name its place is)) ∙ last_at (λ m. m.name) name its place is
+
+pub returns-in-None : goal.returns-in-None
+returns-in-None c =
+    let its = c.args.self.now.macros.items in
+    let name = c.args.name.now in
+    let none : None ≡ get bytes_eq c.args.self.now.places name = search rules in
+    sym (last_none (λ m. m.name) name its (sym (c.args.self.now.indexed name) ∙ sym none))

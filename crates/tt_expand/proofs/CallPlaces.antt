@@ -1,0 +1,95 @@
+-- Where a call lies in a text.
+use Rattle.std.proofs.Common.{◌≡◌, ◌≤◌, ℕ, suc, Bool, true, false, List, Option, None, Some, refl, ap, sym, subst, ◌∙◌, arith, cond, codes}
+use Rattle.std.specs.Prelude.{◌&&◌}
+use Rattle.std.specs.Str.{IsCharBoundary}
+use Rattle.tt.specs.Forest.{Forest, end, leaf, node}
+use Rattle.tt.specs.Gluing.{after_trees}
+use Rattle.tt.specs.Moves.{after_tree}
+use Rattle.tt.specs.Span.{start_of, end_of}
+use Rattle.tt.specs.Types.Delimiter.{Delimiter}
+use Rattle.tt.specs.Types.Ident.{Ident}
+use Rattle.tt.specs.Types.Span.{Span}
+use Rattle.tt_expand.specs.Coming.{begin_at}
+use Rattle.tt_expand.specs.Items.{Definition, Call, calls, call_from, call_behind, call_in, definition_in, is_at_colons, is_at_root, item_from, item_in, name_in}
+use Rattle.tt_expand.specs.Laid.{Lies, Laid, lies_end, lies_leaf, lies_node}
+use Rattle.tt_expand.proofs.LaidFacts.{laid_behind, laid_order, laid_past}
+use Rattle.tt_expand.proofs.ManyTrees.{after_more}
+use Rattle.tt_pattern.proofs.Passing.{after_end}
+use Rattle.tt_pattern.specs.Units.{is_at_punct}
+
+-- a call's subtree is the last of its trees, and stands behind two or more of them
+pub record EndsWithSubtree (trees : Forest) (it : Call) : Type 0 where
+  pub before : ℕ
+  pub rest : Forest
+  pub stands : after_trees (suc before) trees ≡ node it.delimiter it.input rest
+  pub len : it.len ≡ suc (suc before)
+
+abbrev EndsWith : Forest → Option Call → Type 0
+EndsWith trees None = Unit {0}
+EndsWith trees (Some it) = EndsWithSubtree trees it
+
+ends_behind : (whole : Forest) (before : ℕ) (is_elsewhere : Bool) (trees : Forest) → after_trees (suc (suc before)) whole ≡ after_trees 2 trees
+    → EndsWith whole (call_behind before is_elsewhere trees)
+ends_behind whole before is_elsewhere trees same = by (name_in trees) (is_at_punct (codes "!") (after_tree trees)) (after_trees 2 trees) same
+  where
+    by : (name : Option Ident) (is_call : Bool) (behind : Forest) → after_trees (suc (suc before)) whole ≡ behind
+        → EndsWith whole (call_from before is_elsewhere name is_call behind)
+    by None is_call behind stands = tt
+    by (Some name) false behind stands = tt
+    by (Some name) true end stands = tt
+    by (Some name) true (leaf it rest) stands = tt
+    by (Some name) true (node delimiter children rest) stands = record { before = suc before; rest = rest; stands = stands; len = omega arith }
+
+-- The call that stands first ends with its subtree.
+pub call_ends : (root : List ℕ) (trees : Forest) (it : Call) → item_in root trees ≡ calls it → EndsWithSubtree trees it
+call_ends root trees it is = found (definition_in trees) (call_in root trees) all is
+  where
+    by : (a b : Bool) → EndsWith trees (cond a (call_behind 2 true (after_trees 2 trees)) (cond b (call_behind 3 false (after_trees 3 trees)) (call_behind 0 false trees)))
+    by true b = ends_behind trees 2 true (after_trees 2 trees) refl
+    by false true = ends_behind trees 3 false (after_trees 3 trees) refl
+    by false false = ends_behind trees 0 false trees refl
+
+    all : EndsWith trees (call_in root trees)
+    all = by (is_at_colons trees) (is_at_root root trees && is_at_colons (after_tree trees))
+
+    found : (definition : Option Definition) (call : Option Call) → EndsWith trees call → item_from definition call ≡ calls it → EndsWithSubtree trees it
+    found None None there e = absurd (cc e)
+    found None (Some other) there e = subst (EndsWithSubtree trees) (same e) there
+      where
+        same : calls other ≡ calls it → other ≡ it
+        same e = cc
+    found (Some definition) call there e = absurd (cc e)
+
+-- A subtree that lies in a text behind a byte closes behind it, and the trees behind the subtree lie there.
+past_subtree : {text : List ℕ} {place to : ℕ} {delimiter : Delimiter} {children rest trees : Forest} → trees ≡ node delimiter children rest → Laid text place trees to
+    → (place ≤ end_of delimiter.close.range) × IsCharBoundary text (end_of delimiter.close.range) × Laid text (end_of delimiter.close.range) rest to
+past_subtree {text} {place} {to} {delimiter} {children} {rest} is laid = by (subst (λ f. Laid text place f to) is laid)
+  where
+    by : Laid text place (node delimiter children rest) to
+        → (place ≤ end_of delimiter.close.range) × IsCharBoundary text (end_of delimiter.close.range) × Laid text (end_of delimiter.close.range) rest to
+    by (lies_node opens inside closes behind) = (omega (arith, opens.after, laid_order inside, closes.order), closes.ends, behind)
+
+-- Trees of which a subtree stands behind the first: from where they begin to where that closes is a range, and the others lie behind it.
+to_subtree : {text : List ℕ} {from to : ℕ} (n : ℕ) (other : Span) {delimiter : Delimiter} {children rest trees : Forest} → Laid text from trees to
+    → after_trees (suc n) trees ≡ node delimiter children rest
+    → Lies text from (start_of (begin_at trees other).range) (end_of delimiter.close.range) × Laid text (end_of delimiter.close.range) rest to
+to_subtree n other {delimiter} {children} {rest} (lies_end order) stands = absurd (no (sym (after_end n) ∙ stands))
+  where
+    no : end ≡ node delimiter children rest → ⊥
+    no e = cc
+to_subtree n other (lies_leaf lies behind) stands =
+    let (order, closes, others) = past_subtree stands (laid_behind n behind) in
+    (record { after = lies.after; range = record { order = order; begins = lies.range.begins; ends = closes } }, others)
+to_subtree n other (lies_node opens inside shuts behind) stands =
+    let (order, closes, others) = past_subtree stands (laid_behind n (laid_past inside shuts behind)) in
+    (record { after = opens.after; range = record { order = order; begins = opens.range.begins; ends = closes } }, others)
+
+-- A call is a range of the text, from where its first token begins to where its subtree closes, and what stands behind it lies behind that.
+pub call_laid : {text : List ℕ} {from to : ℕ} (root : List ℕ) (trees : Forest) (it : Call) → item_in root trees ≡ calls it → Laid text from trees to
+    → Lies text from (start_of (begin_at trees it.name.span).range) (end_of it.delimiter.close.range)
+    × Laid text (end_of it.delimiter.close.range) (after_trees it.len trees) to
+call_laid {text} {to = to} root trees it is laid =
+    let call = call_ends root trees it is in
+    let (lies, behind) = to_subtree call.before it.name.span laid call.stands in
+    let left : after_trees it.len trees ≡ call.rest = ap (λ n. after_trees n trees) call.len ∙ after_more (suc call.before) trees ∙ ap after_tree call.stands in
+    (lies, subst (λ f. Laid text (end_of it.delimiter.close.range) f to) (sym left) behind)

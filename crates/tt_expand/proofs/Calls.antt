@@ -1,0 +1,20 @@
+-- What comes of a call, and what is wrong with one.
+use Rattle.std.proofs.Common.{◌<◌, ℕ, zero, suc, List, refl, arith}
+use Rattle.tt.specs.Forest.{Root}
+use Rattle.tt_expand.specs.declared.calling.Made.TheVariants as made
+use Rattle.tt_expand.specs.declared.fault.MacroFault.{MacroFault}
+use Rattle.tt_expand.specs.Calling.{IsMade}
+use Rattle.tt_expand.specs.Items.{Call}
+use Rattle.tt_expand.specs.Macros.{IsInputFault}
+use Rattle.tt_macro_rules.specs.Arms.{Arm}
+use Rattle.tt_macro_rules.specs.Expansions.{IsExpansion}
+use Rattle.tt_macro_rules.specs.declared.macro_rules.Expansion.TheVariants as expansion
+
+-- Where an expansion may stand inside, arms make a tree of an input, or what is wrong with it.
+pub made_tree : (limit : ℕ) (arms : List Arm) (it : Call) (tree : Root) → 0 < limit → IsExpansion arms 0 0 it.input (expansion.Tree tree) → IsMade limit arms it (made.Tree tree)
+made_tree zero arms it tree some is = absurd (omega (arith, some))
+made_tree (suc left) arms it tree some is = (left, refl, is)
+
+pub made_fault : (limit : ℕ) (arms : List Arm) (it : Call) (at : ℕ) (fault : MacroFault) → 0 < limit → IsInputFault arms it at fault → IsMade limit arms it (made.Faulty at fault)
+made_fault zero arms it at fault some is = absurd (omega (arith, some))
+made_fault (suc left) arms it at fault some is = is

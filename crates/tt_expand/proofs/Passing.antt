@@ -1,0 +1,110 @@
+-- What comes next where a call is passed.
+use Rattle.std.proofs.Common.{◌≡◌, ◌<◌, ℕ, List, ◌∷◌, map, reverse, false, None, ap, ap₂, sym, subst, arith}
+use Rattle.tt.specs.Forest.{Root}
+use Rattle.tt.specs.Gluing.{after_trees}
+use Rattle.tt.specs.Iters.{rest_of}
+use Rattle.tt_expand.specs.declared.walk.Event.{Event}
+use Rattle.tt_expand.specs.declared.walk.Event.TheVariants as event
+use Rattle.tt_expand.specs.declared.walk.Walk.{Walk}
+use Rattle.tt_expand.specs.Calling.{IsFaulty, IsExpanded}
+use Rattle.tt_expand.specs.Coming.{begin_at, placed_at, Comes}
+use Rattle.tt_expand.specs.Items.{Call, calls}
+use Rattle.tt_expand.specs.Knowing.{Setting, Known}
+use Rattle.tt_expand.specs.Macros.{called_by, arms_of, known_behind}
+use Rattle.tt_expand.specs.Outcomes.{Outcome, trees_left, placed}
+use Rattle.tt_expand.specs.Passing.{IsStay, IsInvoked}
+use Rattle.tt_expand.specs.Positions.{first_in}
+use Rattle.tt_expand.specs.Walks.{Level, level_of, levels_of, past, first_stay, first_becomes, Leads, closes_of, work_in, IsNext, IsFirst, IsAtItem, Steps}
+use Rattle.tt_expand.proofs.Leading.{leads_other, leads_faulty, leads_call}
+use Rattle.tt_expand.proofs.Lengths.{call_less}
+use Rattle.tt_matcher.specs.Fragments.{front_trees, is_brace}
+use Rattle.tt.specs.Types.DelimiterKind.TheVariants.{Brace}
+use Rattle.tt.specs.Types.Span.{Span}
+
+module _ (setting : Setting) (limit : ℕ) (old : Walk) (known : Known) (it : Call) (there : IsAtItem (calls it) setting old known) where
+  -- What comes next where it stays.
+  staying : (event : Event) (new : Walk) (others : Known)
+      → Leads setting limit (levels_of old) known (first_stay (front_trees it.len (rest_of old.level.rest)))
+      (past it.len (is_brace it.delimiter.kind) (level_of old.level) ∷ map level_of (reverse old.outer.items)) others
+      → IsStay it old event new → IsNext setting limit (levels_of old) known event (levels_of new) others
+  staying event.End new others leads is = absurd is
+  staying (event.Leaf l) new others leads is = absurd is
+  staying (event.Opens h) new others leads is = absurd is
+  staying (event.Closes c) new others leads is = absurd is
+  staying (event.Invocation i) new others leads is = absurd is
+  staying (event.Stays trees) new others leads (taken, now, outer) =
+      subst (λ os. IsNext setting limit (levels_of old) known (event.Stays trees) (level_of new.level ∷ map level_of (reverse os)) others) (sym outer)
+      (subst (λ l. IsNext setting limit (levels_of old) known (event.Stays trees) (l ∷ map level_of (reverse old.outer.items)) others) (sym now)
+      (subst (λ f. Leads setting limit (levels_of old) known (first_stay f) (past it.len (is_brace it.delimiter.kind) (level_of old.level) ∷ map level_of (reverse old.outer.items)) others) (sym taken) leads))
+
+  -- It stays where nothing expands it.
+  pub next_other : (event : Event) (new : Walk) → arms_of (called_by setting known.macros it) ≡ None → setting.everywhere ≡ false → IsStay it old event new
+      → IsNext setting limit (levels_of old) known event (levels_of new) (known_behind it (called_by setting known.macros it) known)
+  next_other event new none not_into is =
+      staying event new (known_behind it (called_by setting known.macros it) known)
+      (leads_other setting limit (level_of old.level) (map level_of (reverse old.outer.items)) known there.first there.goes_on it there.item none not_into) is
+
+  -- It stays where something is wrong with it.
+  pub next_faulty : (event : Event) (new : Walk) (others : Known) → IsFaulty setting limit it known others → IsStay it old event new
+      → IsNext setting limit (levels_of old) known event (levels_of new) others
+  next_faulty event new others wrong is =
+      staying event new others (leads_faulty setting limit (level_of old.level) (map level_of (reverse old.outer.items)) known there.first there.goes_on it there.item others wrong) is
+
+  -- A tree comes of it.
+  pub next_expanded : (event : Event) (new : Walk) (others : Known) (tree : Root) → IsExpanded setting limit it tree known others → IsInvoked it tree old event new
+      → IsNext setting limit (levels_of old) known event (levels_of new) others
+  next_expanded event.End new others tree from is = absurd is
+  next_expanded (event.Leaf l) new others tree from is = absurd is
+  next_expanded (event.Opens h) new others tree from is = absurd is
+  next_expanded (event.Closes c) new others tree from is = absurd is
+  next_expanded (event.Stays f) new others tree from is = absurd is
+  next_expanded (event.Invocation i) new others tree from (is, now, outer) =
+      subst (λ os. IsNext setting limit (levels_of old) known (event.Invocation i) (level_of new.level ∷ map level_of (reverse os)) others) (sym outer)
+      (subst (λ l. IsNext setting limit (levels_of old) known (event.Invocation i) (l ∷ map level_of (reverse old.outer.items)) others) (sym now) (
+        from.left,
+        from.fits,
+        by,
+      ))
+    where
+      begin : Span
+      begin = begin_at (rest_of old.level.rest) it.name.span
+
+      nexts : List Level
+      nexts = past it.len (is_brace it.delimiter.kind) (level_of old.level) ∷ map level_of (reverse old.outer.items)
+
+      by : (inside : Known) (held : Outcome) → Comes setting from.left (first_in Brace) 0 others i.tree.children inside held
+          → Leads setting limit (levels_of old) known (first_becomes i.first_span i.delimiter.close (placed i.is_statement i.delimiter (trees_left held))) nexts inside
+      by inside held comes =
+          subst (λ s. Leads setting limit (levels_of old) known (first_becomes s i.delimiter.close (placed i.is_statement i.delimiter (trees_left held))) nexts inside) (sym is.first)
+          (subst (λ d. Leads setting limit (levels_of old) known (first_becomes begin d.close (placed i.is_statement d (trees_left held))) nexts inside) (sym is.delimiter)
+          (subst (λ b. Leads setting limit (levels_of old) known (first_becomes begin it.delimiter.close (placed b it.delimiter (trees_left held))) nexts inside) (sym is.is_statement)
+          (subst (λ n. Leads setting n (levels_of old) known (first_becomes begin it.delimiter.close (placed_at old.level.position it (after_trees it.len (rest_of old.level.rest)) (trees_left held))) nexts inside) (sym from.fits)
+          (leads_call setting from.left (level_of old.level) (map level_of (reverse old.outer.items)) known there.first there.goes_on it from.arms tree there.item from.expands from.makes inside held
+          (subst (λ k. Comes setting from.left (first_in Brace) 0 k tree.children inside held) from.known
+          (subst (λ t. Comes setting from.left (first_in Brace) 0 others t.children inside held) is.makes comes))))))
+
+module _ (root : List ℕ) (old : Walk) (it : Call) (there : IsFirst (calls it) root old) where
+  -- Less is left to do behind it.
+  stepped : (it_level : Level) → it_level ≡ past it.len (is_brace it.delimiter.kind) (level_of old.level) → (outer : List Level) → outer ≡ map level_of (reverse old.outer.items)
+      → (closes_of (it_level ∷ outer) ≡ closes_of (levels_of old)) × (work_in (it_level ∷ outer) < work_in (levels_of old))
+  stepped it_level now outer same = (
+    ap₂ (λ l ls. closes_of (l ∷ ls)) now same,
+    omega (arith, call_less root (rest_of old.level.rest) it there, ap₂ (λ l ls. work_in (l ∷ ls)) now same),
+  )
+
+  pub stays_step : (event : Event) (new : Walk) → IsStay it old event new → Steps (levels_of old) event (levels_of new)
+  stays_step event.End new is = absurd is
+  stays_step (event.Leaf l) new is = absurd is
+  stays_step (event.Opens h) new is = absurd is
+  stays_step (event.Closes c) new is = absurd is
+  stays_step (event.Invocation i) new is = absurd is
+  stays_step (event.Stays trees) new (taken, now, outer) = stepped (level_of new.level) now (map level_of (reverse new.outer.items)) (ap (λ os. map level_of (reverse os)) outer)
+
+  pub invoked_step : (tree : Root) (event : Event) (new : Walk) → IsInvoked it tree old event new → Steps (levels_of old) event (levels_of new)
+  invoked_step tree event.End new is = absurd is
+  invoked_step tree (event.Leaf l) new is = absurd is
+  invoked_step tree (event.Opens h) new is = absurd is
+  invoked_step tree (event.Closes c) new is = absurd is
+  invoked_step tree (event.Stays f) new is = absurd is
+  invoked_step tree (event.Invocation i) new (is, now, outer) =
+      stepped (level_of new.level) now (map level_of (reverse new.outer.items)) (ap (λ os. map level_of (reverse os)) outer)

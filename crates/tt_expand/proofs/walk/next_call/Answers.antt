@@ -1,0 +1,74 @@
+use Rattle.std.proofs.Common.{◌∷◌, List, map, reverse, inl, inr, sym, subst}
+use Rattle.tt_expand.specs.Calling.{IsCalled, IsFaulty, IsExpanded}
+use Rattle.tt_expand.specs.Items.{Call, call_of}
+use Rattle.tt_expand.specs.Knowing.{setting_of}
+use Rattle.tt_expand.specs.Walks.{Level, level_of, levels_of, Leads, IsNext}
+use Rattle.tt_expand.proofs.Leading.{leads_into, next_by}
+use Rattle.tt_expand.proofs.Lengths.{call_long}
+use Rattle.tt_expand.proofs.Passing.{next_other, next_faulty, next_expanded, stays_step, invoked_step}
+use Rattle.tt_expand.proofs.walk.next_call.Goals as goal
+
+pub returns-in-Tree-clause-next : goal.returns-in-Tree-clause-next
+returns-in-Tree-clause-next c known is there =
+    let setting = setting_of c.args.setting.now in
+    let it : Call = call_of c.args.call.now in
+    let tree = c.in-Tree.tree in
+    let (others, called, then) = c.in_ok-tree.ensures.called known is in
+    let from : IsExpanded setting c.args.limit it tree known others = subst (λ r. IsCalled setting c.args.limit it known r others) c.in-Tree.is called in
+    (others, then, next_expanded setting c.args.limit c.args.walk.now known it there c.invoke.result c.invoke.new.walk others tree from c.invoke.ensures)
+
+pub returns-in-Faulty-clause-next : goal.returns-in-Faulty-clause-next
+returns-in-Faulty-clause-next c known is there =
+    let setting = setting_of c.args.setting.now in
+    let it : Call = call_of c.args.call.now in
+    let (others, called, then) = c.in_ok-tree.ensures.called known is in
+    let wrong : IsFaulty setting c.args.limit it known others = subst (λ r. IsCalled setting c.args.limit it known r others) c.in-Faulty.is called in
+    (others, then, next_faulty setting c.args.limit c.args.walk.now known it there c.stay.result c.stay.new.walk others wrong c.stay.ensures)
+
+pub returns-else-setting-clause-next : goal.returns-else-setting-clause-next
+returns-else-setting-clause-next c known is there =
+    let setting = setting_of c.args.setting.now in
+    let it : Call = call_of c.args.call.now in
+    let walk = c.args.walk.now in
+    let event = c.stay-else-setting.result in
+    let new = c.stay-else-setting.new.walk in
+    let (others, called, then) = c.in_ok-tree.ensures.called known is in
+    let (none, same) = subst (λ r. IsCalled setting c.args.limit it known r others) c.in-Other.is called in (
+      others,
+      then,
+      subst (IsNext setting c.args.limit (levels_of walk) known event (levels_of new)) (sym same)
+          (next_other setting c.args.limit walk known it there event new none c.if-setting.false c.stay-else-setting.ensures),
+    )
+
+pub returns-in_ok-next_tree-in-Other-clause-limit : goal.returns-in_ok-next_tree-in-Other-clause-limit
+returns-in_ok-next_tree-in-Other-clause-limit c = c.in_ok-next_tree-in-Other.ensures.limit c.args.limit
+
+pub returns-in_ok-next_tree-in-Other-clause-next : goal.returns-in_ok-next_tree-in-Other-clause-next
+returns-in_ok-next_tree-in-Other-clause-next c known is there =
+    let setting = setting_of c.args.setting.now in
+    let limit = c.args.limit in
+    let it : Call = call_of c.args.call.now in
+    let level : Level = level_of c.args.walk.now.level in
+    let outer : List Level = map level_of (reverse c.args.walk.now.outer.items) in
+    let (others, called, then) = c.in_ok-tree.ensures.called known is in
+    let (none, same) = subst (λ r. IsCalled setting limit it known r others) c.in-Other.is called in
+    let leads : Leads setting limit (level ∷ outer) known (λ outcomes. outcomes) (record level { plain = it.len } ∷ outer) others =
+    subst (Leads setting limit (level ∷ outer) known (λ outcomes. outcomes) (record level { plain = it.len } ∷ outer)) (sym same)
+    (leads_into setting limit level outer known there.first there.goes_on it there.item none c.if-setting.true) in
+    let (nexts, after, next) = c.in_ok-next_tree-in-Other.ensures.next setting limit others then (inr (inl (call_long setting.root level.rest it there.item))) in (
+      nexts,
+      after,
+      next_by setting limit (level ∷ outer) (record level { plain = it.len } ∷ outer) known others leads c.in_ok-next_tree-in-Other.field-0 (levels_of c.next_tree.new.walk) nexts next,
+    )
+
+pub returns-in-Tree-clause-steps : goal.returns-in-Tree-clause-steps
+returns-in-Tree-clause-steps c there =
+    invoked_step c.args.setting.now.root c.args.walk.now (call_of c.args.call.now) there c.in-Tree.tree c.invoke.result c.invoke.new.walk c.invoke.ensures
+
+pub returns-in-Faulty-clause-steps : goal.returns-in-Faulty-clause-steps
+returns-in-Faulty-clause-steps c there =
+    stays_step c.args.setting.now.root c.args.walk.now (call_of c.args.call.now) there c.stay.result c.stay.new.walk c.stay.ensures
+
+pub returns-else-setting-clause-steps : goal.returns-else-setting-clause-steps
+returns-else-setting-clause-steps c there =
+    stays_step c.args.setting.now.root c.args.walk.now (call_of c.args.call.now) there c.stay-else-setting.result c.stay-else-setting.new.walk c.stay-else-setting.ensures

@@ -1,0 +1,22 @@
+-- Where the last of a name stands among names.
+use Rattle.std.specs.Prelude.{ℕ, suc, ◌++◌, Bool, true, false, List, [], ◌∷◌, Option, None, Some, bytes_eq}
+
+-- the place among names of which those behind the first have it there, and the first is the one that is sought, or is not
+abbrev pub place_or : (behind : Option ℕ) → (is_first : Bool) → Option ℕ
+place_or (Some place) is_first = Some (suc place)
+place_or None true = Some 0
+place_or None false = None
+
+-- the place of the last of these names that is the one
+abbrev pub last_place : (names : List (List ℕ)) → (name : List ℕ) → Option ℕ
+last_place [] name = None
+last_place (it ∷ others) name = place_or (last_place others name) (bytes_eq it name)
+
+-- of each of the names that stand behind others, the place of the last before it that is the same
+abbrev pub links_behind : (before names : List (List ℕ)) → List (Option ℕ)
+links_behind before [] = []
+links_behind before (name ∷ names) = last_place before name ∷ links_behind (before ++ name ∷ []) names
+
+-- of each name, the place of the last before it that is the same
+abbrev pub links_of : (names : List (List ℕ)) → List (Option ℕ)
+links_of names = links_behind [] names
