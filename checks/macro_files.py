@@ -89,21 +89,25 @@ def try_several(files):
     right = files.made("right", DEFINITION + b"const A: u8 = m!(1, 2);")
     wrong = files.made("wrong", DEFINITION + b"m!(1);\nm!(2);")
     open_ = files.made("open", b"a (")
-    left = files.made("left", b"macro_rules! k { ($a:ty) => {}; }")
+    text = "macro_rules! k { ($a:nix) => {}; } k!(1);"
+    left = files.made("left", text.encode())
     calls = "".join(
         f"error: no rule of `m` takes this\n --> {wrong}:{line}:5\n  |\n{line} | m!({line - 1});\n  |     ^\n"
         f"note: `m` is defined here\n --> {wrong}:1:14\n  |\n1 | {DEFINITION.decode()}  |              ^\n\n"
         for line in (2, 3)
     )
     unclosed = f"error: unclosed '('\n --> {open_}:1:3\n  |\n1 | a (\n  |   ^\n\n"
-    warning = (
-        f"warning: `k` is left as it is: the fragment `ty` is not supported\n --> {left}:1:19\n  |\n"
-        "1 | macro_rules! k { ($a:ty) => {}; }\n  |                   ^\n\n"
+    faulty = (
+        f"error: there is no fragment of the name that this variable gives\n --> {left}:1:19\n  |\n"
+        f"1 | {text}\n  |                   ^\n\n"
+        f"warning: this call of `k` is left as it is\n --> {left}:1:36\n  |\n"
+        f"1 | {text}\n  |                                    ^\n"
+        f"note: `k` is defined here\n --> {left}:1:14\n  |\n1 | {text}\n  |              ^\n\n"
     )
     names = (right, open_, "/no/file", left, wrong, right)
-    told = f"{unclosed}{MISSING}\n{warning}{calls}error: found 4 errors and 1 warning\n"
+    told = f"{unclosed}{MISSING}\n{faulty}{calls}error: found 5 errors and 1 warning\n"
     wants("the run", files.run("check", *names), (1, b"", told.encode()))
-    wants("the run", files.run("check", right, left, right), (0, b"", f"{warning}warning: found 1 warning\n".encode()))
+    wants("the run", files.run("check", right, left, right), (1, b"", f"{faulty}error: found 1 error and 1 warning\n".encode()))
     wants("the run", files.run("check", right, "-", given=b"a"), (0, b"", b""))
 
 

@@ -14,7 +14,7 @@ import tempfile
 
 EXAMPLES = pathlib.Path(__file__).resolve().parent.parent / "examples" / "rust"
 # One that is written, one of which warnings are told, one with errors, one with no tree.
-NAMES = ("nested", "unsupported", "faults", "mismatched")
+NAMES = ("nested", "squared", "faults", "mismatched")
 SECONDS = 60
 # What is told where memory was wanting: by the program, or by the system when it asks for the arguments.
 WANTING = (b"out of memory", b"Cannot allocate memory", b"memory allocation failed")
