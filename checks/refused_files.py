@@ -2,8 +2,8 @@
 """Each request for memory of a run over a file refused in turn: refused_files.py PROGRAM LIBRARY
 
 PROGRAM is `cuvolemin`, and LIBRARY is checks/refuse.c. The first, second, .. request of a run of `expand` is refused, until it
-makes no more of them. Each run ends: either as with ample memory, or with status 1, nothing written, and a last message that
-says that memory was wanting. A line is printed for each text, `ok NAME` or `FAILED NAME: WHY`; the status is 1 where one
+makes no more of them. Each run ends: either as with ample memory, or with status 1, or 2 while the words of the command line
+are read, nothing written, and a last message that says that memory was wanting. A line is printed for each text, `ok NAME` or `FAILED NAME: WHY`; the status is 1 where one
 failed.
 """
 import os
@@ -47,7 +47,7 @@ def is_refused_well(ended, ample):
     status, written, told = ended
     if ended == ample:
         return True
-    return (status, written) == (1, b"") and any(words in told for words in WANTING)
+    return status in (1, 2) and written == b"" and any(words in told for words in WANTING)
 
 
 def try_each(program, library, name):
