@@ -1,4 +1,7 @@
 //! Why a call gave no bytes, and where: what each fault of the libraries below is told as.
+ghost use Rattle.std.specs.Prelude.{◌≡◌};
+ghost use Rattle.tt_c.specs.Failures.{arm_fault, bad_token, bytes_failure, expand_failure, fill_fault, input_failure, limit_fault, pattern_fault, placeless, rules_failure, syntax_failure, template_fault, text_failure, write_failure};
+
 use crate::fault::Fault;
 use tt::TtFault;
 use tt_bytes::BytesFault;
@@ -9,38 +12,44 @@ use tt_text::{BadToken, SyntaxFault, TextFault};
 use tt_unparse::WriteFault;
 
 /// Why a call gave no bytes, and the place where that shows.
-#[derive(Debug, Clone, Copy, PartialEq, Eq)]
+#[derive(Clone, Copy)]
 pub(crate) struct Failure {
     pub(crate) fault: Fault,
     pub(crate) at: usize,
 }
 
-impl Failure {
-    /// The number of the fault.
-    pub(crate) fn number(&self) -> u32 {
-        self.fault as u32
-    }
-}
-
 // A fault that has no place.
-fn placeless(fault: Fault) -> Failure {
+fn placeless(fault: Fault) -> Failure
+    ensures { result ≡ placeless fault }
+{
     Failure { fault, at: 0 }
 }
 
-/// Of a limit of trees.
-pub(crate) fn of_limit(fault: TtFault) -> Failure {
-    placeless(match fault {
+// What limit of trees is passed, or that memory is.
+fn limit_fault(fault: TtFault) -> Fault
+    ensures { result ≡ limit_fault fault }
+{
+    match fault {
         TtFault::Memory => Fault::Memory,
         TtFault::TooManyTokens => Fault::TooManyTokens,
         TtFault::TooManySpanParts => Fault::TooManySpanParts,
         TtFault::TooManySymbols => Fault::TooManySymbols,
         TtFault::TooManyBytes => Fault::TooManyBytes,
         _ => Fault::OtherLimit,
-    })
+    }
+}
+
+/// Of trees that are past a limit.
+pub(crate) fn limit_failure(fault: TtFault) -> Failure
+    ensures { result ≡ placeless (limit_fault fault) }
+{
+    placeless(limit_fault(fault))
 }
 
 // What is wrong with a token.
-fn bad_token(why: BadToken) -> Fault {
+fn bad_token(why: BadToken) -> Fault
+    ensures { result ≡ bad_token why }
+{
     match why {
         BadToken::UnterminatedComment => Fault::UnterminatedComment,
         BadToken::UnterminatedLiteral => Fault::UnterminatedLiteral,
@@ -71,7 +80,9 @@ fn bad_token(why: BadToken) -> Fault {
 }
 
 // Of tokens that are no trees.
-fn syntax_failure(fault: SyntaxFault) -> Failure {
+fn syntax_failure(fault: SyntaxFault) -> Failure
+    ensures { result ≡ syntax_failure fault }
+{
     let (fault, at) = match fault {
         SyntaxFault::BadToken { why, at } => (bad_token(why), at),
         SyntaxFault::Unopened { at, .. } => (Fault::Unopened, at),
@@ -85,16 +96,20 @@ fn syntax_failure(fault: SyntaxFault) -> Failure {
 }
 
 /// Of a text that is refused.
-pub(crate) fn text_failure(fault: TextFault) -> Failure {
+pub(crate) fn text_failure(fault: TextFault) -> Failure
+    ensures { result ≡ text_failure fault }
+{
     match fault {
         TextFault::Syntax(fault) => syntax_failure(fault),
         TextFault::TooLong => placeless(Fault::TextTooLong),
-        TextFault::Limit(fault) => of_limit(fault),
+        TextFault::Limit(fault) => limit_failure(fault),
     }
 }
 
 /// Of trees that are not written.
-pub(crate) fn write_failure(fault: WriteFault) -> Failure {
+pub(crate) fn write_failure(fault: WriteFault) -> Failure
+    ensures { result ≡ write_failure fault }
+{
     match fault {
         WriteFault::NotWritable { at } => Failure {
             fault: Fault::NotWritable,
@@ -106,7 +121,9 @@ pub(crate) fn write_failure(fault: WriteFault) -> Failure {
 }
 
 /// Of bytes that are those of no tree.
-pub(crate) fn bytes_failure(fault: BytesFault) -> Failure {
+pub(crate) fn bytes_failure(fault: BytesFault) -> Failure
+    ensures { result ≡ bytes_failure fault }
+{
     let (fault, at) = match fault {
         BytesFault::Memory => (Fault::Memory, 0),
         BytesFault::TooShort(at) => (Fault::BytesTooShort, at),
@@ -119,7 +136,9 @@ pub(crate) fn bytes_failure(fault: BytesFault) -> Failure {
 }
 
 /// Of the bytes of an input that are those of no tree.
-pub(crate) fn input_failure(fault: BytesFault) -> Failure {
+pub(crate) fn input_failure(fault: BytesFault) -> Failure
+    ensures { result ≡ input_failure fault }
+{
     let (fault, at) = match fault {
         BytesFault::Memory => (Fault::Memory, 0),
         BytesFault::TooShort(at) => (Fault::InputTooShort, at),
@@ -132,7 +151,9 @@ pub(crate) fn input_failure(fault: BytesFault) -> Failure {
 }
 
 // What is wrong with a pattern.
-fn pattern_fault(error: PatternError) -> Fault {
+fn pattern_fault(error: PatternError) -> Fault
+    ensures { result ≡ pattern_fault error }
+{
     match error {
         PatternError::BeginsNothing(_) => Fault::BeginsNothing,
         PatternError::UnknownFragment(_) => Fault::UnknownFragment,
@@ -145,7 +166,9 @@ fn pattern_fault(error: PatternError) -> Fault {
 }
 
 // What is wrong with a template.
-fn template_fault(error: TemplateError) -> Fault {
+fn template_fault(error: TemplateError) -> Fault
+    ensures { result ≡ template_fault error }
+{
     match error {
         TemplateError::StillRepeats(_) => Fault::StillRepeats,
         TemplateError::NothingRepeats(_) => Fault::NothingRepeats,
@@ -154,7 +177,9 @@ fn template_fault(error: TemplateError) -> Fault {
 }
 
 // What is wrong with an arm.
-fn arm_fault(fault: ArmFault) -> Fault {
+fn arm_fault(fault: ArmFault) -> Fault
+    ensures { result ≡ arm_fault fault }
+{
     match fault {
         ArmFault::NoPattern(_) => Fault::NoPattern,
         ArmFault::Pattern(error) => pattern_fault(error),
@@ -167,7 +192,9 @@ fn arm_fault(fault: ArmFault) -> Fault {
 }
 
 /// Of trees that are no macro: with the number of the arm.
-pub(crate) fn rules_failure(error: RulesError) -> Failure {
+pub(crate) fn rules_failure(error: RulesError) -> Failure
+    ensures { result ≡ rules_failure error }
+{
     Failure {
         fault: arm_fault(error.fault),
         at: error.arm,
@@ -175,16 +202,20 @@ pub(crate) fn rules_failure(error: RulesError) -> Failure {
 }
 
 // Why a template is not filled.
-fn fill_fault(fault: FillError) -> Fault {
+fn fill_fault(fault: FillError) -> Fault
+    ensures { result ≡ fill_fault fault }
+{
     match fault {
         FillError::LengthsDiffer(_) => Fault::LengthsDiffer,
         FillError::NoRound(_) => Fault::NoRound,
-        FillError::Tree(fault) => of_limit(fault).fault,
+        FillError::Tree(fault) => limit_fault(fault),
     }
 }
 
 /// Of a macro that does not expand an input: with the number of the arm.
-pub(crate) fn expand_failure(error: ExpandError) -> Failure {
+pub(crate) fn expand_failure(error: ExpandError) -> Failure
+    ensures { result ≡ expand_failure error }
+{
     Failure {
         fault: fill_fault(error.fault),
         at: error.arm,

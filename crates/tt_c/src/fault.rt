@@ -1,7 +1,7 @@
 //! The faults that calls answer, and their numbers.
 
 /// Why a call gave no bytes. Its number is the answer of the call; 0 is no fault. A number is given once, and never to another.
-#[derive(Debug, Clone, Copy, PartialEq, Eq)]
+#[derive(Clone, Copy)]
 pub enum Fault {
     /// Memory was refused.
     Memory = 1,
@@ -129,8 +129,22 @@ pub enum Fault {
     LengthsDiffer = 102,
     /// A repetition that wants a round has none.
     NoRound = 103,
+    /// Too many expansions stand one inside the other.
+    TooDeep = 104,
     /// A leaf of the tree is written as no text that reads back.
     NotWritable = 105,
     /// The text would have 4,294,967,295 bytes or more.
     MadeTooLong = 106,
+}
+
+impl Fault {
+    ghost use Rattle.std.specs.Prelude.{◌≡◌};
+    ghost use Rattle.tt_c.specs.Faults.{number_of};
+
+    /// The fault's number.
+    pub fn number(&self) -> u32
+        ensures { result ≡ number_of self.now }
+    {
+        *self as u32
+    }
 }

@@ -1,0 +1,3 @@
+-- Lemmas of the library for other languages.
+pub mod Results
+pub mod Written
