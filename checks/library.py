@@ -278,7 +278,7 @@ def main():
                     print(line, flush=True)
             except Missing as why:
                 print(f"skipped {name}: {why}", flush=True)
-            except (Wrong, OSError, subprocess.TimeoutExpired) as why:
+            except (Wrong, OSError, ValueError, subprocess.TimeoutExpired) as why:
                 failed = True
                 line = str(why).replace("\n", " ")
                 print(f"FAILED {name}: {line}", flush=True)

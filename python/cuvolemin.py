@@ -80,7 +80,7 @@ FAULTS = {
 NO_ROOM = 2
 
 
-class Error(Exception):
+class Error(ValueError):
     """Why a call gave nothing: the number of the fault, its name, and the place, of which the header says what it counts."""
 
     def __init__(self, number, at):
