@@ -1,6 +1,7 @@
 pub mod CallPlaces
 pub mod Calls
 pub mod Finishing
+pub mod FirstFaults
 pub mod Fitting
 pub mod LaidFacts
 pub mod Leading

@@ -1,18 +1,21 @@
 -- What is replaced in a source, and what is left to be.
-use Rattle.std.proofs.Common.{◌≡◌, ◌++◌, ℕ, List, [], ◌∷◌, inl, inr, refl, ap, sym, subst, ◌∙◌}
+use Rattle.std.proofs.Common.{◌≡◌, ◌<◌, ◌++◌, ◌-◌, ℕ, true, false, List, [], ◌∷◌, inl, inr, refl, ap, sym, subst, ◌∙◌, arith}
 use Rattle.std.proofs.lemmas.List.{append_assoc, append-nil}
 use Rattle.tt.specs.Forest.{Forest}
 use Rattle.tt.specs.Types.Delimiter.{Delimiter}
 use Rattle.tt.specs.Types.DelimiterKind.TheVariants.{Brace}
 use Rattle.tt.specs.Types.Leaf.{Leaf}
 use Rattle.tt.specs.Types.Span.{Span}
+use Rattle.tt.specs.Views.{trees_of}
+use Rattle.tt_expand.specs.declared.walk.Event.{Event}
+use Rattle.tt_expand.specs.declared.walk.Event.TheVariants as event
 use Rattle.tt_expand.specs.Coming.{Comes}
-use Rattle.tt_expand.specs.Expansion.{replacement, replacements}
+use Rattle.tt_expand.specs.Expansion.{replacement, replacements, IsSame, IsEventWritten, GoesOn}
 use Rattle.tt_expand.specs.Knowing.{Setting, Known}
-use Rattle.tt_expand.specs.Outcomes.{Outcome, nothing}
+use Rattle.tt_expand.specs.Outcomes.{Outcome, nothing, trees_left, placed}
 use Rattle.tt_expand.specs.Positions.{first_in}
 use Rattle.tt_expand.specs.Texts.{Replacement, Writing, finished, with_all, replaced, FitAll, IsReplaced, AreReplaced}
-use Rattle.tt_expand.specs.Walks.{Level, begun, Ends, Leads, first_leaf, first_subtree, first_stay, first_becomes}
+use Rattle.tt_expand.specs.Walks.{Level, begun, Ends, Leads, first_leaf, first_subtree, first_stay, first_becomes, work_in, IsNext, Steps}
 
 -- all that gives way in what comes of levels
 abbrev pub all_replacements : List Outcome → List Replacement
@@ -104,3 +107,55 @@ all_replaced [] old new fit are = ap finished are
 all_replaced (it ∷ others) old new (fits, fit) (next, inl (there, is), are) =
     all_replaced others next new (subst (FitAll others) (sym is) fit) are ∙ ap (with_all others) is
 all_replaced (it ∷ others) old new (fits, fit) (next, inr (not, is), are) = absurd (not fits)
+
+-- What is replaced is so where that comes next and is written.
+module _ (setting : Setting) (limit : ℕ) (trees : Forest) (before now others then : Known) (source : Writing) (level : Level) (outer nexts : List Level) (done : List Replacement) (old new : Writing)
+    (reading : IsReading setting limit trees before (level ∷ outer) now done) (are : AreReplaced done source old) where
+  -- that is read of the levels that are left, and replaced
+  abbrev IsRead : Type 0
+  IsRead = (all : List Replacement) × IsReading setting limit trees before nexts then all × AreReplaced all source new
+
+  -- Nothing is replaced.
+  same : IsReading setting limit trees before nexts others done → IsSame others then old new → IsRead
+  same goes (known, written) =
+      (done, subst (λ k. IsReading setting limit trees before nexts k done) (sym known) goes, subst (AreReplaced done source) (sym written) are)
+
+  pub reads_event : (it : Event) → IsNext setting limit (level ∷ outer) now it nexts others → GoesOn it true → IsEventWritten setting limit it others then old new → IsRead
+  reads_event event.End next goes is = absurd (cc goes)
+  reads_event (event.Leaf it) next goes is = same (reads_leaf setting limit trees before now others level outer nexts done reading it next) is
+  reads_event (event.Opens header) next goes is = same (reads_subtree setting limit trees before now others level outer nexts done reading header.delimiter next) is
+  reads_event (event.Closes close) next goes is = same (reads_end setting limit trees before now others level outer nexts done reading next) is
+  reads_event (event.Stays stay) next goes is = same (reads_stay setting limit trees before now others level outer nexts done reading (trees_of stay) next) is
+  reads_event (event.Invocation it) (left, fits, leads) goes is =
+      let back : limit - 1 ≡ left = omega (arith, fits) in
+      let comes : Comes setting left (first_in Brace) 0 others it.tree.children then is.outcome =
+      subst (λ n. Comes setting n (first_in Brace) 0 others it.tree.children then is.outcome) back is.comes in
+      let put : Forest = placed it.is_statement it.delimiter (trees_left is.outcome) in (
+        done ++ replacement it.first_span it.delimiter.close put ∷ [],
+        reads_call setting limit trees before now then level outer nexts done reading it.first_span it.delimiter.close put (leads then is.outcome comes),
+        replaced_more done source old new (replacement it.first_span it.delimiter.close put) are is.replaced,
+      )
+
+  -- At the end all is.
+  pub reads_to_end : (it : Event) → IsNext setting limit (level ∷ outer) now it nexts others → GoesOn it false → IsEventWritten setting limit it others then old new
+      → (outcome : Outcome) × Comes setting limit (first_in Brace) 0 before trees then outcome × AreReplaced (replacements outcome) source new
+  reads_to_end event.End ended goes (known, written) =
+      let (outcome, comes, all) = reads_all setting limit trees before now others level outer nexts done reading others ended in (
+        outcome,
+        subst (λ k. Comes setting limit (first_in Brace) 0 before trees k outcome) (sym known) comes,
+        subst (λ l. AreReplaced l source new) all (subst (AreReplaced done source) (sym written) are),
+      )
+  reads_to_end (event.Leaf it) next goes is = absurd (cc goes)
+  reads_to_end (event.Opens header) next goes is = absurd (cc goes)
+  reads_to_end (event.Closes close) next goes is = absurd (cc goes)
+  reads_to_end (event.Stays stay) next goes is = absurd (cc goes)
+  reads_to_end (event.Invocation it) next goes is = absurd (cc goes)
+
+-- Where it goes on, less is left to do.
+pub less_left : (levels nexts : List Level) (it : Event) → GoesOn it true → Steps levels it nexts → work_in nexts < work_in levels
+less_left levels nexts event.End goes steps = absurd (cc goes)
+less_left levels nexts (event.Leaf it) goes steps = steps.1
+less_left levels nexts (event.Opens header) goes steps = steps.1
+less_left levels nexts (event.Closes close) goes steps = steps.1
+less_left levels nexts (event.Stays stay) goes steps = steps.1
+less_left levels nexts (event.Invocation it) goes steps = steps.1

@@ -1,6 +1,6 @@
 -- What comes of trees is added to a builder.
 use Rattle.std.specs.Prelude.{◌≡◌, ℕ}
-use Rattle.tt.specs.Building.{BuilderState, append}
+use Rattle.tt.specs.Building.{Stack, append}
 use Rattle.tt.specs.Forest.{Forest}
 use Rattle.tt.specs.Types.DelimiterKind.TheVariants.{Brace}
 use Rattle.tt_expand.specs.declared.walk.Invocation.{Invocation}
@@ -9,16 +9,14 @@ use Rattle.tt_expand.specs.Knowing.{Setting, Known}
 use Rattle.tt_expand.specs.Outcomes.{Outcome, trees_left, placed}
 use Rattle.tt_expand.specs.Positions.{first_in}
 
--- what comes of trees, with so many expansions one inside the other, is added to the innermost level of a builder
-pub record AreExpanded (setting : Setting) (limit : ℕ) (trees : Forest) (before : Known) (old : BuilderState) (after : Known) (new : BuilderState) : Type 0 where
+-- what comes of trees, with so many expansions one inside the other, is added to the innermost level of those that are built
+pub record AreExpanded (setting : Setting) (limit : ℕ) (trees : Forest) (before : Known) (old : Stack) (after : Known) (new : Stack) : Type 0 where
   pub outcome : Outcome
   pub comes : Comes setting limit (first_in Brace) 0 before trees after outcome
-  pub added : new.stack ≡ append (trees_left outcome) old.stack
-  pub top : new.top ≡ old.top
+  pub added : new ≡ append (trees_left outcome) old
 
 -- what comes of a call is
-pub record IsPlaced (setting : Setting) (limit : ℕ) (it : Invocation) (before : Known) (old : BuilderState) (after : Known) (new : BuilderState) : Type 0 where
+pub record IsPlaced (setting : Setting) (limit : ℕ) (it : Invocation) (before : Known) (old : Stack) (after : Known) (new : Stack) : Type 0 where
   pub outcome : Outcome
   pub comes : Comes setting limit (first_in Brace) 0 before it.tree.children after outcome
-  pub added : new.stack ≡ append (placed it.is_statement it.delimiter (trees_left outcome)) old.stack
-  pub top : new.top ≡ old.top
+  pub added : new ≡ append (placed it.is_statement it.delimiter (trees_left outcome)) old

@@ -1,5 +1,5 @@
 -- What a text becomes whose macros are expanded.
-use Rattle.std.specs.Prelude.{◌≡◌, ◌<◌, ◌++◌, ℕ, Bool, true, false, List, [], ◌∷◌, Option, None, Some, length, slice_get, option_map, string_bytes}
+use Rattle.std.specs.Prelude.{◌≡◌, ◌<◌, ◌-◌, ◌++◌, ℕ, Bool, true, false, List, [], ◌∷◌, Option, None, Some, length, slice_get, option_map, string_bytes}
 use Rattle.tt.specs.Forest.{Forest, Root}
 use Rattle.tt.specs.Span.{start_of, end_of}
 use Rattle.tt.specs.Types.DelimiterKind.TheVariants.{Brace}
@@ -10,13 +10,15 @@ use Rattle.tt_expand.specs.declared.fault.ExpandTextError.TheVariants as error
 use Rattle.tt_expand.specs.declared.fault.Finding.{Finding}
 use Rattle.tt_expand.specs.declared.options.ExpandOptions.{ExpandOptions}
 use Rattle.tt_expand.specs.declared.text.Expanded.{Expanded}
+use Rattle.tt_expand.specs.declared.walk.Event.{Event}
+use Rattle.tt_expand.specs.declared.walk.Event.TheVariants as event
 use Rattle.tt_expand.specs.declared.walk.Invocation.{Invocation}
 use Rattle.tt_expand.specs.Coming.{Comes}
 use Rattle.tt_expand.specs.Findings.{is_warning}
 use Rattle.tt_expand.specs.Knowing.{Setting, Known, knows_nothing}
 use Rattle.tt_expand.specs.Outcomes.{Outcome, nothing, passes, enters, stays, becomes, trees_left, placed}
 use Rattle.tt_expand.specs.Positions.{first_in}
-use Rattle.tt_expand.specs.Texts.{Replacement, Writing, begun, finished, with_all, AreReplaced, FitAll}
+use Rattle.tt_expand.specs.Texts.{Replacement, Writing, begun, finished, with_all, IsReplaced, AreReplaced, FitAll}
 use Rattle.tt_text.specs.Parsed.{IsParse}
 use Rattle.tt_text.specs.Refusal.{IsRefusal}
 use Rattle.tt_unparse.specs.Text.{text_of}
@@ -38,6 +40,42 @@ pub record IsInvocationText (setting : Setting) (limit : ℕ) (it : Invocation) 
   pub outcome : Outcome
   pub comes : Comes setting limit (first_in Brace) 0 before it.tree.children after outcome
   pub text : result ≡ text_of (placed it.is_statement it.delimiter (trees_left outcome))
+
+-- it takes the place of the call, where that is left of the source
+pub record IsInvocationWritten (setting : Setting) (limit : ℕ) (it : Invocation) (before after : Known) (old new : Writing) : Type 0 where
+  pub outcome : Outcome
+  pub comes : Comes setting limit (first_in Brace) 0 before it.tree.children after outcome
+  pub replaced : IsReplaced (replacement it.first_span it.delimiter.close (placed it.is_statement it.delimiter (trees_left outcome))) old new
+
+-- nothing is written, and nothing more is known
+abbrev pub IsSame : (before after : Known) (old new : Writing) → Type 0
+IsSame before after old new = (after ≡ before) × (new ≡ old)
+
+-- what is written where that comes next in a walk
+abbrev pub IsEventWritten : Setting → (limit : ℕ) → Event → (before after : Known) (old new : Writing) → Type 0
+IsEventWritten setting limit event.End before after old new = IsSame before after old new
+IsEventWritten setting limit (event.Leaf it) before after old new = IsSame before after old new
+IsEventWritten setting limit (event.Opens header) before after old new = IsSame before after old new
+IsEventWritten setting limit (event.Closes close) before after old new = IsSame before after old new
+IsEventWritten setting limit (event.Stays trees) before after old new = IsSame before after old new
+IsEventWritten setting limit (event.Invocation it) before after old new = IsInvocationWritten setting (limit - 1) it before after old new
+
+-- it goes on, but for the end
+abbrev pub GoesOn : Event → (goes_on : Bool) → Type 0
+GoesOn event.End goes_on = goes_on ≡ false
+GoesOn (event.Leaf it) goes_on = goes_on ≡ true
+GoesOn (event.Opens header) goes_on = goes_on ≡ true
+GoesOn (event.Closes close) goes_on = goes_on ≡ true
+GoesOn (event.Stays trees) goes_on = goes_on ≡ true
+GoesOn (event.Invocation it) goes_on = goes_on ≡ true
+
+-- why a text is not written that is read
+abbrev pub IsWritingError : ExpandTextError → Type 0
+IsWritingError (error.Text fault) = ⊥
+IsWritingError (error.Macro it) = ⊥
+IsWritingError (error.Limit fault) = Unit {0}
+IsWritingError (error.NotWritable at) = Unit {0}
+IsWritingError (error.TooLong at) = Unit {0}
 
 -- a source of these trees is written, where in the place of each call what comes of it stands
 pub record IsSourceText (setting : Setting) (limit : ℕ) (source : List ℕ) (trees : Forest) (before after : Known) (result : List ℕ) : Type 0 where

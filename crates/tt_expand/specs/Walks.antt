@@ -1,5 +1,5 @@
 -- A walk through trees in which macros are defined and called.
-use Rattle.std.specs.Prelude.{◌≡◌, ◌<◌, ◌+◌, ◌*◌, ◌-◌, ℕ, Bool, true, false, suc, List, [], ◌∷◌, map, reverse, Option, None, Some}
+use Rattle.std.specs.Prelude.{◌≡◌, ◌<◌, ◌+◌, ◌*◌, ◌-◌, ℕ, Bool, true, false, suc, List, [], ◌∷◌, length, map, reverse, Option, None, Some}
 use Rattle.tt.specs.Forest.{Forest, size}
 use Rattle.tt.specs.Gluing.{after_trees}
 use Rattle.tt.specs.Iters.{rest_of}
@@ -126,7 +126,7 @@ IsNext setting limit levels known (event.Invocation it) nexts others =
 
 -- how levels become others: which are entered and left, and that less is left to do
 abbrev pub Steps : List Level → Event → List Level → Type 0
-Steps levels event.End nexts = Unit {0}
+Steps levels event.End nexts = length (closes_of levels) ≡ 1
 Steps levels (event.Opens header) nexts = (closes_of nexts ≡ header.delimiter.close ∷ closes_of levels) × (work_in nexts < work_in levels)
 Steps levels (event.Closes close) nexts = (close ∷ closes_of nexts ≡ closes_of levels) × (work_in nexts < work_in levels)
 Steps levels (event.Leaf it) nexts = (closes_of nexts ≡ closes_of levels) × (work_in nexts < work_in levels)

@@ -1,5 +1,6 @@
 //! What comes of trees.
-ghost use Rattle.std.specs.Prelude.{◌<◌, OnOk};
+ghost use Rattle.std.specs.Prelude.{◌≡◌, OnOk};
+ghost use Rattle.tt.specs.Building.{depth};
 ghost use Rattle.tt.specs.Iters.{rest_of};
 ghost use Rattle.tt_expand.specs.Expanding.{IsPlaced, AreExpanded};
 ghost use Rattle.tt_expand.specs.Knowing.{Known as KnownOf, IsKnown, setting_of};
@@ -18,7 +19,9 @@ pub(crate) fn place(
     invocation: &Invocation,
     builder: &mut TopSubtreeBuilder,
 ) -> Result<(), TtFault>
-    ensures { OnOk result ((before : KnownOf) → IsKnown before known.old → (after : KnownOf) × IsKnown after known.new × IsPlaced (setting_of setting.now) limit invocation.now before builder.old after builder.new) }
+    ensures top { OnOk result (builder.new.top ≡ builder.old.top) }
+    ensures open { OnOk result (depth builder.new.stack ≡ depth builder.old.stack) }
+    ensures placed { OnOk result ((before : KnownOf) → IsKnown before known.old → (after : KnownOf) × IsKnown after known.new × IsPlaced (setting_of setting.now) limit invocation.now before builder.old.stack after builder.new.stack) }
 {
     let delimiter = invocation.delimiter;
     let trees = invocation.tree.iter();
@@ -40,7 +43,9 @@ pub(crate) fn expand_trees(
     close: Span,
     builder: &mut TopSubtreeBuilder,
 ) -> Result<(), TtFault>
-    ensures { OnOk result ((before : KnownOf) → IsKnown before known.old → (after : KnownOf) × IsKnown after known.new × AreExpanded (setting_of setting.now) limit (rest_of trees.entry) before builder.old after builder.new) }
+    ensures top { OnOk result (builder.new.top ≡ builder.old.top) }
+    ensures open { OnOk result (depth builder.new.stack ≡ depth builder.old.stack) }
+    ensures expanded { OnOk result ((before : KnownOf) → IsKnown before known.old → (after : KnownOf) × IsKnown after known.new × AreExpanded (setting_of setting.now) limit (rest_of trees.entry) before builder.old.stack after builder.new.stack) }
 {
     let mut walk = Walk::new(setting.alloc, trees, close);
     'trees: loop {

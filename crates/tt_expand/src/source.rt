@@ -1,7 +1,10 @@
 //! A source, and what its calls become.
-ghost use Rattle.std.specs.Prelude.{IfOk, string_bytes};
-ghost use Rattle.tt_expand.specs.Expansion.{IsInvocationText, IsSourceText};
+ghost use Rattle.std.specs.Prelude.{◌≡◌, IfOk, IfErr, OnOk, string_bytes};
+ghost use Rattle.tt_expand.specs.Expansion.{IsInvocationText, IsInvocationWritten, IsEventWritten, GoesOn, IsWritingError, IsSourceText};
 ghost use Rattle.tt_expand.specs.Knowing.{Known as KnownOf, IsKnown, setting_of};
+ghost use Rattle.tt_expand.specs.Texts.{writing_of};
+ghost use Rattle.tt_expand.specs.Walks.{IsWithin};
+ghost use Rattle.tt_unparse.specs.Text.{text_of};
 
 use crate::expanding::place;
 use crate::fault::ExpandTextError;
@@ -15,7 +18,10 @@ use tt::{Delimiter, DelimiterKind, TopSubtree, TopSubtreeBuilder, TtFault};
 use tt_unparse::{WriteFault, rust_text};
 
 // What comes of a call that begins at a byte, as a text.
-fn written(alloc: Global, at: u32, tree: &TopSubtree) -> Result<String, ExpandTextError> {
+fn written(alloc: Global, at: u32, tree: &TopSubtree) -> Result<String, ExpandTextError>
+    ensures text { IfOk result (λ text. string_bytes text ≡ text_of tree.now.children) }
+    ensures err { IfErr result IsWritingError }
+{
     match rust_text(alloc, tree.token_trees()) {
         Ok(text) => Ok(text),
         Err(WriteFault::Memory) => Err(ExpandTextError::Limit(TtFault::Memory)),
@@ -35,7 +41,8 @@ fn invocation_text(
     limit: usize,
     invocation: &Invocation,
 ) -> Result<String, ExpandTextError>
-    ensures { IfOk result (λ text. (before : KnownOf) → IsKnown before known.old → (after : KnownOf) × IsKnown after known.new × IsInvocationText (setting_of setting.now) limit invocation.now before after (string_bytes text)) }
+    ensures err { IfErr result IsWritingError }
+    ensures text { IfOk result (λ text. (before : KnownOf) → IsKnown before known.old → (after : KnownOf) × IsKnown after known.new × IsInvocationText (setting_of setting.now) limit invocation.now before after (string_bytes text)) }
 {
     let top = Delimiter {
         kind: DelimiterKind::Invisible,
@@ -47,6 +54,47 @@ fn invocation_text(
     written(setting.alloc, start_of(invocation.first_span), &tree)
 }
 
+// Writes what comes of a call in its place, in which so many expansions may stand one inside the other.
+fn write_invocation(
+    setting: &Setting,
+    known: &mut Known,
+    limit: usize,
+    invocation: &Invocation,
+    output: &mut Output<'_>,
+) -> Result<(), ExpandTextError>
+    ensures err { IfErr result IsWritingError }
+    ensures written { OnOk result ((before : KnownOf) → IsKnown before known.old → (after : KnownOf) × IsKnown after known.new × IsInvocationWritten (setting_of setting.now) limit invocation.now before after (writing_of output.old) (writing_of output.new)) }
+{
+    let text = invocation_text(setting, known, limit, invocation)?;
+    let start = start_of(invocation.first_span) as usize;
+    let end = end_of(invocation.delimiter.close) as usize;
+    let _is_left = output.replace(start, end, text.as_str())?;
+    Ok(())
+}
+
+// Writes what comes of a call; all else stays as it is. Whether this is not the end.
+fn write_event(
+    setting: &Setting,
+    known: &mut Known,
+    limit: usize,
+    event: Event<'_>,
+    output: &mut Output<'_>,
+) -> Result<bool, ExpandTextError>
+    requires { IsWithin limit event }
+    ensures err { IfErr result IsWritingError }
+    ensures goes_on { IfOk result (GoesOn event.entry) }
+    ensures written { OnOk result ((before : KnownOf) → IsKnown before known.old → (after : KnownOf) × IsKnown after known.new × IsEventWritten (setting_of setting.now) limit event.entry before after (writing_of output.old) (writing_of output.new)) }
+{
+    match event {
+        Event::End => Ok(false),
+        Event::Invocation(invocation) => {
+            write_invocation(setting, known, limit - 1, &invocation, output)?;
+            Ok(true)
+        }
+        Event::Leaf(_) | Event::Opens(_) | Event::Closes(_) | Event::Stays(_) => Ok(true),
+    }
+}
+
 /// The text in which calls are replaced by what comes of them.
 pub(crate) fn expand_source(
     setting: &Setting,
@@ -55,21 +103,17 @@ pub(crate) fn expand_source(
     source: &str,
     tree: &TopSubtree,
 ) -> Result<String, ExpandTextError>
-    ensures { IfOk result (λ text. (before : KnownOf) → IsKnown before known.old → (after : KnownOf) × IsKnown after known.new × IsSourceText (setting_of setting.now) limit source.now tree.now.children before after (string_bytes text)) }
+    ensures err { IfErr result IsWritingError }
+    ensures text { IfOk result (λ text. (before : KnownOf) → IsKnown before known.old → (after : KnownOf) × IsKnown after known.new × IsSourceText (setting_of setting.now) limit source.now tree.now.children before after (string_bytes text)) }
 {
     let mut output = Output::new(setting.alloc, source);
     let close = tree.top_subtree().delimiter.close;
     let mut walk = Walk::new(setting.alloc, tree.iter(), close);
     'trees: loop {
-        match next(&mut walk, setting, known, limit)? {
-            Event::End => return Ok(output.finish()?),
-            Event::Invocation(invocation) => {
-                let text = invocation_text(setting, known, limit - 1, &invocation)?;
-                let start = start_of(invocation.first_span) as usize;
-                let end = end_of(invocation.delimiter.close) as usize;
-                let _is_left = output.replace(start, end, text.as_str())?;
-            }
-            Event::Leaf(_) | Event::Opens(_) | Event::Closes(_) | Event::Stays(_) => {}
+        let event = next(&mut walk, setting, known, limit)?;
+        let goes_on = write_event(setting, known, limit, event, &mut output)?;
+        if !goes_on {
+            return Ok(output.finish()?);
         }
     }
 }

@@ -1,9 +1,9 @@
 -- What is built, with what comes of what is left, is what comes of all; and as many subtrees are open as are entered.
-use Rattle.std.proofs.Common.{◌≡◌, ◌+◌, ◌*◌, length}
+use Rattle.std.proofs.Common.{◌≡◌, ◌+◌, ◌*◌, suc, length}
 use Rattle.tt.specs.Building.{depth}
 use Rattle.tt.specs.Iters.{rest_of}
 use Rattle.tt_expand.specs.Knowing.{Known, IsKnown, setting_of}
-use Rattle.tt_expand.specs.Walks.{levels_of, work_in}
+use Rattle.tt_expand.specs.Walks.{levels_of, closes_of, work_in}
 use Rattle.tt_expand.proofs.Finishing.{IsGoing}
 use Rattle.tt_expand.proofs.expanding.+expansion.Given as goal
 
@@ -20,7 +20,7 @@ invariant-expand_trees-trees l =
           (before : Known) → IsKnown before l.fn.known
           → (now : Known) × IsKnown now l.known
           × IsGoing (setting_of l.setting) l.limit (rest_of l.fn.trees) before l.fn.builder.stack (levels_of l.walk) now l.builder.stack;
-      entered : depth l.builder.stack ≡ length l.walk.outer.items + depth l.fn.builder.stack;
+      entered : suc (depth l.builder.stack) ≡ length (closes_of (levels_of l.walk)) + depth l.fn.builder.stack;
       top : l.builder.top ≡ l.fn.builder.top;
     }
 

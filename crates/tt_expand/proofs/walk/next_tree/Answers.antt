@@ -1,4 +1,4 @@
-use Rattle.std.proofs.Common.{rules, ◌≡◌, ◌∷◌, [], length, map, reverse, None, Some, refl, ap, sym, subst, ◌∙◌, arith}
+use Rattle.std.proofs.Common.{rules, ◌≡◌, ◌∷◌, [], suc, length, map, reverse, None, Some, refl, ap, sym, subst, ◌∙◌, arith}
 use Rattle.tt.specs.Forest.{end, leaf, node, size}
 use Rattle.tt.specs.Iters.{rest_of, IsFirstElement}
 use Rattle.tt.specs.Moves.{after_tree}
@@ -97,3 +97,9 @@ returns-in_ok-enter-in-Some-Subtree-clause-steps c =
     let begins : level.rest ≡ node header.delimiter children (after_tree level.rest) = node_first level.rest header c.in-Some-Subtree.children first in
     let now : levels_of c.enter.new.self ≡ entered header.delimiter children c.len.result (level ∷ outer) = c.in_ok-enter-in-Some-Subtree.ensures in
     subst (Steps (level ∷ outer) (event.Opens header)) (sym now) (refl, omega (arith, ap size begins))
+
+pub returns-in-None-leave-clause-steps : goal.returns-in-None-leave-clause-steps
+returns-in-None-leave-clause-steps c =
+    let outer = map level_of (reverse c.args.walk.now.outer.items) in
+    let last : outer ≡ [] = c.in-None-leave.ensures in
+    ap (λ o. suc (length (closes_of o))) last
