@@ -1,5 +1,5 @@
 -- What comes of a call, and what is wrong with one.
-use Rattle.std.proofs.Common.{◌≡◌, ◌<◌, ℕ, zero, suc, List, refl, arith}
+use Rattle.std.proofs.Common.{◌<◌, ℕ, zero, suc, List, refl, arith}
 use Rattle.tt.specs.Forest.{Root}
 use Rattle.tt_expand.specs.declared.calling.Made.TheVariants as made
 use Rattle.tt_expand.specs.declared.fault.MacroFault.{MacroFault}

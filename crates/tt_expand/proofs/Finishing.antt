@@ -1,8 +1,7 @@
 -- What is built once what comes of the levels that are left is.
-use Rattle.std.proofs.Common.{◌≡◌, ℕ, zero, suc, ◌+◌, List, [], ◌∷◌, length, map, refl, ap, ap₂, sym, subst, ◌∙◌, arith}
-use Rattle.tt.specs.Building.{Stack, lowest, above, append, close_innermost, depth}
+use Rattle.std.proofs.Common.{◌≡◌, ℕ, List, [], ◌∷◌, refl, ap, sym, subst, ◌∙◌}
+use Rattle.tt.specs.Building.{Stack, above, append, close_innermost}
 use Rattle.tt.specs.Forest.{Forest, end, leaf, node, join}
-use Rattle.tt.specs.Token.{delimiter}
 use Rattle.tt.specs.Types.Delimiter.{Delimiter}
 use Rattle.tt.specs.Types.Leaf.{Leaf}
 use Rattle.tt.specs.Types.Span.{Span}

@@ -1,5 +1,5 @@
 -- The first finding that is no warning.
-use Rattle.std.proofs.Common.{◌≡◌, ◌<◌, ℕ, zero, suc, true, false, List, [], ◌∷◌, length, drop, None, Some, slice_get, get_or, refl, ap, sym, subst, ◌∙◌, arith}
+use Rattle.std.proofs.Common.{◌≡◌, ◌<◌, ℕ, zero, suc, true, false, List, [], ◌∷◌, length, drop, None, slice_get, get_or, refl, ap, sym, ◌∙◌, arith}
 use Rattle.tt_expand.specs.declared.fault.Finding.{Finding}
 use Rattle.tt_expand.specs.Expansion.{first_fault, fault_or}
 use Rattle.tt_expand.specs.Findings.{is_warning}

@@ -1,12 +1,11 @@
 -- How levels lead to others.
-use Rattle.std.proofs.Common.{◌≡◌, ◌-◌, ℕ, suc, Bool, true, false, List, [], ◌∷◌, length, None, Some, refl, ap, sym, subst, ◌∙◌, arith}
+use Rattle.std.proofs.Common.{◌≡◌, ◌-◌, ℕ, suc, Bool, true, false, List, [], ◌∷◌, length, None, Some, refl, sym, subst}
 use Rattle.tt.specs.Forest.{Forest, Root, end, leaf, node}
 use Rattle.tt.specs.Gluing.{after_trees}
 use Rattle.tt.specs.Moves.{after_tree}
 use Rattle.tt.specs.Types.Delimiter.{Delimiter}
 use Rattle.tt.specs.Types.DelimiterKind.TheVariants.{Brace}
 use Rattle.tt.specs.Types.Leaf.{Leaf}
-use Rattle.tt_expand.specs.declared.fault.MacroFault.{MacroFault}
 use Rattle.tt_expand.specs.declared.walk.Event.{Event}
 use Rattle.tt_expand.specs.declared.walk.Event.TheVariants as event
 use Rattle.tt_expand.specs.Calling.{IsFaulty}

@@ -6,6 +6,7 @@ pub mod Fitting
 pub mod LaidFacts
 pub mod Leading
 pub mod Lengths
+pub mod LinkRows
 pub mod Linking
 pub mod ManyTrees
 pub mod Nth

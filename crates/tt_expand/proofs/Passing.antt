@@ -1,9 +1,8 @@
 -- What comes next where a call is passed.
-use Rattle.std.proofs.Common.{◌≡◌, ◌<◌, ℕ, suc, List, [], ◌∷◌, map, reverse, true, false, Some, None, refl, ap, ap₂, sym, subst, arith}
-use Rattle.tt.specs.Forest.{Root, size}
+use Rattle.std.proofs.Common.{◌≡◌, ◌<◌, ℕ, List, ◌∷◌, map, reverse, false, None, ap, ap₂, sym, subst, arith}
+use Rattle.tt.specs.Forest.{Root}
 use Rattle.tt.specs.Gluing.{after_trees}
 use Rattle.tt.specs.Iters.{rest_of}
-use Rattle.tt.specs.Views.{trees_of}
 use Rattle.tt_expand.specs.declared.walk.Event.{Event}
 use Rattle.tt_expand.specs.declared.walk.Event.TheVariants as event
 use Rattle.tt_expand.specs.declared.walk.Walk.{Walk}

@@ -1,5 +1,5 @@
 -- Macros that are made ready.
-use Rattle.std.proofs.Common.{◌≡◌, ◌++◌, ℕ, zero, suc, List, [], ◌∷◌, length, take, Bool, true, false, Option, Some, None, refl, ap, sym, subst, cond}
+use Rattle.std.proofs.Common.{◌≡◌, ◌++◌, ℕ, zero, suc, List, [], ◌∷◌, length, take, Bool, true, false, Option, Some, None, refl, ap, sym, cond}
 use Rattle.std.specs.Prelude.{bytes_eq}
 use Rattle.tt_expand.specs.declared.scope.Macro as rust
 use Rattle.tt_expand.specs.Scopes.{Macro, or_else, last_by, last_named, kept_of, IsReady, AreReady, IsReadyIf}

@@ -14,7 +14,7 @@ use Rattle.tt_expand.specs.Expansion.{replacement, replacements, IsSame, IsEvent
 use Rattle.tt_expand.specs.Knowing.{Setting, Known}
 use Rattle.tt_expand.specs.Outcomes.{Outcome, nothing, trees_left, placed}
 use Rattle.tt_expand.specs.Positions.{first_in}
-use Rattle.tt_expand.specs.Texts.{Replacement, Writing, finished, with_all, replaced, FitAll, IsReplaced, AreReplaced}
+use Rattle.tt_expand.specs.Texts.{Replacement, Writing, finished, with_all, FitAll, IsReplaced, AreReplaced}
 use Rattle.tt_expand.specs.Walks.{Level, begun, Ends, Leads, first_leaf, first_subtree, first_stay, first_becomes, work_in, IsNext, Steps}
 
 -- all that gives way in what comes of levels

@@ -1,5 +1,5 @@
 -- What comes of a call.
-use Rattle.std.specs.Prelude.{◌≡◌, ◌<◌, ℕ, suc, List, Option, None, Some}
+use Rattle.std.specs.Prelude.{◌≡◌, ◌<◌, ℕ, suc, List, None, Some}
 use Rattle.tt.specs.Forest.{Root}
 use Rattle.tt_expand.specs.declared.calling.Called.{Called}
 use Rattle.tt_expand.specs.declared.calling.Called.TheVariants as called

@@ -1,5 +1,5 @@
 -- What is found in the macros of a text.
-use Rattle.std.specs.Prelude.{ℕ, Bool, true, false, List, Option, None, Some}
+use Rattle.std.specs.Prelude.{Bool, true, false}
 use Rattle.tt_expand.specs.declared.fault.MacroFault.{MacroFault}
 use Rattle.tt_expand.specs.declared.fault.MacroFault.TheVariants as wrong
 use Rattle.tt_macro_rules.specs.declared.error.ArmFault.{ArmFault}

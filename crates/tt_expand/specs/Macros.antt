@@ -1,6 +1,6 @@
 -- What is defined, and what comes of calls.
-use Rattle.std.specs.Prelude.{◌≡◌, ◌⊎◌, ℕ, suc, zero, Bool, true, false, List, [], ◌∷◌, Option, None, Some, if◌then◌else◌}
-use Rattle.tt.specs.Forest.{Forest, Root}
+use Rattle.std.specs.Prelude.{◌≡◌, ◌⊎◌, ℕ, suc, zero, Bool, true, false, List, Option, None, Some, if◌then◌else◌}
+use Rattle.tt.specs.Forest.{Forest}
 use Rattle.tt.specs.Span.{start_of}
 use Rattle.tt_expand.specs.declared.fault.Finding.{Finding}
 use Rattle.tt_expand.specs.declared.fault.MacroFault.{MacroFault}

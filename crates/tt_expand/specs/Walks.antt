@@ -18,7 +18,7 @@ use Rattle.tt_expand.specs.declared.walk.Level as rust
 use Rattle.tt_expand.specs.declared.walk.Walk.{Walk}
 use Rattle.tt_expand.specs.Coming.{Comes}
 use Rattle.tt_expand.specs.Items.{Item, item_in}
-use Rattle.tt_expand.specs.Knowing.{Setting, Known, IsKnown, left_in_scope, setting_of}
+use Rattle.tt_expand.specs.Knowing.{Setting, Known, IsKnown, left_in_scope}
 use Rattle.tt_expand.specs.Outcomes.{Outcome, nothing, passes, enters, stays, becomes, trees_left, placed}
 use Rattle.tt_expand.specs.Positions.{first_in, behind, behind_leaf, behind_subtree, keeps_macros}
 

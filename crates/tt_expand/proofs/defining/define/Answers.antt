@@ -1,10 +1,9 @@
-use Rattle.std.proofs.Common.{rules, ◌≡◌, ◌++◌, ◌∷◌, [], ℕ, List, Some, None, inl, inr, refl, ap, ap₂, sym, subst, ◌∙◌}
+use Rattle.std.proofs.Common.{rules, ◌≡◌, ◌++◌, ◌∷◌, [], Some, None, inl, inr, refl, ap, ap₂, sym, subst, ◌∙◌}
 use Rattle.tt.specs.Forest.{Forest}
 use Rattle.tt.specs.Iters.{rest_of}
 use Rattle.tt.specs.Span.{start_of}
 use Rattle.tt_expand.specs.declared.fault.Finding.{Finding}
 use Rattle.tt_expand.specs.declared.fault.MacroFault.TheVariants as wrong
-use Rattle.tt_expand.specs.declared.known.Known as rust_known
 use Rattle.tt_expand.specs.declared.scope.Macro as rust
 use Rattle.tt_expand.specs.Defining.{IsRules}
 use Rattle.tt_expand.specs.Items.{Definition, definition_of}
@@ -25,37 +24,37 @@ returns c known is =
     let made : rust.Macro = record { name = c.in_ok-name.name; defined_at = c.start_of.result; rules = c.match-branch-3.rules } in
     let more : c.define.new.self.macros.items ≡ c.match-branch-3.known.scope.macros.items ++ made ∷ [] = c.in_ok-define.ensures.ok in
     elim c.match-branch-3.branch [
-      in-Known w ↦
-        let (arms, spelled, ready) = subst (IsRules it trees) w.in-Known.is c.in_ok-rules.ensures in
-        let before : AreReady known.macros c.match-branch-3.known.scope.macros.items = subst (λ k. AreReady known.macros k.scope.macros.items) (sym w.known-is) is.macros in
-        let rules_are : AreRules (Some arms) c.match-branch-3.rules = subst (AreRules (Some arms)) (sym w.rules-is) ready in (
-          with_macro (macro_of it (Some arms)) known,
-          inl (arms, spelled, refl),
-          record {
-            macros =
-                subst (AreReady (known.macros ++ macro_of it (Some arms) ∷ [])) (sym more)
-                    (ready_more known.macros c.match-branch-3.known.scope.macros.items (macro_of it (Some arms)) made before (record { name = name; defined_at = place; rules = rules_are }));
-            findings = ap (λ k. k.findings.items) w.known-is ∙ is.findings;
-            is_over = ap (λ k. k.is_over) w.known-is ∙ is.is_over;
-          },
-        )
+      | in-Known w ↦
+          let (arms, spelled, ready) = subst (IsRules it trees) w.in-Known.is c.in_ok-rules.ensures in
+          let before : AreReady known.macros c.match-branch-3.known.scope.macros.items = subst (λ k. AreReady known.macros k.scope.macros.items) (sym w.known-is) is.macros in
+          let rules_are : AreRules (Some arms) c.match-branch-3.rules = subst (AreRules (Some arms)) (sym w.rules-is) ready in (
+            with_macro (macro_of it (Some arms)) known,
+            inl (arms, spelled, refl),
+            record {
+              macros =
+                  subst (AreReady (known.macros ++ macro_of it (Some arms) ∷ [])) (sym more)
+                  (ready_more known.macros c.match-branch-3.known.scope.macros.items (macro_of it (Some arms)) made before (record { name = name; defined_at = place; rules = rules_are }));
+              findings = ap (λ k. k.findings.items) w.known-is ∙ is.findings;
+              is_over = ap (λ k. k.is_over) w.known-is ∙ is.is_over;
+            },
+          )
       | in-Faulty+in_ok-find-in-Faulty w ↦
-        let why = w.in-Faulty.error in
-        let (wrong_arms, at) = subst (IsRules it trees) w.in-Faulty.is c.in_ok-rules.ensures in
-        let made_finding : Finding = record { name = c.in_ok-name.name; at = w.in-Faulty.at; fault = wrong.Definition why; defined_at = None } in
-        let same : made_finding ≡ found_in it trees why = ap₂ (λ n a. record { name = n; at = a; fault = wrong.Definition why; defined_at = None }) name at in
-        let then : Known = with_finding (found_in it trees why) known in
-        let found : IsKnown then c.match-branch-3.known =
-        subst (IsKnown then) (sym w.known-is) (subst (λ f. IsKnown (with_finding f known) w.find.new.self) same (w.in_ok-find-in-Faulty.ensures known is)) in
-        let rules_are : AreRules None c.match-branch-3.rules = subst (AreRules None) (sym w.rules-is) tt in (
-          with_macro (macro_of it None) then,
-          inr (why, wrong_arms, refl),
-          record {
-            macros =
-                subst (AreReady (then.macros ++ macro_of it None ∷ [])) (sym more)
-                    (ready_more then.macros c.match-branch-3.known.scope.macros.items (macro_of it None) made found.macros (record { name = name; defined_at = place; rules = rules_are }));
-            findings = found.findings;
-            is_over = found.is_over;
-          },
-        )
+          let why = w.in-Faulty.error in
+          let (wrong_arms, at) = subst (IsRules it trees) w.in-Faulty.is c.in_ok-rules.ensures in
+          let made_finding : Finding = record { name = c.in_ok-name.name; at = w.in-Faulty.at; fault = wrong.Definition why; defined_at = None } in
+          let same : made_finding ≡ found_in it trees why = ap₂ (λ n a. record { name = n; at = a; fault = wrong.Definition why; defined_at = None }) name at in
+          let then : Known = with_finding (found_in it trees why) known in
+          let found : IsKnown then c.match-branch-3.known =
+          subst (IsKnown then) (sym w.known-is) (subst (λ f. IsKnown (with_finding f known) w.find.new.self) same (w.in_ok-find-in-Faulty.ensures known is)) in
+          let rules_are : AreRules None c.match-branch-3.rules = subst (AreRules None) (sym w.rules-is) tt in (
+            with_macro (macro_of it None) then,
+            inr (why, wrong_arms, refl),
+            record {
+              macros =
+                  subst (AreReady (then.macros ++ macro_of it None ∷ [])) (sym more)
+                  (ready_more then.macros c.match-branch-3.known.scope.macros.items (macro_of it None) made found.macros (record { name = name; defined_at = place; rules = rules_are }));
+              findings = found.findings;
+              is_over = found.is_over;
+            },
+          )
     ]

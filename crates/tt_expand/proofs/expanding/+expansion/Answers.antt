@@ -1,15 +1,15 @@
-use Rattle.std.proofs.Common.{rules, [], ◌≡◌, ◌∙◌, ◌<◌, ◌+◌, ◌-◌, ℕ, suc, ◌∷◌, List, length, map, reverse, refl, ap, ap₂, sym, subst, arith}
+use Rattle.std.proofs.Common.{[], ◌≡◌, ◌∙◌, ◌<◌, ◌+◌, ◌-◌, ℕ, suc, ◌∷◌, List, length, map, reverse, refl, ap, sym, subst, arith}
 use Rattle.indexmap.proofs.MapLemmas.{OnOk-map}
-use Rattle.tt.specs.Building.{Stack, above, append, close_innermost, depth, pushed, opened, closed, extended}
+use Rattle.tt.specs.Building.{Stack, append, depth, pushed, opened, closed, extended}
 use Rattle.tt.specs.Forest.{Forest, end, leaf}
 use Rattle.tt.specs.Iters.{rest_of}
 use Rattle.tt.specs.Views.{trees_of}
 use Rattle.tt_expand.specs.declared.walk.Event.TheVariants as event
 use Rattle.tt_expand.specs.Coming.{Comes}
-use Rattle.tt_expand.specs.Knowing.{Setting, Known, setting_of}
+use Rattle.tt_expand.specs.Knowing.{Setting, setting_of}
 use Rattle.tt_expand.specs.Outcomes.{nothing, placed, trees_left}
 use Rattle.tt_expand.specs.Positions.{first_in}
-use Rattle.tt_expand.specs.Walks.{Level, level_of, levels_of, closes_of, begun, first_leaf, first_subtree, first_stay, first_becomes, Ends, Leads, IsNext, IsWithin, Steps}
+use Rattle.tt_expand.specs.Walks.{Level, level_of, levels_of, closes_of, first_leaf, first_subtree, first_stay, first_becomes, Ends, Leads, IsNext, IsWithin, Steps}
 use Rattle.tt_expand.proofs.Finishing.{IsGoing, begins, ends_so, goes_on, goes_into, goes_out, finished_leaf, finished_stay, finished_becomes}
 use Rattle.tt_expand.proofs.Rooting.{depth_append, is_above, depth_close}
 use Rattle.tt_expand.proofs.expanding.+expansion.Goals as goal
@@ -71,14 +71,14 @@ expand_trees-trees-preserved-in-Continue-branch-3 t c =
     let grown : c.push.new.self ≡ pushed c.in-Leaf.leaf c.trees.builder = c.in_ok-push-in-Leaf.ensures.ok in
     record {
       going = λ before is.
-        let (now, known, going) = c.trees.invariant.going before is in
-        let (others, then, comes_next) = c.in_ok-next.ensures.next now known tt in
-        let leads : Leads setting limit (level ∷ outer) now (first_leaf c.in-Leaf.leaf) (next ∷ nexts) others =
-        subst (λ e. IsNext setting limit (level ∷ outer) now e (next ∷ nexts) others) c.in-Leaf.is comes_next in (
-          others,
-          then,
-          subst (λ s. IsGoing setting limit trees before old (next ∷ nexts) others s.stack) (sym grown) (goes_on setting limit trees before now others old stack level next outer nexts going (first_leaf c.in-Leaf.leaf) (append (leaf c.in-Leaf.leaf end) stack) leads steps.0 (λ first more. finished_leaf level.close (closes_of outer) first more stack c.in-Leaf.leaf)),
-        );
+          let (now, known, going) = c.trees.invariant.going before is in
+          let (others, then, comes_next) = c.in_ok-next.ensures.next now known tt in
+          let leads : Leads setting limit (level ∷ outer) now (first_leaf c.in-Leaf.leaf) (next ∷ nexts) others =
+          subst (λ e. IsNext setting limit (level ∷ outer) now e (next ∷ nexts) others) c.in-Leaf.is comes_next in (
+            others,
+            then,
+            subst (λ s. IsGoing setting limit trees before old (next ∷ nexts) others s.stack) (sym grown) (goes_on setting limit trees before now others old stack level next outer nexts going (first_leaf c.in-Leaf.leaf) (append (leaf c.in-Leaf.leaf end) stack) leads steps.0 (λ first more. finished_leaf level.close (closes_of outer) first more stack c.in-Leaf.leaf)),
+          );
       entered = ap (λ s. suc (depth s.stack)) grown ∙ ap suc (depth_append (leaf c.in-Leaf.leaf end) stack) ∙ c.trees.invariant.entered ∙ ap (λ cs. length cs + depth old) (sym steps.0);
       top = ap (λ s. s.top) grown ∙ c.trees.invariant.top;
     }
@@ -105,14 +105,14 @@ expand_trees-trees-preserved-in-Continue-branch-4 t c =
     let grown : c.open.new.self ≡ opened c.in-Opens.header.delimiter.kind c.in-Opens.header.delimiter.open_span c.trees.builder = c.in_ok-open-in-Opens.ensures.ok in
     record {
       going = λ before is.
-        let (now, known, going) = c.trees.invariant.going before is in
-        let (others, then, comes_next) = c.in_ok-next.ensures.next now known tt in
-        let leads : Leads setting limit (level ∷ outer) now (first_subtree c.in-Opens.header.delimiter) (next ∷ nexts) others =
-        subst (λ e. IsNext setting limit (level ∷ outer) now e (next ∷ nexts) others) c.in-Opens.is comes_next in (
-          others,
-          then,
-          subst (λ s. IsGoing setting limit trees before old (next ∷ nexts) others s.stack) (sym grown) (goes_into setting limit trees before now others old stack level next outer nexts going c.in-Opens.header.delimiter leads steps.0),
-        );
+          let (now, known, going) = c.trees.invariant.going before is in
+          let (others, then, comes_next) = c.in_ok-next.ensures.next now known tt in
+          let leads : Leads setting limit (level ∷ outer) now (first_subtree c.in-Opens.header.delimiter) (next ∷ nexts) others =
+          subst (λ e. IsNext setting limit (level ∷ outer) now e (next ∷ nexts) others) c.in-Opens.is comes_next in (
+            others,
+            then,
+            subst (λ s. IsGoing setting limit trees before old (next ∷ nexts) others s.stack) (sym grown) (goes_into setting limit trees before now others old stack level next outer nexts going c.in-Opens.header.delimiter leads steps.0),
+          );
       entered = omega (arith, ap (λ s. depth s.stack) grown, c.trees.invariant.entered, ap length steps.0);
       top = ap (λ s. s.top) grown ∙ c.trees.invariant.top;
     }
@@ -145,14 +145,14 @@ expand_trees-trees-preserved-in-Continue-branch-5 t c =
     let grown : c.close.new.self ≡ closed c.in-Closes.close c.trees.builder = c.in_ok-close-in-Closes.ensures.ok in
     record {
       going = λ before is.
-        let (now, known, going) = c.trees.invariant.going before is in
-        let (others, then, comes_next) = c.in_ok-next.ensures.next now known tt in
-        let leads : Leads setting limit (level ∷ outer) now (λ outcomes. nothing ∷ outcomes) (next ∷ nexts) others =
-        subst (λ e. IsNext setting limit (level ∷ outer) now e (next ∷ nexts) others) c.in-Closes.is comes_next in (
-          others,
-          then,
-          subst (λ s. IsGoing setting limit trees before old (next ∷ nexts) others s.stack) (sym grown) (goes_out setting limit trees before now others old stack level next outer nexts going c.in-Closes.close leads steps.0),
-        );
+          let (now, known, going) = c.trees.invariant.going before is in
+          let (others, then, comes_next) = c.in_ok-next.ensures.next now known tt in
+          let leads : Leads setting limit (level ∷ outer) now (λ outcomes. nothing ∷ outcomes) (next ∷ nexts) others =
+          subst (λ e. IsNext setting limit (level ∷ outer) now e (next ∷ nexts) others) c.in-Closes.is comes_next in (
+            others,
+            then,
+            subst (λ s. IsGoing setting limit trees before old (next ∷ nexts) others s.stack) (sym grown) (goes_out setting limit trees before now others old stack level next outer nexts going c.in-Closes.close leads steps.0),
+          );
       entered = let deep : depth stack ≡ suc (depth stack - 1) = omega (arith, c.trees.invariant.entered, ap length steps.0) in omega (arith, ap (λ s. depth s.stack) grown, depth_close c.in-Closes.close stack (depth stack - 1) deep, deep, c.trees.invariant.entered, ap length steps.0);
       top = ap (λ s. s.top) grown ∙ c.trees.invariant.top;
     }
@@ -179,14 +179,14 @@ expand_trees-trees-preserved-in-Continue-branch-6 t c =
     let grown : c.extend_with_tt.new.self ≡ extended (trees_of c.in-Stays.trees) c.trees.builder = c.in_ok-extend_with_tt-in-Stays.ensures.ok in
     record {
       going = λ before is.
-        let (now, known, going) = c.trees.invariant.going before is in
-        let (others, then, comes_next) = c.in_ok-next.ensures.next now known tt in
-        let leads : Leads setting limit (level ∷ outer) now (first_stay (trees_of c.in-Stays.trees)) (next ∷ nexts) others =
-        subst (λ e. IsNext setting limit (level ∷ outer) now e (next ∷ nexts) others) c.in-Stays.is comes_next in (
-          others,
-          then,
-          subst (λ s. IsGoing setting limit trees before old (next ∷ nexts) others s.stack) (sym grown) (goes_on setting limit trees before now others old stack level next outer nexts going (first_stay (trees_of c.in-Stays.trees)) (append (trees_of c.in-Stays.trees) stack) leads steps.0 (λ first more. finished_stay level.close (closes_of outer) first more stack (trees_of c.in-Stays.trees))),
-        );
+          let (now, known, going) = c.trees.invariant.going before is in
+          let (others, then, comes_next) = c.in_ok-next.ensures.next now known tt in
+          let leads : Leads setting limit (level ∷ outer) now (first_stay (trees_of c.in-Stays.trees)) (next ∷ nexts) others =
+          subst (λ e. IsNext setting limit (level ∷ outer) now e (next ∷ nexts) others) c.in-Stays.is comes_next in (
+            others,
+            then,
+            subst (λ s. IsGoing setting limit trees before old (next ∷ nexts) others s.stack) (sym grown) (goes_on setting limit trees before now others old stack level next outer nexts going (first_stay (trees_of c.in-Stays.trees)) (append (trees_of c.in-Stays.trees) stack) leads steps.0 (λ first more. finished_stay level.close (closes_of outer) first more stack (trees_of c.in-Stays.trees))),
+          );
       entered = ap (λ s. suc (depth s.stack)) grown ∙ ap suc (depth_append (trees_of c.in-Stays.trees) stack) ∙ c.trees.invariant.entered ∙ ap (λ cs. length cs + depth old) (sym steps.0);
       top = ap (λ s. s.top) grown ∙ c.trees.invariant.top;
     }
@@ -218,20 +218,20 @@ expand_trees-trees-preserved t c =
     subst (λ e. Steps (level ∷ outer) e (next ∷ nexts)) c.in-Invocation.is c.in_ok-next.ensures.steps in
     record {
       going = λ before is.
-        let (now, known, going) = c.trees.invariant.going before is in
-        let (others, then, comes_next) = c.in_ok-next.ensures.next now known tt in
-        let (left, fits, goes) = subst (λ e. IsNext setting limit (level ∷ outer) now e (next ∷ nexts) others) c.in-Invocation.is comes_next in
-        let (inside, ready, put) = c.in_ok-place-in-Invocation.ensures.placed others then in
-        let back : limit - 1 ≡ left = omega (arith, fits) in
-        let comes : Comes setting left (first_in Brace) 0 others it.tree.children inside put.outcome =
-        subst (λ n. Comes setting n (first_in Brace) 0 others it.tree.children inside put.outcome) back put.comes in
-        let held : Forest = placed it.is_statement it.delimiter (trees_left put.outcome) in (
-          inside,
-          ready,
-          subst (IsGoing setting limit trees before old (next ∷ nexts) inside) (sym put.added)
-              (goes_on setting limit trees before now inside old stack level next outer nexts going (first_becomes it.first_span it.delimiter.close held) (append held stack)
-              (goes inside put.outcome comes) steps.0 (λ first more. finished_becomes level.close (closes_of outer) first more stack it.first_span it.delimiter.close held)),
-        );
+          let (now, known, going) = c.trees.invariant.going before is in
+          let (others, then, comes_next) = c.in_ok-next.ensures.next now known tt in
+          let (left, fits, goes) = subst (λ e. IsNext setting limit (level ∷ outer) now e (next ∷ nexts) others) c.in-Invocation.is comes_next in
+          let (inside, ready, put) = c.in_ok-place-in-Invocation.ensures.placed others then in
+          let back : limit - 1 ≡ left = omega (arith, fits) in
+          let comes : Comes setting left (first_in Brace) 0 others it.tree.children inside put.outcome =
+          subst (λ n. Comes setting n (first_in Brace) 0 others it.tree.children inside put.outcome) back put.comes in
+          let held : Forest = placed it.is_statement it.delimiter (trees_left put.outcome) in (
+            inside,
+            ready,
+            subst (IsGoing setting limit trees before old (next ∷ nexts) inside) (sym put.added)
+                (goes_on setting limit trees before now inside old stack level next outer nexts going (first_becomes it.first_span it.delimiter.close held) (append held stack)
+                (goes inside put.outcome comes) steps.0 (λ first more. finished_becomes level.close (closes_of outer) first more stack it.first_span it.delimiter.close held)),
+          );
       entered = omega (arith, c.in_ok-place-in-Invocation.ensures.open, c.trees.invariant.entered, ap length steps.0);
       top = c.in_ok-place-in-Invocation.ensures.top ∙ c.trees.invariant.top;
     }

@@ -1,7 +1,7 @@
-use Rattle.std.proofs.Common.{◌≡◌, ◌∙◌, ◌∷◌, [], List, map, reverse, true, false, refl, ap, sym, subst}
+use Rattle.std.proofs.Common.{◌∷◌, [], List, map, reverse, true, false, sym, subst}
 use Rattle.tt_expand.specs.Expansion.{GoesOn}
-use Rattle.tt_expand.specs.Knowing.{Setting, Known, setting_of}
-use Rattle.tt_expand.specs.Texts.{Writing, begun, writing_of, AreReplaced}
+use Rattle.tt_expand.specs.Knowing.{Setting, setting_of}
+use Rattle.tt_expand.specs.Texts.{Writing, begun, writing_of}
 use Rattle.tt_expand.specs.Walks.{Level, level_of, levels_of, begun as begun_at}
 use Rattle.tt_expand.proofs.Replacing.{IsReading, begins, reads_event, reads_to_end, less_left}
 use Rattle.tt_expand.proofs.source.expand_source.Goals as goal

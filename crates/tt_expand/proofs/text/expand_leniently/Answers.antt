@@ -5,7 +5,7 @@ use Rattle.tt_expand.specs.declared.fault.ExpandTextError.{ExpandTextError}
 use Rattle.tt_expand.specs.declared.fault.ExpandTextError.TheVariants as error
 use Rattle.tt_expand.specs.Coming.{Comes}
 use Rattle.tt_expand.specs.Expansion.{text_part, setting_by, replacements, IsLenientError, IsWritingError}
-use Rattle.tt_expand.specs.Knowing.{Setting, knows_nothing, setting_of}
+use Rattle.tt_expand.specs.Knowing.{knows_nothing}
 use Rattle.tt_expand.specs.Positions.{first_in}
 use Rattle.tt_expand.specs.Texts.{begun, FitAll}
 use Rattle.tt_expand.proofs.Fitting.{comes_fit}

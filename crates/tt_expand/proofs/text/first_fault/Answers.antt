@@ -1,4 +1,4 @@
-use Rattle.std.proofs.Common.{rules, ◌≡◌, ◌∙◌, ◌+◌, suc, arith, true, false, drop, length, None, refl, ap, sym}
+use Rattle.std.proofs.Common.{rules, ◌≡◌, ◌∙◌, ◌+◌, suc, arith, true, false, drop, length, refl, ap}
 use Rattle.tt_expand.specs.Expansion.{first_fault}
 use Rattle.tt_expand.specs.Findings.{is_warning}
 use Rattle.tt_expand.proofs.FirstFaults.{fault_there, fault_behind, no_fault}

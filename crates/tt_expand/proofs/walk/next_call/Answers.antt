@@ -1,9 +1,7 @@
-use Rattle.std.proofs.Common.{◌≡◌, ◌∷◌, List, map, reverse, inl, inr, refl, sym, subst}
-use Rattle.tt.specs.Iters.{rest_of}
+use Rattle.std.proofs.Common.{◌∷◌, List, map, reverse, inl, inr, sym, subst}
 use Rattle.tt_expand.specs.Calling.{IsCalled, IsFaulty, IsExpanded}
 use Rattle.tt_expand.specs.Items.{Call, call_of}
 use Rattle.tt_expand.specs.Knowing.{setting_of}
-use Rattle.tt_expand.specs.Macros.{called_by, known_behind}
 use Rattle.tt_expand.specs.Walks.{Level, level_of, levels_of, Leads, IsNext}
 use Rattle.tt_expand.proofs.Leading.{leads_into, next_by}
 use Rattle.tt_expand.proofs.Lengths.{call_long}

@@ -4,7 +4,7 @@ use Rattle.tt.specs.Iters.{rest_of, IsFirstElement}
 use Rattle.tt.specs.Moves.{after_tree}
 use Rattle.tt.specs.Types.TtElement.TheVariants as element
 use Rattle.tt_expand.specs.declared.walk.Event.TheVariants as event
-use Rattle.tt_expand.specs.Knowing.{IsKnown, left_in_scope}
+use Rattle.tt_expand.specs.Knowing.{left_in_scope}
 use Rattle.tt_expand.specs.Walks.{Level, level_of, levels_of, past_leaf, entered, closes_of, Ends, IsLeft, IsNext, Steps}
 use Rattle.tt_expand.proofs.Leading.{leads_leaf, leads_subtree, leads_end}
 use Rattle.tt_expand.proofs.Readiness.{ready_length}

@@ -9,8 +9,8 @@ returns-in-Some c known is =
     record {
       macros =
           subst (λ k. AreReady (kept_of k known.macros) c.leave.new.self.macros.items) (sym which)
-              (subst (AreReady (take c.in-Some.len known.macros)) (sym c.leave.ensures)
-              (ready_front c.in-Some.len known.macros c.args.self.now.scope.macros.items is.macros));
+          (subst (AreReady (take c.in-Some.len known.macros)) (sym c.leave.ensures)
+          (ready_front c.in-Some.len known.macros c.args.self.now.scope.macros.items is.macros));
       findings = is.findings;
       is_over = is.is_over;
     }
