@@ -82,6 +82,8 @@ static bool expands(const char *arms, const char *input, const char *text) {
 }
 
 static const char TEXT[] = "fn  first( a :u8 )->u8{a}// last";
+static const char SOURCE[] = "macro_rules! twice { ($x:tt) => { [$x $x] } }\nlet  a = twice!(b); // stays\n";
+static const char EXPANDED[] = "macro_rules! twice { ($x:tt) => { [$x $x] } }\nlet  a = [b b]; // stays\n";
 static const char WRITTEN[] = "fn first (a : u8) -> u8 {a}";
 
 // Reads, writes and expands again and again, with outputs of its own, and tells whether all was right.
@@ -91,6 +93,7 @@ static void *work(void *right) {
         struct made again = tree_of(TEXT);
         if (again.written != tree.written || memcmp(again.bytes, tree.bytes, tree.written) != 0 ||
             !makes_text(tt_bytes_to_text, tree.bytes, tree.written, WRITTEN) ||
+            !makes_text(tt_expand_text, SOURCE, strlen(SOURCE), EXPANDED) ||
             !expands("($a:ident + $b:ident) => { $b - $a }", "p + q", "q - p")) {
             return NULL;
         }
@@ -127,6 +130,9 @@ int main(void) {
     tell(is_fault(tt_bytes_to_text, "tt\2\0", 4, CUVOLEMIN_BYTES_OF_OTHER_FORMAT, 2), "C: bytes of another version");
     tell(makes_text(tt_bytes_to_text, tree.bytes, tree.written, WRITTEN), "C: a fault leaves nothing behind");
     tell(expands("($a:ident + $b:ident) => { $b - $a }", "p + q", "q - p"), "C: a macro expands an input");
+    tell(makes_text(tt_expand_text, SOURCE, strlen(SOURCE), EXPANDED), "C: a text is expanded");
+    tell(fits_each_size(tt_expand_text, SOURCE, strlen(SOURCE)), "C: outputs of each size for an expanded text");
+    tell(is_fault(tt_expand_text, "a ) b", 5, CUVOLEMIN_UNOPENED, 2), "C: a text with a fault is not expanded");
     tell(works_in_threads(), "C: several threads at once");
     return 0;
 }

@@ -203,6 +203,8 @@ def try_random_texts(_room):
     for _ in range(5000):
         text = b"".join(chance.choices(marks, k=chance.randrange(12)))
         try:
+            if cuvolemin.expand(text).encode() != text:
+                raise Wrong(f"{text} defines no macro, and is changed")
             judge_bytes(bytes(cuvolemin.parse(text)))
         except cuvolemin.Error as error:
             if not (error.number == 3 or 10 <= error.number <= 44) or error.at > len(text):
@@ -251,11 +253,44 @@ def try_threads(_room):
             raise Wrong("a thread made something else than one alone")
 
 
+def example():
+    """README's example: a text, and what comes of it."""
+    section = (ROOT / "README.md").read_text().split("## From C, Rust and Python\n")[1].split("\n## ")[0]
+    return re.findall(r"^```rust\n(.*?)^```", section, re.MULTILINE | re.DOTALL)
+
+
+def expects_example(written):
+    """What was written of README's example is what stands there."""
+    if written != example()[1]:
+        raise Wrong(f"README's example becomes {written}")
+
+
+def try_readme_c(room):
+    """README's example in C."""
+    expects_example(subprocess.run([c_program(room, "examples/embedding/expand.c")], input=example()[0], capture_output=True, text=True,
+                                   timeout=SECONDS, check=True).stdout)
+
+
+def try_readme_rust(room):
+    """README's example in Rust."""
+    expects_example("\n".join(cargo(room, "run", "--example", "expand", input=example()[0])) + "\n")
+
+
+def try_readme_python(_room):
+    """README's example in Python."""
+    import cuvolemin
+
+    expects_example(cuvolemin.expand(example()[0]))
+
+
 TRIED = {
     "C": try_c,
     "C with the shared library": try_shared_c,
     "Rust": try_rust,
     "Python": try_python,
+    "README's example in C": try_readme_c,
+    "README's example in Rust": try_readme_rust,
+    "README's example in Python": try_readme_python,
     "tables of faults": try_tables,
     "Python: bytes that are cut": try_cut_bytes,
     "Python: bytes that are changed": try_changed_bytes,
@@ -278,7 +313,7 @@ def main():
                     print(line, flush=True)
             except Missing as why:
                 print(f"skipped {name}: {why}", flush=True)
-            except (Wrong, OSError, ValueError, subprocess.TimeoutExpired) as why:
+            except (Wrong, OSError, ValueError, subprocess.SubprocessError) as why:
                 failed = True
                 line = str(why).replace("\n", " ")
                 print(f"FAILED {name}: {line}", flush=True)

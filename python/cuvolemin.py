@@ -103,8 +103,7 @@ def _library():
         "tt_expand_bytes": slice_in + slice_in + makes,
         "tt_check_bytes": slice_in + [number_out],
     }.items():
-        function = getattr(library, name, None)
-        if function is None: continue
+        function = getattr(library, name)
         function.argtypes = arguments
         function.restype = ctypes.c_uint32
     return library

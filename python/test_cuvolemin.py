@@ -6,7 +6,9 @@ import unittest
 
 sys.path.insert(0, str(pathlib.Path(__file__).resolve().parent))
 
-from cuvolemin import Error, Tree, parse
+from cuvolemin import Error, Tree, expand, parse
+
+PAIRS = "macro_rules! pairs { ($($x:ident),*) => { [$(($x, $x)),*] } }\n"
 
 
 class Cuvolemin(unittest.TestCase):
@@ -45,6 +47,12 @@ class Cuvolemin(unittest.TestCase):
         self.is_fault("NoMatch", 1, arms.expand, parse("1 2"))
         self.is_fault("BeginsNothing", 1, parse("(a) => {}; ($x) => {}").expand, parse("a"))
         self.is_fault("Ambiguous", 1, parse("(a) => {}; ($(b)? $(b)?) => {}").expand, parse("b"))
+
+    def test_calls_in_a_text_are_expanded(self):
+        text = PAIRS + "let  all = pairs!(a, b); // stays\n"
+        self.assertEqual(expand(text), PAIRS + "let  all = [(a , a) , (b , b)]; // stays\n")
+        self.is_fault("NoMatch", len(PAIRS) + 10, expand, PAIRS + "pairs!(a, 1);")
+        self.is_fault("NotUtf8", 1, expand, b"a\xff")
 
 
 if __name__ == "__main__":

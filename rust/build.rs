@@ -7,12 +7,16 @@ fn main() {
     println!("cargo:rerun-if-env-changed=CUVOLEMIN_LIB_DIR");
     let folder = match env::var_os("CUVOLEMIN_LIB_DIR") {
         Some(folder) => PathBuf::from(folder),
-        None => PathBuf::from(env::var_os("CARGO_MANIFEST_DIR").expect("cargo sets it")).join("../lib/out"),
+        None => PathBuf::from(env::var_os("CARGO_MANIFEST_DIR").expect("cargo sets it"))
+            .join("../lib/out"),
     };
     let library = folder.join("libcuvolemin.a");
     println!("cargo:rerun-if-changed={}", library.display());
     if !library.is_file() {
-        println!("cargo:warning={} is missing: lib/build makes it", library.display());
+        println!(
+            "cargo:warning={} is missing: lib/build makes it",
+            library.display()
+        );
     }
     println!("cargo:rustc-link-search=native={}", folder.display());
     println!("cargo:rustc-link-lib=static=cuvolemin");

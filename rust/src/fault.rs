@@ -1,12 +1,12 @@
 //! Why a call gave nothing: the table of `include/cuvolemin.h`.
 
 macro_rules! faults {
-    ($($(#[$attribute:meta])* $name:ident = $number:literal, $message:literal;)*) => {
+    ($($name:ident = $number:literal, $message:literal;)*) => {
         /// Why a call gave nothing.
         #[derive(Debug, Clone, Copy, PartialEq, Eq, Hash)]
         #[non_exhaustive]
         pub enum Fault {
-            $(#[doc = $message] $(#[$attribute])* $name = $number,)*
+            $(#[doc = $message] $name = $number,)*
         }
 
         impl Fault {

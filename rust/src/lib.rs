@@ -15,13 +15,25 @@ pub use tree::{Tree, parse};
 pub fn expand(text: &str) -> Result<String, Error> {
     let made = made(64 + 2 * text.len(), |out, written, at| {
         // Safety: each pointer is that of a slice or of a number which lives as long as the call, and none overlap.
-        unsafe { sys::tt_expand_text(text.as_ptr(), text.len(), out.as_mut_ptr(), out.len(), written, at) }
+        unsafe {
+            sys::tt_expand_text(
+                text.as_ptr(),
+                text.len(),
+                out.as_mut_ptr(),
+                out.len(),
+                written,
+                at,
+            )
+        }
     })?;
     Ok(text_of(made))
 }
 
 /// What a call makes: first with so much room, and with what it needs where that is more.
-fn made(room: usize, mut call: impl FnMut(&mut [u8], &mut usize, &mut usize) -> u32) -> Result<Vec<u8>, Error> {
+fn made(
+    room: usize,
+    mut call: impl FnMut(&mut [u8], &mut usize, &mut usize) -> u32,
+) -> Result<Vec<u8>, Error> {
     let mut out = vec![0; room];
     loop {
         let (mut written, mut at) = (0, 0);
@@ -30,7 +42,9 @@ fn made(room: usize, mut call: impl FnMut(&mut [u8], &mut usize, &mut usize) -> 
                 out.truncate(written);
                 return Ok(out);
             }
-            Err(error) if error.fault == Fault::NoRoom && written > out.len() => out = vec![0; written],
+            Err(error) if error.fault == Fault::NoRoom && written > out.len() => {
+                out = vec![0; written]
+            }
             Err(error) => return Err(error),
         }
     }
@@ -40,7 +54,10 @@ fn made(room: usize, mut call: impl FnMut(&mut [u8], &mut usize, &mut usize) -> 
 fn checked(answer: u32, at: usize) -> Result<(), Error> {
     match Fault::of_number(answer) {
         None => {
-            assert_eq!(answer, 0, "the library is another than the one of this crate");
+            assert_eq!(
+                answer, 0,
+                "the library is another than the one of this crate"
+            );
             Ok(())
         }
         Some(fault) => Err(Error { fault, at }),

@@ -12,7 +12,16 @@ pub struct Tree {
 pub fn parse(text: &str) -> Result<Tree, Error> {
     let bytes = made(64 + 4 * text.len(), |out, written, at| {
         // Safety: each pointer is that of a slice or of a number which lives as long as the call, and none overlap.
-        unsafe { sys::tt_text_to_bytes(text.as_ptr(), text.len(), out.as_mut_ptr(), out.len(), written, at) }
+        unsafe {
+            sys::tt_text_to_bytes(
+                text.as_ptr(),
+                text.len(),
+                out.as_mut_ptr(),
+                out.len(),
+                written,
+                at,
+            )
+        }
     })?;
     Ok(Tree { bytes })
 }
@@ -42,7 +51,16 @@ impl Tree {
         let bytes = self.as_bytes();
         let text = made(2 * bytes.len(), |out, written, at| {
             // Safety: as above.
-            unsafe { sys::tt_bytes_to_text(bytes.as_ptr(), bytes.len(), out.as_mut_ptr(), out.len(), written, at) }
+            unsafe {
+                sys::tt_bytes_to_text(
+                    bytes.as_ptr(),
+                    bytes.len(),
+                    out.as_mut_ptr(),
+                    out.len(),
+                    written,
+                    at,
+                )
+            }
         })?;
         Ok(text_of(text))
     }

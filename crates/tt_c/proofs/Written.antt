@@ -1,20 +1,12 @@
 -- The text of a tree is that of the trees below its top.
 use Rattle.std.proofs.Common.{◌≡◌, ◌∙◌, ℕ, List, ap, subst}
 use Rattle.tt_base.specs.Forest.{Forest, Root}
-use Rattle.tt_c.specs.Failures.{write_failure}
-use Rattle.tt_c.specs.Texts.{HasNoText, IsTextOf}
-use Rattle.tt_c.specs.declared.failure.Failure.{Failure}
+use Rattle.tt_c.specs.Texts.{IsTextOf}
 use Rattle.tt_unparse.specs.Settled.{ReadsBack}
 use Rattle.tt_unparse.specs.Text.{text_of}
-use Rattle.tt_unparse.specs.Writable.{IsWritable, IsWriteFault}
-use Rattle.tt_unparse.specs.declared.fault.WriteFault.{WriteFault}
+use Rattle.tt_unparse.specs.Writable.{IsWritable}
 
 -- What is written of these is the tree's text.
 pub is_text : (root : Root) (trees : Forest) (text : List ℕ) → trees ≡ root.children → text ≡ text_of trees → IsWritable trees → ReadsBack trees text → IsTextOf root text
 is_text root trees text same is writable back =
     record { writable = subst IsWritable same writable; is = is ∙ ap text_of same; back = subst (λ t. ReadsBack t text) same back }
-
--- Why these are not written is why the tree is not.
-pub is_no_text : (root : Root) (trees : Forest) (fault : WriteFault) (failure : Failure) → trees ≡ root.children → IsWriteFault trees fault → failure ≡ write_failure fault
-    → HasNoText root failure
-is_no_text root trees fault failure same why told = (fault, (subst (λ t. IsWriteFault t fault) same why, told))

@@ -7,6 +7,10 @@ use Rattle.tt_bytes.specs.declared.fault.BytesFault.TheVariants as bytes
 use Rattle.tt_c.specs.declared.failure.Failure.{Failure}
 use Rattle.tt_c.specs.declared.fault.Fault.{Fault}
 use Rattle.tt_c.specs.declared.fault.Fault.TheVariants as told
+use Rattle.tt_expand.specs.declared.fault.ExpandTextError.{ExpandTextError}
+use Rattle.tt_expand.specs.declared.fault.ExpandTextError.TheVariants as expanding
+use Rattle.tt_expand.specs.declared.fault.MacroFault.{MacroFault}
+use Rattle.tt_expand.specs.declared.fault.MacroFault.TheVariants as found
 use Rattle.tt_macro_rules.specs.declared.error.ArmFault.{ArmFault}
 use Rattle.tt_macro_rules.specs.declared.error.ArmFault.TheVariants as arm
 use Rattle.tt_macro_rules.specs.declared.error.ExpandError.{ExpandError}
@@ -79,9 +83,9 @@ bad_token bad.LifetimeBeginsWithDigit = told.LifetimeBeginsWithDigit
 -- tokens that are no trees
 abbrev pub syntax_failure : SyntaxFault → Failure
 syntax_failure (syntax.BadToken why at) = at_place (bad_token why) at
-syntax_failure (syntax.Unopened bracket at) = at_place told.Unopened at
-syntax_failure (syntax.Mismatched bracket at opened) = at_place told.Mismatched at
-syntax_failure (syntax.Unclosed bracket at) = at_place told.Unclosed at
+syntax_failure (syntax.Unopened _ at) = at_place told.Unopened at
+syntax_failure (syntax.Mismatched _ at _) = at_place told.Mismatched at
+syntax_failure (syntax.Unclosed _ at) = at_place told.Unclosed at
 
 -- a text that is refused
 abbrev pub text_failure : TextFault → Failure
@@ -152,3 +156,20 @@ fill_fault (filling.Tree fault) = limit_fault fault
 -- a macro that does not expand an input: with the number of the arm
 abbrev pub expand_failure : ExpandError → Failure
 expand_failure error = at_place (fill_fault error.fault) error.arm
+
+-- what is wrong with a macro of a text, or with a call of one
+abbrev pub macro_fault : MacroFault → Fault
+macro_fault (found.Definition error) = arm_fault error.fault
+macro_fault found.Left = told.UnsupportedFragment
+macro_fault found.NoMatch = told.NoMatch
+macro_fault (found.Ambiguous _) = told.Ambiguous
+macro_fault (found.Expansion error) = fill_fault error.fault
+macro_fault found.TooDeep = told.TooDeep
+
+-- a text whose macros are not expanded
+abbrev pub expand_text_failure : ExpandTextError → Failure
+expand_text_failure (expanding.Text fault) = text_failure fault
+expand_text_failure (expanding.Macro it) = at_place (macro_fault it.fault) it.at
+expand_text_failure (expanding.Limit fault) = placeless (limit_fault fault)
+expand_text_failure (expanding.NotWritable at) = at_place told.NotWritable at
+expand_text_failure (expanding.TooLong at) = at_place told.MadeTooLong at

@@ -1,10 +1,11 @@
 //! Why a call gave no bytes, and where: what each fault of the libraries below is told as.
 ghost use Rattle.std.specs.Prelude.{◌≡◌};
-ghost use Rattle.tt_c.specs.Failures.{arm_fault, bad_token, bytes_failure, expand_failure, fill_fault, input_failure, limit_fault, pattern_fault, placeless, rules_failure, syntax_failure, template_fault, text_failure, write_failure};
+ghost use Rattle.tt_c.specs.Failures.{arm_fault, bad_token, bytes_failure, expand_failure, expand_text_failure, fill_fault, input_failure, limit_fault, macro_fault, pattern_fault, placeless, rules_failure, syntax_failure, template_fault, text_failure, write_failure};
 
 use crate::fault::Fault;
 use tt::TtFault;
 use tt_bytes::BytesFault;
+use tt_expand::{ExpandTextError, MacroFault};
 use tt_macro_rules::{ArmFault, ExpandError, RulesError};
 use tt_pattern::PatternError;
 use tt_template::{FillError, TemplateError};
@@ -219,5 +220,41 @@ pub(crate) fn expand_failure(error: ExpandError) -> Failure
     Failure {
         fault: fill_fault(error.fault),
         at: error.arm,
+    }
+}
+
+// What is wrong with a macro of a text, or with a call of one.
+fn macro_fault(fault: MacroFault) -> Fault
+    ensures { result ≡ macro_fault fault }
+{
+    match fault {
+        MacroFault::Definition(error) => arm_fault(error.fault),
+        MacroFault::Left => Fault::UnsupportedFragment,
+        MacroFault::NoMatch => Fault::NoMatch,
+        MacroFault::Ambiguous(_) => Fault::Ambiguous,
+        MacroFault::Expansion(error) => fill_fault(error.fault),
+        MacroFault::TooDeep => Fault::TooDeep,
+    }
+}
+
+/// Of a text whose macros are not expanded.
+pub(crate) fn expand_text_failure(error: ExpandTextError) -> Failure
+    ensures { result ≡ expand_text_failure error }
+{
+    match error {
+        ExpandTextError::Text(fault) => text_failure(fault),
+        ExpandTextError::Macro(finding) => Failure {
+            fault: macro_fault(finding.fault),
+            at: finding.at as usize,
+        },
+        ExpandTextError::Limit(fault) => limit_failure(fault),
+        ExpandTextError::NotWritable(at) => Failure {
+            fault: Fault::NotWritable,
+            at: at as usize,
+        },
+        ExpandTextError::TooLong(at) => Failure {
+            fault: Fault::MadeTooLong,
+            at: at as usize,
+        },
     }
 }

@@ -7,11 +7,13 @@
 
 ghost use Rattle.tt_c.specs.Answers.{Answers};
 ghost use Rattle.tt_c.specs.Bytes.{IsChecked};
+ghost use Rattle.tt_c.specs.ExpandedTexts.{IsExpandedText, IsNotExpanded};
 ghost use Rattle.tt_c.specs.Expanding.{AreBytesOfExpansion, HasNoBytesOf};
 ghost use Rattle.tt_c.specs.Texts.{AreBytesOfText, HasNone, HaveNoText, IsTextOfBytes};
 
 mod answer;
 mod bytes;
+mod expanding;
 mod failure;
 mod fault;
 mod macros;
@@ -19,6 +21,7 @@ mod text;
 
 use crate::answer::{give, tell};
 use crate::bytes::tree_of_bytes;
+use crate::expanding::expanded_text;
 use crate::macros::expanded_bytes;
 use crate::text::{bytes_of_text, text_of_bytes};
 use std::alloc::Global;
@@ -57,6 +60,23 @@ pub extern "C" fn tt_bytes_to_text(
     }
 }
 
+/// The text in which each call of a macro that is in scope is replaced by what comes of it, in the usual way.
+#[unsafe(no_mangle)]
+pub extern "C" fn tt_expand_text(
+    alloc: Global,
+    text: &[u8],
+    out: &mut [u8],
+    written: &mut usize,
+    at: &mut usize,
+) -> u32
+    ensures { Answers (IsExpandedText text.now) (IsNotExpanded text.now) out.old out.new written.new at.new result }
+{
+    match expanded_text(alloc, text) {
+        Ok(text) => give(text.as_bytes(), out, written, at),
+        Err(failure) => tell(failure, written, at),
+    }
+}
+
 /// The bytes of what a macro makes of an input. Its arms and the input are trees in bytes.
 #[unsafe(no_mangle)]
 pub extern "C" fn tt_expand_bytes(
@@ -81,7 +101,8 @@ pub extern "C" fn tt_check_bytes(alloc: Global, bytes: &[u8], at: &mut usize) ->
     ensures { IsChecked bytes.now at.new result }
 {
     match tree_of_bytes(alloc, bytes) {
-        Ok(_tree) => {
+        Ok(tree) => {
+            drop(tree);
             *at = 0;
             0
         }
