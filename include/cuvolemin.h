@@ -30,7 +30,7 @@ uint32_t tt_bytes_to_text(const uint8_t *bytes, size_t bytes_len, uint8_t *out, 
 
 /* A Rust text in which each call of a macro that is defined in it becomes what the macro makes of it. All else stays byte for byte. Up to
  * 128 expansions stand one inside the other, and $crate becomes crate. Macros with a fragment that is not supported stay, with their calls.
- * Faults: 1 to 44, and 81 to 106. *at is a byte of the text. */
+ * Faults: 1 to 44; 81 to 92 but for 84, of definitions; 100 to 106, of calls. *at is a byte of the text; 0 for faults 1, 2 and 4 to 9. */
 uint32_t tt_expand_text(const uint8_t *text, size_t text_len, uint8_t *out, size_t out_len, size_t *written, size_t *at);
 
 /* The bytes of what a macro makes of an input. Its arms, `(pattern) => {template}` with `;` between them, and the input are trees in bytes.
