@@ -1,0 +1,4 @@
+-- Lemmas of the library for other languages.
+pub mod Expanded
+pub mod Results
+pub mod Written

@@ -1,0 +1,8 @@
+-- What callers in other languages are answered.
+pub mod Answers
+pub mod Bytes
+pub mod ExpandedTexts
+pub mod Expanding
+pub mod Failures
+pub mod Faults
+pub mod Texts

@@ -1,0 +1,187 @@
+/* Rust texts, token trees in bytes, and macros. docs/EMBEDDING.md says how to link and what a caller has to keep.
+ *
+ * All functions
+ *   - read from slices: a pointer and a number of bytes. The pointer is never null, not even where the number is 0;
+ *   - answer CUVOLEMIN_OK, or the number of a fault from the table below, with its place in *at;
+ *   - keep nothing, and hand no pointer out. All memory that they take from malloc is given back before they return;
+ *   - may be called by several threads at once, if no two calls share what one of them writes.
+ *
+ * Those with an output write into out, which has room for out_len bytes, and set *written to the number of bytes that are made.
+ * Where these are more than out_len, nothing is written and the answer is CUVOLEMIN_NO_ROOM: ask again with that much room. With any
+ * other fault nothing is written, and *written is 0. out, written and at overlap with nothing else that is passed.
+ */
+#ifndef CUVOLEMIN_H
+#define CUVOLEMIN_H
+
+#include <stddef.h>
+#include <stdint.h>
+
+#ifdef __cplusplus
+extern "C" {
+#endif
+
+/* The bytes of the tree of a Rust text, of edition 2024, in UTF-8. The places of its tokens are bytes of the text, in file 0.
+ * Faults: 1 to 44. *at is a byte of the text; 0 for faults 1, 2 and 4 to 9. */
+uint32_t tt_text_to_bytes(const uint8_t *text, size_t text_len, uint8_t *out, size_t out_len, size_t *written, size_t *at);
+
+/* The Rust text of the tree that has these bytes. Read again, it gives the same tokens.
+ * Faults: 1, 2, 60 to 64, where *at is a byte of the input; 105, where it is how many tokens stand before the leaf; 106. */
+uint32_t tt_bytes_to_text(const uint8_t *bytes, size_t bytes_len, uint8_t *out, size_t out_len, size_t *written, size_t *at);
+
+/* A Rust text in which each call of a macro that is defined in it becomes what the macro makes of it. All else stays byte for byte. Up to
+ * 128 expansions stand one inside the other, for which 192 KiB of stack were enough where it was measured, and $crate becomes crate. Macros
+ * with a fragment that is not supported stay, with their calls.
+ * Faults: 1 to 44; 81 to 92 but for 84, of definitions; 100 to 106, of calls. *at is a byte of the text; 0 for faults 1, 2 and 4 to 9. */
+uint32_t tt_expand_text(const uint8_t *text, size_t text_len, uint8_t *out, size_t out_len, size_t *written, size_t *at);
+
+/* The bytes of what a macro makes of an input. Its arms, `(pattern) => {template}` with `;` between them, and the input are trees in bytes.
+ * Faults: 1, 2, 5 to 9; 60 to 64, where *at is a byte of the arms; 70 to 74, where it is a byte of the input; 81 to 92 and 101 to 103, where
+ * it is the number of the arm, from 0; 100, where it is how many tokens of the input stand before the place that no arm comes past. */
+uint32_t tt_expand_bytes(const uint8_t *arms, size_t arms_len, const uint8_t *input, size_t input_len, uint8_t *out, size_t out_len,
+                         size_t *written, size_t *at);
+
+/* Whether bytes are those of a tree. Faults: 1, and 60 to 64, where *at is a byte of the input. */
+uint32_t tt_check_bytes(const uint8_t *bytes, size_t bytes_len, size_t *at);
+
+/* The answers. A number keeps its meaning. */
+enum cuvolemin_answer {
+    CUVOLEMIN_OK = 0,
+    /* Memory was refused. */
+    CUVOLEMIN_MEMORY = 1,
+    /* What is made is longer than the output. Nothing is written there. */
+    CUVOLEMIN_NO_ROOM = 2,
+    /* The text is not UTF-8. */
+    CUVOLEMIN_NOT_UTF8 = 3,
+    /* The text has 4,294,967,296 bytes or more. */
+    CUVOLEMIN_TEXT_TOO_LONG = 4,
+    /* The trees have too many tokens. */
+    CUVOLEMIN_TOO_MANY_TOKENS = 5,
+    /* The trees have too many span parts. */
+    CUVOLEMIN_TOO_MANY_SPAN_PARTS = 6,
+    /* The trees have too many symbols. */
+    CUVOLEMIN_TOO_MANY_SYMBOLS = 7,
+    /* The trees have too many bytes. */
+    CUVOLEMIN_TOO_MANY_BYTES = 8,
+    /* Another limit of trees is passed. */
+    CUVOLEMIN_OTHER_LIMIT = 9,
+    /* A closing bracket where none is open. */
+    CUVOLEMIN_UNOPENED = 10,
+    /* A closing bracket that is no pair with the innermost that is open. */
+    CUVOLEMIN_MISMATCHED = 11,
+    /* The innermost bracket that is open at the end. */
+    CUVOLEMIN_UNCLOSED = 12,
+    /* `/ *` with no `* /` that closes it. */
+    CUVOLEMIN_UNTERMINATED_COMMENT = 20,
+    /* A literal that nothing closes. */
+    CUVOLEMIN_UNTERMINATED_LITERAL = 21,
+    /* The hashes of a raw literal with no quote behind them. */
+    CUVOLEMIN_RAW_WITHOUT_QUOTE = 22,
+    /* More than 255 hashes. */
+    CUVOLEMIN_TOO_MANY_HASHES = 23,
+    /* A suffix of more than 255 bytes. */
+    CUVOLEMIN_SUFFIX_TOO_LONG = 24,
+    /* `r#` before a name that is never raw. */
+    CUVOLEMIN_NEVER_RAW = 25,
+    /* A character that begins no token. */
+    CUVOLEMIN_UNKNOWN_CHARACTER = 26,
+    /* A name right before a quote or a `#`, which is no prefix of a literal. */
+    CUVOLEMIN_UNKNOWN_PREFIX = 27,
+    /* A name with emoji in it. */
+    CUVOLEMIN_INVALID_IDENT = 28,
+    /* `##` or `#"`. */
+    CUVOLEMIN_GUARDED_PREFIX = 29,
+    /* The letter of a base with no digit behind it. */
+    CUVOLEMIN_NO_DIGITS = 30,
+    /* The `e` of a float with no digit behind it. */
+    CUVOLEMIN_EMPTY_EXPONENT = 31,
+    /* A float that is not written in base ten. */
+    CUVOLEMIN_FLOAT_OF_ANOTHER_BASE = 32,
+    /* A digit that the number's base has not. */
+    CUVOLEMIN_FOREIGN_DIGIT = 33,
+    /* A byte or a byte string with a character beyond ASCII. */
+    CUVOLEMIN_BEYOND_ASCII = 34,
+    /* A carriage return that no line feed follows. */
+    CUVOLEMIN_BARE_RETURN = 35,
+    /* An escape that such a literal has not. */
+    CUVOLEMIN_UNKNOWN_ESCAPE = 36,
+    /* `\x` without two digits of base 16. */
+    CUVOLEMIN_BAD_HEX_ESCAPE = 37,
+    /* `\x80` or more where it would be no character. */
+    CUVOLEMIN_HEX_ESCAPE_TOO_LARGE = 38,
+    /* `\u` that gives no character. */
+    CUVOLEMIN_BAD_UNICODE_ESCAPE = 39,
+    /* A character that stands in a character literal behind a backslash alone. */
+    CUVOLEMIN_WANTS_ESCAPE = 40,
+    /* A character literal with nothing in it. */
+    CUVOLEMIN_EMPTY_CHAR = 41,
+    /* A character literal with several characters in it. */
+    CUVOLEMIN_SEVERAL_CHARS = 42,
+    /* A null in a C string. */
+    CUVOLEMIN_NULL_IN_C_STR = 43,
+    /* `'` and a digit. */
+    CUVOLEMIN_LIFETIME_BEGINS_WITH_DIGIT = 44,
+    /* The bytes end where more have to come. */
+    CUVOLEMIN_BYTES_TOO_SHORT = 60,
+    /* The bytes are of another format, or another version of this one. */
+    CUVOLEMIN_BYTES_OF_OTHER_FORMAT = 61,
+    /* A symbol's text is no UTF-8. */
+    CUVOLEMIN_BYTES_WITHOUT_TEXT = 62,
+    /* The bytes hold no tree. */
+    CUVOLEMIN_BYTES_WITHOUT_TREE = 63,
+    /* The bytes hold a tree that has others. */
+    CUVOLEMIN_BYTES_STORED_OTHERWISE = 64,
+    /* The bytes of the input end where more have to come. */
+    CUVOLEMIN_INPUT_TOO_SHORT = 70,
+    /* The bytes of the input are of another format. */
+    CUVOLEMIN_INPUT_OF_OTHER_FORMAT = 71,
+    /* A symbol's text in the bytes of the input is no UTF-8. */
+    CUVOLEMIN_INPUT_WITHOUT_TEXT = 72,
+    /* The bytes of the input hold no tree. */
+    CUVOLEMIN_INPUT_WITHOUT_TREE = 73,
+    /* The bytes of the input hold a tree that has others. */
+    CUVOLEMIN_INPUT_STORED_OTHERWISE = 74,
+    /* No pattern stands where an arm should begin. */
+    CUVOLEMIN_NO_PATTERN = 81,
+    /* A `$` of a pattern begins nothing. */
+    CUVOLEMIN_BEGINS_NOTHING = 82,
+    /* No fragment has the name that a variable gives. */
+    CUVOLEMIN_UNKNOWN_FRAGMENT = 83,
+    /* A fragment of Rust's grammar, which is not supported. */
+    CUVOLEMIN_UNSUPPORTED_FRAGMENT = 84,
+    /* A name is given to two variables. */
+    CUVOLEMIN_NAME_TWICE = 85,
+    /* A repetition has a separator and never two rounds. */
+    CUVOLEMIN_NEEDLESS_SEPARATOR = 86,
+    /* What a repetition repeats may take no tree. */
+    CUVOLEMIN_EMPTY_REPETITION = 87,
+    /* `=>` does not stand behind a pattern. */
+    CUVOLEMIN_NO_ARROW = 88,
+    /* No template stands behind `=>`. */
+    CUVOLEMIN_NO_TEMPLATE = 89,
+    /* A variable is used in fewer repetitions than it stands in. */
+    CUVOLEMIN_STILL_REPEATS = 90,
+    /* Nothing repeats in a repetition of a template. */
+    CUVOLEMIN_NOTHING_REPEATS = 91,
+    /* Behind a template stands neither the end nor `;`. */
+    CUVOLEMIN_NO_SEMICOLON = 92,
+    /* No arm takes the input. */
+    CUVOLEMIN_NO_MATCH = 100,
+    /* An arm takes the input in two ways. */
+    CUVOLEMIN_AMBIGUOUS = 101,
+    /* Variables of a repetition have different numbers of rounds. */
+    CUVOLEMIN_LENGTHS_DIFFER = 102,
+    /* A repetition that wants a round has none. */
+    CUVOLEMIN_NO_ROUND = 103,
+    /* Too many expansions stand one inside the other. */
+    CUVOLEMIN_TOO_DEEP = 104,
+    /* A leaf of the tree is written as no text that reads back. */
+    CUVOLEMIN_NOT_WRITABLE = 105,
+    /* The text would have 4,294,967,295 bytes or more. */
+    CUVOLEMIN_MADE_TOO_LONG = 106,
+};
+
+#ifdef __cplusplus
+}
+#endif
+
+#endif

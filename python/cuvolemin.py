@@ -1,0 +1,181 @@
+"""Rust texts, token trees in bytes, and macros: the functions of include/cuvolemin.h by ctypes.
+
+The library is lib/out/libcuvolemin.so beside this folder, or the file that the variable CUVOLEMIN_LIBRARY names."""
+
+import ctypes
+import functools
+import os
+import pathlib
+
+# The table of include/cuvolemin.h.
+FAULTS = {
+    1: ('Memory', 'Memory was refused.'),
+    2: ('NoRoom', 'What is made is longer than the output. Nothing is written there.'),
+    3: ('NotUtf8', 'The text is not UTF-8.'),
+    4: ('TextTooLong', 'The text has 4,294,967,296 bytes or more.'),
+    5: ('TooManyTokens', 'The trees have too many tokens.'),
+    6: ('TooManySpanParts', 'The trees have too many span parts.'),
+    7: ('TooManySymbols', 'The trees have too many symbols.'),
+    8: ('TooManyBytes', 'The trees have too many bytes.'),
+    9: ('OtherLimit', 'Another limit of trees is passed.'),
+    10: ('Unopened', 'A closing bracket where none is open.'),
+    11: ('Mismatched', 'A closing bracket that is no pair with the innermost that is open.'),
+    12: ('Unclosed', 'The innermost bracket that is open at the end.'),
+    20: ('UnterminatedComment', '`/*` with no `*/` that closes it.'),
+    21: ('UnterminatedLiteral', 'A literal that nothing closes.'),
+    22: ('RawWithoutQuote', 'The hashes of a raw literal with no quote behind them.'),
+    23: ('TooManyHashes', 'More than 255 hashes.'),
+    24: ('SuffixTooLong', 'A suffix of more than 255 bytes.'),
+    25: ('NeverRaw', '`r#` before a name that is never raw.'),
+    26: ('UnknownCharacter', 'A character that begins no token.'),
+    27: ('UnknownPrefix', 'A name right before a quote or a `#`, which is no prefix of a literal.'),
+    28: ('InvalidIdent', 'A name with emoji in it.'),
+    29: ('GuardedPrefix', '`##` or `#"`.'),
+    30: ('NoDigits', 'The letter of a base with no digit behind it.'),
+    31: ('EmptyExponent', 'The `e` of a float with no digit behind it.'),
+    32: ('FloatOfAnotherBase', 'A float that is not written in base ten.'),
+    33: ('ForeignDigit', "A digit that the number's base has not."),
+    34: ('BeyondAscii', 'A byte or a byte string with a character beyond ASCII.'),
+    35: ('BareReturn', 'A carriage return that no line feed follows.'),
+    36: ('UnknownEscape', 'An escape that such a literal has not.'),
+    37: ('BadHexEscape', '`\\x` without two digits of base 16.'),
+    38: ('HexEscapeTooLarge', '`\\x80` or more where it would be no character.'),
+    39: ('BadUnicodeEscape', '`\\u` that gives no character.'),
+    40: ('WantsEscape', 'A character that stands in a character literal behind a backslash alone.'),
+    41: ('EmptyChar', 'A character literal with nothing in it.'),
+    42: ('SeveralChars', 'A character literal with several characters in it.'),
+    43: ('NullInCStr', 'A null in a C string.'),
+    44: ('LifetimeBeginsWithDigit', "`'` and a digit."),
+    60: ('BytesTooShort', 'The bytes end where more have to come.'),
+    61: ('BytesOfOtherFormat', 'The bytes are of another format, or another version of this one.'),
+    62: ('BytesWithoutText', "A symbol's text is no UTF-8."),
+    63: ('BytesWithoutTree', 'The bytes hold no tree.'),
+    64: ('BytesStoredOtherwise', 'The bytes hold a tree that has others.'),
+    70: ('InputTooShort', 'The bytes of the input end where more have to come.'),
+    71: ('InputOfOtherFormat', 'The bytes of the input are of another format.'),
+    72: ('InputWithoutText', "A symbol's text in the bytes of the input is no UTF-8."),
+    73: ('InputWithoutTree', 'The bytes of the input hold no tree.'),
+    74: ('InputStoredOtherwise', 'The bytes of the input hold a tree that has others.'),
+    81: ('NoPattern', 'No pattern stands where an arm should begin.'),
+    82: ('BeginsNothing', 'A `$` of a pattern begins nothing.'),
+    83: ('UnknownFragment', 'No fragment has the name that a variable gives.'),
+    84: ('UnsupportedFragment', "A fragment of Rust's grammar, which is not supported."),
+    85: ('NameTwice', 'A name is given to two variables.'),
+    86: ('NeedlessSeparator', 'A repetition has a separator and never two rounds.'),
+    87: ('EmptyRepetition', 'What a repetition repeats may take no tree.'),
+    88: ('NoArrow', '`=>` does not stand behind a pattern.'),
+    89: ('NoTemplate', 'No template stands behind `=>`.'),
+    90: ('StillRepeats', 'A variable is used in fewer repetitions than it stands in.'),
+    91: ('NothingRepeats', 'Nothing repeats in a repetition of a template.'),
+    92: ('NoSemicolon', 'Behind a template stands neither the end nor `;`.'),
+    100: ('NoMatch', 'No arm takes the input.'),
+    101: ('Ambiguous', 'An arm takes the input in two ways.'),
+    102: ('LengthsDiffer', 'Variables of a repetition have different numbers of rounds.'),
+    103: ('NoRound', 'A repetition that wants a round has none.'),
+    104: ('TooDeep', 'Too many expansions stand one inside the other.'),
+    105: ('NotWritable', 'A leaf of the tree is written as no text that reads back.'),
+    106: ('MadeTooLong', 'The text would have 4,294,967,295 bytes or more.'),
+}
+
+NO_ROOM = 2
+
+
+class Error(ValueError):
+    """Why a call gave nothing: the number of the fault, its name, and the place, of which the header says what it counts."""
+
+    def __init__(self, number, at):
+        self.number = number
+        self.at = at
+        self.name, self.message = FAULTS.get(number, ("Unknown", "A fault that this module does not know."))
+        super().__init__(f"{self.message} At {at}.")
+
+
+def _library():
+    beside = pathlib.Path(__file__).resolve().parent.parent / "lib" / "out" / "libcuvolemin.so"
+    library = ctypes.CDLL(os.environ.get("CUVOLEMIN_LIBRARY") or str(beside))
+    slice_in = [ctypes.c_char_p, ctypes.c_size_t]
+    number_out = ctypes.POINTER(ctypes.c_size_t)
+    makes = [ctypes.c_void_p, ctypes.c_size_t, number_out, number_out]
+    for name, arguments in {
+        "tt_text_to_bytes": slice_in + makes,
+        "tt_bytes_to_text": slice_in + makes,
+        "tt_expand_text": slice_in + makes,
+        "tt_expand_bytes": slice_in + slice_in + makes,
+        "tt_check_bytes": slice_in + [number_out],
+    }.items():
+        function = getattr(library, name)
+        function.argtypes = arguments
+        function.restype = ctypes.c_uint32
+    return library
+
+
+_LIBRARY = _library()
+
+
+def _made(function, room, *inputs):
+    """What a function makes of inputs: first with so much room, and with what it needs where that is more."""
+    slices = [word for data in inputs for word in (data, len(data))]
+    while True:
+        out = ctypes.create_string_buffer(max(room, 1))
+        written, at = ctypes.c_size_t(), ctypes.c_size_t()
+        number = function(*slices, out, room, ctypes.byref(written), ctypes.byref(at))
+        if number == 0:
+            return out.raw[: written.value]
+        if number != NO_ROOM or written.value <= room:
+            raise Error(number, at.value)
+        room = written.value
+
+
+@functools.total_ordering
+class Tree:
+    """A token tree, held as its bytes: two trees are equal exactly where their bytes are, and are ordered by them."""
+
+    __slots__ = ("_bytes",)
+
+    def __init__(self, data):
+        """The tree that has these bytes. Error where no tree has them."""
+        data = bytes(data)
+        at = ctypes.c_size_t()
+        number = _LIBRARY.tt_check_bytes(data, len(data), ctypes.byref(at))
+        if number != 0:
+            raise Error(number, at.value)
+        self._bytes = data
+
+    @classmethod
+    def _of(cls, data):
+        tree = cls.__new__(cls)
+        tree._bytes = data
+        return tree
+
+    def __bytes__(self):
+        return self._bytes
+
+    def __eq__(self, other):
+        return self._bytes == other._bytes if isinstance(other, Tree) else NotImplemented
+
+    def __lt__(self, other):
+        return self._bytes < other._bytes if isinstance(other, Tree) else NotImplemented
+
+    def __hash__(self):
+        return hash(self._bytes)
+
+    def to_text(self):
+        """Its Rust text. Error where a leaf can't be written so that it reads back."""
+        return _made(_LIBRARY.tt_bytes_to_text, 2 * len(self._bytes), self._bytes).decode()
+
+    def expand(self, source):
+        """What the macro makes of an input, where this tree's trees are its arms."""
+        room = 2 * (len(self._bytes) + len(source._bytes))
+        return Tree._of(_made(_LIBRARY.tt_expand_bytes, room, self._bytes, source._bytes))
+
+
+def parse(text):
+    """The tree of a Rust text, a str or bytes."""
+    data = text.encode() if isinstance(text, str) else bytes(text)
+    return Tree._of(_made(_LIBRARY.tt_text_to_bytes, 64 + 4 * len(data), data))
+
+
+def expand(text):
+    """The Rust text in which each call of a macro that is defined in it becomes what the macro makes of it."""
+    data = text.encode() if isinstance(text, str) else bytes(text)
+    return _made(_LIBRARY.tt_expand_text, 64 + 2 * len(data), data).decode()

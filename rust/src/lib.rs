@@ -1,0 +1,70 @@
+//! Rust texts, token trees in bytes, and macros: safe functions over those of `include/cuvolemin.h`.
+
+mod error;
+mod fault;
+mod sys;
+mod tree;
+
+pub use error::Error;
+pub use fault::Fault;
+pub use tree::{Tree, parse};
+
+/// The Rust text in which each call of a macro that is defined in it becomes what the macro makes of it. All else stays byte for byte.
+///
+/// An error tells the byte of the text where it shows.
+pub fn expand(text: &str) -> Result<String, Error> {
+    let made = made(64 + 2 * text.len(), |out, written, at| {
+        // Safety: each pointer is that of a slice or of a number which lives as long as the call, and none overlap.
+        unsafe {
+            sys::tt_expand_text(
+                text.as_ptr(),
+                text.len(),
+                out.as_mut_ptr(),
+                out.len(),
+                written,
+                at,
+            )
+        }
+    })?;
+    Ok(text_of(made))
+}
+
+/// What a call makes: first with so much room, and with what it needs where that is more.
+fn made(
+    room: usize,
+    mut call: impl FnMut(&mut [u8], &mut usize, &mut usize) -> u32,
+) -> Result<Vec<u8>, Error> {
+    let mut out = vec![0; room];
+    loop {
+        let (mut written, mut at) = (0, 0);
+        match checked(call(&mut out, &mut written, &mut at), at) {
+            Ok(()) => {
+                out.truncate(written);
+                return Ok(out);
+            }
+            Err(error) if error.fault == Fault::NoRoom && written > out.len() => {
+                out = vec![0; written]
+            }
+            Err(error) => return Err(error),
+        }
+    }
+}
+
+/// The answer of a call, with the place that it gave.
+fn checked(answer: u32, at: usize) -> Result<(), Error> {
+    match Fault::of_number(answer) {
+        None => {
+            assert_eq!(
+                answer, 0,
+                "the library is another than the one of this crate"
+            );
+            Ok(())
+        }
+        Some(fault) => Err(Error { fault, at }),
+    }
+}
+
+/// The text that a call made, which is UTF-8.
+fn text_of(bytes: Vec<u8>) -> String {
+    String::from_utf8(bytes).expect("the library writes UTF-8")
+}

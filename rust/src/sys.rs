@@ -1,0 +1,43 @@
+//! The functions of `include/cuvolemin.h`.
+
+unsafe extern "C" {
+    pub fn tt_text_to_bytes(
+        text: *const u8,
+        text_len: usize,
+        out: *mut u8,
+        out_len: usize,
+        written: *mut usize,
+        at: *mut usize,
+    ) -> u32;
+
+    pub fn tt_bytes_to_text(
+        bytes: *const u8,
+        bytes_len: usize,
+        out: *mut u8,
+        out_len: usize,
+        written: *mut usize,
+        at: *mut usize,
+    ) -> u32;
+
+    pub fn tt_expand_text(
+        text: *const u8,
+        text_len: usize,
+        out: *mut u8,
+        out_len: usize,
+        written: *mut usize,
+        at: *mut usize,
+    ) -> u32;
+
+    pub fn tt_expand_bytes(
+        arms: *const u8,
+        arms_len: usize,
+        input: *const u8,
+        input_len: usize,
+        out: *mut u8,
+        out_len: usize,
+        written: *mut usize,
+        at: *mut usize,
+    ) -> u32;
+
+    pub fn tt_check_bytes(bytes: *const u8, bytes_len: usize, at: *mut usize) -> u32;
+}
