@@ -271,6 +271,20 @@ def try_readme_c(room):
                                    timeout=SECONDS, check=True).stdout)
 
 
+def try_valgrind(room):
+    """The program in C of the examples under valgrind, over texts that are expanded and ones that are refused: nothing is read that was not
+    written, and all memory is given back."""
+    if not shutil.which("valgrind"):
+        raise Missing("valgrind is not on PATH")
+    made = c_program(room, "examples/embedding/expand.c")
+    for name, status in (("nested", 0), ("squared", 0), ("faults", 1), ("mismatched", 1)):
+        text = (ROOT / "examples" / "rust" / f"{name}.rs").read_bytes()
+        done = subprocess.run(["valgrind", "--quiet", "--leak-check=full", "--error-exitcode=9", str(made)], input=text, capture_output=True,
+                              timeout=SECONDS, check=False)
+        if done.returncode != status:
+            raise Wrong(f"{name}.rs ended with status {done.returncode}: {done.stderr.decode(errors='replace')[:300]}")
+
+
 def try_readme_rust(room):
     """README's example in Rust."""
     expects_example("\n".join(cargo(room, "run", "--example", "expand", input=example()[0])) + "\n")
@@ -289,6 +303,7 @@ TRIED = {
     "Rust": try_rust,
     "Python": try_python,
     "README's example in C": try_readme_c,
+    "C under valgrind": try_valgrind,
     "README's example in Rust": try_readme_rust,
     "README's example in Python": try_readme_python,
     "tables of faults": try_tables,
