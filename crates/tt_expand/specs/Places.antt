@@ -32,7 +32,6 @@ byte_within (node delimiter children rest) place behind = byte_at children place
 abbrev pub pattern_place : PatternError → ℕ
 pattern_place (pattern.BeginsNothing at) = at
 pattern_place (pattern.UnknownFragment at) = at
-pattern_place (pattern.UnsupportedFragment at fragment) = at
 pattern_place (pattern.NameTwice at) = at
 pattern_place (pattern.NeedlessSeparator at) = at
 pattern_place (pattern.EmptyRepetition at) = at

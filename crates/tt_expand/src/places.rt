@@ -62,7 +62,6 @@ fn pattern_place(error: PatternError) -> usize
     match error {
         PatternError::BeginsNothing(at)
         | PatternError::UnknownFragment(at)
-        | PatternError::UnsupportedFragment(at, _)
         | PatternError::NameTwice(at)
         | PatternError::NeedlessSeparator(at)
         | PatternError::EmptyRepetition(at) => at,

@@ -48,7 +48,6 @@ module _ (until : ℕ) (trees : Forest) (outer : Delimiter) (held between : Fore
   pattern_wrong pattern.Memory is = tt
   pattern_wrong (pattern.BeginsNothing at) is = body_is ∙ ap (λ f. or_else (option_map of_pattern f) (arrow_fault until (variables (pattern_of held)) between)) is
   pattern_wrong (pattern.UnknownFragment at) is = body_is ∙ ap (λ f. or_else (option_map of_pattern f) (arrow_fault until (variables (pattern_of held)) between)) is
-  pattern_wrong (pattern.UnsupportedFragment at it) is = body_is ∙ ap (λ f. or_else (option_map of_pattern f) (arrow_fault until (variables (pattern_of held)) between)) is
   pattern_wrong (pattern.NameTwice at) is = body_is ∙ ap (λ f. or_else (option_map of_pattern f) (arrow_fault until (variables (pattern_of held)) between)) is
   pattern_wrong (pattern.NeedlessSeparator at) is = body_is ∙ ap (λ f. or_else (option_map of_pattern f) (arrow_fault until (variables (pattern_of held)) between)) is
   pattern_wrong (pattern.EmptyRepetition at) is = body_is ∙ ap (λ f. or_else (option_map of_pattern f) (arrow_fault until (variables (pattern_of held)) between)) is

@@ -232,7 +232,6 @@ fn pattern_kind(error: PatternError) -> (&'static str, usize) {
     match error {
         PatternError::BeginsNothing(at) => ("begins nothing", at),
         PatternError::UnknownFragment(at) => ("unknown", at),
-        PatternError::UnsupportedFragment(at, _) => ("unsupported", at),
         PatternError::NameTwice(at) => ("twice", at),
         PatternError::NeedlessSeparator(at) => ("separator", at),
         PatternError::EmptyRepetition(at) => ("empty", at),

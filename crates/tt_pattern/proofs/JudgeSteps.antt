@@ -137,7 +137,6 @@ pub is_error : (trees : Forest) (fault : PatternError) â†’ pattern_fault trees â
 is_error trees error.Memory is = tt
 is_error trees (error.BeginsNothing at) is = is
 is_error trees (error.UnknownFragment at) is = is
-is_error trees (error.UnsupportedFragment at it) is = is
 is_error trees (error.NameTwice at) is = is
 is_error trees (error.NeedlessSeparator at) is = is
 is_error trees (error.EmptyRepetition at) is = is

@@ -66,7 +66,6 @@ abbrev pub IsPatternError : Forest → PatternError → Type 0
 IsPatternError trees error.Memory = Unit {0}
 IsPatternError trees (error.BeginsNothing at) = pattern_fault trees ≡ Some (error.BeginsNothing at)
 IsPatternError trees (error.UnknownFragment at) = pattern_fault trees ≡ Some (error.UnknownFragment at)
-IsPatternError trees (error.UnsupportedFragment at it) = pattern_fault trees ≡ Some (error.UnsupportedFragment at it)
 IsPatternError trees (error.NameTwice at) = pattern_fault trees ≡ Some (error.NameTwice at)
 IsPatternError trees (error.NeedlessSeparator at) = pattern_fault trees ≡ Some (error.NeedlessSeparator at)
 IsPatternError trees (error.EmptyRepetition at) = pattern_fault trees ≡ Some (error.EmptyRepetition at)

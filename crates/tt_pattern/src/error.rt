@@ -1,7 +1,6 @@
 //! Why trees are no pattern.
 ghost use Rattle.std.specs.Prelude.{◌≡◌};
 
-use crate::pattern::GrammarFragment;
 use std::alloc::{AllocError, AllocFailed};
 use thiserror::Error;
 
@@ -15,9 +14,6 @@ pub enum PatternError {
     /// No fragment has the name that the variable gives.
     #[error("there is no such fragment")]
     UnknownFragment(usize),
-    /// The variable's fragment is one of Rust's grammar that is not supported. All of them are, so this does not come.
-    #[error("the fragment is not supported")]
-    UnsupportedFragment(usize, GrammarFragment),
     /// The name was given to a variable before, raw or not.
     #[error("the name is given twice")]
     NameTwice(usize),

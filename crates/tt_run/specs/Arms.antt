@@ -19,11 +19,10 @@ use Rattle.tt_template.specs.declared.error.TemplateError.TheVariants as templat
 use Rattle.tt_template.specs.declared.fill_error.FillError.{FillError}
 use Rattle.tt_template.specs.declared.fill_error.FillError.TheVariants as filling
 
--- the number of a pattern's fault; want of memory has none
+-- the number of a pattern's fault, 4 for none; want of memory has none
 abbrev pub pattern_number : PatternError → Option ℕ
 pattern_number (pattern.BeginsNothing at) = Some 2
 pattern_number (pattern.UnknownFragment at) = Some 3
-pattern_number (pattern.UnsupportedFragment at fragment) = Some 4
 pattern_number (pattern.NameTwice at) = Some 5
 pattern_number (pattern.NeedlessSeparator at) = Some 6
 pattern_number (pattern.EmptyRepetition at) = Some 7

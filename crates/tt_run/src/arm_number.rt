@@ -13,7 +13,6 @@ fn pattern_number(error: PatternError) -> Option<usize>
     match error {
         PatternError::BeginsNothing(_) => Some(2),
         PatternError::UnknownFragment(_) => Some(3),
-        PatternError::UnsupportedFragment(_, _) => Some(4),
         PatternError::NameTwice(_) => Some(5),
         PatternError::NeedlessSeparator(_) => Some(6),
         PatternError::EmptyRepetition(_) => Some(7),
