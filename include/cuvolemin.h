@@ -146,8 +146,8 @@ enum cuvolemin_answer {
     CUVOLEMIN_BEGINS_NOTHING = 82,
     /* No fragment has the name that a variable gives. */
     CUVOLEMIN_UNKNOWN_FRAGMENT = 83,
-    /* A fragment of Rust's grammar, which is not supported. */
-    CUVOLEMIN_UNSUPPORTED_FRAGMENT = 84,
+    /* A call is left as it is. That is no fault, so no function answers it. */
+    CUVOLEMIN_LEFT = 84,
     /* A name is given to two variables. */
     CUVOLEMIN_NAME_TWICE = 85,
     /* A repetition has a separator and never two rounds. */

@@ -59,7 +59,7 @@ FAULTS = {
     81: ('NoPattern', 'No pattern stands where an arm should begin.'),
     82: ('BeginsNothing', 'A `$` of a pattern begins nothing.'),
     83: ('UnknownFragment', 'No fragment has the name that a variable gives.'),
-    84: ('UnsupportedFragment', "A fragment of Rust's grammar, which is not supported."),
+    84: ('Left', "A call is left as it is. That is no fault, so no function answers it."),
     85: ('NameTwice', 'A name is given to two variables.'),
     86: ('NeedlessSeparator', 'A repetition has a separator and never two rounds.'),
     87: ('EmptyRepetition', 'What a repetition repeats may take no tree.'),

@@ -79,7 +79,7 @@ faults! {
     NoPattern = 81, "No pattern stands where an arm should begin.";
     BeginsNothing = 82, "A `$` of a pattern begins nothing.";
     UnknownFragment = 83, "No fragment has the name that a variable gives.";
-    UnsupportedFragment = 84, "A fragment of Rust's grammar, which is not supported.";
+    Left = 84, "A call is left as it is. That is no fault, so no function answers it.";
     NameTwice = 85, "A name is given to two variables.";
     NeedlessSeparator = 86, "A repetition has a separator and never two rounds.";
     EmptyRepetition = 87, "What a repetition repeats may take no tree.";

@@ -121,7 +121,6 @@ input_failure (bytes.StoredOtherwise at) = at_place told.InputStoredOtherwise at
 abbrev pub pattern_fault : PatternError → Fault
 pattern_fault (pattern.BeginsNothing at) = told.BeginsNothing
 pattern_fault (pattern.UnknownFragment at) = told.UnknownFragment
-pattern_fault (pattern.UnsupportedFragment at fragment) = told.UnsupportedFragment
 pattern_fault (pattern.NameTwice at) = told.NameTwice
 pattern_fault (pattern.NeedlessSeparator at) = told.NeedlessSeparator
 pattern_fault (pattern.EmptyRepetition at) = told.EmptyRepetition
@@ -160,7 +159,8 @@ expand_failure error = at_place (fill_fault error.fault) error.arm
 -- what is wrong with a macro of a text, or with a call of one
 abbrev pub macro_fault : MacroFault → Fault
 macro_fault (found.Definition error) = arm_fault error.fault
-macro_fault found.Left = told.UnsupportedFragment
+macro_fault found.Left = told.Left
+macro_fault found.Conditional = told.Left
 macro_fault found.NoMatch = told.NoMatch
 macro_fault (found.Ambiguous _) = told.Ambiguous
 macro_fault (found.Expansion error) = fill_fault error.fault

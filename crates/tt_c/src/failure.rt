@@ -158,7 +158,6 @@ fn pattern_fault(error: PatternError) -> Fault
     match error {
         PatternError::BeginsNothing(_) => Fault::BeginsNothing,
         PatternError::UnknownFragment(_) => Fault::UnknownFragment,
-        PatternError::UnsupportedFragment(_, _) => Fault::UnsupportedFragment,
         PatternError::NameTwice(_) => Fault::NameTwice,
         PatternError::NeedlessSeparator(_) => Fault::NeedlessSeparator,
         PatternError::EmptyRepetition(_) => Fault::EmptyRepetition,
@@ -229,7 +228,7 @@ fn macro_fault(fault: MacroFault) -> Fault
 {
     match fault {
         MacroFault::Definition(error) => arm_fault(error.fault),
-        MacroFault::Left => Fault::UnsupportedFragment,
+        MacroFault::Left | MacroFault::Conditional => Fault::Left,
         MacroFault::NoMatch => Fault::NoMatch,
         MacroFault::Ambiguous(_) => Fault::Ambiguous,
         MacroFault::Expansion(error) => fill_fault(error.fault),

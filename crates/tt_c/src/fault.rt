@@ -103,8 +103,8 @@ pub enum Fault {
     BeginsNothing = 82,
     /// No fragment has the name that a variable gives.
     UnknownFragment = 83,
-    /// A fragment of Rust's grammar, which is not supported.
-    UnsupportedFragment = 84,
+    /// A call is left as it is. That is no fault, so no export answers it.
+    Left = 84,
     /// A name is given to two variables.
     NameTwice = 85,
     /// A repetition has a separator and never two rounds.

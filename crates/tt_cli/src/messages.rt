@@ -2,33 +2,12 @@
 use std::alloc::{AllocError, Global};
 use tt_expand::MacroFault;
 use tt_macro_rules::{ArmFault, RulesError};
-use tt_pattern::{GrammarFragment, PatternError};
+use tt_pattern::PatternError;
 use tt_template::{FillError, TemplateError};
 
-// How Rust spells a fragment.
-fn fragment_name(fragment: GrammarFragment) -> &'static str {
-    match fragment {
-        GrammarFragment::Expr => "expr",
-        GrammarFragment::Expr2021 => "expr_2021",
-        GrammarFragment::Ty => "ty",
-        GrammarFragment::Pat => "pat",
-        GrammarFragment::PatParam => "pat_param",
-        GrammarFragment::Path => "path",
-        GrammarFragment::Stmt => "stmt",
-        GrammarFragment::Item => "item",
-        GrammarFragment::Meta => "meta",
-    }
-}
-
-// What is wrong with a pattern of the macro of that name.
-fn pattern_message(alloc: Global, name: &str, error: PatternError) -> Result<String, AllocError> {
+// What is wrong with a pattern.
+fn pattern_message(alloc: Global, error: PatternError) -> Result<String, AllocError> {
     let words = match error {
-        PatternError::UnsupportedFragment(_, fragment) => {
-            let fragment = fragment_name(fragment);
-            return format!(in alloc;
-                "`{name}` is left as it is: the fragment `{fragment}` is not supported"
-            );
-        }
         PatternError::BeginsNothing(_) => "this `$` begins no variable and no repetition",
         PatternError::UnknownFragment(_) =>
             "there is no fragment of the name that this variable gives",
@@ -59,7 +38,7 @@ fn definition_message(alloc: Global, name: &str, error: RulesError) -> Result<St
     let rule = error.arm.saturating_add(1);
     match error.fault {
         ArmFault::NoPattern(_) => format!(in alloc; "rule {rule} of `{name}` has no pattern"),
-        ArmFault::Pattern(error) => pattern_message(alloc, name, error),
+        ArmFault::Pattern(error) => pattern_message(alloc, error),
         ArmFault::NoArrow(_) => {
             format!(in alloc; "no `=>` stands behind the pattern of rule {rule} of `{name}`")
         }
@@ -101,6 +80,9 @@ pub fn message(alloc: Global, name: &str, fault: MacroFault) -> Result<String, A
     match fault {
         MacroFault::Definition(error) => definition_message(alloc, name, error),
         MacroFault::Left => format!(in alloc; "this call of `{name}` is left as it is"),
+        MacroFault::Conditional => format!(in alloc;
+            "this call of `{name}` is left as it is, since `#[cfg(..)]` would hold for the first of what comes alone"
+        ),
         MacroFault::NoMatch => format!(in alloc; "no rule of `{name}` takes this"),
         MacroFault::Ambiguous(arm) => {
             let rule = arm.saturating_add(1);

@@ -1,6 +1,6 @@
 -- Where a call lies in a text.
 use Rattle.std.proofs.Common.{◌≡◌, ◌≤◌, ℕ, suc, Bool, true, false, List, Option, None, Some, refl, ap, sym, subst, ◌∙◌, arith, cond, codes}
-use Rattle.std.specs.Prelude.{◌&&◌}
+use Rattle.std.specs.Prelude.{◌&&◌, ◌||◌, ◌==◌, not}
 use Rattle.std.specs.Str.{IsCharBoundary}
 use Rattle.tt.specs.Forest.{Forest, end, leaf, node}
 use Rattle.tt.specs.Gluing.{after_trees}
@@ -8,13 +8,17 @@ use Rattle.tt.specs.Moves.{after_tree}
 use Rattle.tt.specs.Span.{start_of, end_of}
 use Rattle.tt.specs.Types.Delimiter.{Delimiter}
 use Rattle.tt.specs.Types.Ident.{Ident}
+use Rattle.tt.specs.Types.Leaf.TheVariants as leaf_of
 use Rattle.tt.specs.Types.Span.{Span}
-use Rattle.tt_expand.specs.Coming.{begin_at}
-use Rattle.tt_expand.specs.Items.{Definition, Call, calls, call_from, call_behind, call_in, definition_in, is_at_colons, is_at_root, item_from, item_in, name_in}
-use Rattle.tt_expand.specs.Laid.{Lies, Laid, lies_end, lies_leaf, lies_node}
-use Rattle.tt_expand.proofs.LaidFacts.{laid_behind, laid_order, laid_past}
+use Rattle.tt_expand.specs.Coming.{begin_at, takes_in, end_in, rest_in}
+use Rattle.tt_items.specs.Items.{Definition, Call, calls, call_from, call_behind, call_in, definition_in, is_at_colons, is_at_root, item_from, item_in, name_in}
+use Rattle.tt_edit.specs.Laid.{Lies, Laid, byte_behind, lies_end, lies_leaf, lies_node}
+use Rattle.tt_edit.proofs.LaidFacts.{laid_behind, laid_order, laid_past, starts_before}
 use Rattle.tt_expand.proofs.ManyTrees.{after_more}
 use Rattle.tt_pattern.proofs.Passing.{after_end}
+use Rattle.tt_items.specs.Positions.{is_items}
+use Rattle.tt_items.specs.declared.position.Position.{Position}
+use Rattle.tt_matcher.specs.Fragments.{is_brace}
 use Rattle.tt_pattern.specs.Units.{is_at_punct}
 
 -- a call's subtree is the last of its trees, and stands behind two or more of them
@@ -77,19 +81,77 @@ to_subtree n other {delimiter} {children} {rest} (lies_end order) stands = absur
   where
     no : end ≡ node delimiter children rest → ⊥
     no e = cc
-to_subtree n other (lies_leaf lies behind) stands =
+to_subtree n other (lies_leaf {it = it} lies behind) stands =
     let (order, closes, others) = past_subtree stands (laid_behind n behind) in
-    (record { after = lies.after; range = record { order = order; begins = lies.range.begins; ends = closes } }, others)
+    (record { after = lies.after; range = record { order = omega (arith, order, starts_before it lies.range.order); begins = lies.range.begins; ends = closes } }, others)
 to_subtree n other (lies_node opens inside shuts behind) stands =
     let (order, closes, others) = past_subtree stands (laid_behind n (laid_past inside shuts behind)) in
     (record { after = opens.after; range = record { order = order; begins = opens.range.begins; ends = closes } }, others)
 
--- A call is a range of the text, from where its first token begins to where its subtree closes, and what stands behind it lies behind that.
-pub call_laid : {text : List ℕ} {from to : ℕ} (root : List ℕ) (trees : Forest) (it : Call) → item_in root trees ≡ calls it → Laid text from trees to
+-- A call without its `;` is a range of the text, from where its first token begins to where its subtree closes, and what stands behind it
+-- lies behind that.
+subtree_laid : {text : List ℕ} {from to : ℕ} (root : List ℕ) (trees : Forest) (it : Call) → item_in root trees ≡ calls it → Laid text from trees to
     → Lies text from (start_of (begin_at trees it.name.span).range) (end_of it.delimiter.close.range)
     × Laid text (end_of it.delimiter.close.range) (after_trees it.len trees) to
-call_laid {text} {to = to} root trees it is laid =
+subtree_laid {text} {to = to} root trees it is laid =
     let call = call_ends root trees it is in
     let (lies, behind) = to_subtree call.before it.name.span laid call.stands in
     let left : after_trees it.len trees ≡ call.rest = ap (λ n. after_trees n trees) call.len ∙ after_more (suc call.before) trees ∙ ap after_tree call.stands in
     (lies, subst (λ f. Laid text (end_of it.delimiter.close.range) f to) (sym left) behind)
+
+-- A range up to a byte, and a `;` behind that, are one, and what stands behind them lies behind the `;`.
+with_semicolon : {text : List ℕ} {from start close to : ℕ} (other : Span) (rest : Forest) → is_at_punct (codes ";") rest ≡ true → Lies text from start close
+    → Laid text close rest to
+    → Lies text from start (end_of (begin_at rest other).range) × Laid text (end_of (begin_at rest other).range) (after_tree rest) to
+with_semicolon other end is lies behind = absurd (cc is)
+with_semicolon other (node delimiter children rest) is lies behind = absurd (cc is)
+with_semicolon other (leaf (leaf_of.Literal it) rest) is lies behind = absurd (cc is)
+with_semicolon other (leaf (leaf_of.Ident it) rest) is lies behind = absurd (cc is)
+with_semicolon {text} {to = to} other (leaf (leaf_of.Punct it) rest) is lies (lies_leaf semicolon behind) = (
+  record {
+    after = lies.after;
+    range = record {
+      order = omega (arith, lies.range.order, semicolon.after, semicolon.range.order);
+      begins = lies.range.begins;
+      ends = semicolon.range.ends;
+    };
+  },
+  subst (λ n. Laid text n rest to) (ap (λ b. cond b (end_of it.span.range) (start_of it.span.range)) there) behind,
+)
+  where
+    there : (it.char == 59) ≡ true
+    there = by (it.char == 59) is
+      where
+        by : (b : Bool) → (b || false) ≡ true → b ≡ true
+        by true is = refl
+        by false is = is
+
+-- Where four things are, the last is.
+last_of : (a b c d : Bool) → (a && (b && (c && d))) ≡ true → d ≡ true
+last_of true true true d is = is
+last_of true true false d is = absurd (cc is)
+last_of true false c d is = absurd (cc is)
+last_of false b c d is = absurd (cc is)
+
+-- A call is a range of the text, from where its first token begins to where it ends, and what stands behind it lies behind that.
+pub call_laid : {text : List ℕ} {from to : ℕ} (root : List ℕ) (trees : Forest) (it : Call) (position : Position) → item_in root trees ≡ calls it
+    → Laid text from trees to
+    → Lies text from (start_of (begin_at trees it.name.span).range) (end_of (end_in position it (after_trees it.len trees)).range)
+    × Laid text (end_of (end_in position it (after_trees it.len trees)).range) (rest_in position it (after_trees it.len trees)) to
+call_laid {text} {from} {to} root trees it position is laid = by (takes_in position it rest) refl
+  where
+    rest : Forest
+    rest = after_trees it.len trees
+
+    close : Span
+    close = it.delimiter.close
+
+    here : Lies text from (start_of (begin_at trees it.name.span).range) (end_of close.range) × Laid text (end_of close.range) rest to
+    here = subtree_laid root trees it is laid
+
+    by : (takes : Bool) → takes_in position it rest ≡ takes
+        → Lies text from (start_of (begin_at trees it.name.span).range) (end_of (cond takes (begin_at rest close) close).range)
+        × Laid text (end_of (cond takes (begin_at rest close) close).range) (cond takes (after_tree rest) rest) to
+    by true takes =
+        with_semicolon close rest (last_of (is_items position.siblings) position.is_start (not (is_brace it.delimiter.kind)) (is_at_punct (codes ";") rest) takes) here.0 here.1
+    by false takes = here

@@ -4,7 +4,7 @@ use Rattle.tt.specs.Forest.{Root}
 use Rattle.tt_expand.specs.declared.calling.Made.TheVariants as made
 use Rattle.tt_expand.specs.declared.fault.MacroFault.{MacroFault}
 use Rattle.tt_expand.specs.Calling.{IsMade}
-use Rattle.tt_expand.specs.Items.{Call}
+use Rattle.tt_items.specs.Items.{Call}
 use Rattle.tt_expand.specs.Macros.{IsInputFault}
 use Rattle.tt_macro_rules.specs.Arms.{Arm}
 use Rattle.tt_macro_rules.specs.Expansions.{IsExpansion}

@@ -9,9 +9,9 @@ use Rattle.tt_template.proofs.Writes.{append-end, append-join}
 use Rattle.tt_expand.specs.Coming.{Comes}
 use Rattle.tt_expand.specs.Knowing.{Setting, Known}
 use Rattle.tt_expand.specs.Outcomes.{Outcome, nothing, passes, enters, stays, becomes, trees_left}
-use Rattle.tt_expand.specs.Positions.{first_in}
+use Rattle.tt_items.specs.Positions.{begun as begun_among}
+use Rattle.tt_items.specs.declared.position.Siblings.{Siblings}
 use Rattle.tt_expand.specs.Walks.{Level, begun, Ends, Leads, first_leaf, first_subtree, first_stay, first_becomes, closes_of}
-use Rattle.tt.specs.Types.DelimiterKind.TheVariants.{Brace}
 
 -- what is built once these are, of which the innermost comes first, in levels that close there
 abbrev pub finished : List Span → List Outcome → Stack → Stack
@@ -52,21 +52,21 @@ module _ (close : Span) (closes : List Span) (others : Outcome) (outer : List Ou
   finished_close inner = ap (λ s. finished (close ∷ closes) (others ∷ outer) (close_innermost inner s)) (append-end stack)
 
 -- Whatever comes of what is left, what comes of the trees is built once that is: what is known, the levels, and what is built, at first and now.
-pub record IsGoing (setting : Setting) (limit : ℕ) (trees : Forest) (before : Known) (old : Stack) (levels : List Level) (now : Known) (stack : Stack) : Type 0 where
+pub record IsGoing (setting : Setting) (limit : ℕ) (siblings : Siblings) (trees : Forest) (before : Known) (old : Stack) (levels : List Level) (now : Known) (stack : Stack) : Type 0 where
   pub finishes : (after : Known) (outcomes : List Outcome) → Ends setting limit levels now after outcomes
-      → (outcome : Outcome) × Comes setting limit (first_in Brace) 0 before trees after outcome × (finished (closes_of levels) outcomes stack ≡ append (trees_left outcome) old)
+      → (outcome : Outcome) × Comes setting limit (begun_among siblings) 0 before trees after outcome × (finished (closes_of levels) outcomes stack ≡ append (trees_left outcome) old)
 
-module _ (setting : Setting) (limit : ℕ) (trees : Forest) (before now others : Known) (old stack : Stack) (level next : Level) (outer nexts : List Level)
-    (going : IsGoing setting limit trees before old (level ∷ outer) now stack) where
+module _ (setting : Setting) (limit : ℕ) (siblings : Siblings) (trees : Forest) (before now others : Known) (old stack : Stack) (level next : Level) (outer nexts : List Level)
+    (going : IsGoing setting limit siblings trees before old (level ∷ outer) now stack) where
   -- It goes on where something more is built in the innermost level.
   pub goes_on : (grown : List Outcome → List Outcome) (built : Stack) → Leads setting limit (level ∷ outer) now grown (next ∷ nexts) others
       → closes_of (next ∷ nexts) ≡ closes_of (level ∷ outer)
       → ((first : Outcome) (more : List Outcome) → finished (closes_of (level ∷ outer)) (grown (first ∷ more)) stack ≡ finished (closes_of (level ∷ outer)) (first ∷ more) built)
-      → IsGoing setting limit trees before old (next ∷ nexts) others built
+      → IsGoing setting limit siblings trees before old (next ∷ nexts) others built
   goes_on grown built leads closes same = record { finishes = by }
     where
       by : (after : Known) (outcomes : List Outcome) → Ends setting limit (next ∷ nexts) others after outcomes
-          → (outcome : Outcome) × Comes setting limit (first_in Brace) 0 before trees after outcome × (finished (closes_of (next ∷ nexts)) outcomes built ≡ append (trees_left outcome) old)
+          → (outcome : Outcome) × Comes setting limit (begun_among siblings) 0 before trees after outcome × (finished (closes_of (next ∷ nexts)) outcomes built ≡ append (trees_left outcome) old)
       by after [] e = absurd e
       by after (first ∷ more) e =
           let (outcome, comes, is) = going.finishes after (grown (first ∷ more)) (leads after (first ∷ more) e) in
@@ -74,11 +74,11 @@ module _ (setting : Setting) (limit : ℕ) (trees : Forest) (before now others :
 
   -- It goes on in a subtree.
   pub goes_into : (it : Delimiter) → Leads setting limit (level ∷ outer) now (first_subtree it) (next ∷ nexts) others → closes_of (next ∷ nexts) ≡ it.close ∷ closes_of (level ∷ outer)
-      → IsGoing setting limit trees before old (next ∷ nexts) others (above stack it.kind it.open_span end)
+      → IsGoing setting limit siblings trees before old (next ∷ nexts) others (above stack it.kind it.open_span end)
   goes_into it leads closes = record { finishes = by }
     where
       by : (after : Known) (outcomes : List Outcome) → Ends setting limit (next ∷ nexts) others after outcomes
-          → (outcome : Outcome) × Comes setting limit (first_in Brace) 0 before trees after outcome
+          → (outcome : Outcome) × Comes setting limit (begun_among siblings) 0 before trees after outcome
           × (finished (closes_of (next ∷ nexts)) outcomes (above stack it.kind it.open_span end) ≡ append (trees_left outcome) old)
       by after [] e = absurd e
       by after (held ∷ []) e = absurd (none after held (leads after (held ∷ []) e))
@@ -95,11 +95,11 @@ module _ (setting : Setting) (limit : ℕ) (trees : Forest) (before now others :
 
   -- It goes on behind one.
   pub goes_out : (close : Span) → Leads setting limit (level ∷ outer) now (λ outcomes. nothing ∷ outcomes) (next ∷ nexts) others → close ∷ closes_of (next ∷ nexts) ≡ closes_of (level ∷ outer)
-      → IsGoing setting limit trees before old (next ∷ nexts) others (close_innermost close stack)
+      → IsGoing setting limit siblings trees before old (next ∷ nexts) others (close_innermost close stack)
   goes_out close leads closes = record { finishes = by }
     where
       by : (after : Known) (outcomes : List Outcome) → Ends setting limit (next ∷ nexts) others after outcomes
-          → (outcome : Outcome) × Comes setting limit (first_in Brace) 0 before trees after outcome
+          → (outcome : Outcome) × Comes setting limit (begun_among siblings) 0 before trees after outcome
           × (finished (closes_of (next ∷ nexts)) outcomes (close_innermost close stack) ≡ append (trees_left outcome) old)
       by after [] e = absurd e
       by after (first ∷ more) e =
@@ -110,21 +110,21 @@ module _ (setting : Setting) (limit : ℕ) (trees : Forest) (before now others :
           )
 
 -- Nothing is built yet.
-pub begins : (setting : Setting) (limit : ℕ) (trees : Forest) (before : Known) (old : Stack) (close : Span)
-    → IsGoing setting limit trees before old (begun trees close ∷ []) before old
-begins setting limit trees before old close = record { finishes = by }
+pub begins : (setting : Setting) (limit : ℕ) (siblings : Siblings) (trees : Forest) (before : Known) (old : Stack) (close : Span)
+    → IsGoing setting limit siblings trees before old (begun siblings trees close ∷ []) before old
+begins setting limit siblings trees before old close = record { finishes = by }
   where
-    by : (after : Known) (outcomes : List Outcome) → Ends setting limit (begun trees close ∷ []) before after outcomes
-        → (outcome : Outcome) × Comes setting limit (first_in Brace) 0 before trees after outcome × (finished (close ∷ []) outcomes old ≡ append (trees_left outcome) old)
+    by : (after : Known) (outcomes : List Outcome) → Ends setting limit (begun siblings trees close ∷ []) before after outcomes
+        → (outcome : Outcome) × Comes setting limit (begun_among siblings) 0 before trees after outcome × (finished (close ∷ []) outcomes old ≡ append (trees_left outcome) old)
     by after [] e = absurd e
-    by after (it ∷ []) (inside, comes, e) = (it, subst (λ k. Comes setting limit (first_in Brace) 0 before trees k it) e comes, refl)
+    by after (it ∷ []) (inside, comes, e) = (it, subst (λ k. Comes setting limit (begun_among siblings) 0 before trees k it) e comes, refl)
     by after (it ∷ other ∷ more) (inside, comes, e) = absurd e
 
 -- All is built.
-pub ends_so : (setting : Setting) (limit : ℕ) (trees : Forest) (before now after : Known) (old stack : Stack) (level : Level) (outer : List Level)
-    → IsGoing setting limit trees before old (level ∷ outer) now stack → Ends setting limit (level ∷ outer) now after (nothing ∷ [])
-    → (outcome : Outcome) × Comes setting limit (first_in Brace) 0 before trees after outcome × (stack ≡ append (trees_left outcome) old)
-ends_so setting limit trees before now after old stack level [] going e =
+pub ends_so : (setting : Setting) (limit : ℕ) (siblings : Siblings) (trees : Forest) (before now after : Known) (old stack : Stack) (level : Level) (outer : List Level)
+    → IsGoing setting limit siblings trees before old (level ∷ outer) now stack → Ends setting limit (level ∷ outer) now after (nothing ∷ [])
+    → (outcome : Outcome) × Comes setting limit (begun_among siblings) 0 before trees after outcome × (stack ≡ append (trees_left outcome) old)
+ends_so setting limit siblings trees before now after old stack level [] going e =
     let (outcome, comes, is) = going.finishes after (nothing ∷ []) e in
     (outcome, comes, sym (append-end stack) ∙ is)
-ends_so setting limit trees before now after old stack level (next ∷ outer) going (inside, comes, e) = absurd e
+ends_so setting limit siblings trees before now after old stack level (next ∷ outer) going (inside, comes, e) = absurd e

@@ -4,18 +4,17 @@ use Rattle.tt.specs.Forest.{Forest, Root, end, leaf, node}
 use Rattle.tt.specs.Gluing.{after_trees}
 use Rattle.tt.specs.Moves.{after_tree}
 use Rattle.tt.specs.Types.Delimiter.{Delimiter}
-use Rattle.tt.specs.Types.DelimiterKind.TheVariants.{Brace}
 use Rattle.tt.specs.Types.Leaf.{Leaf}
 use Rattle.tt_expand.specs.declared.walk.Event.{Event}
 use Rattle.tt_expand.specs.declared.walk.Event.TheVariants as event
 use Rattle.tt_expand.specs.Calling.{IsFaulty}
-use Rattle.tt_expand.specs.Coming.{IsPlain, Comes, ends, on_leaf, on_node, on_definition, on_other_call, into_other_call, on_faulty_call, on_call, begin_at, placed_at, known_after}
-use Rattle.tt_expand.specs.Items.{Definition, Call, defines, calls, item_in}
+use Rattle.tt_expand.specs.Coming.{IsPlain, Comes, ends, on_leaf, on_node, on_definition, on_other_call, into_other_call, on_faulty_call, on_call, begin_at, end_in, rest_in, behind_in, begun_by, is_conditional_in, placed_at, known_after}
+use Rattle.tt_items.specs.Items.{Definition, Call, defines, calls, item_in}
 use Rattle.tt_expand.specs.Knowing.{Setting, Known, left_in_scope}
 use Rattle.tt_expand.specs.Macros.{IsRead, called_by, arms_of, known_behind}
 use Rattle.tt_expand.specs.Outcomes.{Outcome, nothing, passes, enters, stays, becomes, trees_left, placed}
-use Rattle.tt_expand.specs.Positions.{first_in, behind as past_end, behind_subtree, keeps_macros}
-use Rattle.tt_expand.specs.Walks.{Level, past_leaf, past_subtree, past, kept_behind, inside, Leads, first_leaf, first_subtree, first_stay, first_becomes, IsNext}
+use Rattle.tt_items.specs.Positions.{behind as past_end, behind_subtree, keeps_macros}
+use Rattle.tt_expand.specs.Walks.{Level, past_leaf, past_subtree, past, past_call, kept_behind, inside, Leads, first_leaf, first_subtree, first_stay, first_becomes, IsNext}
 use Rattle.tt_macro_rules.specs.Arms.{Arm}
 use Rattle.tt_macro_rules.specs.Expansions.{IsExpansion}
 use Rattle.tt_macro_rules.specs.declared.macro_rules.Expansion.TheVariants as expansion
@@ -36,7 +35,7 @@ module _ (setting : Setting) (limit : ℕ) (level : Level) (outer : List Level) 
   -- Into a subtree.
   pub leads_subtree : (delimiter : Delimiter) (children : Forest) → level.rest ≡ node delimiter children (after_tree level.rest) → IsPlain setting known level.plain level.rest
       → Leads setting limit (level ∷ outer) known (first_subtree delimiter)
-      (inside delimiter children (kept_behind (keeps_macros delimiter.kind level.position) (length known.macros)) ∷ past_subtree delimiter.kind level ∷ outer) known
+      (inside delimiter children level.position (kept_behind (keeps_macros delimiter.kind level.position) (length known.macros)) ∷ past_subtree delimiter.kind level ∷ outer) known
   leads_subtree delimiter children begins plain after [] e = absurd e
   leads_subtree delimiter children begins plain after (held ∷ []) (within, comes, e) = absurd e
   leads_subtree delimiter children begins plain after (held ∷ others ∷ more) (within, comes, (behind, then, rest)) = (
@@ -96,7 +95,7 @@ module _ (setting : Setting) (limit : ℕ) (level : Level) (outer : List Level) 
       )
 
       -- Past one that is wrong.
-      pub leads_faulty : (then : Known) → IsFaulty setting limit it known then
+      pub leads_faulty : (then : Known) → IsFaulty setting limit (is_conditional_in level.position it (after_trees it.len level.rest)) it known then
           → Leads setting limit (level ∷ outer) known (first_stay (front_trees it.len level.rest)) (past it.len (is_brace it.delimiter.kind) level ∷ outer) then
       leads_faulty then is after [] e = absurd e
       leads_faulty then is after (others ∷ more) (within, comes, behind) = (
@@ -111,20 +110,23 @@ module _ (setting : Setting) (limit : ℕ) (level : Level) (outer : List Level) 
 -- Past one of which a tree comes.
 module _ (setting : Setting) (left : ℕ) (level : Level) (outer : List Level) (known : Known) (first : level.plain ≡ 0) (goes_on : known.is_over ≡ false) where
   pub leads_call : (it : Call) (arms : List Arm) (tree : Root) → item_in setting.root level.rest ≡ calls it → arms_of (called_by setting known.macros it) ≡ Some arms
-      → IsExpansion arms 0 0 it.input (expansion.Tree tree) → (within : Known) (held : Outcome) → Comes setting left (first_in Brace) 0 known tree.children within held
+      → is_conditional_in level.position it (after_trees it.len level.rest) ≡ false → IsExpansion arms 0 0 it.input (expansion.Tree tree) → (within : Known) (held : Outcome)
+      → Comes setting left (begun_by level.position it (after_trees it.len level.rest)) 0 known tree.children within held
       → Leads setting (suc left) (level ∷ outer) known
-      (first_becomes (begin_at level.rest it.name.span) it.delimiter.close (placed_at level.position it (after_trees it.len level.rest) (trees_left held)))
-      (past it.len (is_brace it.delimiter.kind) level ∷ outer) within
-  leads_call it arms tree there some expands within held comes after [] e = absurd e
-  leads_call it arms tree there some expands within held comes after (others ∷ more) (beyond, then, behind) = (
-    beyond,
-    subst
-        (λ n. Comes setting (suc left) level.position n known level.rest beyond
-        (becomes (begin_at level.rest it.name.span) it.delimiter.close (placed_at level.position it (after_trees it.len level.rest) (trees_left held)) others))
-        (sym first)
-        (on_call tree goes_on there some expands comes (subst (λ n. Comes setting (suc left) (past_end (is_brace it.delimiter.kind) level.position) n within (after_trees it.len level.rest) beyond others) first then)),
-    behind,
-  )
+      (first_becomes (begin_at level.rest it.name.span) (end_in level.position it (after_trees it.len level.rest)) (placed_at level.position it (after_trees it.len level.rest) (trees_left held)))
+      (past_call it level ∷ outer) within
+  leads_call it arms tree there some free expands within held comes after [] e = absurd e
+  leads_call it arms tree there some free expands within held comes after (others ∷ more) (beyond, then, behind) =
+      let rest = after_trees it.len level.rest in (
+        beyond,
+        subst
+            (λ n. Comes setting (suc left) level.position n known level.rest beyond
+            (becomes (begin_at level.rest it.name.span) (end_in level.position it rest) (placed_at level.position it rest (trees_left held)) others))
+            (sym first)
+            (on_call tree goes_on there some free expands comes
+            (subst (λ n. Comes setting (suc left) (behind_in level.position it rest) n within (rest_in level.position it rest) beyond others) first then)),
+        behind,
+      )
 
 -- What comes next in other levels to which these lead comes next in these.
 module _ (setting : Setting) (limit : ℕ) (levels others : List Level) (known then : Known) (leads : Leads setting limit levels known (λ outcomes. outcomes) others then) where
@@ -137,5 +139,5 @@ module _ (setting : Setting) (limit : ℕ) (levels others : List Level) (known t
   next_by (event.Invocation it) nexts behind (left, fits, is) = (
     left,
     fits,
-    λ within held comes after outcomes e. leads after (first_becomes it.first_span it.delimiter.close (placed it.is_statement it.delimiter (trees_left held)) outcomes) (is within held comes after outcomes e),
+    λ within held comes after outcomes e. leads after (first_becomes it.first_span it.last_span (placed it.is_statement it.delimiter (trees_left held)) outcomes) (is within held comes after outcomes e),
   )

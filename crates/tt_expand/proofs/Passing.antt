@@ -1,24 +1,24 @@
 -- What comes next where a call is passed.
-use Rattle.std.proofs.Common.{◌≡◌, ◌<◌, ℕ, List, ◌∷◌, map, reverse, false, None, ap, ap₂, sym, subst, arith}
-use Rattle.tt.specs.Forest.{Root}
+use Rattle.std.proofs.Common.{◌≡◌, ◌<◌, ◌≤◌, ℕ, Bool, List, ◌∷◌, map, reverse, true, false, None, cond, refl, ap, ap₂, sym, subst, ◌∙◌, arith}
+use Rattle.tt.specs.Forest.{Forest, Root, size}
 use Rattle.tt.specs.Gluing.{after_trees}
 use Rattle.tt.specs.Iters.{rest_of}
+use Rattle.tt.specs.Moves.{after_tree}
 use Rattle.tt_expand.specs.declared.walk.Event.{Event}
 use Rattle.tt_expand.specs.declared.walk.Event.TheVariants as event
 use Rattle.tt_expand.specs.declared.walk.Walk.{Walk}
 use Rattle.tt_expand.specs.Calling.{IsFaulty, IsExpanded}
-use Rattle.tt_expand.specs.Coming.{begin_at, placed_at, Comes}
-use Rattle.tt_expand.specs.Items.{Call, calls}
+use Rattle.tt_expand.specs.Coming.{begin_at, end_in, takes_in, begun_by, is_conditional_in, placed_at, Comes}
+use Rattle.tt_items.specs.Items.{Call, calls}
 use Rattle.tt_expand.specs.Knowing.{Setting, Known}
 use Rattle.tt_expand.specs.Macros.{called_by, arms_of, known_behind}
 use Rattle.tt_expand.specs.Outcomes.{Outcome, trees_left, placed}
 use Rattle.tt_expand.specs.Passing.{IsStay, IsInvoked}
-use Rattle.tt_expand.specs.Positions.{first_in}
-use Rattle.tt_expand.specs.Walks.{Level, level_of, levels_of, past, first_stay, first_becomes, Leads, closes_of, work_in, IsNext, IsFirst, IsAtItem, Steps}
+use Rattle.tt_items.specs.Positions.{begun as begun_among}
+use Rattle.tt_expand.specs.Walks.{Level, level_of, levels_of, past, past_call, first_stay, first_becomes, Leads, closes_of, work_in, IsNext, IsFirst, IsAtItem, Steps}
 use Rattle.tt_expand.proofs.Leading.{leads_other, leads_faulty, leads_call}
-use Rattle.tt_expand.proofs.Lengths.{call_less}
+use Rattle.tt_items.proofs.Lengths.{call_less, fewer_behind}
 use Rattle.tt_matcher.specs.Fragments.{front_trees, is_brace}
-use Rattle.tt.specs.Types.DelimiterKind.TheVariants.{Brace}
 use Rattle.tt.specs.Types.Span.{Span}
 
 module _ (setting : Setting) (limit : ℕ) (old : Walk) (known : Known) (it : Call) (there : IsAtItem (calls it) setting old known) where
@@ -45,13 +45,13 @@ module _ (setting : Setting) (limit : ℕ) (old : Walk) (known : Known) (it : Ca
       (leads_other setting limit (level_of old.level) (map level_of (reverse old.outer.items)) known there.first there.goes_on it there.item none not_into) is
 
   -- It stays where something is wrong with it.
-  pub next_faulty : (event : Event) (new : Walk) (others : Known) → IsFaulty setting limit it known others → IsStay it old event new
+  pub next_faulty : (event : Event) (new : Walk) (others : Known) → IsFaulty setting limit (is_conditional_in old.level.position it (after_trees it.len (rest_of old.level.rest))) it known others → IsStay it old event new
       → IsNext setting limit (levels_of old) known event (levels_of new) others
   next_faulty event new others wrong is =
       staying event new others (leads_faulty setting limit (level_of old.level) (map level_of (reverse old.outer.items)) known there.first there.goes_on it there.item others wrong) is
 
   -- A tree comes of it.
-  pub next_expanded : (event : Event) (new : Walk) (others : Known) (tree : Root) → IsExpanded setting limit it tree known others → IsInvoked it tree old event new
+  pub next_expanded : (event : Event) (new : Walk) (others : Known) (tree : Root) → IsExpanded setting limit (is_conditional_in old.level.position it (after_trees it.len (rest_of old.level.rest))) it tree known others → IsInvoked it tree old event new
       → IsNext setting limit (levels_of old) known event (levels_of new) others
   next_expanded event.End new others tree from is = absurd is
   next_expanded (event.Leaf l) new others tree from is = absurd is
@@ -66,30 +66,39 @@ module _ (setting : Setting) (limit : ℕ) (old : Walk) (known : Known) (it : Ca
         by,
       ))
     where
+      behind : Forest
+      behind = after_trees it.len (rest_of old.level.rest)
+
       begin : Span
       begin = begin_at (rest_of old.level.rest) it.name.span
 
-      nexts : List Level
-      nexts = past it.len (is_brace it.delimiter.kind) (level_of old.level) ∷ map level_of (reverse old.outer.items)
+      stop : Span
+      stop = end_in old.level.position it behind
 
-      by : (inside : Known) (held : Outcome) → Comes setting from.left (first_in Brace) 0 others i.tree.children inside held
-          → Leads setting limit (levels_of old) known (first_becomes i.first_span i.delimiter.close (placed i.is_statement i.delimiter (trees_left held))) nexts inside
+      nexts : List Level
+      nexts = past_call it (level_of old.level) ∷ map level_of (reverse old.outer.items)
+
+      by : (inside : Known) (held : Outcome) → Comes setting from.left (begun_among i.siblings) 0 others i.tree.children inside held
+          → Leads setting limit (levels_of old) known (first_becomes i.first_span i.last_span (placed i.is_statement i.delimiter (trees_left held))) nexts inside
       by inside held comes =
-          subst (λ s. Leads setting limit (levels_of old) known (first_becomes s i.delimiter.close (placed i.is_statement i.delimiter (trees_left held))) nexts inside) (sym is.first)
-          (subst (λ d. Leads setting limit (levels_of old) known (first_becomes begin d.close (placed i.is_statement d (trees_left held))) nexts inside) (sym is.delimiter)
-          (subst (λ b. Leads setting limit (levels_of old) known (first_becomes begin it.delimiter.close (placed b it.delimiter (trees_left held))) nexts inside) (sym is.is_statement)
-          (subst (λ n. Leads setting n (levels_of old) known (first_becomes begin it.delimiter.close (placed_at old.level.position it (after_trees it.len (rest_of old.level.rest)) (trees_left held))) nexts inside) (sym from.fits)
-          (leads_call setting from.left (level_of old.level) (map level_of (reverse old.outer.items)) known there.first there.goes_on it from.arms tree there.item from.expands from.makes inside held
-          (subst (λ k. Comes setting from.left (first_in Brace) 0 k tree.children inside held) from.known
-          (subst (λ t. Comes setting from.left (first_in Brace) 0 others t.children inside held) is.makes comes))))))
+          subst (λ s. Leads setting limit (levels_of old) known (first_becomes s i.last_span (placed i.is_statement i.delimiter (trees_left held))) nexts inside) (sym is.first)
+          (subst (λ s. Leads setting limit (levels_of old) known (first_becomes begin s (placed i.is_statement i.delimiter (trees_left held))) nexts inside) (sym is.last)
+          (subst (λ d. Leads setting limit (levels_of old) known (first_becomes begin stop (placed i.is_statement d (trees_left held))) nexts inside) (sym is.delimiter)
+          (subst (λ b. Leads setting limit (levels_of old) known (first_becomes begin stop (placed b it.delimiter (trees_left held))) nexts inside) (sym is.is_statement)
+          (subst (λ n. Leads setting n (levels_of old) known (first_becomes begin stop (placed_at old.level.position it behind (trees_left held))) nexts inside) (sym from.fits)
+          (leads_call setting from.left (level_of old.level) (map level_of (reverse old.outer.items)) known there.first there.goes_on it from.arms tree there.item from.expands from.free from.makes inside held
+          (subst (λ k. Comes setting from.left (begun_by old.level.position it behind) 0 k tree.children inside held) from.known
+          (subst (λ t. Comes setting from.left (begun_by old.level.position it behind) 0 others t.children inside held) is.makes
+          (subst (λ s. Comes setting from.left (begun_among s) 0 others i.tree.children inside held) is.siblings comes))))))))
 
 module _ (root : List ℕ) (old : Walk) (it : Call) (there : IsFirst (calls it) root old) where
   -- Less is left to do behind it.
-  stepped : (it_level : Level) → it_level ≡ past it.len (is_brace it.delimiter.kind) (level_of old.level) → (outer : List Level) → outer ≡ map level_of (reverse old.outer.items)
+  stepped : (it_level : Level) → (level : Level) → it_level ≡ level → level.close ≡ old.level.close → size level.rest ≤ size (after_trees it.len (rest_of old.level.rest))
+      → (outer : List Level) → outer ≡ map level_of (reverse old.outer.items)
       → (closes_of (it_level ∷ outer) ≡ closes_of (levels_of old)) × (work_in (it_level ∷ outer) < work_in (levels_of old))
-  stepped it_level now outer same = (
-    ap₂ (λ l ls. closes_of (l ∷ ls)) now same,
-    omega (arith, call_less root (rest_of old.level.rest) it there, ap₂ (λ l ls. work_in (l ∷ ls)) now same),
+  stepped it_level level now close less outer same = (
+    ap₂ (λ l ls. closes_of (l ∷ ls)) now same ∙ ap (λ s. s ∷ closes_of (map level_of (reverse old.outer.items))) close,
+    omega (arith, less, call_less root (rest_of old.level.rest) it there, ap₂ (λ l ls. work_in (l ∷ ls)) now same),
   )
 
   pub stays_step : (event : Event) (new : Walk) → IsStay it old event new → Steps (levels_of old) event (levels_of new)
@@ -98,7 +107,14 @@ module _ (root : List ℕ) (old : Walk) (it : Call) (there : IsFirst (calls it) 
   stays_step (event.Opens h) new is = absurd is
   stays_step (event.Closes c) new is = absurd is
   stays_step (event.Invocation i) new is = absurd is
-  stays_step (event.Stays trees) new (taken, now, outer) = stepped (level_of new.level) now (map level_of (reverse new.outer.items)) (ap (λ os. map level_of (reverse os)) outer)
+  stays_step (event.Stays trees) new (taken, now, outer) =
+      stepped (level_of new.level) (past it.len (is_brace it.delimiter.kind) (level_of old.level)) now refl (omega arith)
+      (map level_of (reverse new.outer.items)) (ap (λ os. map level_of (reverse os)) outer)
+
+  -- Behind its `;` no more tokens are left than before it.
+  fewer : (takes : Bool) (rest : Forest) → size (cond takes (after_tree rest) rest) ≤ size rest
+  fewer true rest = fewer_behind 1 rest
+  fewer false rest = omega arith
 
   pub invoked_step : (tree : Root) (event : Event) (new : Walk) → IsInvoked it tree old event new → Steps (levels_of old) event (levels_of new)
   invoked_step tree event.End new is = absurd is
@@ -107,4 +123,6 @@ module _ (root : List ℕ) (old : Walk) (it : Call) (there : IsFirst (calls it) 
   invoked_step tree (event.Closes c) new is = absurd is
   invoked_step tree (event.Stays f) new is = absurd is
   invoked_step tree (event.Invocation i) new (is, now, outer) =
-      stepped (level_of new.level) now (map level_of (reverse new.outer.items)) (ap (λ os. map level_of (reverse os)) outer)
+      let behind = after_trees it.len (rest_of old.level.rest) in
+      stepped (level_of new.level) (past_call it (level_of old.level)) now refl (fewer (takes_in old.level.position it behind) behind)
+      (map level_of (reverse new.outer.items)) (ap (λ os. map level_of (reverse os)) outer)

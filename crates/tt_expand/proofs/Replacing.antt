@@ -3,7 +3,6 @@ use Rattle.std.proofs.Common.{◌≡◌, ◌<◌, ◌++◌, ◌-◌, ℕ, true, 
 use Rattle.std.proofs.lemmas.List.{append_assoc, append-nil}
 use Rattle.tt.specs.Forest.{Forest}
 use Rattle.tt.specs.Types.Delimiter.{Delimiter}
-use Rattle.tt.specs.Types.DelimiterKind.TheVariants.{Brace}
 use Rattle.tt.specs.Types.Leaf.{Leaf}
 use Rattle.tt.specs.Types.Span.{Span}
 use Rattle.tt.specs.Views.{trees_of}
@@ -13,8 +12,9 @@ use Rattle.tt_expand.specs.Coming.{Comes}
 use Rattle.tt_expand.specs.Expansion.{replacement, replacements, IsSame, IsEventWritten, GoesOn}
 use Rattle.tt_expand.specs.Knowing.{Setting, Known}
 use Rattle.tt_expand.specs.Outcomes.{Outcome, nothing, trees_left, placed}
-use Rattle.tt_expand.specs.Positions.{first_in}
-use Rattle.tt_expand.specs.Texts.{Replacement, Writing, finished, with_all, FitAll, IsReplaced, AreReplaced}
+use Rattle.tt_items.specs.Positions.{begun as begun_among}
+use Rattle.tt_items.specs.declared.position.Siblings.TheVariants.{Items}
+use Rattle.tt_edit.specs.Texts.{Replacement, Writing, finished, with_all, FitAll, IsReplaced, AreReplaced}
 use Rattle.tt_expand.specs.Walks.{Level, begun, Ends, Leads, first_leaf, first_subtree, first_stay, first_becomes, work_in, IsNext, Steps}
 
 -- all that gives way in what comes of levels
@@ -25,16 +25,16 @@ all_replacements (it ∷ others) = replacements it ++ all_replacements others
 -- whatever comes of what is left, that and what is replaced already is what comes of the trees
 pub record IsReading (setting : Setting) (limit : ℕ) (trees : Forest) (before : Known) (levels : List Level) (now : Known) (done : List Replacement) : Type 0 where
   pub finishes : (after : Known) (outcomes : List Outcome) → Ends setting limit levels now after outcomes
-      → (outcome : Outcome) × Comes setting limit (first_in Brace) 0 before trees after outcome × (done ++ all_replacements outcomes ≡ replacements outcome)
+      → (outcome : Outcome) × Comes setting limit (begun_among Items) 0 before trees after outcome × (done ++ all_replacements outcomes ≡ replacements outcome)
 
 -- Nothing is replaced yet.
-pub begins : (setting : Setting) (limit : ℕ) (trees : Forest) (before : Known) (close : Span) → IsReading setting limit trees before (begun trees close ∷ []) before []
+pub begins : (setting : Setting) (limit : ℕ) (trees : Forest) (before : Known) (close : Span) → IsReading setting limit trees before (begun Items trees close ∷ []) before []
 begins setting limit trees before close = record { finishes = by }
   where
-    by : (after : Known) (outcomes : List Outcome) → Ends setting limit (begun trees close ∷ []) before after outcomes
-        → (outcome : Outcome) × Comes setting limit (first_in Brace) 0 before trees after outcome × ([] ++ all_replacements outcomes ≡ replacements outcome)
+    by : (after : Known) (outcomes : List Outcome) → Ends setting limit (begun Items trees close ∷ []) before after outcomes
+        → (outcome : Outcome) × Comes setting limit (begun_among Items) 0 before trees after outcome × ([] ++ all_replacements outcomes ≡ replacements outcome)
     by after [] e = absurd e
-    by after (it ∷ []) (inside, comes, e) = (it, subst (λ k. Comes setting limit (first_in Brace) 0 before trees k it) e comes, append-nil (replacements it))
+    by after (it ∷ []) (inside, comes, e) = (it, subst (λ k. Comes setting limit (begun_among Items) 0 before trees k it) e comes, append-nil (replacements it))
     by after (it ∷ other ∷ more) (inside, comes, e) = absurd e
 
 module _ (setting : Setting) (limit : ℕ) (trees : Forest) (before now others : Known) (level : Level) (outer nexts : List Level) (done : List Replacement)
@@ -46,7 +46,7 @@ module _ (setting : Setting) (limit : ℕ) (trees : Forest) (before now others :
   reads_on grown more leads same = record { finishes = by }
     where
       by : (after : Known) (outcomes : List Outcome) → Ends setting limit nexts others after outcomes
-          → (outcome : Outcome) × Comes setting limit (first_in Brace) 0 before trees after outcome × ((done ++ more) ++ all_replacements outcomes ≡ replacements outcome)
+          → (outcome : Outcome) × Comes setting limit (begun_among Items) 0 before trees after outcome × ((done ++ more) ++ all_replacements outcomes ≡ replacements outcome)
       by after outcomes e =
           let ended = leads after outcomes e in
           let (outcome, comes, is) = reading.finishes after (grown outcomes) ended in
@@ -91,7 +91,7 @@ module _ (setting : Setting) (limit : ℕ) (trees : Forest) (before now others :
 
   -- All is.
   pub reads_all : (after : Known) → Ends setting limit (level ∷ outer) now after (nothing ∷ [])
-      → (outcome : Outcome) × Comes setting limit (first_in Brace) 0 before trees after outcome × (done ≡ replacements outcome)
+      → (outcome : Outcome) × Comes setting limit (begun_among Items) 0 before trees after outcome × (done ≡ replacements outcome)
   reads_all after e =
       let (outcome, comes, is) = reading.finishes after (nothing ∷ []) e in
       (outcome, comes, sym (append-nil done) ∙ is)
@@ -128,21 +128,21 @@ module _ (setting : Setting) (limit : ℕ) (trees : Forest) (before now others t
   reads_event (event.Stays stay) next goes is = same (reads_stay setting limit trees before now others level outer nexts done reading (trees_of stay) next) is
   reads_event (event.Invocation it) (left, fits, leads) goes is =
       let back : limit - 1 ≡ left = omega (arith, fits) in
-      let comes : Comes setting left (first_in Brace) 0 others it.tree.children then is.outcome =
-      subst (λ n. Comes setting n (first_in Brace) 0 others it.tree.children then is.outcome) back is.comes in
+      let comes : Comes setting left (begun_among it.siblings) 0 others it.tree.children then is.outcome =
+      subst (λ n. Comes setting n (begun_among it.siblings) 0 others it.tree.children then is.outcome) back is.comes in
       let put : Forest = placed it.is_statement it.delimiter (trees_left is.outcome) in (
-        done ++ replacement it.first_span it.delimiter.close put ∷ [],
-        reads_call setting limit trees before now then level outer nexts done reading it.first_span it.delimiter.close put (leads then is.outcome comes),
-        replaced_more done source old new (replacement it.first_span it.delimiter.close put) are is.replaced,
+        done ++ replacement it.first_span it.last_span put ∷ [],
+        reads_call setting limit trees before now then level outer nexts done reading it.first_span it.last_span put (leads then is.outcome comes),
+        replaced_more done source old new (replacement it.first_span it.last_span put) are is.replaced,
       )
 
   -- At the end all is.
   pub reads_to_end : (it : Event) → IsNext setting limit (level ∷ outer) now it nexts others → GoesOn it false → IsEventWritten setting limit it others then old new
-      → (outcome : Outcome) × Comes setting limit (first_in Brace) 0 before trees then outcome × AreReplaced (replacements outcome) source new
+      → (outcome : Outcome) × Comes setting limit (begun_among Items) 0 before trees then outcome × AreReplaced (replacements outcome) source new
   reads_to_end event.End ended goes (known, written) =
       let (outcome, comes, all) = reads_all setting limit trees before now others level outer nexts done reading others ended in (
         outcome,
-        subst (λ k. Comes setting limit (first_in Brace) 0 before trees k outcome) (sym known) comes,
+        subst (λ k. Comes setting limit (begun_among Items) 0 before trees k outcome) (sym known) comes,
         subst (λ l. AreReplaced l source new) all (subst (AreReplaced done source) (sym written) are),
       )
   reads_to_end (event.Leaf it) next goes is = absurd (cc goes)

@@ -1,20 +1,19 @@
 -- What comes of trees in which macros are defined and called.
-use Rattle.std.specs.Prelude.{◌≡◌, ◌⊎◌, ◌<◌, ◌-◌, ℕ, suc, Bool, true, false, List, length, take, Option, None, Some, option_map}
+use Rattle.std.specs.Prelude.{◌≡◌, ◌⊎◌, ◌<◌, ◌-◌, ℕ, suc, Bool, true, false, List, length, take, Option, None, Some, option_map, if◌then◌else◌}
 use Rattle.tt.specs.Forest.{Forest, Root, end, leaf, node}
 use Rattle.tt.specs.Gluing.{after_trees}
-use Rattle.tt.specs.Moves.{first_token}
+use Rattle.tt.specs.Moves.{first_token, after_tree}
 use Rattle.tt.specs.Token.{first_span}
 use Rattle.tt.specs.Types.Delimiter.{Delimiter}
-use Rattle.tt.specs.Types.DelimiterKind.TheVariants.{Brace}
 use Rattle.tt.specs.Types.Leaf.{Leaf}
 use Rattle.tt.specs.Types.Span.{Span}
 use Rattle.tt_expand.specs.declared.fault.MacroFault.{MacroFault}
-use Rattle.tt_expand.specs.declared.position.Position.{Position}
-use Rattle.tt_expand.specs.Items.{Definition, Call, defines, calls, other, item_in}
+use Rattle.tt_items.specs.declared.position.Position.{Position}
+use Rattle.tt_items.specs.Items.{Definition, Call, defines, calls, other, item_in}
 use Rattle.tt_expand.specs.Knowing.{Setting, Known, with_finding}
 use Rattle.tt_expand.specs.Macros.{IsRead, IsCallFault, called_by, arms_of, found_of, known_behind}
 use Rattle.tt_expand.specs.Outcomes.{Outcome, nothing, passes, enters, stays, becomes, trees_left, placed}
-use Rattle.tt_expand.specs.Positions.{first_in, behind, behind_leaf, behind_subtree, keeps_macros, is_statement}
+use Rattle.tt_items.specs.Positions.{begun, first_in, behind, behind_leaf, behind_subtree, keeps_macros, is_statement, is_conditional, takes_semicolon, siblings_of_call}
 use Rattle.tt_expand.specs.Scopes.{Macro}
 use Rattle.tt_macro_rules.specs.Arms.{Arm}
 use Rattle.tt_macro_rules.specs.Expansions.{IsExpansion}
@@ -38,6 +37,30 @@ span_or (Some it) instead = it
 abbrev pub begin_at : Forest → (instead : Span) → Span
 begin_at trees instead = span_or (option_map first_span (first_token trees)) instead
 
+-- the `;` before these trees is a part of a call
+abbrev pub takes_in : Position → Call → (rest : Forest) → Bool
+takes_in position it rest = takes_semicolon it.delimiter.kind rest position
+
+-- where the call ends then
+abbrev pub end_in : Position → Call → (rest : Forest) → Span
+end_in position it rest = if takes_in position it rest then begin_at rest it.delimiter.close else it.delimiter.close
+
+-- what stands behind it, and what stands before that
+abbrev pub rest_in : Position → Call → (rest : Forest) → Forest
+rest_in position it rest = if takes_in position it rest then after_tree rest else rest
+
+abbrev pub behind_in : Position → Call → (rest : Forest) → Position
+behind_in position it rest =
+    if takes_in position it rest then behind true (behind (is_brace it.delimiter.kind) position) else behind (is_brace it.delimiter.kind) position
+
+-- a call before these trees stands under a condition
+abbrev pub is_conditional_in : Position → Call → (rest : Forest) → Bool
+is_conditional_in position it rest = is_conditional it.delimiter.kind rest position
+
+-- before the first of the trees that come of it
+abbrev pub begun_by : Position → Call → (rest : Forest) → Position
+begun_by position it rest = begun (siblings_of_call it.delimiter.kind rest position)
+
 -- what a call becomes before these trees, of which those come
 abbrev pub placed_at : Position → Call → (behind held : Forest) → Forest
 placed_at position it behind held = placed (is_statement it.delimiter.kind behind position) it.delimiter held
@@ -52,7 +75,7 @@ pub data Comes (setting : Setting) : (limit : ℕ) → Position → (plain : ℕ
       → Comes setting limit position plain known (leaf it rest) after (passes it others)
   on_node : {limit plain : ℕ} {position : Position} {known inside after : Known} {delimiter : Delimiter} {children rest : Forest} {held others : Outcome}
       → IsPlain setting known plain (node delimiter children rest)
-      → Comes setting limit (first_in delimiter.kind) 0 known children inside held
+      → Comes setting limit (first_in delimiter.kind position) 0 known children inside held
       → Comes setting limit (behind_subtree delimiter.kind position) (plain - 1) (known_after (keeps_macros delimiter.kind position) known inside) rest after others
       → Comes setting limit position plain known (node delimiter children rest) after (enters delimiter held others)
   on_definition : {limit : ℕ} {position : Position} {known after : Known} {it : Definition} {trees : Forest} {others : Outcome} (inside : Known)
@@ -80,15 +103,16 @@ pub data Comes (setting : Setting) : (limit : ℕ) → Position → (plain : ℕ
       → item_in setting.root trees ≡ calls it
       → called_by setting known.macros it ≡ Some macro
       → macro.arms ≡ Some arms
-      → IsCallFault limit arms it at fault
+      → IsCallFault (is_conditional_in position it (after_trees it.len trees)) limit arms it at fault
       → Comes setting limit (behind (is_brace it.delimiter.kind) position) 0 (with_finding (found_of it macro at fault) known) (after_trees it.len trees) after others
       → Comes setting limit position 0 known trees after (stays (front_trees it.len trees) others)
   on_call : {limit : ℕ} {position : Position} {known inside after : Known} {it : Call} {arms : List Arm} {trees : Forest} {held others : Outcome} (tree : Root)
       → known.is_over ≡ false
       → item_in setting.root trees ≡ calls it
       → arms_of (called_by setting known.macros it) ≡ Some arms
+      → is_conditional_in position it (after_trees it.len trees) ≡ false
       → IsExpansion arms 0 0 it.input (expansion.Tree tree)
-      → Comes setting limit (first_in Brace) 0 known tree.children inside held
-      → Comes setting (suc limit) (behind (is_brace it.delimiter.kind) position) 0 inside (after_trees it.len trees) after others
+      → Comes setting limit (begun_by position it (after_trees it.len trees)) 0 known tree.children inside held
+      → Comes setting (suc limit) (behind_in position it (after_trees it.len trees)) 0 inside (rest_in position it (after_trees it.len trees)) after others
       → Comes setting (suc limit) position 0 known trees after
-      (becomes (begin_at trees it.name.span) it.delimiter.close (placed_at position it (after_trees it.len trees) (trees_left held)) others)
+      (becomes (begin_at trees it.name.span) (end_in position it (after_trees it.len trees)) (placed_at position it (after_trees it.len trees) (trees_left held)) others)

@@ -4,7 +4,7 @@ use Rattle.tt.specs.Forest.{Forest}
 use Rattle.tt.specs.Span.{start_of}
 use Rattle.tt_expand.specs.declared.defining.Rules.{Rules}
 use Rattle.tt_expand.specs.declared.defining.Rules.TheVariants as rules
-use Rattle.tt_expand.specs.Items.{Definition}
+use Rattle.tt_items.specs.Items.{Definition}
 use Rattle.tt_expand.specs.Places.{definition_byte}
 use Rattle.tt_macro_rules.specs.Arms.{Arm, Spell}
 use Rattle.tt_macro_rules.specs.Expansions.{AreMade}

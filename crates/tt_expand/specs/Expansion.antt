@@ -2,7 +2,6 @@
 use Rattle.std.specs.Prelude.{◌≡◌, ◌<◌, ◌-◌, ◌++◌, ℕ, Bool, true, false, List, [], ◌∷◌, Option, None, Some, length, slice_get, option_map, string_bytes}
 use Rattle.tt.specs.Forest.{Forest, Root}
 use Rattle.tt.specs.Span.{start_of, end_of}
-use Rattle.tt.specs.Types.DelimiterKind.TheVariants.{Brace}
 use Rattle.tt.specs.Types.Span.{Span}
 use Rattle.tt.specs.Types.SpanPart.{SpanPart}
 use Rattle.tt_expand.specs.declared.fault.ExpandTextError.{ExpandTextError}
@@ -17,8 +16,9 @@ use Rattle.tt_expand.specs.Coming.{Comes}
 use Rattle.tt_expand.specs.Findings.{is_warning}
 use Rattle.tt_expand.specs.Knowing.{Setting, Known, knows_nothing}
 use Rattle.tt_expand.specs.Outcomes.{Outcome, nothing, passes, enters, stays, becomes, trees_left, placed}
-use Rattle.tt_expand.specs.Positions.{first_in}
-use Rattle.tt_expand.specs.Texts.{Replacement, Writing, begun, finished, with_all, IsReplaced, AreReplaced, FitAll}
+use Rattle.tt_items.specs.Positions.{begun as begun_among}
+use Rattle.tt_items.specs.declared.position.Siblings.TheVariants.{Items}
+use Rattle.tt_edit.specs.Texts.{Replacement, Writing, begun, finished, with_all, IsReplaced, AreReplaced, FitAll}
 use Rattle.tt_text.specs.Parsed.{IsParse}
 use Rattle.tt_text.specs.Refusal.{IsRefusal}
 use Rattle.tt_unparse.specs.Text.{text_of}
@@ -38,14 +38,14 @@ replacements (becomes first last trees behind) = replacement first last trees �
 -- what comes of a call is written as Rust
 pub record IsInvocationText (setting : Setting) (limit : ℕ) (it : Invocation) (before after : Known) (result : List ℕ) : Type 0 where
   pub outcome : Outcome
-  pub comes : Comes setting limit (first_in Brace) 0 before it.tree.children after outcome
+  pub comes : Comes setting limit (begun_among it.siblings) 0 before it.tree.children after outcome
   pub text : result ≡ text_of (placed it.is_statement it.delimiter (trees_left outcome))
 
 -- it takes the place of the call, where that is left of the source
 pub record IsInvocationWritten (setting : Setting) (limit : ℕ) (it : Invocation) (before after : Known) (old new : Writing) : Type 0 where
   pub outcome : Outcome
-  pub comes : Comes setting limit (first_in Brace) 0 before it.tree.children after outcome
-  pub replaced : IsReplaced (replacement it.first_span it.delimiter.close (placed it.is_statement it.delimiter (trees_left outcome))) old new
+  pub comes : Comes setting limit (begun_among it.siblings) 0 before it.tree.children after outcome
+  pub replaced : IsReplaced (replacement it.first_span it.last_span (placed it.is_statement it.delimiter (trees_left outcome))) old new
 
 -- nothing is written, and nothing more is known
 abbrev pub IsSame : (before after : Known) (old new : Writing) → Type 0
@@ -80,7 +80,7 @@ IsWritingError (error.TooLong at) = Unit {0}
 -- a source of these trees is written, where in the place of each call what comes of it stands
 pub record IsSourceText (setting : Setting) (limit : ℕ) (source : List ℕ) (trees : Forest) (before after : Known) (result : List ℕ) : Type 0 where
   pub outcome : Outcome
-  pub comes : Comes setting limit (first_in Brace) 0 before trees after outcome
+  pub comes : Comes setting limit (begun_among Items) 0 before trees after outcome
   pub written : Writing
   pub replaced : AreReplaced (replacements outcome) (begun source) written
   pub text : result ≡ finished written
@@ -99,7 +99,7 @@ pub record IsExpanded (options : ExpandOptions) (source : List ℕ) (it : Expand
   pub read : IsParse text_part source tree
   pub after : Known
   pub outcome : Outcome
-  pub comes : Comes (setting_by options) options.limit (first_in Brace) 0 knows_nothing tree.children after outcome
+  pub comes : Comes (setting_by options) options.limit (begun_among Items) 0 knows_nothing tree.children after outcome
   pub fits : FitAll (replacements outcome) (begun source)
   pub text : string_bytes it.text ≡ with_all (replacements outcome) (begun source)
   pub findings : it.findings.items ≡ after.findings

@@ -5,17 +5,12 @@ pub mod Defining
 pub mod Expanding
 pub mod Expansion
 pub mod Findings
-pub mod Items
-pub mod Keywords
 pub mod Knowing
-pub mod Laid
 pub mod LastPlaces
 pub mod Macros
 pub mod Outcomes
 pub mod Passing
 pub mod Places
-pub mod Positions
 pub mod Roots
 pub mod Scopes
-pub mod Texts
 pub mod Walks

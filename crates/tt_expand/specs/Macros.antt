@@ -5,7 +5,7 @@ use Rattle.tt.specs.Span.{start_of}
 use Rattle.tt_expand.specs.declared.fault.Finding.{Finding}
 use Rattle.tt_expand.specs.declared.fault.MacroFault.{MacroFault}
 use Rattle.tt_expand.specs.declared.fault.MacroFault.TheVariants as wrong
-use Rattle.tt_expand.specs.Items.{Definition, Call}
+use Rattle.tt_items.specs.Items.{Definition, Call}
 use Rattle.tt_expand.specs.Knowing.{Setting, Known, asks_for, with_macro, with_finding}
 use Rattle.tt_expand.specs.Places.{byte_at, definition_byte}
 use Rattle.tt_expand.specs.Roots.{rooted}
@@ -62,12 +62,14 @@ IsInputFault arms it at (wrong.Ambiguous arm) = IsExpansion arms 0 0 it.input (e
 IsInputFault arms it at (wrong.Expansion why) = IsExpandError arms 0 it.input why × (at ≡ start_of it.name.span.range)
 IsInputFault arms it at (wrong.Definition why) = ⊥
 IsInputFault arms it at wrong.Left = ⊥
+IsInputFault arms it at wrong.Conditional = ⊥
 IsInputFault arms it at wrong.TooDeep = ⊥
 
--- what is wrong with a call that arms expand, in which so many expansions may stand one inside the other
-abbrev pub IsCallFault : (limit : ℕ) → List Arm → Call → (at : ℕ) → MacroFault → Type 0
-IsCallFault zero arms it at fault = (fault ≡ wrong.TooDeep) × (at ≡ start_of it.name.span.range)
-IsCallFault (suc limit) arms it at fault = IsInputFault arms it at fault
+-- what is wrong with a call that arms expand, in which so many expansions may stand one inside the other; under a condition it is left
+abbrev pub IsCallFault : (is_conditional : Bool) → (limit : ℕ) → List Arm → Call → (at : ℕ) → MacroFault → Type 0
+IsCallFault true limit arms it at fault = (fault ≡ wrong.Conditional) × (at ≡ start_of it.name.span.range)
+IsCallFault false zero arms it at fault = (fault ≡ wrong.TooDeep) × (at ≡ start_of it.name.span.range)
+IsCallFault false (suc limit) arms it at fault = IsInputFault arms it at fault
 
 -- what is known behind a call that nothing expands: one of a macro that is left as it is, is found to be left
 abbrev pub known_behind : Call → Option Macro → Known → Known

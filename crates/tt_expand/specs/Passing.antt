@@ -4,15 +4,15 @@ use Rattle.tt.specs.Forest.{Forest, Root}
 use Rattle.tt.specs.Gluing.{after_trees}
 use Rattle.tt.specs.Iters.{rest_of}
 use Rattle.tt.specs.Views.{trees_of}
-use Rattle.tt_expand.specs.declared.position.Position.{Position}
+use Rattle.tt_items.specs.declared.position.Position.{Position}
 use Rattle.tt_expand.specs.declared.walk.Event.{Event}
 use Rattle.tt_expand.specs.declared.walk.Event.TheVariants as event
 use Rattle.tt_expand.specs.declared.walk.Invocation.{Invocation}
 use Rattle.tt_expand.specs.declared.walk.Walk.{Walk}
-use Rattle.tt_expand.specs.Coming.{begin_at}
-use Rattle.tt_expand.specs.Items.{Call}
-use Rattle.tt_expand.specs.Positions.{is_statement}
-use Rattle.tt_expand.specs.Walks.{level_of, past}
+use Rattle.tt_expand.specs.Coming.{begin_at, end_in}
+use Rattle.tt_items.specs.Items.{Call}
+use Rattle.tt_items.specs.Positions.{is_statement, siblings_of_call}
+use Rattle.tt_expand.specs.Walks.{level_of, past, past_call}
 use Rattle.tt_matcher.specs.Fragments.{front_trees, is_brace}
 
 -- a call that stands first stays as it is, and is passed
@@ -25,7 +25,9 @@ IsStay it old other new = ⊥
 -- what is told of a call that becomes that tree, where these trees stand first
 pub record IsInvocation (it : Call) (trees : Forest) (position : Position) (tree : Root) (invocation : Invocation) : Type 0 where
   pub first : invocation.first_span ≡ begin_at trees it.name.span
+  pub last : invocation.last_span ≡ end_in position it (after_trees it.len trees)
   pub delimiter : invocation.delimiter ≡ it.delimiter
+  pub siblings : invocation.siblings ≡ siblings_of_call it.delimiter.kind (after_trees it.len trees) position
   pub is_statement : invocation.is_statement ≡ is_statement it.delimiter.kind (after_trees it.len trees) position
   pub makes : invocation.tree ≡ tree
 
@@ -33,5 +35,5 @@ pub record IsInvocation (it : Call) (trees : Forest) (position : Position) (tree
 abbrev pub IsInvoked : Call → (tree : Root) → (old : Walk) → Event → (new : Walk) → Type 0
 IsInvoked it tree old (event.Invocation invocation) new =
     IsInvocation it (rest_of old.level.rest) old.level.position tree invocation
-    × (level_of new.level ≡ past it.len (is_brace it.delimiter.kind) (level_of old.level)) × (new.outer.items ≡ old.outer.items)
+    × (level_of new.level ≡ past_call it (level_of old.level)) × (new.outer.items ≡ old.outer.items)
 IsInvoked it tree old other new = ⊥

@@ -1,26 +1,27 @@
 -- A walk through trees in which macros are defined and called.
-use Rattle.std.specs.Prelude.{◌≡◌, ◌<◌, ◌+◌, ◌*◌, ◌-◌, ℕ, Bool, true, false, suc, List, [], ◌∷◌, length, map, reverse, Option, None, Some}
+use Rattle.std.specs.Prelude.{◌≡◌, ◌<◌, ◌+◌, ◌*◌, ◌-◌, ℕ, Bool, true, false, suc, List, [], ◌∷◌, length, map, reverse, Option, None, Some, if◌then◌else◌}
 use Rattle.tt.specs.Forest.{Forest, size}
 use Rattle.tt.specs.Gluing.{after_trees}
 use Rattle.tt.specs.Iters.{rest_of}
 use Rattle.tt.specs.Moves.{after_tree}
 use Rattle.tt.specs.Types.Delimiter.{Delimiter}
 use Rattle.tt.specs.Types.DelimiterKind.{DelimiterKind}
-use Rattle.tt.specs.Types.DelimiterKind.TheVariants.{Brace}
 use Rattle.tt.specs.Types.Leaf.{Leaf}
 use Rattle.tt.specs.Types.Span.{Span}
 use Rattle.tt.specs.Views.{trees_of}
 use Rattle.tt_expand.specs.declared.known.Known as known_in_code
-use Rattle.tt_expand.specs.declared.position.Position.{Position}
+use Rattle.tt_items.specs.declared.position.Position.{Position}
+use Rattle.tt_items.specs.declared.position.Siblings.{Siblings}
+use Rattle.tt_matcher.specs.Fragments.{is_brace}
 use Rattle.tt_expand.specs.declared.walk.Event.{Event}
 use Rattle.tt_expand.specs.declared.walk.Event.TheVariants as event
 use Rattle.tt_expand.specs.declared.walk.Level as rust
 use Rattle.tt_expand.specs.declared.walk.Walk.{Walk}
-use Rattle.tt_expand.specs.Coming.{Comes}
-use Rattle.tt_expand.specs.Items.{Item, item_in}
+use Rattle.tt_expand.specs.Coming.{Comes, takes_in}
+use Rattle.tt_items.specs.Items.{Item, Call, item_in}
 use Rattle.tt_expand.specs.Knowing.{Setting, Known, IsKnown, left_in_scope}
 use Rattle.tt_expand.specs.Outcomes.{Outcome, nothing, passes, enters, stays, becomes, trees_left, placed}
-use Rattle.tt_expand.specs.Positions.{first_in, behind, behind_leaf, behind_subtree, keeps_macros}
+use Rattle.tt_items.specs.Positions.{begun as begun_among, first_in, behind, behind_leaf, behind_subtree, keeps_macros}
 
 -- what is left of the trees of a subtree, what stands before them, how many of them are taken as they are, where it closes, and how many
 -- macros are in scope behind it, if not all
@@ -49,6 +50,19 @@ past_subtree kind level = record level { rest = after_tree level.rest; position 
 -- so many trees are passed, which end a statement or an item, or do not
 abbrev pub past : (len : ℕ) → (ends : Bool) → Level → Level
 past len ends level = record level { rest = after_trees len level.rest; position = behind ends level.position }
+
+-- the `;` that stands first is passed, if it is taken
+abbrev pub past_semicolon : (takes : Bool) → Level → Level
+past_semicolon takes level =
+    record level {
+      rest = if takes then after_tree level.rest else level.rest;
+      position = if takes then behind true level.position else level.position;
+    }
+
+-- a call is passed, and the `;` behind it, if that is a part of it
+abbrev pub past_call : Call → Level → Level
+past_call it level =
+    past_semicolon (takes_in level.position it (after_trees it.len level.rest)) (past it.len (is_brace it.delimiter.kind) level)
 
 -- what comes of what is left of each level, the innermost first
 abbrev pub Ends : Setting → (limit : ℕ) → List Level → (before after : Known) → List Outcome → Type 0
@@ -90,22 +104,23 @@ abbrev pub work_in : List Level → ℕ
 work_in [] = 0
 work_in (level ∷ outer) = suc (2 * size level.rest + work_in outer)
 
--- before trees that are statements or items
-abbrev pub begun : Forest → (close : Span) → Level
-begun trees close = record { rest = trees; position = first_in Brace; plain = 0; close = close; kept = None }
+-- before trees that are such siblings
+abbrev pub begun : Siblings → Forest → (close : Span) → Level
+begun siblings trees close = record { rest = trees; position = begun_among siblings; plain = 0; close = close; kept = None }
 
 -- a subtree that stands first in the innermost level is entered, behind which so many macros are in scope, if not all
 abbrev pub kept_behind : (are_kept : Bool) → ℕ → Option ℕ
 kept_behind true macros = None
 kept_behind false macros = Some macros
 
-abbrev pub inside : Delimiter → (children : Forest) → Option ℕ → Level
-inside delimiter children kept = record { rest = children; position = first_in delimiter.kind; plain = 0; close = delimiter.close; kept = kept }
+abbrev pub inside : Delimiter → (children : Forest) → Position → Option ℕ → Level
+inside delimiter children position kept =
+    record { rest = children; position = first_in delimiter.kind position; plain = 0; close = delimiter.close; kept = kept }
 
 abbrev pub entered : Delimiter → (children : Forest) → (macros : ℕ) → List Level → List Level
 entered delimiter children macros [] = []
 entered delimiter children macros (level ∷ outer) =
-    inside delimiter children (kept_behind (keeps_macros delimiter.kind level.position) macros) ∷ past_subtree delimiter.kind level ∷ outer
+    inside delimiter children level.position (kept_behind (keeps_macros delimiter.kind level.position) macros) ∷ past_subtree delimiter.kind level ∷ outer
 
 -- the level that is left, and those round it
 abbrev pub IsLeft : Walk → Option Span → Walk → Type 0
@@ -121,8 +136,8 @@ IsNext setting limit levels known (event.Closes close) nexts others = Leads sett
 IsNext setting limit levels known (event.Stays trees) nexts others = Leads setting limit levels known (first_stay (trees_of trees)) nexts others
 IsNext setting limit levels known (event.Invocation it) nexts others =
     (left : ℕ) × (limit ≡ suc left)
-    × ((inside : Known) (held : Outcome) → Comes setting left (first_in Brace) 0 others it.tree.children inside held
-    → Leads setting limit levels known (first_becomes it.first_span it.delimiter.close (placed it.is_statement it.delimiter (trees_left held))) nexts inside)
+    × ((inside : Known) (held : Outcome) → Comes setting left (begun_among it.siblings) 0 others it.tree.children inside held
+    → Leads setting limit levels known (first_becomes it.first_span it.last_span (placed it.is_statement it.delimiter (trees_left held))) nexts inside)
 
 -- how levels become others: which are entered and left, and that less is left to do
 abbrev pub Steps : List Level → Event → List Level → Type 0

@@ -2,7 +2,7 @@
 ghost use Rattle.std.specs.Prelude.{◌≡◌, List, IfOk, OnOk, option_copied};
 ghost use Rattle.tt.specs.Iters.{rest_of};
 ghost use Rattle.tt_expand.specs.Calling.{IsMade, IsMadeWithin, IsCalled, IsCalledWithin};
-ghost use Rattle.tt_expand.specs.Items.{call_of};
+ghost use Rattle.tt_items.specs.Items.{call_of};
 ghost use Rattle.tt_expand.specs.Knowing.{Known as KnownOf, IsKnown, setting_of};
 ghost use Rattle.tt_expand.specs.Macros.{called_by};
 ghost use Rattle.tt_expand.specs.Scopes.{Macro as MacroOf, AreReady, IsReadyIf};
@@ -10,13 +10,14 @@ ghost use Rattle.tt_macro_rules.specs.Arms.{Arm};
 ghost use Rattle.tt_macro_rules.specs.Expansions.{AreMade};
 
 use crate::fault::MacroFault;
-use crate::item::Call;
 use crate::known::Known;
-use crate::places::{start_at, start_of};
+use crate::places::start_at;
 use crate::scope::{Macro, Scope};
 use crate::setting::Setting;
 use std::alloc::Global;
 use tt::{TopSubtree, TtFault};
+use tt_edit::start_of;
+use tt_items::Call;
 use tt_macro_rules::{Expansion, MacroRules};
 use tt_template::FillError;
 
@@ -73,29 +74,36 @@ fn called_by<'k>(setting: &Setting, scope: &'k Scope, call: &Call<'_>) -> Option
     }
 }
 
-/// What comes of a call, with so many expansions one inside the other. What is wrong with it, or that it is left as it is, is found.
+/// What comes of a call, with so many expansions one inside the other, which may stand under a condition. What is wrong with it, or that it
+/// is left as it is, is found.
 pub(crate) fn expand_call(
     setting: &Setting,
     known: &mut Known,
     limit: usize,
+    is_conditional: bool,
     call: &Call<'_>,
 ) -> Result<Called, TtFault>
     ensures limit { IfOk result (IsCalledWithin limit) }
-    ensures called { IfOk result (λ called. (before : KnownOf) → IsKnown before known.old → (after : KnownOf) × IsCalled (setting_of setting.now) limit (call_of call.now) before called after × IsKnown after known.new) }
+    ensures called { IfOk result (λ called. (before : KnownOf) → IsKnown before known.old → (after : KnownOf) × IsCalled (setting_of setting.now) limit is_conditional (call_of call.now) before called after × IsKnown after known.new) }
 {
     let name = &call.name.sym;
+    let at = start_of(call.name.span);
     let Some(it) = called_by(setting, &known.scope, call) else {
         return Ok(Called::Other);
     };
     let defined_at = Some(it.defined_at);
     let Some(rules) = &it.rules else {
-        known.find(name, start_of(call.name.span), MacroFault::Left, defined_at)?;
+        known.find(name, at, MacroFault::Left, defined_at)?;
         return Ok(Called::Other);
     };
+    if is_conditional {
+        known.find(name, at, MacroFault::Conditional, defined_at)?;
+        return Ok(Called::Faulty);
+    }
     match make(setting.alloc, limit, rules, call)? {
         Made::Tree(tree) => Ok(Called::Tree(tree)),
-        Made::Faulty(at, fault) => {
-            known.find(name, at, fault, defined_at)?;
+        Made::Faulty(place, fault) => {
+            known.find(name, place, fault, defined_at)?;
             Ok(Called::Faulty)
         }
     }

@@ -2,19 +2,20 @@
 ghost use Rattle.std.specs.Prelude.{◌≡◌, List, IfOk, OnOk};
 ghost use Rattle.tt.specs.Iters.{rest_of};
 ghost use Rattle.tt_expand.specs.Defining.{IsRules};
-ghost use Rattle.tt_expand.specs.Items.{definition_of};
+ghost use Rattle.tt_items.specs.Items.{definition_of};
 ghost use Rattle.tt_expand.specs.Knowing.{Known as KnownOf, IsKnown, setting_of};
 ghost use Rattle.tt_expand.specs.Macros.{IsDefined, IsRead};
 ghost use Rattle.tt_expand.specs.Roots.{rooted};
 
 use crate::fault::MacroFault;
-use crate::item::Definition;
 use crate::known::Known;
-use crate::places::{definition_place, start_of};
+use crate::places::definition_place;
 use crate::root::rooted;
 use crate::scope::Macro;
 use crate::setting::Setting;
 use tt::TtFault;
+use tt_edit::start_of;
+use tt_items::Definition;
 use tt_macro_rules::{ArmFault, MacroRules, RulesError};
 
 /// The rules of a definition, or its fault, and the byte where that shows.

@@ -9,6 +9,7 @@ use crate::known::Known;
 use crate::setting::Setting;
 use crate::walk::{Event, Invocation, Walk, next};
 use tt::{DelimiterKind, Span, TopSubtreeBuilder, TtFault, TtIter};
+use tt_items::Siblings;
 
 /// Adds what comes of a call, in which so many expansions may stand one inside the other.
 #[cycle(expansion)]
@@ -24,30 +25,32 @@ pub(crate) fn place(
     ensures placed { OnOk result ((before : KnownOf) → IsKnown before known.old → (after : KnownOf) × IsKnown after known.new × IsPlaced (setting_of setting.now) limit invocation.now before builder.old.stack after builder.new.stack) }
 {
     let delimiter = invocation.delimiter;
+    let siblings = invocation.siblings;
     let trees = invocation.tree.iter();
     if invocation.is_statement {
-        return expand_trees(setting, known, limit, trees, delimiter.close, builder);
+        return expand_trees(setting, known, limit, siblings, trees, delimiter.close, builder);
     }
     builder.open(DelimiterKind::InvisibleOpaque, delimiter.open_span)?;
-    expand_trees(setting, known, limit, trees, delimiter.close, builder)?;
+    expand_trees(setting, known, limit, siblings, trees, delimiter.close, builder)?;
     builder.close(delimiter.close)
 }
 
-/// Adds what comes of trees, with so many expansions one inside the other. It calls itself for each expansion, so at most `limit` deep.
+/// Adds what comes of trees that are such siblings, with so many expansions one inside the other. It calls itself for each expansion, so at most `limit` deep.
 #[cycle(expansion)]
 pub(crate) fn expand_trees(
     setting: &Setting,
     known: &mut Known,
     limit: usize,
+    siblings: Siblings,
     trees: TtIter<'_>,
     close: Span,
     builder: &mut TopSubtreeBuilder,
 ) -> Result<(), TtFault>
     ensures top { OnOk result (builder.new.top ≡ builder.old.top) }
     ensures open { OnOk result (depth builder.new.stack ≡ depth builder.old.stack) }
-    ensures expanded { OnOk result ((before : KnownOf) → IsKnown before known.old → (after : KnownOf) × IsKnown after known.new × AreExpanded (setting_of setting.now) limit (rest_of trees.entry) before builder.old.stack after builder.new.stack) }
+    ensures expanded { OnOk result ((before : KnownOf) → IsKnown before known.old → (after : KnownOf) × IsKnown after known.new × AreExpanded (setting_of setting.now) limit siblings (rest_of trees.entry) before builder.old.stack after builder.new.stack) }
 {
-    let mut walk = Walk::new(setting.alloc, trees, close);
+    let mut walk = Walk::new(setting.alloc, trees, siblings, close);
     'trees: loop {
         match next(&mut walk, setting, known, limit)? {
             Event::End => return Ok(()),

@@ -7,19 +7,21 @@ ghost use Rattle.tt_expand.specs.declared.fault.ExpandTextError.TheVariants.{Tex
 use std::alloc::{AllocError, AllocFailed};
 use thiserror::Error;
 use tt::{Refused, Symbol, TtFault};
-use tt_macro_rules::{ArmFault, ExpandError, RulesError};
-use tt_pattern::PatternError;
+use tt_macro_rules::{ExpandError, RulesError};
 use tt_text::TextFault;
 
 /// What is wrong with a macro, or with a call of one, or is left as it is.
 #[derive(Debug, Clone, Copy, PartialEq, Eq, Error)]
 pub enum MacroFault {
-    /// Its definition is no macro; or a fragment in it is not supported, and it is left as it is.
+    /// Its definition is no macro.
     #[error("{0}")]
     Definition(RulesError),
-    /// A call of a macro whose definition has such a fault is left as it is.
+    /// A call of a macro whose definition is no macro is left as it is.
     #[error("its definition is left as it is")]
     Left,
+    /// A call under `#[cfg(..)]` is left as it is, since all that comes of it would have to stand under that.
+    #[error("a condition stands before it")]
+    Conditional,
     /// No arm takes the input. Where that shows, the arm that comes farthest stops.
     #[error("no arm takes this")]
     NoMatch,
@@ -73,17 +75,7 @@ impl MacroFault {
     pub fn is_warning(&self) -> bool
         ensures { result ≡ is_warning self.now }
     {
-        match self {
-            MacroFault::Definition(error) => matches!(
-                error.fault,
-                ArmFault::Pattern(PatternError::UnsupportedFragment(_, _)),
-            ),
-            MacroFault::Left => true,
-            MacroFault::NoMatch
-            | MacroFault::Ambiguous(_)
-            | MacroFault::Expansion(_)
-            | MacroFault::TooDeep => false,
-        }
+        matches!(self, MacroFault::Left | MacroFault::Conditional)
     }
 
     // Whether nothing is expanded any more.

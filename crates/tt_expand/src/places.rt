@@ -2,11 +2,12 @@
 ghost use Rattle.std.specs.Prelude.{◌≡◌, ◌*◌};
 ghost use Rattle.tt.specs.Gluing.{after_trees};
 ghost use Rattle.tt.specs.Iters.{rest_of};
-ghost use Rattle.tt.specs.Span.{start_of, end_of};
+ghost use Rattle.tt.specs.Span.{start_of};
 ghost use Rattle.tt.specs.Views.{trees_of};
 ghost use Rattle.tt_expand.specs.Places.{byte_at, byte_within, pattern_place, template_place, arm_len, definition_byte};
 
-use tt::{Span, TokenTreesView, TtIter};
+use tt::{TokenTreesView, TtIter};
+use tt_edit::start_of;
 use tt_macro_rules::{ArmFault, RulesError};
 use tt_pattern::{PatternError, pass};
 use tt_template::TemplateError;
@@ -16,20 +17,6 @@ const ARM_LEN: usize = 5;
 
 /// How many trees stand before an arm's template.
 const BEFORE_TEMPLATE: usize = 3;
-
-/// The byte where a span begins.
-pub(crate) fn start_of(span: Span) -> u32
-    ensures { result ≡ start_of span.range }
-{
-    span.range.start().raw()
-}
-
-/// The byte where it ends.
-pub(crate) fn end_of(span: Span) -> u32
-    ensures { result ≡ end_of span.range }
-{
-    span.range.end().raw()
-}
 
 /// The byte where the token of a flat place among trees begins, or else that one.
 pub(crate) fn start_at(trees: TokenTreesView<'_>, place: usize, behind: u32) -> u32

@@ -5,12 +5,12 @@ ghost use Rattle.tt.specs.TreeFault.{under, IsTreeFault};
 ghost use Rattle.tt.specs.Views.{trees_of};
 ghost use Rattle.tt_expand.specs.Roots.{is_crate_root, rooted_leaf, after_leaf, rooted};
 
-use crate::item::is_at_word;
 use std::alloc::{AllocError, Global};
 use tt::{
     Delimiter, Ident, IdentIsRaw, Leaf, Span, Symbol, TokenTreesView, TopSubtree,
     TopSubtreeBuilder, TtElement, TtFault, TtIter,
 };
+use tt_items::is_at_word;
 use tt_pattern::is_dollar;
 
 // What is left of a subtree that was entered, and where it closes.

@@ -2,19 +2,20 @@
 ghost use Rattle.std.specs.Prelude.{◌≡◌, IfOk, IfErr, OnOk, string_bytes};
 ghost use Rattle.tt_expand.specs.Expansion.{IsInvocationText, IsInvocationWritten, IsEventWritten, GoesOn, IsWritingError, IsSourceText};
 ghost use Rattle.tt_expand.specs.Knowing.{Known as KnownOf, IsKnown, setting_of};
-ghost use Rattle.tt_expand.specs.Texts.{writing_of};
+ghost use Rattle.tt_edit.specs.Texts.{writing_of};
 ghost use Rattle.tt_expand.specs.Walks.{IsWithin};
 ghost use Rattle.tt_unparse.specs.Text.{text_of};
 
 use crate::expanding::place;
 use crate::fault::ExpandTextError;
 use crate::known::Known;
-use crate::output::Output;
-use crate::places::{end_of, start_at, start_of};
+use crate::places::start_at;
 use crate::setting::Setting;
 use crate::walk::{Event, Invocation, Walk, next};
 use std::alloc::Global;
 use tt::{Delimiter, DelimiterKind, TopSubtree, TopSubtreeBuilder, TtFault};
+use tt_edit::{Output, end_of, start_of};
+use tt_items::Siblings;
 use tt_unparse::{WriteFault, rust_text};
 
 // What comes of a call that begins at a byte, as a text.
@@ -67,7 +68,7 @@ fn write_invocation(
 {
     let text = invocation_text(setting, known, limit, invocation)?;
     let start = start_of(invocation.first_span) as usize;
-    let end = end_of(invocation.delimiter.close) as usize;
+    let end = end_of(invocation.last_span) as usize;
     let _is_left = output.replace(start, end, text.as_str())?;
     Ok(())
 }
@@ -108,7 +109,7 @@ pub(crate) fn expand_source(
 {
     let mut output = Output::new(setting.alloc, source);
     let close = tree.top_subtree().delimiter.close;
-    let mut walk = Walk::new(setting.alloc, tree.iter(), close);
+    let mut walk = Walk::new(setting.alloc, tree.iter(), Siblings::Items, close);
     'trees: loop {
         let event = next(&mut walk, setting, known, limit)?;
         let goes_on = write_event(setting, known, limit, event, &mut output)?;

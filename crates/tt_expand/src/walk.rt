@@ -1,25 +1,25 @@
 //! The walk through trees in which macros are defined and called.
-ghost use Rattle.std.specs.Prelude.{◌≡◌, ◌∷◌, [], ℕ, IfOk, OnOk};
+ghost use Rattle.std.specs.Prelude.{◌≡◌, ◌∷◌, [], ℕ, IfOk, OnOk, if◌then◌else◌};
+ghost use Rattle.tt.specs.Gluing.{after_trees};
 ghost use Rattle.tt.specs.Iters.{rest_of};
 ghost use Rattle.tt.specs.Views.{trees_of};
-ghost use Rattle.tt_expand.specs.Coming.{begin_at, IsPlain};
-ghost use Rattle.tt_expand.specs.Items.{defines, calls, definition_of, call_of};
+ghost use Rattle.tt_expand.specs.Coming.{begin_at, is_conditional_in, IsPlain};
+ghost use Rattle.tt_items.specs.Items.{defines, calls, definition_of, call_of};
 ghost use Rattle.tt_expand.specs.Knowing.{Setting as SettingOf, setting_of};
 ghost use Rattle.tt_expand.specs.Passing.{IsStay, IsInvoked};
-ghost use Rattle.tt_expand.specs.Walks.{level_of, levels_of, past_leaf, past_subtree, past, begun, entered, IsLeft, IsAtItem, IsFirst, IsWithin, Steps, Goes};
+ghost use Rattle.tt_expand.specs.Walks.{level_of, levels_of, past_leaf, past_subtree, past, past_semicolon, begun, entered, IsLeft, IsAtItem, IsFirst, IsWithin, Steps, Goes};
 ghost use Rattle.tt_matcher.specs.Fragments.{front_trees};
 
 use crate::calling::{Called, expand_call};
 use crate::defining::read;
-use crate::item::{Call, Definition, Item, item_in};
 use crate::known::Known;
-use crate::position::Position;
 use crate::setting::Setting;
 use std::alloc::{AllocError, Global};
 use tt::{
     Delimiter, DelimiterKind, Leaf, Span, Subtree, TokenTreesView, TopSubtree, TtElement, TtFault,
     TtIter,
 };
+use tt_items::{Call, Definition, Item, Position, Siblings, item_in};
 use tt_pattern::pass;
 
 /// What is left of the trees of a subtree.
@@ -34,12 +34,15 @@ pub(crate) struct Level<'a> {
     kept: Option<usize>,
 }
 
-/// A call that is expanded: where it begins, where its subtree stands, whether it is a statement or an item, and what comes of it.
+/// A call that is expanded: where it begins and ends, where its subtree stands, whether it is a statement or an item, and what comes of it
+/// and is among such siblings.
 #[derive(Drop)]
 pub(crate) struct Invocation {
     pub(crate) first_span: Span,
+    pub(crate) last_span: Span,
     pub(crate) delimiter: Delimiter,
     pub(crate) is_statement: bool,
+    pub(crate) siblings: Siblings,
     pub(crate) tree: TopSubtree,
 }
 
@@ -111,17 +114,45 @@ impl<'a> Level<'a> {
         self.pass_all(len, ends);
         self.rest.from_savepoint(start)
     }
+
+    // Behind the `;` that stands first, if that is to be passed: it, and else the other span.
+    fn pass_semicolon(&mut self, takes: bool, other: Span) -> Span
+        ensures last { result ≡ (if takes then begin_at (rest_of self.old.rest) other else other) }
+        ensures level { level_of self.new ≡ past_semicolon takes (level_of self.old) }
+    {
+        if !takes {
+            return other;
+        }
+        let last = begin_at(&self.rest, other);
+        self.pass_all(1, true);
+        last
+    }
+
+    // Whether a call that stands first stands under a condition.
+    fn is_conditional(&self, call: &Call<'_>) -> bool
+        ensures { result ≡ is_conditional_in self.now.position (call_of call.now) (after_trees call.now.len (rest_of self.now.rest)) }
+    {
+        let mut behind = self.rest.remaining().iter();
+        pass(&mut behind, call.len);
+        self.position
+            .is_conditional(call.header.delimiter.kind, behind)
+    }
 }
 
 impl<'a> Walk<'a> {
-    /// A walk through trees that are statements or items.
-    pub(crate) fn new(alloc: Global, trees: TtIter<'a>, close: Span) -> Walk<'a>
-        ensures { levels_of result ≡ begun (rest_of trees.entry) close ∷ [] }
+    /// A walk through trees that are such siblings.
+    pub(crate) fn new(
+        alloc: Global,
+        trees: TtIter<'a>,
+        siblings: Siblings,
+        close: Span,
+    ) -> Walk<'a>
+        ensures { levels_of result ≡ begun siblings (rest_of trees.entry) close ∷ [] }
     {
         Walk {
             level: Level {
                 rest: trees,
-                position: Position::first_in(DelimiterKind::Brace),
+                position: Position::begun(siblings),
                 plain: 0,
                 close,
                 kept: None,
@@ -139,11 +170,12 @@ impl<'a> Walk<'a> {
     ) -> Result<(), AllocError>
         ensures { OnOk result (levels_of self.new ≡ entered delimiter (rest_of children.entry) macros (levels_of self.old)) }
     {
-        let are_kept = self.level.position.keeps_macros(delimiter.kind);
+        let position = self.level.position;
+        let are_kept = position.keeps_macros(delimiter.kind);
         self.level.pass_subtree(delimiter.kind);
         let inner = Level {
             rest: children,
-            position: Position::first_in(delimiter.kind),
+            position: position.first_in(delimiter.kind),
             plain: 0,
             close: delimiter.close,
             kept: if are_kept { None } else { Some(macros) },
@@ -219,15 +251,18 @@ fn invoke<'a>(walk: &mut Walk<'a>, call: &Call<'a>, tree: TopSubtree) -> Event<'
     ensures { IsInvoked (call_of call.now) tree walk.old result walk.new }
 {
     let delimiter = call.header.delimiter;
-    let first_span = begin_at(&walk.level.rest, call.name.span);
+    let kind = delimiter.kind;
     let position = walk.level.position;
-    walk.level
-        .pass_all(call.len, delimiter.kind == DelimiterKind::Brace);
-    let behind = walk.level.rest.remaining().iter();
+    let first_span = begin_at(&walk.level.rest, call.name.span);
+    walk.level.pass_all(call.len, kind == DelimiterKind::Brace);
+    let behind = walk.level.rest.remaining();
+    let takes = position.takes_semicolon(kind, behind.iter());
     Event::Invocation(Invocation {
         first_span,
+        last_span: walk.level.pass_semicolon(takes, delimiter.close),
         delimiter,
-        is_statement: position.is_statement(delimiter.kind, behind),
+        is_statement: position.is_statement(kind, behind.iter()),
+        siblings: position.siblings_of_call(kind, behind.iter()),
         tree,
     })
 }
@@ -244,7 +279,8 @@ fn next_call<'a>(
     ensures steps { IfOk result (λ event. IsFirst (calls (call_of call.now)) setting.now.root walk.old → Steps (levels_of walk.old) event (levels_of walk.new)) }
     ensures next { IfOk result (λ event. Goes (IsAtItem (calls (call_of call.now)) (setting_of setting.now) walk.old) (setting_of setting.now) limit walk.old known.old event walk.new known.new) }
 {
-    match expand_call(setting, known, limit, call)? {
+    let is_conditional = walk.level.is_conditional(call);
+    match expand_call(setting, known, limit, is_conditional, call)? {
         Called::Tree(tree) => Ok(invoke(walk, call, tree)),
         Called::Faulty => Ok(stay(walk, call)),
         Called::Other => {

@@ -2,7 +2,7 @@ use Rattle.std.proofs.Common.{rules, ◌≡◌, ◌<◌, subst, arith}
 use Rattle.tt.specs.Iters.{rest_of}
 use Rattle.tt.specs.Span.{start_of}
 use Rattle.tt_expand.specs.declared.fault.MacroFault.TheVariants as wrong
-use Rattle.tt_expand.specs.Items.{call_of}
+use Rattle.tt_items.specs.Items.{call_of}
 use Rattle.tt_expand.specs.Places.{byte_at}
 use Rattle.tt_expand.proofs.Calls.{made_tree, made_fault}
 use Rattle.tt_expand.proofs.calling.make.Goals as goal

@@ -6,7 +6,7 @@ use Rattle.tt_expand.specs.declared.fault.Finding.{Finding}
 use Rattle.tt_expand.specs.declared.fault.MacroFault.TheVariants as wrong
 use Rattle.tt_expand.specs.declared.scope.Macro as rust
 use Rattle.tt_expand.specs.Defining.{IsRules}
-use Rattle.tt_expand.specs.Items.{Definition, definition_of}
+use Rattle.tt_items.specs.Items.{Definition, definition_of}
 use Rattle.tt_expand.specs.Knowing.{Known, IsKnown, with_macro, with_finding}
 use Rattle.tt_expand.specs.Macros.{macro_of, found_in}
 use Rattle.tt_expand.specs.Roots.{rooted}

@@ -8,12 +8,11 @@ use Rattle.tt_expand.specs.declared.walk.Event.TheVariants as event
 use Rattle.tt_expand.specs.Coming.{Comes}
 use Rattle.tt_expand.specs.Knowing.{Setting, setting_of}
 use Rattle.tt_expand.specs.Outcomes.{nothing, placed, trees_left}
-use Rattle.tt_expand.specs.Positions.{first_in}
+use Rattle.tt_items.specs.Positions.{begun as begun_among}
 use Rattle.tt_expand.specs.Walks.{Level, level_of, levels_of, closes_of, first_leaf, first_subtree, first_stay, first_becomes, Ends, Leads, IsNext, IsWithin, Steps}
 use Rattle.tt_expand.proofs.Finishing.{IsGoing, begins, ends_so, goes_on, goes_into, goes_out, finished_leaf, finished_stay, finished_becomes}
 use Rattle.tt_expand.proofs.Rooting.{depth_append, is_above, depth_close}
 use Rattle.tt_expand.proofs.expanding.+expansion.Goals as goal
-use Rattle.tt.specs.Types.DelimiterKind.TheVariants.{Brace}
 
 pub expand_trees-trees-init : goal.expand_trees-trees-init
 expand_trees-trees-init t c =
@@ -24,7 +23,7 @@ expand_trees-trees-init t c =
       going = λ before is. (
         before,
         is,
-        subst (λ ls. IsGoing setting c.args.limit trees before stack ls before stack) (sym c.new-walk.ensures) (begins setting c.args.limit trees before stack c.args.close),
+        subst (λ ls. IsGoing setting c.args.limit c.args.siblings trees before stack ls before stack) (sym c.new-walk.ensures) (begins setting c.args.limit c.args.siblings trees before stack c.args.close),
       );
       entered = omega (arith, ap (λ ls. length (closes_of ls)) c.new-walk.ensures);
       top = refl;
@@ -46,7 +45,7 @@ expand_trees-returns-in-End-clause-expanded t c before is =
     let (others, then, next) = c.in_ok-next.ensures.next now known tt in
     let ended : Ends setting c.args.limit (level ∷ outer) now others (nothing ∷ []) =
     subst (λ e. IsNext setting c.args.limit (level ∷ outer) now e (levels_of c.next.new.walk) others) c.in-End.is next in
-    let (outcome, comes, built) = ends_so setting c.args.limit trees before now others c.args.builder.now.stack c.trees.builder.stack level outer going ended in
+    let (outcome, comes, built) = ends_so setting c.args.limit c.args.siblings trees before now others c.args.builder.now.stack c.trees.builder.stack level outer going ended in
     (others, then, record { outcome = outcome; comes = comes; added = built })
 
 pub expand_trees-trees-smaller-in-Continue-branch-3 : goal.expand_trees-trees-smaller-in-Continue-branch-3
@@ -77,7 +76,7 @@ expand_trees-trees-preserved-in-Continue-branch-3 t c =
           subst (λ e. IsNext setting limit (level ∷ outer) now e (next ∷ nexts) others) c.in-Leaf.is comes_next in (
             others,
             then,
-            subst (λ s. IsGoing setting limit trees before old (next ∷ nexts) others s.stack) (sym grown) (goes_on setting limit trees before now others old stack level next outer nexts going (first_leaf c.in-Leaf.leaf) (append (leaf c.in-Leaf.leaf end) stack) leads steps.0 (λ first more. finished_leaf level.close (closes_of outer) first more stack c.in-Leaf.leaf)),
+            subst (λ s. IsGoing setting limit c.args.siblings trees before old (next ∷ nexts) others s.stack) (sym grown) (goes_on setting limit c.args.siblings trees before now others old stack level next outer nexts going (first_leaf c.in-Leaf.leaf) (append (leaf c.in-Leaf.leaf end) stack) leads steps.0 (λ first more. finished_leaf level.close (closes_of outer) first more stack c.in-Leaf.leaf)),
           );
       entered = ap (λ s. suc (depth s.stack)) grown ∙ ap suc (depth_append (leaf c.in-Leaf.leaf end) stack) ∙ c.trees.invariant.entered ∙ ap (λ cs. length cs + depth old) (sym steps.0);
       top = ap (λ s. s.top) grown ∙ c.trees.invariant.top;
@@ -111,7 +110,7 @@ expand_trees-trees-preserved-in-Continue-branch-4 t c =
           subst (λ e. IsNext setting limit (level ∷ outer) now e (next ∷ nexts) others) c.in-Opens.is comes_next in (
             others,
             then,
-            subst (λ s. IsGoing setting limit trees before old (next ∷ nexts) others s.stack) (sym grown) (goes_into setting limit trees before now others old stack level next outer nexts going c.in-Opens.header.delimiter leads steps.0),
+            subst (λ s. IsGoing setting limit c.args.siblings trees before old (next ∷ nexts) others s.stack) (sym grown) (goes_into setting limit c.args.siblings trees before now others old stack level next outer nexts going c.in-Opens.header.delimiter leads steps.0),
           );
       entered = omega (arith, ap (λ s. depth s.stack) grown, c.trees.invariant.entered, ap length steps.0);
       top = ap (λ s. s.top) grown ∙ c.trees.invariant.top;
@@ -151,7 +150,7 @@ expand_trees-trees-preserved-in-Continue-branch-5 t c =
           subst (λ e. IsNext setting limit (level ∷ outer) now e (next ∷ nexts) others) c.in-Closes.is comes_next in (
             others,
             then,
-            subst (λ s. IsGoing setting limit trees before old (next ∷ nexts) others s.stack) (sym grown) (goes_out setting limit trees before now others old stack level next outer nexts going c.in-Closes.close leads steps.0),
+            subst (λ s. IsGoing setting limit c.args.siblings trees before old (next ∷ nexts) others s.stack) (sym grown) (goes_out setting limit c.args.siblings trees before now others old stack level next outer nexts going c.in-Closes.close leads steps.0),
           );
       entered = let deep : depth stack ≡ suc (depth stack - 1) = omega (arith, c.trees.invariant.entered, ap length steps.0) in omega (arith, ap (λ s. depth s.stack) grown, depth_close c.in-Closes.close stack (depth stack - 1) deep, deep, c.trees.invariant.entered, ap length steps.0);
       top = ap (λ s. s.top) grown ∙ c.trees.invariant.top;
@@ -185,7 +184,7 @@ expand_trees-trees-preserved-in-Continue-branch-6 t c =
           subst (λ e. IsNext setting limit (level ∷ outer) now e (next ∷ nexts) others) c.in-Stays.is comes_next in (
             others,
             then,
-            subst (λ s. IsGoing setting limit trees before old (next ∷ nexts) others s.stack) (sym grown) (goes_on setting limit trees before now others old stack level next outer nexts going (first_stay (trees_of c.in-Stays.trees)) (append (trees_of c.in-Stays.trees) stack) leads steps.0 (λ first more. finished_stay level.close (closes_of outer) first more stack (trees_of c.in-Stays.trees))),
+            subst (λ s. IsGoing setting limit c.args.siblings trees before old (next ∷ nexts) others s.stack) (sym grown) (goes_on setting limit c.args.siblings trees before now others old stack level next outer nexts going (first_stay (trees_of c.in-Stays.trees)) (append (trees_of c.in-Stays.trees) stack) leads steps.0 (λ first more. finished_stay level.close (closes_of outer) first more stack (trees_of c.in-Stays.trees))),
           );
       entered = ap (λ s. suc (depth s.stack)) grown ∙ ap suc (depth_append (trees_of c.in-Stays.trees) stack) ∙ c.trees.invariant.entered ∙ ap (λ cs. length cs + depth old) (sym steps.0);
       top = ap (λ s. s.top) grown ∙ c.trees.invariant.top;
@@ -223,14 +222,14 @@ expand_trees-trees-preserved t c =
           let (left, fits, goes) = subst (λ e. IsNext setting limit (level ∷ outer) now e (next ∷ nexts) others) c.in-Invocation.is comes_next in
           let (inside, ready, put) = c.in_ok-place-in-Invocation.ensures.placed others then in
           let back : limit - 1 ≡ left = omega (arith, fits) in
-          let comes : Comes setting left (first_in Brace) 0 others it.tree.children inside put.outcome =
-          subst (λ n. Comes setting n (first_in Brace) 0 others it.tree.children inside put.outcome) back put.comes in
+          let comes : Comes setting left (begun_among it.siblings) 0 others it.tree.children inside put.outcome =
+          subst (λ n. Comes setting n (begun_among it.siblings) 0 others it.tree.children inside put.outcome) back put.comes in
           let held : Forest = placed it.is_statement it.delimiter (trees_left put.outcome) in (
             inside,
             ready,
-            subst (IsGoing setting limit trees before old (next ∷ nexts) inside) (sym put.added)
-                (goes_on setting limit trees before now inside old stack level next outer nexts going (first_becomes it.first_span it.delimiter.close held) (append held stack)
-                (goes inside put.outcome comes) steps.0 (λ first more. finished_becomes level.close (closes_of outer) first more stack it.first_span it.delimiter.close held)),
+            subst (IsGoing setting limit c.args.siblings trees before old (next ∷ nexts) inside) (sym put.added)
+                (goes_on setting limit c.args.siblings trees before now inside old stack level next outer nexts going (first_becomes it.first_span it.last_span held) (append held stack)
+                (goes inside put.outcome comes) steps.0 (λ first more. finished_becomes level.close (closes_of outer) first more stack it.first_span it.last_span held)),
           );
       entered = omega (arith, c.in_ok-place-in-Invocation.ensures.open, c.trees.invariant.entered, ap length steps.0);
       top = c.in_ok-place-in-Invocation.ensures.top ∙ c.trees.invariant.top;

@@ -1,8 +1,9 @@
 use Rattle.std.proofs.Common.{◌∷◌, [], List, map, reverse, true, false, sym, subst}
 use Rattle.tt_expand.specs.Expansion.{GoesOn}
 use Rattle.tt_expand.specs.Knowing.{Setting, setting_of}
-use Rattle.tt_expand.specs.Texts.{Writing, begun, writing_of}
+use Rattle.tt_edit.specs.Texts.{Writing, begun, writing_of}
 use Rattle.tt_expand.specs.Walks.{Level, level_of, levels_of, begun as begun_at}
+use Rattle.tt_items.specs.declared.position.Siblings.TheVariants.{Items}
 use Rattle.tt_expand.proofs.Replacing.{IsReading, begins, reads_event, reads_to_end, less_left}
 use Rattle.tt_expand.proofs.source.expand_source.Goals as goal
 
@@ -14,7 +15,7 @@ trees-init c before is =
       is,
       [],
       subst (λ ls. IsReading setting c.args.limit trees before ls before []) (sym c.new-walk.ensures)
-          (subst (λ f. IsReading setting c.args.limit trees before (begun_at f c.top_subtree.result.delimiter.close ∷ []) before []) (sym c.iter.ensures)
+          (subst (λ f. IsReading setting c.args.limit trees before (begun_at Items f c.top_subtree.result.delimiter.close ∷ []) before []) (sym c.iter.ensures)
           (begins setting c.args.limit trees before c.top_subtree.result.delimiter.close)),
       c.new-output.ensures,
     )

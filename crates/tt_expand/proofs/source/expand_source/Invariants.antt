@@ -1,7 +1,7 @@
 -- What is replaced so far, with what comes of what is left, is what comes of all.
 use Rattle.std.proofs.Common.{List}
 use Rattle.tt_expand.specs.Knowing.{Known, IsKnown, setting_of}
-use Rattle.tt_expand.specs.Texts.{Replacement, begun, writing_of, AreReplaced}
+use Rattle.tt_edit.specs.Texts.{Replacement, begun, writing_of, AreReplaced}
 use Rattle.tt_expand.specs.Walks.{levels_of, work_in}
 use Rattle.tt_expand.proofs.Replacing.{IsReading}
 use Rattle.tt_expand.proofs.source.expand_source.Given as goal

@@ -1,13 +1,13 @@
 use Rattle.std.proofs.Common.{rules, ◌≡◌, ◌∙◌, Err, sym, subst}
 use Rattle.std.specs.Prelude.{IfErr}
-use Rattle.tt.specs.Types.DelimiterKind.TheVariants.{Brace}
 use Rattle.tt_expand.specs.declared.fault.ExpandTextError.{ExpandTextError}
 use Rattle.tt_expand.specs.declared.fault.ExpandTextError.TheVariants as error
 use Rattle.tt_expand.specs.Coming.{Comes}
 use Rattle.tt_expand.specs.Expansion.{text_part, setting_by, replacements, IsLenientError, IsWritingError}
 use Rattle.tt_expand.specs.Knowing.{knows_nothing}
-use Rattle.tt_expand.specs.Positions.{first_in}
-use Rattle.tt_expand.specs.Texts.{begun, FitAll}
+use Rattle.tt_items.specs.Positions.{begun as begun_among}
+use Rattle.tt_items.specs.declared.position.Siblings.TheVariants.{Items}
+use Rattle.tt_edit.specs.Texts.{begun, FitAll}
 use Rattle.tt_expand.proofs.Fitting.{comes_fit}
 use Rattle.tt_expand.proofs.Replacing.{all_replaced}
 use Rattle.tt_expand.proofs.text.expand_leniently.Goals as goal
@@ -32,8 +32,8 @@ returns-clause-ok c =
     let options = c.args.options in
     let read : IsParse text_part text tree = c.in_ok-tree.ensures.ok in
     let (after, ready, source) = c.in_ok-text.ensures.text knows_nothing c.new-known.ensures in
-    let comes : Comes (setting_by options) options.limit (first_in Brace) 0 knows_nothing tree.children after source.outcome =
-    subst (λ s. Comes s options.limit (first_in Brace) 0 knows_nothing tree.children after source.outcome) c.in_ok-setting.ensures source.comes in
+    let comes : Comes (setting_by options) options.limit (begun_among Items) 0 knows_nothing tree.children after source.outcome =
+    subst (λ s. Comes s options.limit (begun_among Items) 0 knows_nothing tree.children after source.outcome) c.in_ok-setting.ensures source.comes in
     let fits : FitAll (replacements source.outcome) (begun text) = comes_fit text_part text tree c.utf8.text read comes in
     record {
       tree = tree;

@@ -1,10 +1,10 @@
 use Rattle.std.proofs.Common.{◌∷◌, List, map, reverse, inl, inr, sym, subst}
 use Rattle.tt_expand.specs.Calling.{IsCalled, IsFaulty, IsExpanded}
-use Rattle.tt_expand.specs.Items.{Call, call_of}
+use Rattle.tt_items.specs.Items.{Call, call_of}
 use Rattle.tt_expand.specs.Knowing.{setting_of}
 use Rattle.tt_expand.specs.Walks.{Level, level_of, levels_of, Leads, IsNext}
 use Rattle.tt_expand.proofs.Leading.{leads_into, next_by}
-use Rattle.tt_expand.proofs.Lengths.{call_long}
+use Rattle.tt_items.proofs.Lengths.{call_long}
 use Rattle.tt_expand.proofs.Passing.{next_other, next_faulty, next_expanded, stays_step, invoked_step}
 use Rattle.tt_expand.proofs.walk.next_call.Goals as goal
 
@@ -12,28 +12,31 @@ pub returns-in-Tree-clause-next : goal.returns-in-Tree-clause-next
 returns-in-Tree-clause-next c known is there =
     let setting = setting_of c.args.setting.now in
     let it : Call = call_of c.args.call.now in
+    let free = c.is_conditional.result in
     let tree = c.in-Tree.tree in
     let (others, called, then) = c.in_ok-tree.ensures.called known is in
-    let from : IsExpanded setting c.args.limit it tree known others = subst (λ r. IsCalled setting c.args.limit it known r others) c.in-Tree.is called in
+    let from : IsExpanded setting c.args.limit free it tree known others = subst (λ r. IsCalled setting c.args.limit free it known r others) c.in-Tree.is called in
     (others, then, next_expanded setting c.args.limit c.args.walk.now known it there c.invoke.result c.invoke.new.walk others tree from c.invoke.ensures)
 
 pub returns-in-Faulty-clause-next : goal.returns-in-Faulty-clause-next
 returns-in-Faulty-clause-next c known is there =
     let setting = setting_of c.args.setting.now in
     let it : Call = call_of c.args.call.now in
+    let free = c.is_conditional.result in
     let (others, called, then) = c.in_ok-tree.ensures.called known is in
-    let wrong : IsFaulty setting c.args.limit it known others = subst (λ r. IsCalled setting c.args.limit it known r others) c.in-Faulty.is called in
+    let wrong : IsFaulty setting c.args.limit free it known others = subst (λ r. IsCalled setting c.args.limit free it known r others) c.in-Faulty.is called in
     (others, then, next_faulty setting c.args.limit c.args.walk.now known it there c.stay.result c.stay.new.walk others wrong c.stay.ensures)
 
 pub returns-else-setting-clause-next : goal.returns-else-setting-clause-next
 returns-else-setting-clause-next c known is there =
     let setting = setting_of c.args.setting.now in
     let it : Call = call_of c.args.call.now in
+    let free = c.is_conditional.result in
     let walk = c.args.walk.now in
     let event = c.stay-else-setting.result in
     let new = c.stay-else-setting.new.walk in
     let (others, called, then) = c.in_ok-tree.ensures.called known is in
-    let (none, same) = subst (λ r. IsCalled setting c.args.limit it known r others) c.in-Other.is called in (
+    let (none, same) = subst (λ r. IsCalled setting c.args.limit free it known r others) c.in-Other.is called in (
       others,
       then,
       subst (IsNext setting c.args.limit (levels_of walk) known event (levels_of new)) (sym same)
@@ -48,10 +51,11 @@ returns-in_ok-next_tree-in-Other-clause-next c known is there =
     let setting = setting_of c.args.setting.now in
     let limit = c.args.limit in
     let it : Call = call_of c.args.call.now in
+    let free = c.is_conditional.result in
     let level : Level = level_of c.args.walk.now.level in
     let outer : List Level = map level_of (reverse c.args.walk.now.outer.items) in
     let (others, called, then) = c.in_ok-tree.ensures.called known is in
-    let (none, same) = subst (λ r. IsCalled setting limit it known r others) c.in-Other.is called in
+    let (none, same) = subst (λ r. IsCalled setting limit free it known r others) c.in-Other.is called in
     let leads : Leads setting limit (level ∷ outer) known (λ outcomes. outcomes) (record level { plain = it.len } ∷ outer) others =
     subst (Leads setting limit (level ∷ outer) known (λ outcomes. outcomes) (record level { plain = it.len } ∷ outer)) (sym same)
     (leads_into setting limit level outer known there.first there.goes_on it there.item none c.if-setting.true) in

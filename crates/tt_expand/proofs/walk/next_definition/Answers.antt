@@ -1,12 +1,12 @@
 use Rattle.std.proofs.Common.{◌≡◌, ◌∷◌, map, reverse, true, refl, sym, subst, arith}
 use Rattle.tt.specs.Views.{trees_of}
 use Rattle.tt_expand.specs.declared.walk.Event.TheVariants as event
-use Rattle.tt_expand.specs.Items.{Definition, definition_of}
+use Rattle.tt_items.specs.Items.{Definition, definition_of}
 use Rattle.tt_expand.specs.Knowing.{setting_of}
 use Rattle.tt_expand.specs.Walks.{Level, level_of, past, first_stay, IsNext, Leads, Steps}
 use Rattle.tt_matcher.specs.Fragments.{front_trees}
 use Rattle.tt_expand.proofs.Leading.{leads_definition}
-use Rattle.tt_expand.proofs.Lengths.{definition_less}
+use Rattle.tt_items.proofs.Lengths.{definition_less}
 use Rattle.tt_expand.proofs.walk.next_definition.Goals as goal
 
 pub returns-clause-next : goal.returns-clause-next

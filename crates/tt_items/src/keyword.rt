@@ -1,6 +1,6 @@
 //! Words of the language, which name no macro.
 ghost use Rattle.std.specs.Prelude.{◌≡◌};
-ghost use Rattle.tt_expand.specs.Keywords.{is_keyword};
+ghost use Rattle.tt_items.specs.Keywords.{is_keyword};
 
 /// Whether a word is a keyword of the edition 2024, a reserved one too, or `_`.
 pub(crate) fn is_keyword(word: &str) -> bool

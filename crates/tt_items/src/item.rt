@@ -2,7 +2,7 @@
 ghost use Rattle.std.specs.Prelude.{◌≡◌, ◌≤◌, ◌∷◌, [], option_map};
 ghost use Rattle.tt.specs.Iters.{rest_of};
 ghost use Rattle.tt.specs.Moves.{after_tree};
-ghost use Rattle.tt_expand.specs.Items.{name_in, definition_len, defined_as, definition_behind, definition_in, call_behind, is_at_colons, is_at_root, call_in, item_in, definition_of, call_of, item_meant};
+ghost use Rattle.tt_items.specs.Items.{name_in, definition_len, defined_as, definition_behind, definition_in, call_behind, is_at_colons, is_at_root, call_in, item_in, definition_of, call_of, item_meant};
 ghost use Rattle.tt_matcher.specs.Fragments.{is_at_word};
 ghost use Rattle.tt_pattern.specs.Units.{is_at_punct};
 
@@ -18,29 +18,29 @@ const ROOT_LEN: usize = 3;
 
 /// A definition of a macro: `macro_rules! NAME` and a subtree that holds arms, and the `;` behind parentheses or brackets.
 #[derive(Drop)]
-pub(crate) struct Definition<'a> {
-    pub(crate) name: Ident,
-    pub(crate) header: Subtree,
-    pub(crate) arms: TtIter<'a>,
+pub struct Definition<'a> {
+    pub name: Ident,
+    pub header: Subtree,
+    pub arms: TtIter<'a>,
     /// How many trees it is.
-    pub(crate) len: usize,
+    pub len: usize,
 }
 
 /// A call of a macro: a name, `!` and a subtree.
 #[derive(Drop)]
-pub(crate) struct Call<'a> {
-    pub(crate) name: Ident,
+pub struct Call<'a> {
+    pub name: Ident,
     /// Whether `::` stands before the name, and before that something else than the root of the crate.
-    pub(crate) is_elsewhere: bool,
-    pub(crate) header: Subtree,
-    pub(crate) input: TtIter<'a>,
+    pub is_elsewhere: bool,
+    pub header: Subtree,
+    pub input: TtIter<'a>,
     /// How many trees it is.
-    pub(crate) len: usize,
+    pub len: usize,
 }
 
 /// What stands first among siblings.
 #[derive(Drop)]
-pub(crate) enum Item<'a> {
+pub enum Item<'a> {
     Definition(Definition<'a>),
     Call(Call<'a>),
     /// Neither: a leaf, a subtree or nothing.
@@ -48,7 +48,7 @@ pub(crate) enum Item<'a> {
 }
 
 /// Whether the ident of that text stands first, and is not raw.
-pub(crate) fn is_at_word(mut trees: TtIter<'_>, text: &str) -> bool
+pub fn is_at_word(mut trees: TtIter<'_>, text: &str) -> bool
     ensures { result ≡ is_at_word text.now (rest_of trees.entry) }
 {
     match trees.expect_ident_or_underscore() {
@@ -61,7 +61,7 @@ pub(crate) fn is_at_word(mut trees: TtIter<'_>, text: &str) -> bool
 }
 
 /// Whether a punct of that character stands first.
-pub(crate) fn is_at_punct(mut trees: TtIter<'_>, char: char) -> bool
+pub fn is_at_punct(mut trees: TtIter<'_>, char: char) -> bool
     ensures { result ≡ is_at_punct (char ∷ []) (rest_of trees.entry) }
 {
     trees.expect_char(char).is_ok()
@@ -121,8 +121,8 @@ fn definition_behind<'a>(mut trees: TtIter<'a>) -> Option<Definition<'a>>
     defined_as(name, trees)
 }
 
-// The definition that stands first, if one does.
-fn definition_in<'a>(mut trees: TtIter<'a>) -> Option<Definition<'a>>
+/// The definition that stands first, if one does.
+pub fn definition_in<'a>(mut trees: TtIter<'a>) -> Option<Definition<'a>>
     ensures { option_map definition_of result ≡ definition_in (rest_of trees.entry) }
 {
     if !is_at_word(trees.remaining().iter(), "macro_rules") {
@@ -194,7 +194,7 @@ fn call_in<'a>(mut trees: TtIter<'a>, root: &str) -> Option<Call<'a>>
 }
 
 /// What stands first.
-pub(crate) fn item_in<'a>(trees: TtIter<'a>, root: &str) -> Item<'a>
+pub fn item_in<'a>(trees: TtIter<'a>, root: &str) -> Item<'a>
     ensures { item_meant result ≡ item_in root.now (rest_of trees.entry) }
 {
     if let Some(definition) = definition_in(trees.remaining().iter()) {

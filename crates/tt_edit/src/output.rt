@@ -1,12 +1,12 @@
 //! A text in which other texts take the place of parts of it.
 ghost use Rattle.std.specs.Prelude.{◌≡◌, ◌≤◌, IfOk, OnOk, MatchBool, MatchOption, take, drop, slice_get, length, ◌-◌, string_bytes};
-ghost use Rattle.tt_expand.specs.Texts.{is_apart, wants_space, joined, IsRange};
+ghost use Rattle.tt_edit.specs.Texts.{is_apart, wants_space, joined, IsRange};
 
 use std::alloc::{AllocError, Global};
 
 /// What is written so far, and the source that is left.
 #[derive(Drop)]
-pub(crate) struct Output<'t> {
+pub struct Output<'t> {
     text: String,
     rest: &'t str,
     /// The byte at which that begins.
@@ -59,10 +59,10 @@ fn cut(text: &str, start: usize, end: usize) -> Option<(&str, &str)>
 }
 
 impl<'t> Output<'t> {
-    ghost use Rattle.tt_expand.specs.Texts.{begun, writing_of, replaced, finished, FitsIn};
+    ghost use Rattle.tt_edit.specs.Texts.{begun, writing_of, replaced, finished, FitsIn};
 
     /// Nothing of that source.
-    pub(crate) fn new(alloc: Global, source: &'t str) -> Output<'t>
+    pub fn new(alloc: Global, source: &'t str) -> Output<'t>
         ensures { writing_of result ≡ begun source.entry.now }
     {
         Output {
@@ -83,7 +83,7 @@ impl<'t> Output<'t> {
 
     /// Writes the source up to the bytes from a place to another, and that text in place of them: whether they are left of the source.
     /// Where they are not, nothing is written.
-    pub(crate) fn replace(
+    pub fn replace(
         &mut self,
         start: usize,
         end: usize,
@@ -104,7 +104,7 @@ impl<'t> Output<'t> {
     }
 
     /// All of it.
-    pub(crate) fn finish(mut self) -> Result<String, AllocError>
+    pub fn finish(mut self) -> Result<String, AllocError>
         ensures { IfOk result (λ text. string_bytes text ≡ finished (writing_of self.entry)) }
     {
         let rest = self.rest;

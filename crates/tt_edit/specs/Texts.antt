@@ -3,7 +3,7 @@ use Rattle.std.specs.Prelude.{◌≡◌, ◌⊎◌, ◌≤◌, ◌-◌, ◌++◌
 use Rattle.std.specs.List.{list_any}
 use Rattle.std.specs.Str.{IsCharBoundary}
 use Rattle.tt.specs.TreeText.{space_if}
-use Rattle.tt_expand.specs.declared.output.Output.{Output}
+use Rattle.tt_edit.specs.declared.output.Output.{Output}
 
 -- white space, brackets, a comma and a semicolon: a token ends before such a byte, and one begins behind it, whatever stands around
 abbrev pub apart_bytes : List ℕ

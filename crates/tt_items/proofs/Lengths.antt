@@ -5,7 +5,7 @@ use Rattle.tt.specs.Forest.{Forest, end, leaf, node, size}
 use Rattle.tt.specs.Gluing.{after_trees}
 use Rattle.tt.specs.Moves.{after_tree}
 use Rattle.tt.specs.Types.Ident.{Ident}
-use Rattle.tt_expand.specs.Items.{Definition, Call, defines, calls, defined_as, definition_from, definition_in, call_from, call_behind, is_at_colons, is_at_root, call_in, item_from, item_in, name_in}
+use Rattle.tt_items.specs.Items.{Definition, Call, defines, calls, defined_as, definition_from, definition_in, call_from, call_behind, is_at_colons, is_at_root, call_in, item_from, item_in, name_in}
 use Rattle.tt_matcher.specs.Fragments.{is_at_word, is_brace}
 use Rattle.tt_pattern.specs.Units.{is_at_punct}
 
@@ -61,7 +61,7 @@ long_call root trees = by (is_at_colons trees) (is_at_root root trees && is_at_c
     by false false = long_behind 0 false trees
 
 -- Behind one tree or more fewer tokens are left.
-fewer_behind : (n : ℕ) (trees : Forest) → size (after_trees n trees) ≤ size trees
+pub fewer_behind : (n : ℕ) (trees : Forest) → size (after_trees n trees) ≤ size trees
 fewer_behind zero trees = omega arith
 fewer_behind (suc n) end = fewer_behind n end
 fewer_behind (suc n) (leaf it rest) = omega (arith, fewer_behind n rest)

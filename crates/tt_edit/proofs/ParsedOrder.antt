@@ -5,10 +5,10 @@ use Rattle.std.proofs.lemmas.Str.{IsCharBoundary-from_rest, IsCharBoundary-start
 use Rattle.std.specs.Str.{chars, IsCharBoundary, IsUtf8}
 use Rattle.tt.specs.Forest.{Root}
 use Rattle.tt_base.specs.declared.span.SpanPart.{SpanPart}
-use Rattle.tt_expand.specs.Laid.{Laid}
-use Rattle.tt_expand.specs.Texts.{IsRange}
-use Rattle.tt_expand.proofs.PieceOrder.{ClosesLast, InOrder, none, first, in_order_from, laid_of_pieces, placed_in_order}
-use Rattle.tt_expand.proofs.Quotes.{quote_boundary}
+use Rattle.tt_edit.specs.Laid.{Laid}
+use Rattle.tt_edit.specs.Texts.{IsRange}
+use Rattle.tt_edit.proofs.PieceOrder.{ClosesLast, InOrder, none, first, in_order_from, laid_of_pieces, placed_in_order}
+use Rattle.tt_edit.proofs.Quotes.{quote_boundary}
 use Rattle.tt_lex.specs.Reading.{AreTokensOf, first_token_of}
 use Rattle.tt_lex.specs.declared.token.DocStyle.{DocStyle}
 use Rattle.tt_lex.specs.declared.token.DocStyle.TheVariants.{Outer, Inner}
@@ -64,7 +64,7 @@ module _ {text : List ℕ} {to : ℕ} (part : SpanPart) (next : Option TokenKind
   leaves_in_order kinds.OpenBracket quote = here [] tt
   leaves_in_order kinds.CloseBracket quote = here [] tt
   leaves_in_order kinds.Unknown quote = here [] tt
-  leaves_in_order kinds.Semi quote = here (sorts_of kinds.Semi next word) tt
+  leaves_in_order kinds.Semi quote = here (sorts_of kinds.Semi next word) refl
   leaves_in_order kinds.Comma quote = here (sorts_of kinds.Comma next word) tt
   leaves_in_order kinds.Dot quote = here (sorts_of kinds.Dot next word) tt
   leaves_in_order kinds.At quote = here (sorts_of kinds.At next word) tt

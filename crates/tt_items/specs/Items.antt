@@ -10,11 +10,11 @@ use Rattle.tt.specs.Types.DelimiterKind.{DelimiterKind}
 use Rattle.tt.specs.Types.Ident.{Ident}
 use Rattle.tt.specs.Types.IdentIsRaw.{IdentIsRaw}
 use Rattle.tt.specs.Types.IdentIsRaw.TheVariants.{No, Yes}
-use Rattle.tt_expand.specs.declared.item.Call as call
-use Rattle.tt_expand.specs.declared.item.Definition as definition
-use Rattle.tt_expand.specs.declared.item.Item as item
-use Rattle.tt_expand.specs.declared.item.Item.TheVariants as item_of
-use Rattle.tt_expand.specs.Keywords.{is_keyword}
+use Rattle.tt_items.specs.declared.item.Call as call
+use Rattle.tt_items.specs.declared.item.Definition as definition
+use Rattle.tt_items.specs.declared.item.Item as item
+use Rattle.tt_items.specs.declared.item.Item.TheVariants as item_of
+use Rattle.tt_items.specs.Keywords.{is_keyword}
 use Rattle.tt_matcher.specs.Fragments.{is_at_word, is_brace}
 use Rattle.tt_pattern.specs.Units.{is_at_punct, unit_size}
 

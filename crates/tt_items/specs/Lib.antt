@@ -1,0 +1,4 @@
+-- What stands among siblings, as far as macros are asked for.
+pub mod Items
+pub mod Keywords
+pub mod Positions
