@@ -47,8 +47,8 @@ behind_leaf (leaf_of.Ident it) = refl
 laid_front : {text : List ℕ} {from to : ℕ} (trees : Forest) (more : List Piece) → InOrder text from (spelled trees ++ more) to
     → (place : ℕ) × Laid text from trees place × InOrder text place more to
 laid_front {from = from} end more it = (from, lies_end (omega arith), it)
-laid_front {text} {to = to} (leaf it rest) more (first lies others) =
-    let (place, laid, left) = laid_front rest more (subst (λ n. InOrder text n (spelled rest ++ more) to) (behind_leaf it) others) in
+laid_front {text} {from} {to} (leaf it rest) more (first lies others) =
+    let (place, laid, left) = laid_front {from = byte_behind it} rest more (subst (λ n. InOrder text n (spelled rest ++ more) to) (behind_leaf it) others) in
     (place, lies_leaf lies laid, left)
 laid_front {text} {to = to} (node delimiter children rest) more (first opens others) =
     let close = at_span (closing delimiter.kind) delimiter.close in
@@ -92,11 +92,12 @@ placed_in_order {text} {to} part start stop sorts more last range behind = go so
     go : (sorts : List Sort) → ClosesLast sorts → InOrder text start (placed part start stop sorts ++ more) to
     go [] last = in_order_from range.order behind
     go (name text raw ∷ sorts) last = first here (go sorts last)
-    go (sign char spacing ∷ sorts) last = first here (by (char == 59) last)
+    go (sign char spacing ∷ sorts) last = first here (by (go sorts) (char == 59) last)
       where
-        by : (is_end : Bool) → Chosen is_end (sorts ≡ []) (ClosesLast sorts) → InOrder text (cond is_end stop start) (placed part start stop sorts ++ more) to
-        by true last = subst (λ ss. InOrder text stop (placed part start stop ss ++ more) to) (sym last) behind
-        by false last = go sorts last
+        by : (ClosesLast sorts → InOrder text start (placed part start stop sorts ++ more) to) → (is_end : Bool) → Chosen is_end (sorts ≡ []) (ClosesLast sorts)
+            → InOrder text (cond is_end stop start) (placed part start stop sorts ++ more) to
+        by goes true last = subst (λ ss. InOrder text stop (placed part start stop ss ++ more) to) (sym last) behind
+        by goes false last = goes last
     go (value kind symbol suffix ∷ sorts) last = first here (go sorts last)
     go (opening kind ∷ sorts) last = first here (go sorts last)
     go (closing kind ∷ sorts) last = first here (subst (λ ss. InOrder text stop (placed part start stop ss ++ more) to) (sym last) behind)

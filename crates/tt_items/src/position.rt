@@ -49,7 +49,7 @@ pub struct Position {
 impl Siblings {
     // Whether they are statements or items.
     fn is_block(self) -> bool
-        ensures { result ≡ is_block self.entry }
+        ensures { result ≡ is_block self }
     {
         match self {
             Siblings::Items | Siblings::Statements => true,
@@ -61,7 +61,7 @@ impl Siblings {
 impl Head {
     // Behind a word more.
     fn behind(self, word: &str) -> Head
-        ensures { result ≡ head_behind word.now self.entry }
+        ensures { result ≡ head_behind word.now self }
     {
         match self {
             Head::Items | Head::Function => self,
@@ -76,7 +76,7 @@ impl Head {
 
     // What the braces behind it hold.
     fn held(self) -> Siblings
-        ensures { result ≡ held_by self.entry }
+        ensures { result ≡ held_by self }
     {
         match self {
             Head::Items | Head::Foreign => Siblings::Items,
@@ -121,7 +121,7 @@ impl Position {
 
     // What the trees in brackets of a kind are.
     fn siblings_in(self, kind: DelimiterKind) -> Siblings
-        ensures { result ≡ siblings_in kind self.entry }
+        ensures { result ≡ siblings_in kind self }
     {
         if kind == DelimiterKind::Brace {
             self.head.held()
@@ -132,14 +132,14 @@ impl Position {
 
     /// Before the first of the trees in brackets of a kind that stand here.
     pub fn first_in(self, kind: DelimiterKind) -> Position
-        ensures { result ≡ first_in kind self.entry }
+        ensures { result ≡ first_in kind self }
     {
         Position::begun(self.siblings_in(kind))
     }
 
     /// Behind what ends a statement or an item, or does not.
     pub fn behind(self, ends: bool) -> Position
-        ensures { result ≡ behind ends self.entry }
+        ensures { result ≡ behind ends self }
     {
         Position {
             siblings: self.siblings,
@@ -153,7 +153,7 @@ impl Position {
 
     // Behind `#`, before these trees.
     fn behind_attribute_sign(self, trees: TtIter<'_>) -> Position
-        ensures { result ≡ behind_attribute_sign (rest_of trees.entry) self.entry }
+        ensures { result ≡ behind_attribute_sign (rest_of trees.entry) self }
     {
         let behind = trees.remaining();
         Position {
@@ -166,7 +166,7 @@ impl Position {
 
     // Behind a punct, before these trees.
     fn behind_punct(self, char: char, trees: TtIter<'_>) -> Position
-        ensures { result ≡ behind_punct char (rest_of trees.entry) self.entry }
+        ensures { result ≡ behind_punct char (rest_of trees.entry) self }
     {
         if char == '#' {
             self.behind_attribute_sign(trees)
@@ -179,7 +179,7 @@ impl Position {
 
     // Behind an ident.
     fn behind_ident(self, ident: &Ident) -> Position
-        ensures { result ≡ behind_ident ident.now self.entry }
+        ensures { result ≡ behind_ident ident.now self }
     {
         let head = match ident.is_raw {
             IdentIsRaw::No => self.head.behind(ident.sym.as_str()),
@@ -196,7 +196,7 @@ impl Position {
 
     /// Behind a leaf, before these trees.
     pub fn behind_leaf(self, leaf: &Leaf, trees: TtIter<'_>) -> Position
-        ensures { result ≡ behind_leaf leaf.now (rest_of trees.entry) self.entry }
+        ensures { result ≡ behind_leaf leaf.now (rest_of trees.entry) self }
     {
         match leaf {
             Leaf::Literal(_) => self.behind(false),
@@ -207,7 +207,7 @@ impl Position {
 
     /// Behind a subtree of a kind.
     pub fn behind_subtree(self, kind: DelimiterKind) -> Position
-        ensures { result ≡ behind_subtree kind self.entry }
+        ensures { result ≡ behind_subtree kind self }
     {
         if self.is_attribute {
             return Position {
@@ -223,14 +223,14 @@ impl Position {
 
     /// Whether what is defined in a subtree of a kind stays in scope behind it.
     pub fn keeps_macros(self, kind: DelimiterKind) -> bool
-        ensures { result ≡ keeps_macros kind self.entry }
+        ensures { result ≡ keeps_macros kind self }
     {
         self.is_used && !self.is_attribute && kind == DelimiterKind::Brace
     }
 
     /// Whether a call whose subtree is of a kind is a statement or an item, where these trees stand behind it.
     pub fn is_statement(self, kind: DelimiterKind, behind: TtIter<'_>) -> bool
-        ensures { result ≡ is_statement kind (rest_of behind.entry) self.entry }
+        ensures { result ≡ is_statement kind (rest_of behind.entry) self }
     {
         self.is_start
             && (kind == DelimiterKind::Brace || behind.is_empty() || is_at_punct(behind, ';'))
@@ -238,14 +238,14 @@ impl Position {
 
     /// Whether such a call stands under a condition, `#[cfg(..)]`.
     pub fn is_conditional(self, kind: DelimiterKind, behind: TtIter<'_>) -> bool
-        ensures { result ≡ is_conditional kind (rest_of behind.entry) self.entry }
+        ensures { result ≡ is_conditional kind (rest_of behind.entry) self }
     {
         self.is_conditional && self.is_statement(kind, behind)
     }
 
     /// Whether the `;` behind such a call is a part of it: among items it is, and none may stand alone there.
     pub fn takes_semicolon(self, kind: DelimiterKind, behind: TtIter<'_>) -> bool
-        ensures { result ≡ takes_semicolon kind (rest_of behind.entry) self.entry }
+        ensures { result ≡ takes_semicolon kind (rest_of behind.entry) self }
     {
         self.siblings == Siblings::Items
             && self.is_start
@@ -255,7 +255,7 @@ impl Position {
 
     /// What the trees that come of such a call are among.
     pub fn siblings_of_call(self, kind: DelimiterKind, behind: TtIter<'_>) -> Siblings
-        ensures { result ≡ siblings_of_call kind (rest_of behind.entry) self.entry }
+        ensures { result ≡ siblings_of_call kind (rest_of behind.entry) self }
     {
         if self.is_statement(kind, behind) {
             self.siblings
