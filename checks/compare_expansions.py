@@ -5,8 +5,8 @@ PROGRAM is `cuvolemin`. Each file of a crate in a FOLDER, which needs no other c
 the crate. What rustc then expands that copy to is compared with what it expands the crate to, token by token, as PROGRAM tells
 tokens. The same is done with N files that are made by chance, each a crate of its own; these are run too, as they are and
 expanded, and what they print is compared. It prints how many files agree, how many do but for parentheses, how many are refused
-or have calls that are left, by what is told first, and each file that differs. A `;` behind a call that was an item, where rustc
-wants none, is taken out, and such files are counted apart. No part of the gate: it needs rustc (--rustc tells which).
+or have calls that are left, by what is told first, and each file that differs. No part of the gate: it needs rustc (--rustc tells
+which).
 """
 import argparse
 import collections
@@ -20,9 +20,6 @@ from pathlib import Path
 
 import made_programs
 
-# What rustc says of a `;` that stands where an item should.
-STRAY = ("expected item, found `;`", "non-item in item list")
-ROUNDS = 200
 NO_TOKENS = ("Whitespace", "LineComment { doc_style: None }", "BlockComment { doc_style: None")
 
 
@@ -96,24 +93,6 @@ def first_message(told):
     return re.sub(r"`[^`]*`", "`..`", told.decode().splitlines()[0]) if told else ""
 
 
-def expands_with(compiler, root, edition, path, text):
-    """What the crate becomes with that text in a file, the text of which each stray `;` is taken out, and the errors."""
-    path.write_bytes(text)
-    for _ in range(ROUNDS):
-        status, written, errors = compiler.expands(root, edition)
-        stray = {
-            span["byte_start"]
-            for it in errors if it["message"] in STRAY
-            for span in it["spans"] if span["is_primary"] and Path(span["file_name"]).resolve() == path.resolve()
-        }
-        stray = {at for at in stray if text[at : at + 1] == b";"}
-        if not stray:
-            return (None if errors else written), text, errors
-        text = b"".join(text[n : n + 1] for n in range(len(text)) if n not in stray)
-        path.write_bytes(text)
-    return None, text, errors
-
-
 def compare_file(program, compiler, root, edition, path, theirs):
     """How a file of a crate compares, and the text that was compared, if one was."""
     text = path.read_bytes()
@@ -122,12 +101,12 @@ def compare_file(program, compiler, root, edition, path, theirs):
         return f"refused: {first_message(told)}", None
     if ours == text:
         return (f"nothing expanded: {first_message(told)}" if told else "no call of a macro of its own"), None
-    written, mended, errors = expands_with(compiler, root, edition, path, ours)
+    path.write_bytes(ours)
+    _, written, errors = compiler.expands(root, edition)
     path.write_bytes(text)
-    if written is None:
+    if errors:
         return f"DIFFER: rustc refuses what is written: {errors[0]['message']}", None
-    found = class_of(program, written, theirs)
-    return found + (", a `;` taken out" if mended != ours else "") + (", some calls left" if told else ""), mended
+    return class_of(program, written, theirs) + (", some calls left" if told else ""), ours
 
 
 def compare_crate(program, compiler, folder, counts):
@@ -163,12 +142,12 @@ def compare_made(program, compiler, seed, counts):
         if status or errors:
             counts[f"made: rustc refuses: {errors[0]['message'][:60] if errors else ''}"] += 1
             return
-        found, mended = compare_file(program, compiler, path, "2024", path, theirs)
+        found, ours = compare_file(program, compiler, path, "2024", path, theirs)
         counts[f"made: {found.split(':')[0] if found.startswith('DIFFER') else found}"] += 1
         if found.startswith("DIFFER"):
             print(f"seed {seed}: {found}")
-        if mended is not None:
-            same = compiler.runs(text, room) == compiler.runs(mended, room)
+        if ours is not None:
+            same = compiler.runs(text, room) == compiler.runs(ours, room)
             counts["made: prints the same" if same else "made: DIFFER in what is printed"] += 1
             if not same:
                 print(f"seed {seed}: prints something else")
