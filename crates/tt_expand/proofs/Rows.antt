@@ -13,6 +13,10 @@ use Rattle.tt_items.specs.Positions.{first_in, behind_leaf, behind_subtree, keep
 use Rattle.tt_expand.specs.Roots.{rooted}
 use Rattle.tt_pattern.proofs.Rows.{word, raw_word, alone, joint}
 
+-- `::` before others
+abbrev colons : Forest → Forest
+colons rest = joint 58 (alone 58 rest)
+
 -- `$crate::f` and `$f`, where `k` stands for the root.
 root_placed : rooted (codes "k") (alone 36 (word (codes "crate") (colons (word (codes "f") end)))) ≡ word (codes "k") (colons (word (codes "f") end))
 root_placed = refl

@@ -19,7 +19,7 @@ invariant-expand_trees-trees l =
       going :
           (before : Known) → IsKnown before l.fn.known
           → (now : Known) × IsKnown now l.known
-          × IsGoing (setting_of l.setting) l.limit l.siblings (rest_of l.fn.trees) before l.fn.builder.stack (levels_of l.walk) now l.builder.stack;
+          × IsGoing (setting_of l.setting) l.limit l.fn.siblings (rest_of l.fn.trees) before l.fn.builder.stack (levels_of l.walk) now l.builder.stack;
       entered : suc (depth l.builder.stack) ≡ length (closes_of (levels_of l.walk)) + depth l.fn.builder.stack;
       top : l.builder.top ≡ l.fn.builder.top;
     }

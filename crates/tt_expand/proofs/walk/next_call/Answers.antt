@@ -1,4 +1,8 @@
-use Rattle.std.proofs.Common.{◌∷◌, List, map, reverse, inl, inr, sym, subst}
+use Rattle.std.proofs.Common.{◌∷◌, Bool, List, map, reverse, inl, inr, sym, subst}
+use Rattle.tt.specs.Gluing.{after_trees}
+use Rattle.tt.specs.Iters.{rest_of}
+use Rattle.tt_expand.specs.declared.walk.Walk.{Walk}
+use Rattle.tt_expand.specs.Coming.{is_conditional_in}
 use Rattle.tt_expand.specs.Calling.{IsCalled, IsFaulty, IsExpanded}
 use Rattle.tt_items.specs.Items.{Call, call_of}
 use Rattle.tt_expand.specs.Knowing.{setting_of}
@@ -8,30 +12,38 @@ use Rattle.tt_items.proofs.Lengths.{call_long}
 use Rattle.tt_expand.proofs.Passing.{next_other, next_faulty, next_expanded, stays_step, invoked_step}
 use Rattle.tt_expand.proofs.walk.next_call.Goals as goal
 
+-- whether a call that stands first stands under a condition
+abbrev under_condition : Walk → Call → Bool
+under_condition walk it = is_conditional_in walk.level.position it (after_trees it.len (rest_of walk.level.rest))
+
 pub returns-in-Tree-clause-next : goal.returns-in-Tree-clause-next
 returns-in-Tree-clause-next c known is there =
     let setting = setting_of c.args.setting.now in
     let it : Call = call_of c.args.call.now in
-    let free = c.is_conditional.result in
+    let free = c.is_conditional-is_conditional.result in
     let tree = c.in-Tree.tree in
     let (others, called, then) = c.in_ok-tree.ensures.called known is in
-    let from : IsExpanded setting c.args.limit free it tree known others = subst (λ r. IsCalled setting c.args.limit free it known r others) c.in-Tree.is called in
+    let from : IsExpanded setting c.args.limit (under_condition c.args.walk.now it) it tree known others =
+    subst (λ b. IsExpanded setting c.args.limit b it tree known others) c.is_conditional-is_conditional.ensures
+    (subst (λ r. IsCalled setting c.args.limit free it known r others) c.in-Tree.is called) in
     (others, then, next_expanded setting c.args.limit c.args.walk.now known it there c.invoke.result c.invoke.new.walk others tree from c.invoke.ensures)
 
 pub returns-in-Faulty-clause-next : goal.returns-in-Faulty-clause-next
 returns-in-Faulty-clause-next c known is there =
     let setting = setting_of c.args.setting.now in
     let it : Call = call_of c.args.call.now in
-    let free = c.is_conditional.result in
+    let free = c.is_conditional-is_conditional.result in
     let (others, called, then) = c.in_ok-tree.ensures.called known is in
-    let wrong : IsFaulty setting c.args.limit free it known others = subst (λ r. IsCalled setting c.args.limit free it known r others) c.in-Faulty.is called in
+    let wrong : IsFaulty setting c.args.limit (under_condition c.args.walk.now it) it known others =
+    subst (λ b. IsFaulty setting c.args.limit b it known others) c.is_conditional-is_conditional.ensures
+    (subst (λ r. IsCalled setting c.args.limit free it known r others) c.in-Faulty.is called) in
     (others, then, next_faulty setting c.args.limit c.args.walk.now known it there c.stay.result c.stay.new.walk others wrong c.stay.ensures)
 
 pub returns-else-setting-clause-next : goal.returns-else-setting-clause-next
 returns-else-setting-clause-next c known is there =
     let setting = setting_of c.args.setting.now in
     let it : Call = call_of c.args.call.now in
-    let free = c.is_conditional.result in
+    let free = c.is_conditional-is_conditional.result in
     let walk = c.args.walk.now in
     let event = c.stay-else-setting.result in
     let new = c.stay-else-setting.new.walk in
@@ -51,7 +63,7 @@ returns-in_ok-next_tree-in-Other-clause-next c known is there =
     let setting = setting_of c.args.setting.now in
     let limit = c.args.limit in
     let it : Call = call_of c.args.call.now in
-    let free = c.is_conditional.result in
+    let free = c.is_conditional-is_conditional.result in
     let level : Level = level_of c.args.walk.now.level in
     let outer : List Level = map level_of (reverse c.args.walk.now.outer.items) in
     let (others, called, then) = c.in_ok-tree.ensures.called known is in
