@@ -83,12 +83,7 @@ impl<'t> Output<'t> {
 
     /// Writes the source up to the bytes from a place to another, and that text in place of them: whether they are left of the source.
     /// Where they are not, nothing is written.
-    pub fn replace(
-        &mut self,
-        start: usize,
-        end: usize,
-        other: &str,
-    ) -> Result<bool, AllocError>
+    pub fn replace(&mut self, start: usize, end: usize, other: &str) -> Result<bool, AllocError>
         ensures { IfOk result (λ fits. MatchBool fits
             (FitsIn start end (writing_of self.old) × (writing_of self.new ≡ replaced (record { start = start; end = end; text = other.now }) (writing_of self.old)))
             ((FitsIn start end (writing_of self.old) → ⊥) × (self.new ≡ self.old))) }

@@ -28,10 +28,26 @@ pub(crate) fn place(
     let siblings = invocation.siblings;
     let trees = invocation.tree.iter();
     if invocation.is_statement {
-        return expand_trees(setting, known, limit, siblings, trees, delimiter.close, builder);
+        return expand_trees(
+            setting,
+            known,
+            limit,
+            siblings,
+            trees,
+            delimiter.close,
+            builder,
+        );
     }
     builder.open(DelimiterKind::InvisibleOpaque, delimiter.open_span)?;
-    expand_trees(setting, known, limit, siblings, trees, delimiter.close, builder)?;
+    expand_trees(
+        setting,
+        known,
+        limit,
+        siblings,
+        trees,
+        delimiter.close,
+        builder,
+    )?;
     builder.close(delimiter.close)
 }
 

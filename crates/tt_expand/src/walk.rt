@@ -141,12 +141,7 @@ impl<'a> Level<'a> {
 
 impl<'a> Walk<'a> {
     /// A walk through trees that are such siblings.
-    pub(crate) fn new(
-        alloc: Global,
-        trees: TtIter<'a>,
-        siblings: Siblings,
-        close: Span,
-    ) -> Walk<'a>
+    pub(crate) fn new(alloc: Global, trees: TtIter<'a>, siblings: Siblings, close: Span) -> Walk<'a>
         ensures { levels_of result ≡ begun siblings (rest_of trees.entry) close ∷ [] }
     {
         Walk {
