@@ -1,5 +1,5 @@
 -- What takes the place of calls in a text fits into it.
-use Rattle.std.proofs.Common.{◌≡◌, ◌≤◌, ◌-◌, ◌++◌, ℕ, List, [], ◌∷◌, drop, get_or, refl, sym, ap, subst, ◌∙◌, arith}
+use Rattle.std.proofs.Common.{ℕ, List, refl, arith}
 use Rattle.std.specs.Str.{IsUtf8}
 use Rattle.tt.specs.Forest.{Forest, Root}
 use Rattle.tt_base.specs.declared.span.SpanPart.{SpanPart}
@@ -7,12 +7,12 @@ use Rattle.tt_items.specs.declared.position.Position.{Position}
 use Rattle.tt_expand.specs.Coming.{Comes, ends, on_leaf, on_node, on_definition, on_other_call, into_other_call, on_faulty_call, on_call}
 use Rattle.tt_expand.specs.Expansion.{replacements}
 use Rattle.tt_expand.specs.Knowing.{Setting, Known}
-use Rattle.tt_edit.specs.Laid.{Lies, Laid, lies_leaf, lies_node}
+use Rattle.tt_edit.specs.Laid.{Laid, lies_leaf, lies_node}
 use Rattle.tt_expand.specs.Outcomes.{Outcome}
-use Rattle.tt_edit.specs.Texts.{Replacement, Writing, begun, replaced, FitAll}
+use Rattle.tt_edit.specs.Texts.{begun, FitAll}
 use Rattle.tt_expand.proofs.CallPlaces.{call_laid}
 use Rattle.tt_edit.proofs.Following.{Follow, none, next, follow_from, follow_both, follow_fit}
-use Rattle.tt_edit.proofs.LaidFacts.{laid_behind, laid_order, lies_from, starts_before}
+use Rattle.tt_edit.proofs.LaidFacts.{laid_behind, laid_order, starts_before}
 use Rattle.tt_edit.proofs.ParsedOrder.{parsed_laid}
 use Rattle.tt_text.specs.Parsed.{IsParse}
 

@@ -1,17 +1,8 @@
 -- Worked roots. Each holds by computation.
-use Rattle.std.proofs.Common.{◌≡◌, ℕ, Bool, true, false, [], ◌∷◌, codes, refl}
-use Rattle.tt.specs.Forest.{Forest, end, join}
-use Rattle.tt.specs.Token.{delimiter}
-use Rattle.tt.specs.Types.DelimiterKind.{DelimiterKind}
-use Rattle.tt.specs.Types.DelimiterKind.TheVariants.{Parenthesis, Brace, Bracket}
-use Rattle.tt.specs.Types.Ident.{Ident}
-use Rattle.tt.specs.Types.IdentIsRaw.TheVariants.{No}
-use Rattle.tt.specs.Types.Spacing.TheVariants.{Alone}
-use Rattle.tt_base.proofs.Samples.{span, punct, ident, subtree}
-use Rattle.tt_items.specs.Items.{Item, calls, defines, other, item_in}
-use Rattle.tt_items.specs.Positions.{first_in, behind_leaf, behind_subtree, keeps_macros, is_statement}
+use Rattle.std.proofs.Common.{◌≡◌, codes, refl}
+use Rattle.tt.specs.Forest.{Forest, end}
 use Rattle.tt_expand.specs.Roots.{rooted}
-use Rattle.tt_pattern.proofs.Rows.{word, raw_word, alone, joint}
+use Rattle.tt_pattern.proofs.Rows.{word, alone, joint}
 
 -- `::` before others
 abbrev colons : Forest → Forest

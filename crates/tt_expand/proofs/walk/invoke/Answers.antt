@@ -1,10 +1,9 @@
-use Rattle.std.proofs.Common.{rules, ◌≡◌, ◌∙◌, Bool, cond, refl, ap, ap₂}
-use Rattle.tt.specs.Forest.{Forest}
+use Rattle.std.proofs.Common.{rules, ◌≡◌, ◌∙◌, cond, refl, ap, ap₂}
 use Rattle.tt.specs.Gluing.{after_trees}
 use Rattle.tt.specs.Iters.{rest_of}
 use Rattle.tt.specs.Views.{trees_of}
-use Rattle.tt_expand.specs.Coming.{begin_at, takes_in, end_in}
-use Rattle.tt_expand.specs.Walks.{Level, level_of, past, past_semicolon, past_call}
+use Rattle.tt_expand.specs.Coming.{begin_at, takes_in}
+use Rattle.tt_expand.specs.Walks.{Level, level_of, past, past_semicolon}
 use Rattle.tt_items.specs.Items.{Call, call_of}
 use Rattle.tt_items.specs.Positions.{is_statement, siblings_of_call, takes_semicolon}
 use Rattle.tt_matcher.specs.Fragments.{is_brace}
