@@ -9,7 +9,6 @@ call of a class in which WORD stands. No part of the gate: it needs rustc.
 """
 import argparse
 import collections
-import json
 import re
 import subprocess
 import sys
@@ -207,7 +206,7 @@ def crate_of(calls, numbers):
         lines.append(f"mod c{number} {{ macro_rules! m {{ {marked(arms, 'stringify!{{{}}}')} }}")
         lines.append(f"pub const X: &str = m! {{ {given} }}; }}")
     lines.append("fn main() {")
-    lines += [f'println!("{number} {{:?}}", c{number}::X);' for number in numbers]
+    lines += [f'println!("{number} {{}}", c{number}::X.replace("\\n", " "));' for number in numbers]
     return [*lines, "}"]
 
 
@@ -224,7 +223,7 @@ def told_by_rustc(rustc, room, calls):
         if ran.returncode == 0:
             for line in subprocess.run([room / "main"], capture_output=True, text=True, check=True).stdout.splitlines():
                 number, _, text = line.partition(" ")
-                told[int(number)] = ("tree", printed(json.loads(re.sub(r"\\u\{(\w+)\}", unicode_of, text).replace("\\'", "'").replace("\\0", "\\u0000"))))
+                told[int(number)] = ("tree", printed(text))
             return [told[n] for n in range(len(calls))]
         before = len(left)
         for found in filter(None, map(ERROR.match, (it.removeprefix(f"{room}/") for it in ran.stderr.splitlines()))):
@@ -238,9 +237,10 @@ def told_by_rustc(rustc, room, calls):
     sys.exit("rustc finds something wrong each time")
 
 
-def unicode_of(found):
-    """A character that Rust writes by its number, as JSON does."""
-    return json.dumps(chr(int(found[1], 16)))[1:-1]
+def from_difference(ours, theirs):
+    """Both from some tokens before the first that differs."""
+    at = next((n for n, (a, b) in enumerate(zip(ours, theirs)) if a != b), min(len(ours), len(theirs)))
+    return " ".join(ours[max(0, at - 5) : at + 12]), " ".join(theirs[max(0, at - 5) : at + 12])
 
 
 def plain_message(message):
@@ -290,7 +290,8 @@ def main():
                 kind = class_of(ours, theirs)
                 counts[kind] += 1
                 if given.show and given.show in kind:
-                    print(f"{kind}\n  {where}! {text[:300]}\n  {' '.join(ours[1])[:400]}\n  {' '.join(theirs[1])[:400]}", flush=True)
+                    left, right = from_difference(ours[1], theirs[1]) if ours[0] == theirs[0] else (ours[1][:40], theirs[1][:40])
+                    print(f"{kind}\n  {where}! {text[:200]}\n  {left}\n  {right}", flush=True)
     for kind, number in sorted(counts.items()):
         print(f"{number:7} {kind}")
 
