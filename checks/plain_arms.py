@@ -77,8 +77,10 @@ def first_span(tree):
 
 
 def last_span(tree):
-    """Where a tree ends."""
-    return tree.close if isinstance(tree, Subtree) else tree.span
+    """Where the last token of a tree ends, as a list has them: of a subtree that holds something its closing is none."""
+    if not isinstance(tree, Subtree):
+        return tree.span
+    return last_span(tree.children[-1]) if tree.children else tree.close
 
 
 def is_punct(trees, chars):
