@@ -26,8 +26,27 @@ BATCH = 20_000
 # How many texts a run of the compiler is given.
 RUN = 1_500
 FRONT = "m! { "
-KNOWN_ERROR = re.compile(r"main\.rs:(\d+):(\d+): error(?:\[(\w+)\])?: (.*)")
-
+ERROR = re.compile(r"main\.rs:(\d+):(\d+): error(?:\[(\w+)\])?: (.*)")
+# Classes of texts that were cut short, each by what such a text looks like behind the name of its fragment.
+KNOWN = (
+    ("`_` and a `const` block, by `expr_2021`", r"expr_2021 (.*[^.] )?(_|const \{)"),
+    ("`..=` where a pattern's fragment begins, or behind `let` and `for`", r"pat_param \.\.= |.*\b(let|for) (\| )?\.\.= "),
+    ("`default` and `safe` where a statement begins", r"stmt (# \[\w*\] )*(default|safe) (?!::|\.|!|=)"),
+    ("`_` behind `return`, `break`, `yield`, `..` and `raw const`", r".*(return|(break|continue)( '\w)?|yield|\.\.=?|raw const|raw mut) _"),
+    ("calls, `?` and fields behind jumps and closures", r".*\b(return|break|continue|yield)( '\w+)? [?(\[.]|.*\|.* (-> .*\{.?\}|\.\.) [?(\[.]"),
+    ("attributes behind an operator in front", r".*(&|&&|-|\*|!|raw const|raw mut|& mut) # \["),
+    ("`dyn` and `impl` with nothing behind, or before `::`", r".*\b(dyn|impl)( ::|$| [{>;|=,)!]| where| for <)"),
+    ("a bound before `+=`", r".*\+="),
+    ("a pattern of `!`", r"(pat|pat_param|stmt) .*!$"),
+    ("`|=` behind a pattern", r"(pat|stmt) .*\|="),
+    ("`true` and `false` in ranges of patterns", r"(pat|pat_param|stmt) .*((true|false) \.\.|\.\.=? (true|false)|- (true|false))"),
+    ("a range operator behind a pattern that is no end of a range", r"(pat|pat_param|stmt) .*\.\.=?$"),
+    ("`<` behind the path of a pattern", r"(pat|pat_param|stmt) .*(<|<<|<-)$"),
+    ("`use<..>` alone as a type", r".*\buse <"),
+    ("`...` behind an expression", r".*\.\.\."),
+    ("`::` behind a field, and fields named by keywords", r".* \. \w+( ::|$)"),
+    ("`::{` and `::*` where a statement begins", r"stmt .*:: (\{|\*)"),
+)
 
 TREES = {}
 
@@ -61,7 +80,7 @@ def errors_of(rustc, room, fragment, texts):
         [rustc, "--edition=2024", "--error-format=short", "-o", room / "main", source], capture_output=True, text=True, check=False
     )
     for line in ran.stderr.splitlines():
-        found = KNOWN_ERROR.match(line.removeprefix(f"{room}/"))
+        found = ERROR.match(line.removeprefix(f"{room}/"))
         if found and found[3] != "E0658":
             yield int(found[1]) - 2, int(found[2]) - 1 - len(FRONT), found[4]
 
@@ -135,6 +154,12 @@ def class_of(ours, told):
     return f"{'up to' if ours <= error[1] else 'past'} an error there: {error[0]}"
 
 
+def known_class(fragment, words):
+    """The class of a text that was cut short."""
+    line = f"{fragment} {' '.join(it for it in words if it != END)}"
+    return next((name for name, look in KNOWN if re.match(look, line)), None)
+
+
 class Judge:
     """Compares texts, and counts how many are of each class."""
 
@@ -181,10 +206,14 @@ class Judge:
         for (found, fragment), number in sorted(self.numbers.items()):
             words, ours, (theirs, error) = self.shortest[found, fragment]
             print(f"{number:8} {fragment:9} {found:70} {' '.join(words)}   ours {ours}, rustc {theirs} {error or ''}")
+        counts, examples = collections.Counter(), {}
         for fragment, texts in self.cut.items():
-            ours, theirs = self.compare(fragment, [list(it) for it in texts])
-            for (words, number), taken, (reached, _) in zip(texts.items(), ours, theirs):
-                print(f"{number:8} {fragment:9} cut short: {' '.join(words)}   ours {taken}, rustc {reached}")
+            for words, number in texts.items():
+                name = known_class(fragment, words) or f"no known class: {' '.join(words)}"
+                counts[name] += number
+                examples.setdefault(name, set()).add((len(words), f"{fragment} {' '.join(words)}"))
+        for name, number in counts.most_common():
+            print(f"{number:8} cut short: {name}: {min(examples[name])[1]}")
 
 
 def main():

@@ -17,7 +17,8 @@ def behind(units, at):
     return at + 1 if isinstance(units, list) else units.behind(at)
 
 
-# Where what a fragment takes at a place of the input ends; None where it takes nothing there and has to.
+# Where what a fragment takes at a place of the input ends; None where it takes nothing there and has to. White space may stand before
+# the name of an ident, which marks a raw one.
 def taken(fragment, units, at):
     first = units[at] if at < len(units) else None
     if fragment == "vis":
@@ -27,7 +28,7 @@ def taken(fragment, units, at):
     if fragment == "tt":
         return behind(units, at)
     if fragment == "ident":
-        return behind(units, at) if first[0] == "ident" and first[1] != "_" else None
+        return behind(units, at) if first[0] == "ident" and first[1].strip() != "_" else None
     if fragment == "lifetime":
         return behind(units, at) if first[0] == "life" else None
     if fragment == "block":
