@@ -16,8 +16,8 @@ import tempfile
 from pathlib import Path
 
 TOKEN = re.compile(
-    r"""(?P<space>\s+)|(?P<line>//[^\n]*)|(?P<block>/\*)|(?P<raw>(?:br|cr|r)(?P<hashes>\#*)".*?"(?P=hashes)\w*)"""
-    r"""|(?P<string>[bc]?"(?:[^"\\]|\\.)*"\w*)|(?P<char>b?'(?:[^'\\\n]|\\[^u\n]|\\x\w\w|\\u\{[^}']*\})'\w*)|(?P<life>'(?:r\#)?[^\W\d]\w*)"""
+    r"""(?P<space>\s+)|(?P<line>//[^\n]*)|(?P<block>/\*)|(?P<raw>(?:br|cr|r)(?P<hashes>\#*)".*?"(?P=hashes))"""
+    r"""|(?P<string>[bc]?"(?:[^"\\]|\\.)*")|(?P<char>b?'(?:[^'\\\n]|\\[^u\n]|\\x\w\w|\\u\{[^}']*\})')|(?P<life>'(?:r\#)?[^\W\d]\w*)"""
     r"""|(?P<word>(?:r\#)?[^\W\d]\w*)|(?P<number>0[xob]\w+|\d[\d_]*(?:\.(?![.\w])|\.\d[\d_]*)?(?:[eE][+-]?_*\d[\d_]*)?\w*)|(?P<sign>.)""",
     re.S | re.X,
 )
@@ -54,7 +54,7 @@ def documenting(comment):
 
 
 def tokens_of(text):
-    """The tokens of a text, each with whether it touches the one before it."""
+    """The tokens of a text, each with whether it touches the one before it. The suffix of a string is one of its own."""
     at, tokens, touches = 0, [], False
     while at < len(text):
         found = TOKEN.match(text, at)
