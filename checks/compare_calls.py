@@ -257,6 +257,8 @@ def class_of(ours, theirs):
     if ours[0] == "tree" and theirs[0] == "tree":
         if ours[1] == theirs[1]:
             return "agree: the same tokens"
+        if "".join(ours[1]) == "".join(theirs[1]):
+            return "agree: the same tokens, of which rustc prints two with no space between"
         return "DIFFER: another rule" if ours[1][0] != theirs[1][0] else "DIFFER: other tokens"
     if theirs[0] == "tree":
         return f"DIFFER: refused by us, taken by rustc: {ours[1]}"
