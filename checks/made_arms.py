@@ -1,4 +1,6 @@
 """Macros of several arms made by chance, and inputs that an arm may take (docs/LANGUAGE.md, "Macros of several arms")."""
+import made_fragments
+import plain_grammar
 from made_values import LITERAL_KINDS, Values
 from plain_arms import MOST_UNITS, unit_count
 from plain_stored import SPACINGS
@@ -36,8 +38,38 @@ MACROS = (
     ("($($x:ident)=>*) => {$(<$x)=>*}", "a => b"),
     ("($x:tt $y:tt) => {=$x = [$y]}", "=> ::"),
     ("($x:literal) => {$x}", "-1"),
+    ("($e:expr) => {$e $e}", "a + b"),
+    ("($e:expr) => {$e}", "(a)"),
+    ("($($e:expr),*) => {$([$e])*}", "1, -1, a.b"),
+    ("(A < $t:ty > $($x:tt)*) => {[$t] $($x)*}", "A < B<C>> = d"),
+    ("($t:ty $(> $x:tt)*) => {$t $($x)*}", "A<B>> c"),
+    ("($p:pat => $e:expr) => {$p; $e}; ($($x:tt)*) => {}", "A | B => a +"),
+    ("($($s:stmt;)*) => {$([$s])*}", "let a = b; c();"),
+    ("($v:vis $i:item) => {$i $v}", "pub fn f() {}"),
+    ("($(#[$m:meta])* $p:path) => {$([$m])* $p}", "#[a = 1] b::c"),
 )
 SIGNS = ",;=>+:-$.<|"
+# How many units at most a variable of Rust's grammar is given.
+MOST_WORDS = 5
+
+
+class GrammarMaker(Maker):
+    """Macros of which some variables have a fragment of Rust's grammar, and inputs for them."""
+
+    def part(self, depth):
+        """A part of a pattern."""
+        part = super().part(depth)
+        if part[0] == "var" and self.by.random() < 0.6:
+            return (*part[:2], self.by.choice(list(plain_grammar.FRAGMENTS)))
+        return part
+
+    def fragment(self, name):
+        """What a fragment may take: words, each for a unit."""
+        if name not in plain_grammar.FRAGMENTS:
+            return super().fragment(name)
+        maker = made_fragments.Maker(self.by, MOST_WORDS)
+        words = maker.piece(name)
+        return [("ident", word) for word in (maker.beside(words) if self.by.random() < 0.1 else words)]
 
 
 class Arms(Values):
@@ -47,7 +79,7 @@ class Arms(Values):
         """The texts of a macro and of an input that one of its arms may take; nothing where that is too long."""
         if self.happens(0.25):
             return self.pick(MACROS)
-        arms, units = macro(Maker(self.chance))
+        arms, units = macro(self.pick((Maker, GrammarMaker))(self.chance))
         if unit_count(units) > MOST_UNITS:
             return None
         text = macro_text(arms) + self.pick(("", "", "", " ;"))

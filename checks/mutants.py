@@ -16,6 +16,7 @@ import types
 from pathlib import Path
 
 import mutants_of_arms
+import mutants_of_grammar
 import mutants_of_lists
 import mutants_of_machine
 import mutants_of_macros
@@ -34,7 +35,7 @@ HERE = Path(__file__).parent
 TABLES = {
     "plain_trees": mutants_of_trees, "plain_lists": mutants_of_lists, "plain_stored": mutants_of_stored,
     "plain_pieces": mutants_of_pieces, "plain_text": mutants_of_texts, "plain_written": mutants_of_written, "plain_rules": mutants_of_rules,
-    "plain_arms": mutants_of_arms, "plain_machine": mutants_of_machine,
+    "plain_grammar": mutants_of_grammar, "plain_arms": mutants_of_arms, "plain_machine": mutants_of_machine,
 }
 # What stands for an answer that a turned machine does not give.
 NO_ANSWER = ["no answer"]
@@ -61,6 +62,7 @@ def load(turned=None, old="", new=""):
                 raise ValueError(f"{old!r} stands {text.count(old)} times in {name}.py")
             text = text.replace(old, new) + table.HELPERS
         module = sys.modules[name] = types.ModuleType(name)
+        module.__file__ = str(HERE / f"{name}.py")
         exec(compile(text, name, "exec"), vars(module))  # pylint: disable=exec-used
     return sys.modules["plain_machine"].Machine
 

@@ -74,5 +74,15 @@ WRITING = [
     ("ambiguous is no match", 'return "ambiguous" if', 'return "no match" if'),
     ("lengths are no match", 'else "lengths"', 'else "no match"'),
 ]
-MUTANTS = UNITS + SPELLING + FAULTS + ARMS + WRITING
+GROUPS = [
+    ("an expression comes as its tokens", '("expr", "expr_2021", "ty"', '("ty"'),
+    ("a pattern comes as its tokens", '"ty", "pat", "pat_param")', '"ty")'),
+    ("one token comes as a group", "or len(units) < 2:", "or not units:"),
+    ("a group is invisible", 'Subtree("opaque", first_span', 'Subtree("invisible", first_span'),
+    ("a group begins where its last tree does", "first_span(trees[0])", "first_span(trees[-1])"),
+    ("a group ends where its first tree does", "last_span(trees[-1])", "last_span(trees[0])"),
+    ("a group ends with its last bracket", "return last_span(tree.children[-1]) if tree.children else tree.close", "return tree.close"),
+    ("a fragment takes nothing", "return at + count if count else None", "return at + count"),
+]
+MUTANTS = UNITS + SPELLING + FAULTS + ARMS + WRITING + GROUPS
 HELPERS = ""

@@ -1,8 +1,9 @@
 """Macros of several arms on plain trees (docs/LANGUAGE.md, "Macros of several arms").
 
 Trees are read as units, patterns and templates as parts of plain_macros.py, which tells what comes of an input; that is then
-trees again. The fragments of Rust's grammar are left out: no script has one.
+trees again. How far a fragment of Rust's grammar reaches is told by plain_grammar.py.
 """
+import plain_grammar
 import plain_macros
 from plain_trees import Ident, Literal, Punct, Subtree, alone, glued_front
 
@@ -12,7 +13,9 @@ BRACKETS = {"paren": "(", "brace": "{", "bracket": "[", "invisible": "invisible"
 # Stands before the text of a raw ident; no text of a tree has it, since a line has none.
 RAW = "\n"
 NUMBERS = ("int", "float")
-FRAGMENTS = ("ident", "literal", "lifetime", "block", "vis", "tt")
+FRAGMENTS = ("ident", "literal", "lifetime", "block", "vis", "tt", *plain_grammar.FRAGMENTS)
+# What these took comes as one opaque subtree, where it is more than one token or subtree.
+GROUPED = ("expr", "expr_2021", "ty", "pat", "pat_param")
 # The numbers of what may be wrong with an arm.
 NO_PATTERN, BEGINS_NOTHING, UNKNOWN_FRAGMENT, NAME_TWICE, NEEDLESS_SEPARATOR = 1, 2, 3, 5, 6
 EMPTY_REPETITION, NO_ARROW, NO_TEMPLATE, STILL_REPEATS, NOTHING_REPEATS, NO_SEMICOLON = range(7, 13)
@@ -33,6 +36,51 @@ class Unit(tuple):
         made = super().__new__(cls, unit)
         made.trees = trees
         return made
+
+
+class Input:
+    """The units of an input. Places are those of its trees, so that a fragment may end within puncts that stand as one."""
+
+    def __init__(self, trees):
+        self.trees = trees
+
+    def __len__(self):
+        return len(self.trees)
+
+    def __getitem__(self, place):
+        if isinstance(place, slice):
+            return units_of(self.trees[place])
+        trees = self.trees[place:]
+        return unit_of(trees[: unit_size(trees)], Input)
+
+    def behind(self, at):
+        """Where the unit ends that begins there."""
+        return at + unit_size(self.trees[at:])
+
+    def reached(self, fragment, at):
+        """Where what a fragment of Rust's grammar takes ends; None where it takes nothing."""
+        count = plain_grammar.reach(fragment, self.trees[at:])
+        return at + count if count else None
+
+    def bound(self, fragment, at, end):
+        """The units that a variable took, or one opaque subtree of them."""
+        units = units_of(self.trees[at:end])
+        if fragment not in GROUPED or len(units) < 2:
+            return units
+        trees = alone(self.trees[at:end])
+        return [unit_of((Subtree("opaque", first_span(trees[0]), last_span(trees[-1]), trees),))]
+
+
+def first_span(tree):
+    """Where a tree begins."""
+    return tree.open_span if isinstance(tree, Subtree) else tree.span
+
+
+def last_span(tree):
+    """Where the last token of a tree ends, as a list has them: of a subtree that holds something its closing is none."""
+    if not isinstance(tree, Subtree):
+        return tree.span
+    return last_span(tree.children[-1]) if tree.children else tree.close
 
 
 def is_punct(trees, chars):
@@ -57,11 +105,11 @@ def word(ident):
     return (RAW if ident.raw == "raw" else "") + ident.text
 
 
-def unit_of(trees):
-    """The unit that these trees are."""
+def unit_of(trees, held=None):
+    """The unit that these trees are; what a subtree holds is told by `held`, or as units."""
     first = trees[0]
     if isinstance(first, Subtree):
-        return Unit(("sub", BRACKETS[first.kind], units_of(first.children)), trees)
+        return Unit(("sub", BRACKETS[first.kind], (held or units_of)(first.children)), trees)
     if isinstance(first, Ident):
         return Unit(("ident", word(first)), trees)
     if isinstance(first, Literal):
@@ -286,10 +334,10 @@ def trees_of(units):
 
 def made_by_arms(arms, trees):
     """What the macro that trees spell makes of others: a tree, or the answer that tells why there is none."""
-    arms, units = arms_of(arms), units_of(trees)
-    if unit_count(units) > MOST_UNITS:
+    arms = arms_of(arms)
+    if unit_count(units_of(trees)) > MOST_UNITS:
         raise TooManyUnits
-    made = plain_macros.expanded(arms, units, placed)
+    made = plain_macros.expanded(arms, Input(trees), placed)
     if not isinstance(made, str):
         (tree,) = trees_of(made)
         return tree

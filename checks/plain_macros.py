@@ -12,34 +12,58 @@ class Stopped(Exception):
     """Why a template is not filled: `lengths` or `no round`, and the place of its repetition."""
 
 
-# How many units a fragment takes at a place of the input; None where it takes none of them and has to.
+# Where the unit ends that begins at a place. Of units that tell that themselves, a part may end within another unit.
+def behind(units, at):
+    return at + 1 if isinstance(units, list) else units.behind(at)
+
+
+# Where what a fragment takes at a place of the input ends; None where it takes nothing there and has to. White space may stand before
+# the name of an ident, which marks a raw one.
 def taken(fragment, units, at):
     first = units[at] if at < len(units) else None
     if fragment == "vis":
-        if first != ("ident", "pub"):
-            return 0
-        behind = units[at + 1] if at + 1 < len(units) else None
-        if behind is not None and behind[0] == "sub" and behind[1] == "(" and behind[2]:
-            held = behind[2]
-            if held[0] == ("ident", "in") or (len(held) == 1 and held[0] in [("ident", w) for w in ("crate", "self", "super")]):
-                return 2
-        return 1
+        return visibility_end(first, units, at)
     if first is None:
         return None
     if fragment == "tt":
-        return 1
+        return behind(units, at)
     if fragment == "ident":
-        return 1 if first[0] == "ident" and first[1] != "_" else None
+        return behind(units, at) if first[0] == "ident" and first[1].strip() != "_" else None
     if fragment == "lifetime":
-        return 1 if first[0] == "life" else None
+        return behind(units, at) if first[0] == "life" else None
     if fragment == "block":
-        return 1 if first[0] == "sub" and first[1] == "{" else None
+        return behind(units, at) if first[0] == "sub" and first[1] == "{" else None
+    if fragment == "literal":
+        return literal_end(first, units, at)
+    return units.reached(fragment, at)
+
+
+def visibility_end(first, units, at):
+    if first != ("ident", "pub"):
+        return at
+    at = behind(units, at)
+    held = units[at] if at < len(units) else None
+    if held is not None and held[0] == "sub" and held[1] == "(" and held[2]:
+        inner = held[2][0]
+        alone = behind(held[2], 0) == len(held[2])
+        if inner == ("ident", "in") or alone and inner in [("ident", w) for w in ("crate", "self", "super")]:
+            return behind(units, at)
+    return at
+
+
+def literal_end(first, units, at):
+    end = behind(units, at)
     if first[0] == "lit" or first in (("ident", "true"), ("ident", "false")):
-        return 1
-    behind = units[at + 1] if at + 1 < len(units) else None
-    if first == ("op", "-") and behind is not None and behind[0] == "lit" and behind[1][0].isdigit():
-        return 2
+        return end
+    number = units[end] if end < len(units) else None
+    if first == ("op", "-") and number is not None and number[0] == "lit" and number[1][0].isdigit():
+        return behind(units, end)
     return None
+
+
+# What a variable took: the units, or one that stands for them.
+def bound_by(fragment, units, at, end):
+    return units[at:end] if isinstance(units, list) else units.bound(fragment, at, end)
 
 
 # All ways in which the parts take units from a place on: where each ends, and what it binds.
@@ -48,25 +72,25 @@ def ways(parts, units, at):
         yield at, {}
         return
     first, others = parts[0], parts[1:]
-    for behind, bound in first_ways(first, units, at):
-        for end, more in ways(others, units, behind):
+    for place, bound in first_ways(first, units, at):
+        for end, more in ways(others, units, place):
             yield end, {**bound, **more}
 
 
 def first_ways(part, units, at):
     if part[0] == "var":
-        count = taken(part[2], units, at)
-        if count is not None:
-            yield at + count, {part[1]: units[at : at + count]}
+        end = taken(part[2], units, at)
+        if end is not None:
+            yield end, {part[1]: bound_by(part[2], units, at, end)}
     elif part[0] == "unit":
         if at < len(units) and units[at] == part[1]:
-            yield at + 1, {}
+            yield behind(units, at), {}
     elif part[0] == "sub":
         if at < len(units) and units[at][0] == "sub" and units[at][1] == part[1]:
             held = units[at][2]
             for end, bound in ways(part[2], held, 0):
                 if end == len(held):
-                    yield at + 1, bound
+                    yield behind(units, at), bound
     else:
         yield from rounds_of(part, units, at)
 
@@ -77,8 +101,8 @@ def rounds_of(part, units, at):
     names = names_of(body)
     if operator in "*?":
         yield at, {name: ("list", []) for name in names}
-    for behind, bound in ways(body, units, at):
-        for end, more in behind_round(part, units, behind):
+    for place, bound in ways(body, units, at):
+        for end, more in behind_round(part, units, place):
             yield end, {name: ("list", [bound[name]] + more[name]) for name in names}
 
 
@@ -93,9 +117,9 @@ def behind_round(part, units, at):
     if separator is not None:
         if at >= len(units) or units[at] != separator:
             return
-        start = at + 1
-    for behind, bound in ways(body, units, start):
-        for end, more in behind_round(part, units, behind):
+        start = behind(units, at)
+    for place, bound in ways(body, units, start):
+        for end, more in behind_round(part, units, place):
             yield end, {name: [bound[name]] + more[name] for name in names}
 
 
@@ -117,19 +141,19 @@ def stops(parts, units, at):
             yield sum(size(unit) for unit in units[:at]) + 1 + place
     if first[0] == "rep":
         yield from stops_in_rounds(first, units, at)
-    for behind, _ in first_ways(first, units, at):
-        yield from stops(others, units, behind)
+    for place, _ in first_ways(first, units, at):
+        yield from stops(others, units, place)
 
 
 # Those in a round, or in one behind it.
 def stops_in_rounds(part, units, at):
     _, body, separator, operator = part
     yield from stops(body, units, at)
-    for behind, _ in ways(body, units, at) if operator != "?" else ():
+    for place, _ in ways(body, units, at) if operator != "?" else ():
         if separator is None:
-            yield from stops_in_rounds(part, units, behind)
-        elif behind < len(units) and units[behind] == separator:
-            yield from stops_in_rounds(part, units, behind + 1)
+            yield from stops_in_rounds(part, units, place)
+        elif place < len(units) and units[place] == separator:
+            yield from stops_in_rounds(part, units, behind(units, place))
 
 
 def names_of(parts):
