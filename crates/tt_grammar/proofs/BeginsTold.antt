@@ -113,7 +113,7 @@ such_word is_such kinds f (unit.TwoPuncts one two) e = absurd (cc e)
 such_word is_such kinds f (unit.ThreePuncts one two three) e = absurd (cc e)
 such_word is_such kinds f (unit.Subtree kind) e = absurd (cc e)
 
-literal_told : (it : Unit) → is_literal it ≡ true → IsOf 4 (kind_of it)
+literal_told : (it : Unit) → is_literal it ≡ true → IsOf (begins test.Literal) (kind_of it)
 literal_told unit.End e = absurd (cc e)
 literal_told (unit.Word it) e = absurd (cc e)
 literal_told unit.Lifetime e = absurd (cc e)
@@ -123,7 +123,7 @@ literal_told (unit.TwoPuncts one two) e = absurd (cc e)
 literal_told (unit.ThreePuncts one two three) e = absurd (cc e)
 literal_told (unit.Subtree kind) e = absurd (cc e)
 
-text_told : (it : Unit) → is_literal_of is_text_kind it ≡ true → IsOf 4 (kind_of it)
+text_told : (it : Unit) → is_literal_of is_text_kind it ≡ true → IsOf (begins test.Text) (kind_of it)
 text_told unit.End e = absurd (cc e)
 text_told (unit.Word it) e = absurd (cc e)
 text_told unit.Lifetime e = absurd (cc e)
@@ -133,7 +133,7 @@ text_told (unit.TwoPuncts one two) e = absurd (cc e)
 text_told (unit.ThreePuncts one two three) e = absurd (cc e)
 text_told (unit.Subtree kind) e = absurd (cc e)
 
-number_told : (it : Unit) → is_literal_of is_number_kind it ≡ true → IsOf 4 (kind_of it)
+number_told : (it : Unit) → is_literal_of is_number_kind it ≡ true → IsOf (begins test.Number) (kind_of it)
 number_told unit.End e = absurd (cc e)
 number_told (unit.Word it) e = absurd (cc e)
 number_told unit.Lifetime e = absurd (cc e)
@@ -143,7 +143,7 @@ number_told (unit.TwoPuncts one two) e = absurd (cc e)
 number_told (unit.ThreePuncts one two three) e = absurd (cc e)
 number_told (unit.Subtree kind) e = absurd (cc e)
 
-delimited_told : (it : Unit) → is_subtree_of (λ kind. not (is_opaque_kind kind)) it ≡ true → IsOf 56 (kind_of it)
+delimited_told : (it : Unit) → is_subtree_of (λ kind. not (is_opaque_kind kind)) it ≡ true → IsOf (begins test.Delimited) (kind_of it)
 delimited_told unit.End e = absurd (cc e)
 delimited_told (unit.Word it) e = absurd (cc e)
 delimited_told unit.Lifetime e = absurd (cc e)
@@ -157,7 +157,7 @@ delimited_told (unit.Subtree delimiter.Bracket) e = refl
 delimited_told (unit.Subtree delimiter.Invisible) e = absurd (cc e)
 delimited_told (unit.Subtree delimiter.InvisibleOpaque) e = absurd (cc e)
 
-opaque_told : (it : Unit) → is_subtree_of is_opaque_kind it ≡ true → IsOf 64 (kind_of it)
+opaque_told : (it : Unit) → is_subtree_of is_opaque_kind it ≡ true → IsOf (begins test.Opaque) (kind_of it)
 opaque_told unit.End e = absurd (cc e)
 opaque_told (unit.Word it) e = absurd (cc e)
 opaque_told unit.Lifetime e = absurd (cc e)
@@ -175,17 +175,17 @@ alone_so : (a : Bool) → (a || (false || false)) ≡ true → a ≡ true
 alone_so true e = refl
 alone_so false e = absurd (cc e)
 
-beginning_told : (it : Unit) → may_begin_expression it ≡ true → IsOf 73577571806672878 (kind_of it)
+beginning_told : (it : Unit) → may_begin_expression it ≡ true → IsOf (begins test.BeginsExpression) (kind_of it)
 beginning_told unit.End e = absurd (cc e)
 beginning_told (unit.Word it) e = first_told it (alone_so (begins_expression it) e)
 beginning_told unit.Lifetime e = refl
 beginning_told (unit.Literal kind) e = refl
 beginning_told (unit.Punct one) e = among_told
-    (codes "!-*|&<#") (codes "||" ∷ codes "&&" ∷ codes ".." ∷ codes "<<" ∷ codes "::" ∷ []) (codes "..=" ∷ codes "..." ∷ []) 73577571806672878 refl refl refl (unit.Punct one) e
+    (codes "!-*|&<#") (codes "||" ∷ codes "&&" ∷ codes ".." ∷ codes "<<" ∷ codes "::" ∷ []) (codes "..=" ∷ codes "..." ∷ []) (begins test.BeginsExpression) refl refl refl (unit.Punct one) e
 beginning_told (unit.TwoPuncts one two) e = among_told
-    (codes "!-*|&<#") (codes "||" ∷ codes "&&" ∷ codes ".." ∷ codes "<<" ∷ codes "::" ∷ []) (codes "..=" ∷ codes "..." ∷ []) 73577571806672878 refl refl refl (unit.TwoPuncts one two) e
+    (codes "!-*|&<#") (codes "||" ∷ codes "&&" ∷ codes ".." ∷ codes "<<" ∷ codes "::" ∷ []) (codes "..=" ∷ codes "..." ∷ []) (begins test.BeginsExpression) refl refl refl (unit.TwoPuncts one two) e
 beginning_told (unit.ThreePuncts one two three) e = among_told
-    (codes "!-*|&<#") (codes "||" ∷ codes "&&" ∷ codes ".." ∷ codes "<<" ∷ codes "::" ∷ []) (codes "..=" ∷ codes "..." ∷ []) 73577571806672878 refl refl refl (unit.ThreePuncts one two three) e
+    (codes "!-*|&<#") (codes "||" ∷ codes "&&" ∷ codes ".." ∷ codes "<<" ∷ codes "::" ∷ []) (codes "..=" ∷ codes "..." ∷ []) (begins test.BeginsExpression) refl refl refl (unit.ThreePuncts one two three) e
 beginning_told (unit.Subtree delimiter.Parenthesis) e = refl
 beginning_told (unit.Subtree delimiter.Brace) e = absurd (cc e)
 beginning_told (unit.Subtree delimiter.Bracket) e = refl
@@ -205,18 +205,18 @@ tested wanted (unit.Subtree kind) e = e
 test_told : (wanted : Test) (it : Unit) → passes_test wanted it ≡ true → IsOf (begins wanted) (kind_of it)
 test_told (test.Is wanted) it e = same_told it wanted e
 test_told (test.Front char) it e = front_told char it e
-test_told test.Name it e = such_word (λ w. not (is_reserved w)) 384 name_told it e
-test_told test.PathSegment it e = such_word is_path_segment 896 segment_told it e
-test_told test.TruthValue it e = such_word is_truth_value 1024 truth_told it e
+test_told test.Name it e = such_word (λ w. not (is_reserved w)) (begins test.Name) name_told it e
+test_told test.PathSegment it e = such_word is_path_segment (begins test.PathSegment) segment_told it e
+test_told test.TruthValue it e = such_word is_truth_value (begins test.TruthValue) truth_told it e
 test_told test.Literal it e = literal_told it e
 test_told test.Text it e = text_told it e
 test_told test.Number it e = number_told it e
 test_told test.Delimited it e = delimited_told it e
 test_told test.Opaque it e = opaque_told it e
 test_told test.BinaryOperator it e = among_told
-    (codes "+-*/%^&|<>") (codes "<<" ∷ codes ">>" ∷ codes "==" ∷ codes "!=" ∷ codes "<=" ∷ codes ">=" ∷ codes "&&" ∷ codes "||" ∷ []) [] 116160242378604544 refl refl refl it e
+    (codes "+-*/%^&|<>") (codes "<<" ∷ codes ">>" ∷ codes "==" ∷ codes "!=" ∷ codes "<=" ∷ codes ">=" ∷ codes "&&" ∷ codes "||" ∷ []) [] (begins test.BinaryOperator) refl refl refl it e
 test_told test.AssignmentOperator it e = among_told
-    (codes "=") (codes "+=" ∷ codes "-=" ∷ codes "*=" ∷ codes "/=" ∷ codes "%=" ∷ codes "^=" ∷ codes "&=" ∷ codes "|=" ∷ []) (codes "<<=" ∷ codes ">>=" ∷ []) 116160104939651072 refl refl refl it e
+    (codes "=") (codes "+=" ∷ codes "-=" ∷ codes "*=" ∷ codes "/=" ∷ codes "%=" ∷ codes "^=" ∷ codes "&=" ∷ codes "|=" ∷ []) (codes "<<=" ∷ codes ">>=" ∷ []) (begins test.AssignmentOperator) refl refl refl it e
 test_told test.BeginsExpression it e = beginning_told it e
 
 -- What passes is of one of the kinds.

@@ -36,19 +36,19 @@ to_test kinds kind e = subst (λ n. (n == 1) ≡ true) (sym e) refl
 
 -- what is so of each word
 abbrev name_fact : Word → Bool
-name_fact it = is_reserved it || is_of 384 (kind_of_word it)
+name_fact it = is_reserved it || is_of (begins test.Name) (kind_of_word it)
 
 abbrev segment_fact : Word → Bool
-segment_fact it = not (is_path_segment it) || is_of 896 (kind_of_word it)
+segment_fact it = not (is_path_segment it) || is_of (begins test.PathSegment) (kind_of_word it)
 
 abbrev truth_fact : Word → Bool
-truth_fact it = not (is_truth_value it) || is_of 1024 (kind_of_word it)
+truth_fact it = not (is_truth_value it) || is_of (begins test.TruthValue) (kind_of_word it)
 
 abbrev first_fact : Word → Bool
-first_fact it = not (begins_expression it) || is_of 73577571806672878 (kind_of_word it)
+first_fact it = not (begins_expression it) || is_of (begins test.BeginsExpression) (kind_of_word it)
 
 abbrev told_fact : Word → Bool
-told_fact it = not (is_of 896 (kind_of_word it)) || is_path_segment it
+told_fact it = not (is_of (begins test.PathSegment) (kind_of_word it)) || is_path_segment it
 
 abbrev word_fact : Word → Bool
 word_fact it = name_fact it && (segment_fact it && (truth_fact it && (first_fact it && told_fact it)))
@@ -73,24 +73,24 @@ all_so false a b c d e = absurd (cc e)
 facts : (it : Word) → (name_fact it ≡ true) × (segment_fact it ≡ true) × (truth_fact it ≡ true) × (first_fact it ≡ true) × (told_fact it ≡ true)
 facts it = all_so (name_fact it) (segment_fact it) (truth_fact it) (first_fact it) (told_fact it) (of_each word_fact refl it)
 
-pub name_told : (it : Word) → not (is_reserved it) ≡ true → IsOf 384 (kind_of_word it)
-name_told it e = from_test 384 (kind_of_word it) (else_so (is_reserved it) (is_of 384 (kind_of_word it)) (facts it).0 e)
+pub name_told : (it : Word) → not (is_reserved it) ≡ true → IsOf (begins test.Name) (kind_of_word it)
+name_told it e = from_test (begins test.Name) (kind_of_word it) (else_so (is_reserved it) (is_of (begins test.Name) (kind_of_word it)) (facts it).0 e)
 
-pub segment_told : (it : Word) → is_path_segment it ≡ true → IsOf 896 (kind_of_word it)
-segment_told it e = from_test 896 (kind_of_word it) (then_so (is_path_segment it) (is_of 896 (kind_of_word it)) (facts it).1 e)
+pub segment_told : (it : Word) → is_path_segment it ≡ true → IsOf (begins test.PathSegment) (kind_of_word it)
+segment_told it e = from_test (begins test.PathSegment) (kind_of_word it) (then_so (is_path_segment it) (is_of (begins test.PathSegment) (kind_of_word it)) (facts it).1 e)
 
-pub truth_told : (it : Word) → is_truth_value it ≡ true → IsOf 1024 (kind_of_word it)
-truth_told it e = from_test 1024 (kind_of_word it) (then_so (is_truth_value it) (is_of 1024 (kind_of_word it)) (facts it).2 e)
+pub truth_told : (it : Word) → is_truth_value it ≡ true → IsOf (begins test.TruthValue) (kind_of_word it)
+truth_told it e = from_test (begins test.TruthValue) (kind_of_word it) (then_so (is_truth_value it) (is_of (begins test.TruthValue) (kind_of_word it)) (facts it).2 e)
 
-pub first_told : (it : Word) → begins_expression it ≡ true → IsOf 73577571806672878 (kind_of_word it)
-first_told it e = from_test 73577571806672878 (kind_of_word it) (then_so (begins_expression it) (is_of 73577571806672878 (kind_of_word it)) (facts it).3 e)
+pub first_told : (it : Word) → begins_expression it ≡ true → IsOf (begins test.BeginsExpression) (kind_of_word it)
+first_told it e = from_test (begins test.BeginsExpression) (kind_of_word it) (then_so (begins_expression it) (is_of (begins test.BeginsExpression) (kind_of_word it)) (facts it).3 e)
 
-told_segment : (it : Word) → IsOf 896 (kind_of_word it) → is_path_segment it ≡ true
-told_segment it e = then_so (is_of 896 (kind_of_word it)) (is_path_segment it) (facts it).4 (to_test 896 (kind_of_word it) e)
+told_segment : (it : Word) → IsOf (begins test.PathSegment) (kind_of_word it) → is_path_segment it ≡ true
+told_segment it e = then_so (is_of (begins test.PathSegment) (kind_of_word it)) (is_path_segment it) (facts it).4 (to_test (begins test.PathSegment) (kind_of_word it) e)
 
 -- no punct is of the kinds of a path's segments
 abbrev is_apart : Option ℕ → Bool
-is_apart it = not (is_of 896 (kind_or_other it))
+is_apart it = not (is_of (begins test.PathSegment) (kind_or_other it))
 
 abbrev are_apart : List ℕ → Bool
 are_apart [] = true
@@ -105,11 +105,11 @@ not_both : (a : Bool) → not a ≡ true → a ≡ true → ⊥
 not_both true e f = absurd (cc e)
 not_both false e f = absurd (cc f)
 
-punct_apart : (char : ℕ) → IsOf 896 (kind_of_char char) → ⊥
-punct_apart char e = not_both (is_of 896 (kind_of_char char)) (apart_in KINDS_OF_CHARS char refl) (to_test 896 (kind_of_char char) e)
+punct_apart : (char : ℕ) → IsOf (begins test.PathSegment) (kind_of_char char) → ⊥
+punct_apart char e = not_both (is_of (begins test.PathSegment) (kind_of_char char)) (apart_in KINDS_OF_CHARS char refl) (to_test (begins test.PathSegment) (kind_of_char char) e)
 
 -- a unit of these kinds is a path's segment
-pub segment_of_kind : (it : Unit) → IsOf 896 (kind_of it) → passes test.PathSegment it ≡ true
+pub segment_of_kind : (it : Unit) → IsOf (begins test.PathSegment) (kind_of it) → passes test.PathSegment it ≡ true
 segment_of_kind unit.End e = absurd (cc e)
 segment_of_kind (unit.Word it) e = told_segment it e
 segment_of_kind unit.Lifetime e = absurd (cc e)

@@ -1,5 +1,5 @@
 -- What is known of a table's expressions before they are read, by the kind of the unit that stands first.
-use Rattle.std.specs.Prelude.{◌≡◌, ◌%◌, ◌^◌, ℕ, suc, Bool, true, ◌&&◌, ◌==◌, nat_lt, List, [], ◌∷◌, length, Option, None, Some, slice_get, if◌then◌else◌}
+use Rattle.std.specs.Prelude.{◌≡◌, ◌%◌, ◌^◌, ℕ, suc, Bool, true, ◌&&◌, ◌==◌, nat_lt, List, [], ◌∷◌, length, Option, None, Some, slice_get, map, codes, if◌then◌else◌}
 use Rattle.std.specs.Int.{bit_at}
 use Rattle.std.specs.Int.RustNames.{bit_and, bit_or}
 use Rattle.tt_grammar.specs.declared.known.Glance.{Glance}
@@ -40,25 +40,38 @@ fails_of known at = fails_in (slice_get known at)
 abbrev pub idles_of : List Known → (at : ℕ) → ℕ
 idles_of known at = idles_in (slice_get known at)
 
+-- kinds as the bits of one number
+abbrev pub bits : (kinds : List ℕ) → ℕ
+bits [] = 0
+bits (kind ∷ kinds) = bit_or (2 ^ (kind % 64)) (bits kinds)
+
+-- the kinds of these puncts, and of those of which they are the first
+abbrev pub bits_of : (chars : List ℕ) → ℕ
+bits_of chars = bits (map kind_of_char chars)
+
+-- the kinds of words that an expression begins with: of names, of `self` and its like, of `true`, and of those keywords
+abbrev pub first_words : List ℕ
+first_words = 7 ∷ 8 ∷ 9 ∷ 10 ∷ 12 ∷ 13 ∷ 14 ∷ 15 ∷ 19 ∷ 20 ∷ 21 ∷ 22 ∷ 23 ∷ 25 ∷ 26 ∷ 29 ∷ 30 ∷ 32 ∷ 35 ∷ []
+
 -- the kinds of the units that pass a test
 abbrev pub begins : Test → ℕ
 begins (test.Is it) = 2 ^ (kind_of it % 64)
 begins (test.Front char) = 2 ^ (kind_of_char char % 64)
-begins test.Name = 384
-begins test.PathSegment = 896
-begins test.TruthValue = 1024
-begins test.Literal = 4
-begins test.Text = 4
-begins test.Number = 4
-begins test.Delimited = 56
-begins test.Opaque = 64
-begins test.BinaryOperator = 116160242378604544
-begins test.AssignmentOperator = 116160104939651072
-begins test.BeginsExpression = 73577571806672878
+begins test.Name = bits (7 ∷ 8 ∷ [])
+begins test.PathSegment = bits (7 ∷ 8 ∷ 9 ∷ [])
+begins test.TruthValue = bits (10 ∷ [])
+begins test.Literal = bits (2 ∷ [])
+begins test.Text = bits (2 ∷ [])
+begins test.Number = bits (2 ∷ [])
+begins test.Delimited = bits (3 ∷ 4 ∷ 5 ∷ [])
+begins test.Opaque = bits (6 ∷ [])
+begins test.BinaryOperator = bits_of (codes "+-*/%^&|<>=!")
+begins test.AssignmentOperator = bits_of (codes "=+-*/%^&|<>")
+begins test.BeginsExpression = bit_or (bits (1 ∷ 2 ∷ 3 ∷ 5 ∷ 6 ∷ [])) (bit_or (bits first_words) (bits_of (codes "!-*|&<#.:")))
 
 -- the kinds all of whose units pass it, where that is asked for
 abbrev pub always_passes : Option Rule → ℕ
-always_passes (Some (rule.Unit test.PathSegment)) = 896
+always_passes (Some (rule.Unit test.PathSegment)) = begins test.PathSegment
 always_passes _ = 0
 
 -- all bits of a number are those of another
