@@ -1,22 +1,18 @@
 -- A unit that passes a test is of a kind that is told of the test.
-use Rattle.std.proofs.Common.{rules, ◌≡◌, ◌+◌, ◌<◌, ℕ, suc, zero, Bool, true, false, List, [], ◌∷◌, Option, Some, None, refl, sym, subst, ap, ◌∙◌, arith}
+use Rattle.std.proofs.Common.{rules, ◌≡◌, ℕ, suc, zero, Bool, true, false, List, [], ◌∷◌, Option, Some, refl, sym, subst}
 use Rattle.std.proofs.lemmas.Bool.{eqb-true}
-use Rattle.std.proofs.lemmas.Nat.Bits.{bit_at-pow_same, bit_at-zero}
-use Rattle.std.proofs.lemmas.Slice.Eq.{bytes_eq-Decides}
 use Rattle.std.specs.Int.{bit_at}
 use Rattle.std.specs.List.{list_any}
 use Rattle.std.specs.Prelude.{◌==◌, ◌&&◌, ◌||◌, ◌%◌, not, bytes_eq, slice_get}
 use Rattle.tt.specs.Types.DelimiterKind.TheVariants as delimiter
 use Rattle.tt_grammar.specs.declared.kind.TheConstants.{KINDS_OF_CHARS}
-use Rattle.tt_grammar.specs.declared.test.Test.{Test}
 use Rattle.tt_grammar.specs.declared.test.Test.TheVariants as test
 use Rattle.tt_grammar.specs.declared.unit.Unit.{Unit}
 use Rattle.tt_grammar.specs.declared.unit.Unit.TheVariants as unit
 use Rattle.tt_grammar.specs.declared.words.Word.{Word}
-use Rattle.tt_grammar.specs.declared.words.Word.TheVariants as word
 use Rattle.tt_grammar.specs.Kinds.{kind_of, kind_of_word, kind_of_char, kind_or_other}
 use Rattle.tt_grammar.specs.Known.{begins}
-use Rattle.tt_grammar.specs.Tests.{same_unit, is_word, is_among, passes, passes_test, has_front, is_literal_of, is_subtree_of, is_opaque_kind, may_begin_expression, is_text_kind, is_number_kind, is_literal, is_binary_operator, is_assignment_operator}
+use Rattle.tt_grammar.specs.Tests.{is_among, passes}
 use Rattle.tt_grammar.specs.Words.{is_reserved, is_path_segment, is_truth_value, begins_expression}
 use Rattle.tt_grammar.proofs.EachWord.{of_each}
 use Rattle.tt_grammar.proofs.Marks.{left_true, right_true}

@@ -1,13 +1,12 @@
 -- What is known of an expression before it is read is what it answers.
-use Rattle.std.proofs.Common.{◌≡◌, inl, inr, ◌+◌, ◌≤◌, ◌<◌, ℕ, suc, zero, Bool, true, false, List, [], ◌∷◌, length, Some, None, refl, sym, subst, ap, ◌∙◌, cond, arith}
+use Rattle.std.proofs.Common.{◌≡◌, inl, inr, ◌+◌, ◌<◌, ℕ, suc, zero, Bool, true, false, List, [], ◌∷◌, length, Some, None, refl, sym, subst, ap, ◌∙◌, cond, arith}
 use Rattle.std.proofs.lemmas.Bool.{eqb-true}
 use Rattle.std.proofs.lemmas.Bool.Decides.{nat_tests}
 use Rattle.std.proofs.lemmas.Nat.Bits.{bit_at-zero}
 use Rattle.std.proofs.lemmas.Option.{slice_get_past}
 use Rattle.std.specs.Int.{bit_at}
 use Rattle.std.specs.Int.RustNames.{bit_and, bit_or}
-use Rattle.std.specs.Prelude.{◌⊎◌, ◌%◌, ◌==◌, ◌&&◌, slice_get, Option, nat_lt}
-use Rattle.tt_grammar.specs.declared.known.Glance.{Glance}
+use Rattle.std.specs.Prelude.{◌⊎◌, ◌%◌, ◌==◌, slice_get, Option, nat_lt}
 use Rattle.tt_grammar.specs.declared.known.Glance.TheVariants as glance
 use Rattle.tt_grammar.specs.declared.known.Known.{Known}
 use Rattle.tt_grammar.specs.declared.rule.Rule.{Rule}

@@ -1,13 +1,12 @@
 -- Where nothing is known of a table, that is right.
-use Rattle.std.proofs.Common.{◌≡◌, ℕ, suc, Bool, true, arith, List, [], ◌∷◌, refl, sym, subst, ap, ◌∙◌}
+use Rattle.std.proofs.Common.{◌≡◌, ℕ, suc, Bool, true, arith, List, [], ◌∷◌, refl, ap}
 use Rattle.std.proofs.lemmas.Bool.Decides.{nat_tests}
 use Rattle.std.specs.Int.Bits.{and_zero_l}
 use Rattle.std.specs.Int.RustNames.{bit_and, bit_or}
 use Rattle.std.specs.Prelude.{◌==◌, ◌&&◌, nat_lt, slice_get}
 use Rattle.tt_grammar.specs.declared.rule.Rule.{Rule}
 use Rattle.tt_grammar.specs.declared.rule.Rule.TheVariants as rule
-use Rattle.tt_grammar.specs.declared.test.Test.{Test}
-use Rattle.tt_grammar.specs.Known.{is_within, begins, always_passes, fails_of, is_right_rule, are_right}
+use Rattle.tt_grammar.specs.Known.{is_within, begins, always_passes, is_right_rule, are_right}
 
 within_all : (b : ℕ) → is_within 0 b ≡ true
 within_all b = ap (λ n. n == 0) (and_zero_l b)

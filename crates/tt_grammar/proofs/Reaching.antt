@@ -1,6 +1,6 @@
 -- The machine over trees: what its loop keeps, and that it ends.
 use Rattle.std.proofs.Common.{◌≡◌, ◌<◌, ℕ, suc, zero, true, List, [], ◌∷◌, refl, sym, subst, ◌∙◌, arith}
-use Rattle.std.specs.Prelude.{slice_get, Option}
+use Rattle.std.specs.Prelude.{Option}
 use Rattle.tt_grammar.specs.declared.known.Glance.{Glance}
 use Rattle.tt_grammar.specs.declared.known.Known.{Known}
 use Rattle.tt_grammar.specs.declared.rule.Rule.{Rule}

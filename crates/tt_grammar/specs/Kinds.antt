@@ -2,8 +2,6 @@
 use Rattle.std.specs.Prelude.{ℕ, Option, None, Some, slice_get}
 use Rattle.tt.specs.Types.DelimiterKind.TheVariants as delimiter
 use Rattle.tt_grammar.specs.declared.kind.TheConstants.{KINDS_OF_CHARS}
-use Rattle.tt_grammar.specs.declared.test.Test.{Test}
-use Rattle.tt_grammar.specs.declared.test.Test.TheVariants as test
 use Rattle.tt_grammar.specs.declared.unit.Unit.{Unit}
 use Rattle.tt_grammar.specs.declared.unit.Unit.TheVariants as unit
 use Rattle.tt_grammar.specs.declared.words.Word.{Word}

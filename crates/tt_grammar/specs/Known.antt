@@ -1,5 +1,5 @@
 -- What is known of a table's expressions before they are read, by the kind of the unit that stands first.
-use Rattle.std.specs.Prelude.{◌≡◌, ◌%◌, ◌^◌, ℕ, suc, Bool, true, ◌&&◌, ◌==◌, nat_lt, List, [], ◌∷◌, length, Option, None, Some, slice_get, map, codes, if◌then◌else◌}
+use Rattle.std.specs.Prelude.{◌%◌, ◌^◌, ℕ, suc, Bool, ◌&&◌, ◌==◌, nat_lt, List, [], ◌∷◌, length, Option, None, Some, slice_get, map, codes, if◌then◌else◌}
 use Rattle.std.specs.Int.{bit_at}
 use Rattle.std.specs.Int.RustNames.{bit_and, bit_or}
 use Rattle.tt_grammar.specs.declared.known.Glance.{Glance}
