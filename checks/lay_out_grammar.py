@@ -4,7 +4,7 @@
 usage: checks/lay_out_grammar.py, and then `rt fmt` in the crate
 
 Each line of a block of that page is `name = expression   # section`. An expression becomes rules in a list, one for each part, where
-equal parts stand once; a mark of each rule says whether it may take nothing, and its rank. Written are src/rust.rt, specs/Names.antt,
+equal parts stand once; a mark of each rule says whether it may take nothing, and its rank. Written are src/rust.rt, src/rust_known.rt, specs/Names.antt,
 specs/Rust.antt and proofs/RustLaid.antt.
 """
 import pathlib
@@ -18,8 +18,21 @@ WORDS = {"self": "SelfValue", "Self": "SelfType", "_": "Underscore", "macro_rule
 TESTS = {"IDENT": "Name", "SEGMENT": "PathSegment", "BOOL": "TruthValue", "LITERAL": "Literal", "TEXT": "Text", "NUMBER": "Number",
          "DELIM": "Delimited", "OPAQUE": "Opaque", "BINARY": "BinaryOperator", "ASSIGN": "AssignmentOperator",
          "BEGINS": "BeginsExpression"}
-KINDS = {"PAREN": "Parenthesis", "BRACK": "Bracket", "BRACE": "Brace"}
+SUBTREES = {"PAREN": "Parenthesis", "BRACK": "Bracket", "BRACE": "Brace"}
 FRAGMENTS = ["expression", "type", "pattern", "pattern_no_top_alt", "type_path", "statement", "item", "meta"]
+
+
+# The kinds of units: the first are those of no ident and no punct, as specs/Kinds.antt numbers them. These are the idents that
+# are of a kind with others, and then the puncts by their first character.
+END, LIFETIME, LITERAL, PAREN, BRACE, BRACK, OPAQUE, NAME, SOFT, ROOT, TRUTH = range(11)
+ALIKE = {
+    SOFT: "auto default macro_rules raw safe union", ROOT: "self Self super crate", TRUTH: "true false", 11: "as", 12: "async",
+    13: "box", 14: "break continue return yield", 15: "const", 16: "dyn", 17: "extern", 18: "fn", 19: "for", 20: "gen", 21: "if",
+    22: "match", 23: "loop while", 24: "impl", 25: "let", 26: "move", 27: "mut", 28: "ref", 29: "static", 30: "try", 31: "_",
+    32: "unsafe", 33: "enum struct trait type mod use pub macro", 34: "where", 35: "else in await do"}
+WORD_KINDS = {word: kind for kind, words in ALIKE.items() for word in words.split()}
+CHAR_KINDS = {char: 37 + place for place, char in enumerate("!#$%&*+,-./:;<=>?@^|~'")}
+ALL_KINDS = 2**59 - 1
 
 
 class Parser:
@@ -143,6 +156,60 @@ def marks_of(rules):
     raise ValueError("left recursion")
 
 
+def kinds_of(kinds):
+    """The kinds as one number."""
+    return sum(1 << kind for kind in set(kinds))
+
+
+def kinds_of_puncts(chars):
+    return kinds_of(CHAR_KINDS[char] for char in chars)
+
+
+FIRST_WORDS = ("async do box break const continue for gen if let loop match move return static try unsafe while yield").split()
+BEGINS = {
+    "LIFETIME": kinds_of([LIFETIME]), "PAREN": kinds_of([PAREN]), "BRACK": kinds_of([BRACK]), "BRACE": kinds_of([BRACE]),
+    "IDENT": kinds_of([NAME, SOFT]), "SEGMENT": kinds_of([NAME, SOFT, ROOT]), "BOOL": kinds_of([TRUTH]),
+    "LITERAL": kinds_of([LITERAL]), "TEXT": kinds_of([LITERAL]), "NUMBER": kinds_of([LITERAL]),
+    "DELIM": kinds_of([PAREN, BRACE, BRACK]), "OPAQUE": kinds_of([OPAQUE]), "BINARY": kinds_of_puncts("+-*/%^&|<>=!"),
+    "ASSIGN": kinds_of_puncts("=+-*/%^&|<>"),
+    "BEGINS": kinds_of([LIFETIME, LITERAL, PAREN, BRACK, OPAQUE, NAME, SOFT, ROOT, TRUTH, *map(WORD_KINDS.get, FIRST_WORDS)])
+    | kinds_of_puncts("!-*|&<#.:")}
+
+
+def begins(kind, text):
+    """The kinds of the units that pass a test."""
+    if kind == "test":
+        return BEGINS[text]
+    return kinds_of([WORD_KINDS[text] if re.match(r"\w", text) else CHAR_KINDS[text[0]]])
+
+
+def known_of(rules):
+    """Of each rule the kinds of units before which it fails, and those before which it takes nothing."""
+    known = [(0, 0)] * len(rules)
+    while True:
+        new = []
+        for kind, *parts in rules:
+            fails, idles = zip(*[known[it] for it in parts]) if kind in ("name", "choice", "sequence", "many", "never") else ((), ())
+            if kind == "empty":
+                new.append((0, ALL_KINDS))
+            elif kind == "name":
+                new.append((fails[0], idles[0]))
+            elif kind == "sequence":
+                new.append((fails[0] | idles[0] & fails[1], idles[0] & idles[1]))
+            elif kind == "choice":
+                new.append((fails[0] & fails[1], idles[0] | fails[0] & idles[1]))
+            elif kind == "many":
+                new.append((0, fails[0]))
+            elif kind == "never":
+                always = BEGINS["SEGMENT"] if rules[parts[0]] == ("test", "SEGMENT") else 0
+                new.append((idles[0] | always, fails[0]))
+            else:
+                new.append((ALL_KINDS & ~begins(kind, parts[0]), 0))
+        if new == known:
+            return known
+        known = new
+
+
 def filled(items, indent="    "):
     """The items on as few lines as they need."""
     lines = [indent[:-1]]
@@ -168,7 +235,7 @@ def rule_text(rule):
     if kind == "test":
         if parts[0] == "LIFETIME":
             return "(lifetime)"
-        return f"(subtree {KINDS[parts[0]]})" if parts[0] in KINDS else f"(unit {TESTS[parts[0]]})"
+        return f"(subtree {SUBTREES[parts[0]]})" if parts[0] in SUBTREES else f"(unit {TESTS[parts[0]]})"
     return "(" + " ".join([kind, *map(str, parts)]) + ")"
 
 
@@ -185,7 +252,7 @@ def expression_text(part, is_argument=False):
     elif kind == "test":
         if part[1] == "LIFETIME":
             return "lifetime"
-        text = f"subtree {KINDS[part[1]]}" if part[1] in KINDS else f"unit test.{TESTS[part[1]]}"
+        text = f"subtree {SUBTREES[part[1]]}" if part[1] in SUBTREES else f"unit test.{TESTS[part[1]]}"
     elif kind == "empty":
         return "nothing"
     else:
@@ -253,6 +320,22 @@ macro_rules! marks {
 """
 
 
+HEAD_OF_KNOWN = """//! What is known of the rules of Rust's grammar before they are read. `checks/lay_out_grammar.py` makes this file.
+use crate::known::Known;
+
+// Of one rule after another the kinds of units before which it fails, and those before which it takes nothing.
+macro_rules! known {
+    ($($fails:literal $idles:literal)*) => { [$(Known { fails: $fails, idles: $idles }),*] };
+}
+"""
+
+
+def code_of_known(rules):
+    known = [f"{fails:#x} {idles:#x}" for fails, idles in known_of(rules)]
+    return [*HEAD_OF_KNOWN.splitlines(), "", "/// What is known of them.",
+            f"pub(crate) static KNOWN: [Known; {len(rules)}] = known! {{", *filled(known), "};"]
+
+
 def code(names, rules, starts, begins):
     lines = HEAD.splitlines()
     for name in FRAGMENTS:
@@ -310,7 +393,7 @@ def proof(names, places):
 def main():
     names = lines_of_page()
     rules, starts, begins, places = laid(names)
-    for path, lines in [("src/rust.rt", code(names, rules, starts, begins)), ("specs/Names.antt", definition_of_names(names, starts)),
+    for path, lines in [("src/rust.rt", code(names, rules, starts, begins)), ("src/rust_known.rt", code_of_known(rules)), ("specs/Names.antt", definition_of_names(names, starts)),
                         ("specs/Rust.antt", definition(names)), ("proofs/RustLaid.antt", proof(names, places))]:
         (CRATE / path).write_text("\n".join(lines) + "\n")
 

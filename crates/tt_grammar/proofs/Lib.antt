@@ -1,7 +1,14 @@
+pub mod Agreeing
+pub mod BeginsTold
 pub mod Behind
+pub mod Bits
+pub mod EachWord
 pub mod FragmentAnswers
+pub mod KindsTold
 pub mod Laid
+pub mod Looking
 pub mod Marks
+pub mod NothingKnown
 pub mod OneAnswer
 pub mod Reached
 pub mod Reaching

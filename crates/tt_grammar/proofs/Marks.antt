@@ -7,11 +7,11 @@ use Rattle.tt_grammar.specs.declared.rule.Rule.TheVariants as rule
 use Rattle.tt_grammar.specs.Good.{rank_of, may_take_nothing, is_good_rule, are_good}
 use Rattle.std.proofs.lemmas.Bool.Decides.{nat_tests}
 
-left_true : (a b : Bool) → (a && b) ≡ true → a ≡ true
+pub left_true : (a b : Bool) → (a && b) ≡ true → a ≡ true
 left_true true b e = refl
 left_true false b e = e
 
-right_true : (a b : Bool) → (a && b) ≡ true → b ≡ true
+pub right_true : (a b : Bool) → (a && b) ≡ true → b ≡ true
 right_true true b e = e
 right_true false b e = absurd (cc e)
 

@@ -1,6 +1,7 @@
 -- By a good table each expression has an answer, and the machine ends.
 use Rattle.std.proofs.Common.{◌≡◌, inl, inr, ◌+◌, ◌≤◌, ◌<◌, ℕ, suc, zero, Bool, true, false, List, [], ◌∷◌, Some, None, refl, sym, subst, ap, arith}
 use Rattle.std.specs.Prelude.{◌⊎◌, slice_get, Option}
+use Rattle.tt_grammar.specs.declared.known.Glance.{Glance}
 use Rattle.tt_grammar.specs.declared.rule.Rule.{Rule}
 use Rattle.tt_grammar.specs.declared.rule.Rule.TheVariants as rule
 use Rattle.tt_grammar.specs.Good.{rank_of, may_take_nothing, IsGood}
@@ -9,6 +10,7 @@ use Rattle.tt_grammar.specs.Machine.{Frame, State, resumed, Ends}
 use Rattle.tt_grammar.specs.Machine as machine
 use Rattle.tt_grammar.specs.Parses.{Answering, Holds, ParsesIn}
 use Rattle.tt_grammar.specs.Positions.{Position}
+use Rattle.tt_grammar.proofs.Agreeing.{AgreesWith}
 use Rattle.tt_grammar.proofs.Marks.{GoodIn, good_from, named_split, then_split, or_split, many_split, not_split}
 use Rattle.tt_grammar.proofs.OneAnswer.{deeper}
 use Rattle.tt_grammar.proofs.Steps.{leads}
@@ -144,21 +146,22 @@ module _ (takes : Test → Position → Option Position) (size : Position → �
   pub has : (at : ℕ) (from : Position) → Has at from
   has at from = has_sized (suc (size from)) at from (omega arith)
 
-  abbrev pub Stops : State → List Frame → Type 0
-  Stops at frames = (count : ℕ) × (answer : Option Position) × Ends takes rules count at frames answer
+  module _ (looks : ℕ → Position → Glance) (agree : (depth : ℕ) → AgreesWith takes rules looks (ParsesIn takes rules depth)) where
+    abbrev pub Stops : State → List Frame → Type 0
+    Stops at frames = (count : ℕ) × (answer : Option Position) × Ends takes looks rules count at frames answer
 
-  stops_at : (frames : List Frame) → ((found : Option Position) → Stops (machine.answered found) frames) → (at : State) → Stops at frames
-  stops_at frames f (machine.answered found) = f found
-  stops_at frames f (machine.reading at from) =
-      let it = has at from in
-      let more = f it.1 in
-      let all = leads takes rules it.0 at from it.1 it.2 frames more.0 more.1 more.2 in
-      (all.0, more.1, all.1)
+    stops_at : (frames : List Frame) → ((found : Option Position) → Stops (machine.answered found) frames) → (at : State) → Stops at frames
+    stops_at frames f (machine.answered found) = f found
+    stops_at frames f (machine.reading at from) =
+        let it = has at from in
+        let more = f it.1 in
+        let all = leads takes looks rules agree it.0 at from it.1 it.2 frames more.0 more.1 more.2 in
+        (all.0, more.1, all.1)
 
-  stops_back : (frames : List Frame) (found : Option Position) → Stops (machine.answered found) frames
-  stops_back [] found = (0, found, refl)
-  stops_back (frame ∷ frames) found = let it = stops_at frames (stops_back frames) (resumed frame found) in (suc it.0, it.1, it.2)
+    stops_back : (frames : List Frame) (found : Option Position) → Stops (machine.answered found) frames
+    stops_back [] found = (0, found, refl)
+    stops_back (frame ∷ frames) found = let it = stops_at frames (stops_back frames) (resumed frame found) in (suc it.0, it.1, it.2)
 
-  -- The machine stops, whatever it is at.
-  pub stops : (at : State) (frames : List Frame) → Stops at frames
-  stops at frames = stops_at frames (stops_back frames) at
+    -- The machine stops, whatever it is at.
+    pub stops : (at : State) (frames : List Frame) → Stops at frames
+    stops at frames = stops_at frames (stops_back frames) at

@@ -2,6 +2,8 @@
 pub mod Expressions
 pub mod Fragments
 pub mod Good
+pub mod Kinds
+pub mod Known
 pub mod Layout
 pub mod Machine
 pub mod Names

@@ -8,6 +8,7 @@ ghost use Rattle.tt_grammar.specs.Table.{rust_rules};
 use crate::machine::parse;
 use crate::place::Place;
 use crate::rust;
+use crate::rust_known::KNOWN;
 use crate::table::Table;
 use std::alloc::{AllocError, Global};
 use tt::TtIter;
@@ -33,7 +34,7 @@ fn start_of(fragment: GrammarFragment) -> usize
 fn rust_table() -> Table<'static>
     ensures { result.rules.now ≡ rust_rules }
 {
-    Table::new(&rust::RULES, &rust::MARKS)
+    Table::with_known(&rust::RULES, &rust::MARKS, &KNOWN)
 }
 
 /// How many of the trees the fragment takes, from the first on, by the grammar of docs/GRAMMAR.md; none if it is none of them.

@@ -4,16 +4,20 @@
 #![tactic(auto)]
 
 mod fragments;
+mod kind;
+mod known;
 mod machine;
 mod place;
 mod rule;
 mod rust;
+mod rust_known;
 mod table;
 mod test;
 mod unit;
 mod words;
 
 pub use fragments::reach;
+pub use known::Known;
 pub use machine::parse;
 pub use place::Place;
 pub use rule::{Mark, Rule};

@@ -2,8 +2,10 @@
 ghost use Rattle.std.specs.Prelude.{◌≡◌, ◌+◌, ◌<◌, ◌≤◌, ◌^◌, option_map};
 ghost use Rattle.tt.specs.Forest.{size};
 ghost use Rattle.tt.specs.Views.{trees_of};
+ghost use Rattle.tt_grammar.specs.Kinds.{kind_of};
 ghost use Rattle.tt_grammar.specs.Units.{first_unit};
 
+use crate::known::{Glance, Known, look};
 use crate::test::Test;
 use crate::unit::Unit;
 use tt::TokenTreesView;
@@ -14,13 +16,17 @@ use tt_pattern::pass;
 pub struct Place<'t> {
     rest: TokenTreesView<'t>,
     unit: Unit,
+    // the kind of that unit
+    kind: u32,
     passed: usize,
+    ghost is_kind: { kind ≡ kind_of unit },
     ghost stands_first: { unit ≡ first_unit (trees_of rest) },
     ghost fits: { passed + size (trees_of rest) < 2 ^ 64 },
 }
 
 impl<'t> Place<'t> {
     ghost use Rattle.tt.specs.Gluing.{after_trees};
+    ghost use Rattle.tt_grammar.specs.Known.{glance_at};
     ghost use Rattle.tt_grammar.specs.Places.{position_of};
     ghost use Rattle.tt_grammar.specs.Positions.{first_position, behind, takes};
 
@@ -32,8 +38,17 @@ impl<'t> Place<'t> {
         Place {
             rest,
             unit,
+            kind: unit.kind(),
             passed: 0,
         }
+    }
+
+    /// What the expression at that place of a table comes to here.
+    #[inline(always)]
+    pub(crate) fn glance(self, known: &[Known], at: usize) -> Glance
+        ensures { result ≡ glance_at known.now at (position_of self.entry) }
+    {
+        look(known, at, self.kind)
     }
 
     /// How many trees were passed.
@@ -53,7 +68,12 @@ impl<'t> Place<'t> {
         let rest = trees.remaining();
         let unit = Unit::first(rest.iter());
         let passed = self.passed + count;
-        Place { rest, unit, passed }
+        Place {
+            rest,
+            unit,
+            kind: unit.kind(),
+            passed,
+        }
     }
 
     /// The place behind the unit that stands first, if that passes the test.

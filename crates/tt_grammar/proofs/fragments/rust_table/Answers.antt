@@ -2,5 +2,5 @@
 use Rattle.std.proofs.Common.{refl}
 use Rattle.tt_grammar.proofs.fragments.rust_table.Goals as goal
 
-pub new-requires : goal.new-requires
-new-requires c = record { good = refl }
+pub with_known-requires : goal.with_known-requires
+with_known-requires c = record { good = refl; right = refl }

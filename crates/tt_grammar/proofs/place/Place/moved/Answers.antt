@@ -14,6 +14,7 @@ invariant_of-result c =
     let left : trees_of c.remaining-rest.result ≡ after_trees c.args.count (trees_of c.args.self.rest) = search rules in
     let first : c.first-unit.result ≡ first_unit (trees_of c.remaining-rest.result) = search rules in
     record {
+      is_kind = search rules;
       stands_first = first;
       fits = subst (λ t. c.args.self.passed + c.args.count + size t < 2 ^ 64) (sym left) (omega (arith, c.requires.within, c.args.self.fits));
     }
