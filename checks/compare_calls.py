@@ -253,7 +253,7 @@ def class_of(ours, theirs):
     if theirs[0] == "definition":
         return f"rustc refuses the definition: {plain_message(theirs[1])}"
     if ours[0] == "unread":
-        return "the program does not read the text"
+        return "DIFFER: not read by us, taken by rustc" if theirs[0] == "tree" else "agree: not read"
     if ours[0] == "tree" and theirs[0] == "tree":
         if ours[1] == theirs[1]:
             return "agree: the same tokens"

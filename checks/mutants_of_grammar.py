@@ -11,6 +11,6 @@ MUTANTS = [
     ("a front is a whole unit", "tree.char == wanted else FAILS", "self.units[at][1] == wanted else FAILS"),
     ("a lifetime is one tree", '("lifetime", None, 2)', '("lifetime", None, 1)'),
     ("puncts never stand as one", "count = glued_front(trees)", "count = 1"),
-    ("an opaque subtree is none", '"OPAQUE": {"opaque"}', '"OPAQUE": set()'),
+    ("an opaque subtree is none", '"OPAQUE": {"opaque", "invisible"}', '"OPAQUE": set()'),
 ]
 HELPERS = ""

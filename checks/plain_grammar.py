@@ -23,7 +23,7 @@ BEGIN_WORDS = PATH_WORDS | set(
 BEGIN_SIGNS = set("! - * | || & && .. ... ..= < << :: #".split())
 TEXTS = {"str", "rstr"}
 NUMBERS = {"int", "float"}
-BRACKETS = {"PAREN": {"paren"}, "BRACK": {"bracket"}, "BRACE": {"brace"}, "DELIM": {"paren", "bracket", "brace"}, "OPAQUE": {"opaque"}}
+BRACKETS = {"PAREN": {"paren"}, "BRACK": {"bracket"}, "BRACE": {"brace"}, "DELIM": {"paren", "bracket", "brace"}, "OPAQUE": {"opaque", "invisible"}}
 FAILS = -1
 
 
@@ -129,7 +129,7 @@ def begins_expression(kind, text):
         return text not in KEYWORDS or text in BEGIN_WORDS
     if kind == "sign":
         return text in BEGIN_SIGNS
-    return kind != "brace" and kind != "invisible"
+    return kind != "brace"
 
 
 class Parse:

@@ -53,7 +53,7 @@ def visibility_end(first, units, at):
 
 def literal_end(first, units, at):
     end = behind(units, at)
-    if first[0] == "lit" or first in (("ident", "true"), ("ident", "false")):
+    if first[0] == "lit" or first[0] == "ident" and first[1].strip() in ("true", "false"):
         return end
     number = units[end] if end < len(units) else None
     if first == ("op", "-") and number is not None and number[0] == "lit" and number[1][0].isdigit():
