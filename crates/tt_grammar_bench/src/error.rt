@@ -8,7 +8,7 @@ use tt_text::TextFault;
 #[derive(Debug, Drop, Error)]
 pub enum BenchError {
     /// The arguments ask for nothing that there is.
-    #[error("usage: tt_grammar_bench read|reach FRAGMENT ROUNDS < TEXT")]
+    #[error("usage: tt_grammar_bench read|reach FRAGMENT ROUNDS < TEXT, or tt_grammar_bench show FRAGMENT < TEXT")]
     Usage,
     /// The text has no tree.
     #[error("{0}")]

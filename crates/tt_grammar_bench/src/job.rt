@@ -7,12 +7,10 @@ use tt_pattern::GrammarFragment;
 /// What the arguments ask for.
 #[derive(Clone, Copy)]
 pub struct Job {
-    /// What is done.
-    pub timing: Timing,
     /// The fragment that is asked for.
     pub fragment: GrammarFragment,
-    /// How often.
-    pub rounds: u32,
+    /// What is done, and how often; or nothing but to count what there is.
+    pub rounds: Option<(Timing, u32)>,
 }
 
 /// What is done in a round.
@@ -49,27 +47,35 @@ impl Timing {
     }
 }
 
+// What is done, and how often, by the words behind the fragment.
+fn rounds_of(mode: &str, rounds: Option<&str>) -> Result<Option<(Timing, u32)>, BenchError> {
+    match (mode, rounds) {
+        ("show", None) => Ok(None),
+        (mode, Some(word)) => {
+            let timing = Timing::named(mode).ok_or(BenchError::Usage)?;
+            let rounds = word.parse().map_err(|_error| BenchError::Usage)?;
+            Ok(Some((timing, rounds)))
+        }
+        _ => Err(BenchError::Usage),
+    }
+}
+
 impl Job {
-    /// The job of the arguments `read FRAGMENT ROUNDS` or `reach FRAGMENT ROUNDS`. `Usage` where they are something else.
+    /// The job of the arguments `read FRAGMENT ROUNDS`, `reach FRAGMENT ROUNDS` or `show FRAGMENT`. `Usage` where they are something else.
     pub fn from_args<R: Env + AllocGlobal>(rt: &R) -> Result<Job, BenchError> {
         let mut args = env::args(rt)?;
         let _program = args.next();
         let mode = args.next().ok_or(BenchError::Usage)?;
         let fragment = args.next().ok_or(BenchError::Usage)?;
-        let rounds = args.next().ok_or(BenchError::Usage)?;
+        let rounds = args.next();
         if args.next().is_some() {
             return Err(BenchError::Usage);
         }
-        let timing = Timing::named(mode.as_str()).ok_or(BenchError::Usage)?;
         let fragment = fragment_named(fragment.as_str()).ok_or(BenchError::Usage)?;
-        let rounds = rounds
-            .as_str()
-            .parse()
-            .map_err(|_error| BenchError::Usage)?;
-        Ok(Job {
-            timing,
-            fragment,
-            rounds,
-        })
+        let rounds = match rounds {
+            Some(word) => rounds_of(mode.as_str(), Some(word.as_str()))?,
+            None => rounds_of(mode.as_str(), None)?,
+        };
+        Ok(Job { fragment, rounds })
     }
 }

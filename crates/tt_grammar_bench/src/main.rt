@@ -1,9 +1,9 @@
-//! Takes fragments of Rust's grammar from the text on standard input, one behind the other, to measure that beside reading
-//! the text: `tt_grammar_bench read|reach FRAGMENT ROUNDS < TEXT`.
+//! Takes fragments of Rust's grammar from the text on standard input, one behind the other, to measure that beside reading the
+//! text: `tt_grammar_bench read|reach FRAGMENT ROUNDS < TEXT`, `tt_grammar_bench show FRAGMENT < TEXT`.
 //!
-//! It prints one line: the nanoseconds of processor time that a round took, the tokens of the text's tree, how many
-//! fragments were taken from its trees, how many trees these are, and how many trees no fragment took. `read` reads the text
-//! in each round, and `reach` takes the fragments.
+//! It prints one line: the nanoseconds of processor time that a round took, the tokens of the text's tree, how many fragments were
+//! taken from its trees, how many trees these are, and how many trees no fragment took. `read` reads the text in each round, and
+//! `reach` takes the fragments. `show` leaves out the time.
 #![tactic(auto)]
 
 mod error;
@@ -32,7 +32,7 @@ fn run(rt: &HostRuntime) -> Result<(), BenchError> {
     let alloc = rt.alloc();
     let mut text = String::new(alloc);
     rt.stdin().read_to_string(&mut text)?;
-    let timed = timing::time(rt, alloc, text.as_str(), job)?;
+    let timed = timing::work(rt, alloc, text.as_str(), job)?;
     println!(rt; "{timed}")?;
     Ok(())
 }

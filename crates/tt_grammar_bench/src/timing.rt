@@ -6,14 +6,13 @@ use std::alloc::Global;
 use std::fmt;
 use std::time::{CpuClock, Duration};
 use tt::TopSubtree;
+use tt_pattern::GrammarFragment;
 
-/// What was measured. Its text is one line.
+/// What was measured, or counted. Its text is one line.
 #[derive(Clone, Copy)]
 pub struct Timed {
-    /// The processor time of all rounds.
-    time: Duration,
-    /// How many rounds there were.
-    rounds: u32,
+    /// The processor time of a round, where there are some.
+    round: Option<u128>,
     /// How many tokens the tree has.
     tokens: usize,
     /// What was taken of it.
@@ -22,32 +21,59 @@ pub struct Timed {
 
 impl fmt::Display for Timed {
     fn fmt<W: fmt::Write>(&self, f: &mut fmt::Formatter<W>) -> fmt::Result {
-        let nanos = self.time.as_nanos() / self.rounds.max(1) as u128;
+        if let Some(nanos) = self.round {
+            write!(f, "{nanos} ")?;
+        }
         let Taken {
             pieces,
             trees,
             others,
         } = self.taken;
-        write!(f, "{nanos} {} {pieces} {trees} {others}", self.tokens)
+        write!(f, "{} {pieces} {trees} {others}", self.tokens)
     }
 }
 
 // One round.
-fn round(alloc: Global, text: &str, tree: &TopSubtree, job: Job) -> Result<(), BenchError> {
-    match job.timing {
+fn round(
+    alloc: Global,
+    text: &str,
+    tree: &TopSubtree,
+    fragment: GrammarFragment,
+    timing: Timing,
+) -> Result<(), BenchError> {
+    match timing {
         Timing::Read => match read(alloc, text) {
             Ok(_tree) => Ok(()),
             Err(fault) => Err(BenchError::Refused(fault)),
         },
         Timing::Reach => {
-            take_all(alloc, job.fragment, tree)?;
+            take_all(alloc, fragment, tree)?;
             Ok(())
         }
     }
 }
 
-/// Makes so many rounds with a text or its tree. Waiting for a processor does not count.
-pub fn time<R: CpuClock>(
+// The nanoseconds of processor time of one of so many rounds. Waiting for a processor does not count.
+fn time_of<R: CpuClock>(
+    clock: &R,
+    alloc: Global,
+    text: &str,
+    tree: &TopSubtree,
+    fragment: GrammarFragment,
+    rounds: (Timing, u32),
+) -> Result<u128, BenchError> {
+    let (timing, count) = rounds;
+    let begun = clock.thread_cpu_time()?;
+    for _ in 0..count {
+        round(alloc, text, tree, fragment, timing)?;
+    }
+    let ended = clock.thread_cpu_time()?;
+    let time: Duration = ended.saturating_sub(begun);
+    Ok(time.as_nanos() / count.max(1) as u128)
+}
+
+/// Does what is asked for with a text.
+pub fn work<R: CpuClock>(
     clock: &R,
     alloc: Global,
     text: &str,
@@ -58,14 +84,12 @@ pub fn time<R: CpuClock>(
         Err(fault) => return Err(BenchError::Refused(fault)),
     };
     let taken = take_all(alloc, job.fragment, &tree)?;
-    let begun = clock.thread_cpu_time()?;
-    for _ in 0..job.rounds {
-        round(alloc, text, &tree, job)?;
-    }
-    let ended = clock.thread_cpu_time()?;
+    let round = match job.rounds {
+        Some(rounds) => Some(time_of(clock, alloc, text, &tree, job.fragment, rounds)?),
+        None => None,
+    };
     Ok(Timed {
-        time: ended.saturating_sub(begun),
-        rounds: job.rounds,
+        round,
         tokens: tree.token_trees().len(),
         taken,
     })
