@@ -1,0 +1,5 @@
+pub mod Finding
+pub mod Fitting
+pub mod Levels
+pub mod Rows
+pub mod Stepping
