@@ -16,6 +16,8 @@ const ONLY: &str = "only";
 
 const LIMIT: &str = "limit";
 
+const DROP_RULES: &str = "drop-rules";
+
 // The most expansions that may be asked for, one inside the other: what the usual stack holds.
 const MOST_LIMIT: u64 = 1000;
 
@@ -76,61 +78,65 @@ fn expands<'a>(
         .arg(limit)
 }
 
-// All that there is.
-fn command<'a>(alloc: Global) -> Result<Command<'a>, AllocError> {
+// The command that writes what calls of macros become.
+fn expand<'a>(alloc: Global) -> Result<Command<'a>, AllocError> {
+    let drops = Arg::new(alloc, DROP_RULES)
+        .long(DROP_RULES)
+        .action(ArgAction::SetTrue)
+        .help("Leaves out the definitions of macros that nothing in what is written needs");
+    let about = "Writes the text in which calls of its own macros are expanded";
+    expands(alloc, "expand", about, file(alloc))?.arg(drops)
+}
+
+// The command that tells what is wrong in macros.
+fn check<'a>(alloc: Global) -> Result<Command<'a>, AllocError> {
+    let about = "Tells what is wrong in the macros of texts and in calls of them";
+    expands(alloc, "check", about, files(alloc))
+}
+
+// The command that writes tokens.
+fn tokens<'a>(alloc: Global) -> Result<Command<'a>, AllocError> {
+    let about = "Writes a line for each token: its bytes, its kind and its text";
+    reads(alloc, "tokens", about, file(alloc))
+}
+
+// The command that writes a tree.
+fn tree<'a>(alloc: Global) -> Result<Command<'a>, AllocError> {
+    let about = "Writes the tree of a text, a line for each token, with lines and columns";
+    reads(alloc, "tree", about, file(alloc))
+}
+
+// The command that writes a tree as bytes.
+fn pack<'a>(alloc: Global) -> Result<Command<'a>, AllocError> {
     let out = Arg::new(alloc, OUT)
         .short('o')
         .value_name(OUT)
         .required(true)
         .help("The file that is written");
-    let expand = expands(
-        alloc,
-        "expand",
-        "Writes the text in which calls of its own macros are expanded",
-        file(alloc),
-    )?;
-    let check = expands(
-        alloc,
-        "check",
-        "Tells what is wrong in the macros of texts and in calls of them",
-        files(alloc),
-    )?;
-    let tokens = reads(
-        alloc,
-        "tokens",
-        "Writes a line for each token: its bytes, its kind and its text",
-        file(alloc),
-    )?;
-    let tree = reads(
-        alloc,
-        "tree",
-        "Writes the tree of a text, a line for each token, with lines and columns",
-        file(alloc),
-    )?;
-    let pack = reads(
-        alloc,
-        "pack",
-        "Writes the tree of a text as one piece of bytes",
-        file(alloc).required(true),
-    )?;
-    let unpack = reads(
-        alloc,
-        "unpack",
-        "Writes the tree of such a piece as Rust text",
-        file(alloc).required(true),
-    )?;
+    let about = "Writes the tree of a text as one piece of bytes";
+    reads(alloc, "pack", about, file(alloc).required(true))?.arg(out)
+}
+
+// The command that writes the text of such bytes.
+fn unpack<'a>(alloc: Global) -> Result<Command<'a>, AllocError> {
+    let about = "Writes the tree of such a piece as Rust text";
+    reads(alloc, "unpack", about, file(alloc).required(true))
+}
+
+// All that there is.
+fn command<'a>(alloc: Global) -> Result<Command<'a>, AllocError> {
     Command::new(alloc, "cuvolemin")
         .bin_name("cuvolemin")?
         .version("0.1.0")
         .about("Macros and token trees of Rust texts")
         .subcommand_required(true)
         .arg_required_else_help(true)
-        .subcommand(expand)?
-        .subcommand(check)?
-        .subcommand(tokens)?
-        .subcommand(tree)?
-        .subcommand(pack.arg(out)?)?
-        .subcommand(unpack)
+        .subcommand(expand(alloc)?)?
+        .subcommand(check(alloc)?)?
+        .subcommand(tokens(alloc)?)?
+        .subcommand(tree(alloc)?)?
+        .subcommand(pack(alloc)?)?
+        .subcommand(unpack(alloc)?)
 }
 
 /// What these words, of which the first is the program's name, ask for. An `Err` is a mistake in them, or the answer to
@@ -152,6 +158,11 @@ pub fn files_of<'m, 'a>(matches: &'m ArgMatches<'a>) -> Option<&'m [&'a str]> {
 /// Whether calls that are not expanded are gone into.
 pub fn is_everywhere(matches: &ArgMatches<'_>) -> bool {
     matches.get_flag(EVERYWHERE)
+}
+
+/// Whether definitions that nothing needs are left out.
+pub fn drops_rules(matches: &ArgMatches<'_>) -> bool {
+    matches.get_flag(DROP_RULES)
 }
 
 /// The name that `$crate` is to become.

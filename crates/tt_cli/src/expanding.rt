@@ -1,5 +1,6 @@
 //! The macros of texts: what comes of their calls, and what is wrong in them.
 use crate::counts::Counts;
+use crate::dropping::without_definitions;
 use crate::failure::{Failure, plain_text};
 use crate::fault::told;
 use crate::finding::findings_text;
@@ -156,12 +157,16 @@ fn write(rt: &HostRuntime, has_mark: bool, text: &str) -> io::Result<()> {
     rt.stdout().write_all(text.as_bytes())
 }
 
-/// Writes the text of an input in which calls are expanded. Where something is wrong in it, nothing is written.
+/// Writes the text of an input in which calls are expanded, without the definitions that nothing in it needs, if these are to be dropped.
+/// Where something is wrong in it, nothing is written.
 pub fn expand(
     rt: &HostRuntime,
     input: Input<'_>,
     options: ExpandOptions<'_>,
+    drops_rules: bool,
 ) -> Result<ExitCode, Failure> {
+    let name = input.name();
+    let only = options.only;
     let Outcome {
         text,
         has_mark,
@@ -170,6 +175,11 @@ pub fn expand(
     tell_counts(rt, counts)?;
     if let Some(text) = text {
         if !counts.has_errors() {
+            let text = if drops_rules {
+                without_definitions(rt, name, text.as_str(), only)?
+            } else {
+                text
+            };
             write(rt, has_mark, text.as_str())?;
         }
     }

@@ -4,6 +4,7 @@
 
 mod arguments;
 mod counts;
+mod dropping;
 mod expanding;
 mod failure;
 mod fault;

@@ -1,5 +1,5 @@
 //! What the program does.
-use crate::arguments::{file_of, files_of, out_of, parse};
+use crate::arguments::{drops_rules, file_of, files_of, out_of, parse};
 use crate::expanding::{check, expand};
 use crate::failure::Failure;
 use crate::fault::told;
@@ -34,7 +34,10 @@ fn run_command(rt: &HostRuntime, matches: &ArgMatches<'_>) -> Result<ExitCode, F
         return Ok(ExitCode::SUCCESS);
     };
     match name {
-        "expand" => expand(rt, Input::new(file_of(given)), options_of(rt, given)?),
+        "expand" => {
+            let input = Input::new(file_of(given));
+            expand(rt, input, options_of(rt, given)?, drops_rules(given))
+        }
         "check" => match files_of(given) {
             Some(names) => check(rt, names, options_of(rt, given)?),
             None => Ok(ExitCode::SUCCESS),
