@@ -4,8 +4,8 @@
 usage: checks/lay_out_grammar.py, and then `rt fmt` in the crate
 
 Each line of a block of that page is `name = expression   # section`. An expression becomes rules in a list, one for each part, where
-equal parts stand once; a mark of each rule says whether it may take nothing, and its rank. Written are src/rust.rt, src/rust_known.rt, specs/Names.antt,
-specs/Rust.antt and proofs/RustLaid.antt.
+equal parts stand once; a mark of each rule says whether it may take nothing, and its rank; and it is known before which kinds of
+units it fails or takes nothing. Written are src/rust.rt, src/rust_known.rt, specs/Names.antt, specs/Rust.antt and proofs/RustLaid.antt.
 """
 import pathlib
 import re
