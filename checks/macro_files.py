@@ -187,7 +187,7 @@ def try_long(files):
 def try_closed_pipe(files):
     """Who closes the pipe has read enough: nothing is told."""
     first, told = files.reads_some("expand", given=DEFINITION + b"m!(1, 2);\n" * LINES)
-    wants("what is read", first, (DEFINITION + b"1 + 2;\n" * LINES)[: len(first)])
+    wants("what is read", first, (DEFINITION + b"1 + 2\n" * LINES)[: len(first)])
     wants("what is told", told, b"")
 
 
