@@ -16,6 +16,8 @@ import tempfile
 ROOT = pathlib.Path(__file__).resolve().parent.parent
 LIBRARIES = ROOT / "lib" / "out"
 SECONDS = 600
+# How long the library may take to be proved and built, where nothing of that is kept.
+BUILD_SECONDS = 7200
 THREADS = 8
 DEPTH = 300000
 
@@ -40,9 +42,9 @@ class Missing(Exception):
     """Something is missing here that a thing needs to be tried."""
 
 
-def run(*words, folder=ROOT, **more):
+def run(*words, folder=ROOT, seconds=SECONDS, **more):
     """The lines of what a program prints that must end well."""
-    done = subprocess.run(words, cwd=folder, capture_output=True, text=True, timeout=SECONDS, check=False, **more)
+    done = subprocess.run(words, cwd=folder, capture_output=True, text=True, timeout=seconds, check=False, **more)
     if done.returncode != 0:
         raise Wrong(f"{words[0]} ended with status {done.returncode}: {(done.stderr or done.stdout)[-400:]}")
     return done.stdout.splitlines() + done.stderr.splitlines()
@@ -74,7 +76,7 @@ def c_program(room, source):
 
 def try_build(_room):
     """The library is built."""
-    run(*sys.argv[1:])
+    run(*sys.argv[1:], seconds=BUILD_SECONDS)
 
 
 def try_c(room):
