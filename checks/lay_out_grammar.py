@@ -19,7 +19,8 @@ TESTS = {"IDENT": "Name", "SEGMENT": "PathSegment", "BOOL": "TruthValue", "LITER
          "DELIM": "Delimited", "OPAQUE": "Opaque", "BINARY": "BinaryOperator", "ASSIGN": "AssignmentOperator",
          "BEGINS": "BeginsExpression"}
 SUBTREES = {"PAREN": "Parenthesis", "BRACK": "Bracket", "BRACE": "Brace"}
-FRAGMENTS = ["expression", "type", "pattern", "pattern_no_top_alt", "type_path", "statement", "item", "meta"]
+FRAGMENTS = ["expression", "expression_2021_fragment", "type", "pattern_fragment", "pattern_param_fragment", "type_path", "statement",
+             "item", "meta"]
 
 
 # The kinds of units: the first are those of no ident and no punct, as specs/Kinds.antt numbers them. These are the idents that
@@ -276,7 +277,7 @@ def equation(left, text):
 
 HEAD = """//! Rust's grammar as one table of rules, laid out name by name. docs/GRAMMAR.md tells what each name stands for, and
 //! `checks/lay_out_grammar.py` makes this file of it.
-use crate::rule::{Mark, Rule};
+use crate::rule::Rule;
 use crate::test::Test;
 use crate::unit::Unit;
 use crate::words::Word;
@@ -306,6 +307,11 @@ macro_rules! rule {
 macro_rules! rules {
     ($(($($rule:tt)*))*) => { [$(rule!($($rule)*)),*] };
 }
+"""
+
+
+HEAD_OF_MARKS = """//! Which rules of Rust's grammar take a unit at least, and their ranks. `checks/lay_out_grammar.py` makes this file.
+use crate::rule::Mark;
 
 // One mark: `some` of what takes a unit at least, `none` of what may take nothing, and the rank.
 macro_rules! mark {
@@ -318,6 +324,12 @@ macro_rules! marks {
     ($($mark:ident $rank:literal)*) => { [$(mark!($mark $rank)),*] };
 }
 """
+
+
+def code_of_marks(rules):
+    marks = [f"{'none' if loose else 'some'} {rank}" for loose, rank in marks_of(rules)]
+    return [*HEAD_OF_MARKS.splitlines(), "", "/// The marks of the rules.",
+            f"pub(crate) static MARKS: [Mark; {len(rules)}] = marks! {{", *filled(marks), "};"]
 
 
 HEAD_OF_KNOWN = """//! What is known of the rules of Rust's grammar before they are read. `checks/lay_out_grammar.py` makes this file.
@@ -344,9 +356,7 @@ def code(names, rules, starts, begins):
     ends = [*list(begins.values())[1:], len(rules)]
     for name, end in zip(names, ends):
         lines += [f"    // {name}, from {begins[name]} on", *filled(map(rule_text, rules[begins[name]:end]))]
-    marks = [f"{'none' if loose else 'some'} {rank}" for loose, rank in marks_of(rules)]
-    lines += ["};", "", "/// Their marks.", f"pub(crate) static MARKS: [Mark; {len(rules)}] = marks! {{", *filled(marks), "};"]
-    return lines
+    return [*lines, "};"]
 
 
 def definition_of_names(names, starts):
@@ -393,7 +403,7 @@ def proof(names, places):
 def main():
     names = lines_of_page()
     rules, starts, begins, places = laid(names)
-    for path, lines in [("src/rust.rt", code(names, rules, starts, begins)), ("src/rust_known.rt", code_of_known(rules)), ("specs/Names.antt", definition_of_names(names, starts)),
+    for path, lines in [("src/rust.rt", code(names, rules, starts, begins)), ("src/rust_marks.rt", code_of_marks(rules)), ("src/rust_known.rt", code_of_known(rules)), ("specs/Names.antt", definition_of_names(names, starts)),
                         ("specs/Rust.antt", definition(names)), ("proofs/RustLaid.antt", proof(names, places))]:
         (CRATE / path).write_text("\n".join(lines) + "\n")
 

@@ -3,7 +3,7 @@ use Rattle.std.proofs.Common.{◌≡◌, ◌<◌, ◌+◌, ℕ, zero, suc, Some,
 use Rattle.std.specs.Prelude.{Option, option_map, false}
 use Rattle.tt.specs.Forest.{Forest, end, size}
 use Rattle.tt.specs.Gluing.{after_trees}
-use Rattle.tt_grammar.specs.declared.rust.TheConstants.{MARKS}
+use Rattle.tt_grammar.specs.declared.rust_marks.TheConstants.{MARKS}
 use Rattle.tt_grammar.specs.Fragments.{name_of, Reaches}
 use Rattle.tt_grammar.specs.Good.{IsGood, may_take_nothing}
 use Rattle.tt_grammar.specs.Names.{start}

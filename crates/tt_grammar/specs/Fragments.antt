@@ -2,7 +2,7 @@
 use Rattle.std.specs.Prelude.{ℕ, Option, option_map}
 use Rattle.tt.specs.Forest.{Forest}
 use Rattle.tt_grammar.specs.Expressions.{Answers}
-use Rattle.tt_grammar.specs.Names.{Name, expression, type, pattern, pattern_no_top_alt, type_path, statement, item, meta}
+use Rattle.tt_grammar.specs.Names.{Name, expression, expression_2021_fragment, type, pattern_fragment, pattern_param_fragment, type_path, statement, item, meta}
 use Rattle.tt_grammar.specs.Positions.{first_position, behind}
 use Rattle.tt_grammar.specs.Rust.{stands}
 use Rattle.tt_pattern.specs.declared.pattern.GrammarFragment.{GrammarFragment}
@@ -11,10 +11,10 @@ use Rattle.tt_pattern.specs.declared.pattern.GrammarFragment.TheVariants as frag
 -- the name that a fragment is in the grammar
 abbrev pub name_of : GrammarFragment → Name
 name_of fragment.Expr = expression
-name_of fragment.Expr2021 = expression
+name_of fragment.Expr2021 = expression_2021_fragment
 name_of fragment.Ty = type
-name_of fragment.Pat = pattern
-name_of fragment.PatParam = pattern_no_top_alt
+name_of fragment.Pat = pattern_fragment
+name_of fragment.PatParam = pattern_param_fragment
 name_of fragment.Path = type_path
 name_of fragment.Stmt = statement
 name_of fragment.Item = item

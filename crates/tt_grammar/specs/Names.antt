@@ -27,10 +27,13 @@ pub data Name : Type 0 where
   bounds : Name
   some_bounds : Name
   bound : Name
+  begins_bound : Name
   for_lifetimes : Name
   lifetime_parameters : Name
   lifetime_parameter : Name
   use_argument : Name
+  pattern_fragment : Name
+  pattern_param_fragment : Name
   pattern : Name
   pattern_no_top_alt : Name
   pattern_without_range : Name
@@ -41,6 +44,7 @@ pub data Name : Type 0 where
   reference_pattern : Name
   identifier_pattern : Name
   binding : Name
+  expression_2021_fragment : Name
   expression : Name
   expression_before_block : Name
   range : Name
@@ -65,7 +69,6 @@ pub data Name : Type 0 where
   basic : Name
   block_like : Name
   loop : Name
-  scrutinee : Name
   conditions : Name
   one_condition : Name
   let_value : Name
@@ -119,86 +122,89 @@ start expression_path_segments = 94
 start expression_path_segment = 100
 start simple_path = 105
 start type = 109
-start type_no_bounds = 159
-start more_bounds = 179
-start plain_type = 184
-start pointer_type = 195
-start reference_type = 200
-start function_type = 207
-start bounds = 218
-start some_bounds = 219
-start bound = 220
-start for_lifetimes = 248
-start lifetime_parameters = 251
-start lifetime_parameter = 257
-start use_argument = 259
-start pattern = 263
-start pattern_no_top_alt = 280
-start pattern_without_range = 316
-start range_tail = 339
-start range_operator = 340
-start range_end = 341
-start fields = 343
-start reference_pattern = 346
-start identifier_pattern = 348
-start binding = 372
-start expression = 373
-start expression_before_block = 385
-start range = 395
-start range_before_block = 403
-start operation = 411
-start operation_before_block = 426
-start operand = 436
-start operand_before_block = 438
-start unary = 440
-start unary_before_block = 460
-start unary_operator = 472
-start postfix = 482
-start bad_postfix = 497
-start closure = 500
-start closure_before_block = 507
-start closure_head = 510
-start closure_parameter = 529
-start jump = 533
-start jump_before_block = 546
-start primary = 556
-start primary_before_block = 566
-start basic = 572
-start block_like = 580
-start loop = 615
-start scrutinee = 627
-start conditions = 628
-start one_condition = 635
-start let_value = 641
-start lazy_operator = 653
-start begins = 655
-start attribute = 656
-start meta = 658
-start visibility = 665
-start statement = 669
-start let_statement = 679
-start block_statement = 687
-start item = 695
-start declaration = 698
-start item_kind = 704
-start macro_item = 731
-start macro_definition = 735
-start use_declaration = 744
-start extern_crate = 755
-start rename = 762
-start static_item = 764
-start constant_item = 775
-start function = 777
-start function_qualifier = 793
-start module_item = 799
-start extern_block = 803
-start type_alias = 806
-start structure = 816
-start enumeration = 823
-start union = 828
-start trait = 830
-start implementation = 844
-start generic_parameters = 854
-start generic_parameter = 862
-start where_clause = 876
-start where_predicate = 884
+start type_no_bounds = 158
+start more_bounds = 176
+start plain_type = 181
+start pointer_type = 192
+start reference_type = 197
+start function_type = 203
+start bounds = 214
+start some_bounds = 215
+start bound = 216
+start begins_bound = 245
+start for_lifetimes = 258
+start lifetime_parameters = 261
+start lifetime_parameter = 267
+start use_argument = 269
+start pattern_fragment = 273
+start pattern_param_fragment = 278
+start pattern = 280
+start pattern_no_top_alt = 295
+start pattern_without_range = 332
+start range_tail = 360
+start range_operator = 361
+start range_end = 362
+start fields = 365
+start reference_pattern = 367
+start identifier_pattern = 369
+start binding = 393
+start expression_2021_fragment = 394
+start expression = 398
+start expression_before_block = 409
+start range = 419
+start range_before_block = 428
+start operation = 439
+start operation_before_block = 454
+start operand = 462
+start operand_before_block = 464
+start unary = 466
+start unary_before_block = 486
+start unary_operator = 498
+start postfix = 506
+start bad_postfix = 522
+start closure = 525
+start closure_before_block = 532
+start closure_head = 535
+start closure_parameter = 561
+start jump = 565
+start jump_before_block = 579
+start primary = 590
+start primary_before_block = 600
+start basic = 606
+start block_like = 614
+start loop = 651
+start conditions = 662
+start one_condition = 669
+start let_value = 675
+start lazy_operator = 686
+start begins = 688
+start attribute = 689
+start meta = 691
+start visibility = 698
+start statement = 702
+start let_statement = 717
+start block_statement = 725
+start item = 737
+start declaration = 740
+start item_kind = 745
+start macro_item = 772
+start macro_definition = 776
+start use_declaration = 785
+start extern_crate = 796
+start rename = 804
+start static_item = 806
+start constant_item = 816
+start function = 818
+start function_qualifier = 834
+start module_item = 839
+start extern_block = 843
+start type_alias = 846
+start structure = 856
+start enumeration = 862
+start union = 867
+start trait = 869
+start implementation = 883
+start generic_parameters = 893
+start generic_parameter = 901
+start where_clause = 913
+start where_predicate = 921

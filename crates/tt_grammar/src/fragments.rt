@@ -9,6 +9,7 @@ use crate::machine::parse;
 use crate::place::Place;
 use crate::rust;
 use crate::rust_known::KNOWN;
+use crate::rust_marks::MARKS;
 use crate::table::Table;
 use std::alloc::{AllocError, Global};
 use tt::TtIter;
@@ -19,10 +20,11 @@ fn start_of(fragment: GrammarFragment) -> usize
     ensures { result ≡ start (name_of fragment) }
 {
     match fragment {
-        GrammarFragment::Expr | GrammarFragment::Expr2021 => rust::EXPRESSION,
+        GrammarFragment::Expr => rust::EXPRESSION,
+        GrammarFragment::Expr2021 => rust::EXPRESSION_2021_FRAGMENT,
         GrammarFragment::Ty => rust::TYPE,
-        GrammarFragment::Pat => rust::PATTERN,
-        GrammarFragment::PatParam => rust::PATTERN_NO_TOP_ALT,
+        GrammarFragment::Pat => rust::PATTERN_FRAGMENT,
+        GrammarFragment::PatParam => rust::PATTERN_PARAM_FRAGMENT,
         GrammarFragment::Path => rust::TYPE_PATH,
         GrammarFragment::Stmt => rust::STATEMENT,
         GrammarFragment::Item => rust::ITEM,
@@ -34,7 +36,7 @@ fn start_of(fragment: GrammarFragment) -> usize
 fn rust_table() -> Table<'static>
     ensures { result.rules.now ≡ rust_rules }
 {
-    Table::with_known(&rust::RULES, &rust::MARKS, &KNOWN)
+    Table::with_known(&rust::RULES, &MARKS, &KNOWN)
 }
 
 /// How many of the trees the fragment takes, from the first on, by the grammar of docs/GRAMMAR.md; none if it is none of them.

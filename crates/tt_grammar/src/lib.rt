@@ -11,6 +11,7 @@ mod place;
 mod rule;
 mod rust;
 mod rust_known;
+mod rust_marks;
 mod table;
 mod test;
 mod unit;

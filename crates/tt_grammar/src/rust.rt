@@ -1,6 +1,6 @@
 //! Rust's grammar as one table of rules, laid out name by name. docs/GRAMMAR.md tells what each name stands for, and
 //! `checks/lay_out_grammar.py` makes this file of it.
-use crate::rule::{Mark, Rule};
+use crate::rule::Rule;
 use crate::test::Test;
 use crate::unit::Unit;
 use crate::words::Word;
@@ -31,43 +31,35 @@ macro_rules! rules {
     ($(($($rule:tt)*))*) => { [$(rule!($($rule)*)),*] };
 }
 
-// One mark: `some` of what takes a unit at least, `none` of what may take nothing, and the rank.
-macro_rules! mark {
-    (some $rank:literal) => { Mark::TakesSome($rank) };
-    (none $rank:literal) => { Mark::MayTakeNone($rank) };
-}
-
-// Marks one after another.
-macro_rules! marks {
-    ($($mark:ident $rank:literal)*) => { [$(mark!($mark $rank)),*] };
-}
-
 /// Where `expression` is laid out.
-pub(crate) const EXPRESSION: usize = 373;
+pub(crate) const EXPRESSION: usize = 398;
+
+/// Where `expression_2021_fragment` is laid out.
+pub(crate) const EXPRESSION_2021_FRAGMENT: usize = 394;
 
 /// Where `type` is laid out.
 pub(crate) const TYPE: usize = 109;
 
-/// Where `pattern` is laid out.
-pub(crate) const PATTERN: usize = 263;
+/// Where `pattern_fragment` is laid out.
+pub(crate) const PATTERN_FRAGMENT: usize = 273;
 
-/// Where `pattern_no_top_alt` is laid out.
-pub(crate) const PATTERN_NO_TOP_ALT: usize = 280;
+/// Where `pattern_param_fragment` is laid out.
+pub(crate) const PATTERN_PARAM_FRAGMENT: usize = 278;
 
 /// Where `type_path` is laid out.
 pub(crate) const TYPE_PATH: usize = 0;
 
 /// Where `statement` is laid out.
-pub(crate) const STATEMENT: usize = 669;
+pub(crate) const STATEMENT: usize = 702;
 
 /// Where `item` is laid out.
-pub(crate) const ITEM: usize = 695;
+pub(crate) const ITEM: usize = 737;
 
 /// Where `meta` is laid out.
-pub(crate) const META: usize = 658;
+pub(crate) const META: usize = 691;
 
 /// The rules.
-pub(crate) static RULES: [Rule; 888] = rules! {
+pub(crate) static RULES: [Rule; 925] = rules! {
     // type_path, from 0 on
     (sequence 1 4) (choice 2 3) (sign ':' ':') (empty) (name 5)
     // type_path_segments, from 5 on
@@ -75,7 +67,7 @@ pub(crate) static RULES: [Rule; 888] = rules! {
     (subtree Brace) (sign '*')
     // type_path_segment, from 16 on
     (sequence 17 18) (unit PathSegment) (choice 19 21) (sequence 1 20) (name 40) (choice 22 29) (sequence 1 23)
-    (sequence 24 25) (subtree Parenthesis) (choice 26 3) (sequence 27 28) (sign '-' '>') (name 159) (never 30) (name 31)
+    (sequence 24 25) (subtree Parenthesis) (choice 26 3) (sequence 27 28) (sign '-' '>') (name 158) (never 30) (name 31)
     // less, from 31 on
     (choice 32 33) (sign '<') (sequence 34 39) (never 35) (never 36) (choice 37 38) (sign '<' '<') (sign '<' '-') (front '<')
     // generic_arguments, from 40 on
@@ -83,7 +75,7 @@ pub(crate) static RULES: [Rule; 888] = rules! {
     (sign ',') (choice 48 3) (front '>')
     // generic_argument, from 51 on
     (choice 52 57) (sequence 53 54) (lifetime) (never 55) (never 56) (name 71) (choice 58 69) (sequence 59 60) (name 109)
-    (sequence 61 54) (choice 62 3) (choice 63 66) (sequence 64 65) (sign '=') (name 72) (sequence 67 68) (sign ':') (name 218)
+    (sequence 61 54) (choice 62 3) (choice 63 66) (sequence 64 65) (sign '=') (name 72) (sequence 67 68) (sign ':') (name 214)
     (sequence 70 54) (name 74)
     // generic_argument_end, from 71 on
     (choice 48 50)
@@ -103,296 +95,247 @@ pub(crate) static RULES: [Rule; 888] = rules! {
     (sequence 1 106) (sequence 17 107) (many 108) (sequence 2 17)
     // type, from 109 on
     (choice 110 121) (sequence 87 111) (choice 112 118) (sequence 113 114) (sign '!') (sequence 115 116) (unit Delimited)
-    (never 117) (front '+') (sequence 119 120) (never 113) (name 179) (choice 122 129) (sequence 123 124) (word Dyn)
-    (sequence 99 125) (sequence 126 127) (name 219) (never 128) (sign '+' '=') (choice 130 132) (sequence 131 125) (word Impl)
-    (choice 133 138) (sequence 53 134) (sequence 135 120) (never 136) (never 137) (sign '+') (choice 139 140)
-    (sequence 24 120) (choice 141 144) (sequence 142 143) (sign '?') (sequence 87 120) (choice 145 154) (sequence 146 147)
-    (word For) (sequence 39 148) (sequence 149 150) (name 251) (sequence 50 151) (choice 152 143) (sequence 153 116)
-    (name 207) (choice 155 157) (sequence 91 156) (sequence 4 116) (sequence 158 116) (name 184)
-    // type_no_bounds, from 159 on
-    (choice 160 163) (sequence 87 161) (choice 162 119) (sequence 113 115) (choice 158 164) (choice 24 165) (choice 166 170)
-    (sequence 123 167) (sequence 99 168) (sequence 169 116) (name 220) (choice 171 172) (sequence 131 168) (choice 173 174)
-    (sequence 91 4) (sequence 146 175) (sequence 39 176) (sequence 149 177) (sequence 50 178) (choice 153 87)
-    // more_bounds, from 179 on
-    (sequence 180 182) (many 181) (sequence 137 169) (sequence 183 116) (choice 137 3)
-    // plain_type, from 184 on
-    (choice 113 185) (choice 186 187) (name 195) (choice 188 189) (subtree Bracket) (choice 190 191) (word Underscore)
-    (choice 192 193) (name 200) (choice 153 194) (unit Opaque)
-    // pointer_type, from 195 on
-    (sequence 15 196) (sequence 197 28) (choice 198 199) (word Const) (word Mut)
-    // reference_type, from 200 on
-    (sequence 201 202) (front '&') (sequence 203 204) (choice 53 3) (sequence 205 206) (choice 199 3) (choice 166 28)
-    // function_type, from 207 on
-    (sequence 208 210) (choice 209 3) (word Unsafe) (sequence 211 216) (choice 212 3) (sequence 213 214) (word Extern)
-    (choice 215 3) (unit Text) (sequence 217 23) (word Fn)
-    // bounds, from 218 on
-    (choice 126 3)
-    // some_bounds, from 219 on
-    (sequence 169 179)
-    // bound, from 220 on
-    (choice 53 221) (choice 24 222) (choice 223 233) (sequence 224 225) (word Use) (sequence 39 226) (sequence 227 50)
-    (choice 228 3) (sequence 229 230) (name 259) (sequence 231 49) (many 232) (sequence 48 229) (sequence 234 236)
-    (choice 235 3) (name 248) (sequence 237 245) (choice 238 3) (choice 239 241) (sequence 240 198) (sign '~')
-    (choice 242 243) (sequence 188 198) (choice 198 244) (word Async) (sequence 246 247) (choice 142 3) (sequence 234 87)
-    // for_lifetimes, from 248 on
-    (sequence 146 249) (sequence 39 250) (sequence 149 50)
-    // lifetime_parameters, from 251 on
-    (choice 252 3) (sequence 253 254) (name 257) (sequence 255 49) (many 256) (sequence 48 253)
-    // lifetime_parameter, from 257 on
-    (sequence 53 258) (choice 66 3)
-    // use_argument, from 259 on
-    (choice 53 260) (choice 261 262) (unit Name) (word SelfType)
-    // pattern, from 263 on
-    (sequence 264 266) (never 265) (sign '.' '.' '=') (sequence 267 269) (choice 268 3) (front '|') (sequence 270 271)
-    (name 280) (sequence 272 276) (many 273) (sequence 268 274) (sequence 275 270) (never 268) (never 277) (choice 268 278)
-    (choice 279 265) (sign '@')
-    // pattern_no_top_alt, from 280 on
-    (choice 281 283) (sequence 265 282) (name 341) (choice 284 287) (sequence 285 286) (sign '.' '.') (choice 282 3)
-    (choice 288 292) (sequence 77 289) (sequence 79 290) (choice 291 3) (name 339) (choice 80 293) (choice 294 295) (name 346)
-    (choice 190 296) (choice 297 298) (name 348) (choice 299 302) (sequence 24 300) (never 301) (name 340) (choice 188 303)
-    (choice 194 304) (choice 305 308) (sequence 306 307) (word Box) (name 316) (choice 309 313) (sequence 91 310)
-    (sequence 92 311) (choice 291 312) (name 343) (sequence 1 314) (sequence 92 315) (choice 162 311)
-    // pattern_without_range, from 316 on
-    (sequence 317 300) (choice 76 318) (choice 80 319) (choice 294 320) (choice 190 321) (choice 297 322) (choice 24 323)
-    (choice 188 324) (choice 194 325) (choice 305 326) (choice 327 329) (sequence 91 328) (sequence 92 312) (choice 330 333)
-    (sequence 1 331) (sequence 92 332) (choice 162 312) (sequence 285 334) (never 335) (choice 78 336) (choice 79 337)
-    (choice 261 338) (choice 39 2)
-    // range_tail, from 339 on
-    (choice 281 284)
-    // range_operator, from 340 on
-    (choice 265 285)
-    // range_end, from 341 on
-    (choice 76 342) (name 89)
-    // fields, from 343 on
-    (sequence 29 344) (choice 345 3) (choice 24 14)
-    // reference_pattern, from 346 on
-    (sequence 201 347) (sequence 205 307)
-    // identifier_pattern, from 348 on
-    (choice 349 355) (sequence 350 351) (word Ref) (sequence 205 352) (sequence 261 353) (choice 354 3) (name 372)
-    (choice 356 364) (sequence 199 357) (sequence 358 360) (choice 359 3) (sequence 350 205) (sequence 261 361)
-    (sequence 362 353) (never 363) (choice 2 345) (sequence 261 365) (sequence 366 353) (never 367) (choice 2 368)
-    (choice 162 369) (choice 24 370) (choice 14 371) (choice 30 301)
-    // binding, from 372 on
-    (sequence 279 270)
-    // expression, from 373 on
-    (choice 374 375) (name 395) (sequence 376 377) (name 411) (sequence 378 382) (many 379) (sequence 380 381)
-    (unit AssignmentOperator) (name 373) (sequence 383 384) (never 380) (choice 374 300)
-    // expression_before_block, from 385 on
-    (choice 386 387) (name 403) (sequence 388 389) (name 426) (sequence 390 393) (many 391) (sequence 380 392) (name 385)
-    (sequence 383 394) (choice 386 300)
-    // range, from 395 on
-    (choice 396 398) (sequence 265 397) (choice 374 376) (sequence 285 399) (choice 374 400) (choice 376 401) (never 402)
-    (name 655)
-    // range_before_block, from 403 on
-    (choice 404 406) (sequence 265 405) (choice 386 388) (sequence 285 407) (choice 386 408) (choice 388 409) (never 410)
-    (unit BeginsExpression)
-    // operation, from 411 on
-    (sequence 412 414) (many 413) (name 656) (sequence 415 416) (name 440) (sequence 417 423) (many 418) (choice 419 422)
-    (sequence 420 421) (unit BinaryOperator) (name 436) (sequence 86 28) (sequence 424 425) (never 420) (never 86)
-    // operation_before_block, from 426 on
-    (sequence 427 428) (never 14) (sequence 412 429) (sequence 430 431) (name 460) (sequence 432 423) (many 433)
-    (choice 434 422) (sequence 420 435) (name 438)
-    // operand, from 436 on
-    (choice 374 437) (sequence 412 415)
-    // operand_before_block, from 438 on
-    (choice 386 439) (sequence 412 430)
-    // unary, from 440 on
-    (choice 441 451) (sequence 442 444) (never 443) (never 17) (sequence 445 446) (name 556) (sequence 447 449) (many 448)
-    (name 482) (never 450) (name 497) (sequence 443 452) (choice 453 456) (sequence 454 455) (name 472) (choice 374 415)
-    (choice 457 458) (name 500) (choice 459 444) (name 533)
-    // unary_before_block, from 460 on
-    (choice 461 464) (sequence 442 462) (sequence 463 446) (name 566) (sequence 443 465) (choice 466 468) (sequence 454 467)
-    (choice 386 430) (choice 469 470) (name 507) (choice 471 462) (name 546)
-    // unary_operator, from 472 on
-    (choice 78 473) (choice 113 474) (choice 15 475) (sequence 201 476) (choice 477 3) (choice 478 199) (sequence 479 480)
-    (word Raw) (sequence 197 481) (never 401)
-    // postfix, from 482 on
-    (choice 142 483) (choice 24 484) (choice 188 485) (sequence 486 487) (sign '.') (choice 488 489) (word Await)
-    (choice 490 494) (sequence 261 491) (choice 492 99) (sequence 2 493) (sequence 20 24) (choice 495 496) (word SelfValue)
-    (unit Number)
-    // bad_postfix, from 497 on
-    (choice 486 498) (choice 499 38) (sign '.' '.' '.')
-    // closure, from 500 on
-    (sequence 501 502) (name 510) (choice 503 505) (sequence 27 504) (sequence 28 14) (sequence 506 381) (never 27)
-    // closure_before_block, from 507 on
-    (sequence 501 508) (choice 503 509) (sequence 506 392)
-    // closure_head, from 510 on
-    (sequence 234 511) (sequence 512 514) (choice 513 3) (word Static) (sequence 515 516) (choice 244 3) (sequence 517 519)
-    (choice 518 3) (word Move) (choice 520 521) (sign '|' '|') (sequence 268 522) (sequence 523 268) (choice 524 3)
-    (sequence 525 526) (name 529) (sequence 527 49) (many 528) (sequence 48 525)
-    // closure_parameter, from 529 on
-    (sequence 412 530) (sequence 270 531) (choice 532 3) (sequence 67 59)
-    // jump, from 533 on
-    (choice 534 537) (sequence 535 536) (word Return) (choice 381 401) (choice 538 541) (sequence 539 540) (word Break)
-    (sequence 203 536) (choice 542 544) (sequence 543 203) (word Continue) (sequence 545 536) (word Yield)
-    // jump_before_block, from 546 on
-    (choice 547 549) (sequence 535 548) (choice 392 409) (choice 550 554) (sequence 539 551) (sequence 203 552)
-    (choice 553 409) (sequence 427 392) (choice 542 555) (sequence 545 548)
-    // primary, from 556 on
-    (choice 557 562) (sequence 1 558) (sequence 92 559) (choice 162 560) (sequence 119 561) (choice 14 3) (choice 563 564)
-    (name 572) (sequence 91 565) (sequence 92 560)
-    // primary_before_block, from 566 on
-    (choice 567 569) (sequence 1 568) (sequence 92 161) (choice 563 570) (sequence 91 571) (sequence 92 119)
-    // basic, from 572 on
-    (choice 79 573) (choice 80 574) (choice 24 575) (choice 188 576) (choice 14 577) (choice 194 578) (choice 190 579)
-    (name 580)
-    // block_like, from 580 on
-    (choice 581 583) (sequence 582 14) (word Try) (choice 584 598) (sequence 585 586) (word If) (sequence 587 588) (name 628)
-    (sequence 14 589) (sequence 590 597) (choice 591 3) (sequence 592 593) (word Else) (choice 14 594) (sequence 595 579)
-    (never 596) (never 585) (never 592) (choice 599 603) (sequence 600 601) (word Match) (sequence 602 14) (name 627)
-    (choice 604 605) (sequence 209 14) (choice 606 608) (sequence 244 607) (sequence 517 14) (choice 609 610)
-    (sequence 198 14) (choice 611 612) (name 615) (sequence 53 613) (sequence 67 614) (choice 611 14)
-    // loop, from 615 on
-    (choice 616 618) (sequence 617 14) (word Loop) (choice 619 622) (sequence 620 621) (word While) (sequence 587 14)
-    (sequence 146 623) (sequence 624 625) (name 263) (sequence 626 601) (word In)
-    // scrutinee, from 627 on
-    (choice 392 14)
-    // conditions, from 628 on
-    (sequence 629 630) (name 635) (sequence 631 634) (many 632) (sequence 633 629) (name 653) (never 633)
-    // one_condition, from 635 on
-    (choice 636 640) (sequence 637 638) (word Let) (sequence 624 639) (sequence 64 640) (name 641)
-    // let_value, from 641 on
-    (sequence 427 642) (sequence 412 643) (sequence 430 644) (sequence 645 648) (many 646) (choice 647 422) (sequence 634 434)
-    (sequence 649 651) (never 650) (sequence 634 420) (sequence 390 652) (choice 386 3)
-    // lazy_operator, from 653 on
-    (choice 654 520) (sign '&' '&')
-    // begins, from 655 on
-    (choice 14 410)
-    // attribute, from 656 on
-    (sequence 657 188) (sign '#')
-    // meta, from 658 on
-    (choice 659 660) (sequence 209 24) (sequence 661 662) (name 105) (choice 663 3) (choice 115 664) (sequence 64 381)
-    // visibility, from 665 on
-    (choice 666 3) (sequence 667 668) (word Pub) (choice 24 3)
-    // statement, from 669 on
-    (choice 670 671) (sign ';') (choice 672 674) (sequence 412 673) (name 679) (choice 675 677) (sequence 412 676) (name 698)
-    (choice 678 381) (name 687)
-    // let_statement, from 679 on
-    (sequence 637 680) (sequence 624 681) (sequence 531 682) (choice 683 3) (sequence 64 684) (sequence 381 685)
-    (choice 686 3) (sequence 592 14)
-    // block_statement, from 687 on
-    (sequence 412 688) (sequence 689 693) (choice 14 690) (choice 579 691) (sequence 661 692) (sequence 113 14) (never 694)
-    (choice 486 142)
-    // item, from 695 on
-    (sequence 412 696) (choice 676 697) (name 731)
-    // declaration, from 698 on
-    (sequence 699 700) (name 665) (choice 701 703) (sequence 702 703) (word Default) (name 704)
-    // item_kind, from 704 on
-    (choice 705 706) (name 777) (choice 707 708) (name 744) (choice 709 710) (name 755) (choice 711 712) (name 764)
-    (choice 713 714) (name 775) (choice 715 716) (name 799) (choice 717 718) (name 803) (choice 719 720) (name 806)
-    (choice 721 722) (name 816) (choice 723 724) (name 823) (choice 725 726) (name 828) (choice 727 728) (name 830)
-    (choice 729 730) (name 844) (name 735)
-    // macro_item, from 731 on
-    (sequence 661 732) (sequence 113 733) (choice 14 734) (sequence 115 670)
-    // macro_definition, from 735 on
-    (choice 736 740) (sequence 737 738) (word MacroRules) (sequence 113 739) (sequence 261 733) (sequence 741 742)
-    (word Macro) (sequence 261 743) (sequence 668 14)
-    // use_declaration, from 744 on
-    (sequence 224 745) (sequence 1 746) (sequence 747 670) (choice 14 748) (choice 15 749) (sequence 17 750)
-    (sequence 107 751) (choice 752 3) (choice 753 754) (sequence 2 13) (name 762)
-    // extern_crate, from 755 on
-    (sequence 213 756) (sequence 757 758) (word Crate) (sequence 759 760) (choice 261 495) (sequence 761 670) (choice 754 3)
-    // rename, from 762 on
-    (sequence 86 763) (choice 261 190)
-    // static_item, from 764 on
-    (sequence 765 768) (choice 766 3) (choice 209 767) (word Safe) (sequence 513 769) (sequence 205 770) (sequence 261 771)
-    (sequence 67 772) (sequence 59 773) (sequence 774 670) (choice 664 3)
-    // constant_item, from 775 on
-    (sequence 198 776) (sequence 763 771)
-    // function, from 777 on
-    (sequence 778 780) (many 779) (name 793) (sequence 217 781) (sequence 261 782) (sequence 783 785) (choice 784 3)
-    (name 854) (sequence 24 786) (sequence 787 789) (choice 788 3) (sequence 27 59) (sequence 790 792) (choice 791 3)
-    (name 876) (choice 14 670)
-    // function_qualifier, from 793 on
-    (choice 198 794) (choice 244 795) (choice 796 797) (word Gen) (choice 209 798) (choice 767 212)
-    // module_item, from 799 on
-    (sequence 208 800) (sequence 801 802) (word Mod) (sequence 261 792)
-    // extern_block, from 803 on
-    (sequence 208 804) (sequence 213 805) (sequence 214 14)
-    // type_alias, from 806 on
-    (sequence 807 808) (word Type) (sequence 261 809) (sequence 783 810) (sequence 258 811) (sequence 790 812)
-    (sequence 813 670) (choice 814 3) (sequence 64 815) (sequence 59 790)
-    // structure, from 816 on
-    (sequence 817 818) (word Struct) (sequence 261 819) (sequence 783 820) (choice 821 789) (sequence 24 822)
-    (sequence 790 670)
-    // enumeration, from 823 on
-    (sequence 824 825) (word Enum) (sequence 261 826) (sequence 783 827) (sequence 790 14)
-    // union, from 828 on
-    (sequence 829 825) (word Union)
-    // trait, from 830 on
-    (sequence 831 832) (choice 198 3) (sequence 208 833) (sequence 834 836) (choice 835 3) (word Auto) (sequence 837 838)
-    (word Trait) (sequence 261 839) (sequence 783 840) (choice 841 842) (sequence 258 827) (sequence 64 843) (sequence 68 822)
-    // implementation, from 844 on
-    (sequence 208 845) (sequence 131 846) (sequence 783 847) (sequence 831 848) (sequence 849 850) (choice 113 3)
-    (sequence 59 851) (sequence 852 827) (choice 853 3) (sequence 146 59)
-    // generic_parameters, from 854 on
-    (sequence 32 855) (sequence 856 50) (choice 857 3) (sequence 858 859) (name 862) (sequence 860 49) (many 861)
-    (sequence 48 858)
-    // generic_parameter, from 862 on
-    (sequence 412 863) (choice 253 864) (choice 865 872) (sequence 198 866) (sequence 261 867) (sequence 67 868)
-    (sequence 59 869) (choice 870 3) (sequence 64 871) (choice 70 261) (sequence 261 873) (sequence 258 874) (choice 875 3)
-    (sequence 64 59)
-    // where_clause, from 876 on
-    (sequence 877 878) (word Where) (choice 879 3) (sequence 880 881) (name 884) (sequence 882 49) (many 883)
-    (sequence 48 880)
-    // where_predicate, from 884 on
-    (choice 885 886) (sequence 53 66) (sequence 234 887) (sequence 28 66)
-};
-
-/// Their marks.
-pub(crate) static MARKS: [Mark; 888] = marks! {
-    some 5 none 1 some 0 none 0 some 4 some 3 some 2 none 3 none 2 some 1 none 2 some 1 none 2 some 1 some 0 some 0 some 1
-    some 0 none 10 some 9 some 8 none 8 some 2 some 1 some 0 none 2 some 1 some 0 some 16 none 7 some 6 some 5 some 0 some 4
-    none 3 none 2 some 1 some 0 some 0 some 0 some 7 some 29 none 28 some 27 some 26 none 3 none 2 some 1 some 0 none 1 some 0
-    some 25 some 1 some 0 none 4 none 3 some 2 some 24 some 23 some 22 none 5 none 3 some 2 some 1 some 0 some 25 some 1
-    some 0 none 18 some 6 some 5 some 1 some 24 some 23 some 4 some 3 some 2 none 1 some 0 some 0 some 0 some 7 some 23 some 3
-    none 2 some 1 some 0 some 6 some 1 some 10 some 9 some 8 some 4 some 5 some 3 some 2 none 3 none 2 some 1 none 1 some 1
-    none 3 some 2 some 1 some 1 some 2 some 1 none 2 some 1 some 21 some 7 none 6 some 1 some 0 some 1 some 0 none 1 some 0
-    none 5 none 1 none 4 some 20 some 1 some 0 some 18 some 17 some 16 none 1 some 0 some 19 some 1 some 0 some 18 some 1
-    none 5 none 2 none 1 some 0 some 17 some 1 some 16 some 1 some 0 some 7 some 15 some 1 some 0 some 1 some 6 none 5 some 1
-    some 8 some 6 some 5 some 14 some 9 some 5 some 13 some 12 some 15 some 7 none 2 some 1 some 14 some 13 some 12 some 1
-    some 16 some 15 some 14 some 11 some 1 some 10 some 9 some 1 some 1 some 6 some 1 some 7 none 3 none 2 some 1 none 2
-    none 1 some 11 some 10 some 2 some 9 some 0 some 8 some 0 some 7 some 2 some 6 some 0 some 1 some 2 some 1 some 0 some 0
-    some 1 some 0 some 19 none 1 some 18 none 1 some 17 some 4 none 1 some 0 some 3 none 2 some 1 some 0 none 1 some 0 some 1
-    some 0 none 17 some 15 some 13 some 12 some 11 some 1 some 0 some 1 some 6 none 5 some 4 some 3 none 3 none 2 some 1
-    some 10 none 3 some 2 some 9 none 4 some 3 some 1 some 0 some 2 some 1 some 1 some 0 some 8 none 1 some 7 some 1 some 1
-    some 6 none 4 some 3 some 2 none 3 none 2 some 1 some 1 none 2 some 2 some 1 some 0 some 0 some 25 none 1 some 0 some 24
-    none 1 some 0 some 23 some 22 none 4 none 2 some 1 some 23 none 1 none 3 some 2 some 1 some 0 some 21 some 1 some 13
-    some 20 some 1 some 0 none 14 some 19 some 2 some 1 none 4 some 3 some 18 some 17 some 2 some 16 some 15 some 4 some 14
-    some 1 none 3 some 2 some 13 some 12 some 11 some 1 some 0 some 21 some 10 some 9 some 5 none 10 none 9 some 6 some 5
-    none 11 some 20 some 19 some 18 some 17 some 16 some 15 some 14 some 13 some 12 some 11 some 10 some 9 some 5 some 7
-    some 6 some 5 none 10 some 1 none 5 some 4 some 3 some 2 some 1 some 2 some 1 some 12 some 11 none 8 none 2 some 1 some 1
-    some 22 some 3 some 1 some 0 some 2 some 1 none 3 some 2 some 2 some 1 some 3 none 2 some 1 some 1 none 4 none 3 some 2
-    some 1 none 13 none 12 some 11 some 10 some 9 some 8 some 7 some 1 some 35 some 3 some 34 some 33 none 6 none 2 some 1
-    some 0 some 36 none 5 none 1 none 4 some 36 some 3 some 35 some 34 none 6 none 2 some 1 some 37 none 5 none 4 some 2
-    some 1 some 34 some 1 none 35 none 34 none 3 some 2 some 2 some 1 some 35 some 1 none 36 none 35 none 1 some 0 some 32
-    none 3 some 2 some 31 some 30 none 4 none 3 some 2 some 1 some 0 some 33 some 1 none 2 none 1 none 1 some 33 none 1
-    some 32 some 31 some 30 none 4 none 3 some 2 some 1 some 33 some 32 some 31 some 32 some 31 some 29 some 25 none 2 none 1
-    some 24 some 23 none 7 none 6 some 5 none 4 some 3 some 28 some 27 some 6 some 5 some 31 some 26 some 9 some 25 some 5
-    some 29 some 25 some 24 some 23 some 28 some 27 some 6 some 31 some 26 some 9 some 25 some 5 some 4 some 3 some 2 some 1
-    none 3 some 2 some 1 some 0 some 2 none 4 some 4 some 3 some 2 some 1 some 0 some 3 some 0 some 2 some 1 none 2 some 1
-    some 9 some 1 some 0 some 0 some 2 some 1 some 0 some 8 some 7 some 38 some 1 some 17 some 37 none 1 some 8 some 39
-    some 38 some 6 some 5 none 1 some 0 some 4 none 1 some 3 none 1 some 0 some 2 some 0 some 1 some 28 none 27 some 26
-    some 25 none 3 none 2 some 1 some 24 some 23 none 2 some 1 some 4 some 1 some 0 none 37 some 3 some 1 some 0 none 38
-    some 2 some 1 some 0 some 1 some 0 some 4 some 1 none 38 some 3 some 1 none 40 none 39 some 38 some 2 some 1 some 22
-    some 6 some 5 none 3 none 2 none 1 some 21 some 20 some 9 some 5 some 22 some 6 some 5 some 21 some 9 some 5 some 19
-    some 18 some 17 some 16 some 15 some 14 some 13 some 12 some 11 some 1 some 0 some 10 some 1 some 0 some 39 some 38 some 1
-    none 3 none 2 some 1 some 0 some 14 some 13 none 2 none 1 none 1 some 9 some 1 some 0 some 40 some 39 some 8 some 1 some 7
-    some 1 some 2 some 6 some 1 some 5 some 4 some 1 some 1 some 5 some 3 some 1 some 0 some 2 some 1 some 0 some 39 some 1
-    some 27 some 26 some 1 some 0 some 38 some 37 some 36 none 5 none 4 some 3 some 2 none 3 some 35 some 1 some 0 some 27
-    some 1 some 34 some 33 some 32 some 31 none 7 none 6 some 5 some 4 none 6 none 5 some 4 none 5 none 4 some 1 some 0 some 1
-    some 1 some 0 some 5 some 1 some 4 some 3 none 3 some 2 some 1 none 2 some 1 some 0 none 1 some 40 some 0 some 39 some 4
-    some 2 some 38 some 22 some 21 some 37 some 17 some 1 some 27 none 3 none 2 some 1 some 37 none 2 some 1 some 16 some 15
-    some 14 some 13 some 4 some 1 none 2 some 1 some 23 some 22 some 5 some 20 none 3 some 19 some 1 some 0 some 18 some 17
-    some 10 some 16 some 2 some 15 some 2 some 14 some 4 some 13 some 2 some 12 some 3 some 11 some 3 some 10 some 2 some 9
-    some 2 some 8 some 2 some 7 some 2 some 6 some 5 some 4 some 3 some 3 some 4 some 1 some 2 some 1 some 2 some 1 some 0
-    some 1 some 1 some 1 some 0 some 1 some 2 some 1 some 5 some 4 some 3 some 2 some 1 none 5 none 4 some 3 some 1 some 2
-    some 1 some 1 some 0 some 2 some 1 some 4 none 3 some 1 some 1 some 3 none 2 some 1 some 0 some 1 some 2 some 1 some 1
-    some 23 some 3 none 2 some 1 some 2 some 9 none 8 some 7 some 1 some 1 some 4 none 3 some 2 some 1 some 5 none 2 some 1
-    some 4 none 3 some 2 some 1 some 6 some 5 some 4 some 0 some 3 some 2 some 2 some 1 some 0 some 1 some 2 some 1 some 2
-    some 1 some 0 some 1 some 6 some 5 some 4 some 3 none 2 some 1 some 23 some 1 some 0 some 1 some 6 some 5 some 1 some 4
-    some 1 some 0 some 1 some 5 some 4 some 1 some 0 some 4 none 1 some 3 some 2 none 1 some 0 some 1 some 0 some 1 some 7
-    some 6 some 5 some 1 some 19 some 2 some 1 some 26 some 25 some 24 none 1 some 23 some 5 none 2 some 1 some 1 some 8
-    none 7 some 6 some 5 none 3 none 2 some 1 some 4 some 3 some 2 some 1 some 1 some 1 some 23 none 2 some 1 some 6 some 1
-    none 3 none 2 some 1 some 1 some 0 none 22 some 21 some 20 none 3 none 2 some 1 some 19 some 1 some 18 some 17
+    (never 117) (front '+') (sequence 119 120) (never 113) (name 176) (choice 122 131) (sequence 123 126) (choice 124 125)
+    (word Dyn) (word Impl) (choice 127 128) (name 215) (sequence 129 116) (never 130) (name 245) (choice 132 137)
+    (sequence 53 133) (sequence 134 120) (never 135) (never 136) (sign '+') (choice 138 139) (sequence 24 120)
+    (choice 140 143) (sequence 141 142) (sign '?') (sequence 87 120) (choice 144 153) (sequence 145 146) (word For)
+    (sequence 39 147) (sequence 148 149) (name 261) (sequence 50 150) (choice 151 142) (sequence 152 116) (name 203)
+    (choice 154 156) (sequence 91 155) (sequence 4 116) (sequence 157 116) (name 181)
+    // type_no_bounds, from 158 on
+    (choice 159 162) (sequence 87 160) (choice 161 119) (sequence 113 115) (choice 157 163) (choice 24 164) (choice 165 169)
+    (sequence 123 166) (sequence 167 116) (choice 168 129) (name 216) (choice 170 171) (sequence 91 4) (sequence 145 172)
+    (sequence 39 173) (sequence 148 174) (sequence 50 175) (choice 152 87)
+    // more_bounds, from 176 on
+    (sequence 177 179) (many 178) (sequence 117 168) (sequence 180 116) (choice 117 3)
+    // plain_type, from 181 on
+    (choice 113 182) (choice 183 184) (name 192) (choice 185 186) (subtree Bracket) (choice 187 188) (word Underscore)
+    (choice 189 190) (name 197) (choice 152 191) (unit Opaque)
+    // pointer_type, from 192 on
+    (sequence 15 193) (sequence 194 28) (choice 195 196) (word Const) (word Mut)
+    // reference_type, from 197 on
+    (sequence 198 199) (front '&') (sequence 200 201) (choice 53 3) (sequence 202 28) (choice 196 3)
+    // function_type, from 203 on
+    (sequence 204 206) (choice 205 3) (word Unsafe) (sequence 207 212) (choice 208 3) (sequence 209 210) (word Extern)
+    (choice 211 3) (unit Text) (sequence 213 23) (word Fn)
+    // bounds, from 214 on
+    (choice 127 3)
+    // some_bounds, from 215 on
+    (sequence 168 176)
+    // bound, from 216 on
+    (choice 53 217) (choice 24 218) (choice 219 229) (sequence 220 221) (word Use) (sequence 39 222) (sequence 223 50)
+    (choice 224 3) (sequence 225 226) (name 269) (sequence 227 49) (many 228) (sequence 48 225) (sequence 230 232)
+    (choice 231 3) (name 258) (sequence 233 241) (choice 234 3) (choice 235 237) (sequence 236 195) (sign '~')
+    (choice 238 239) (sequence 185 195) (choice 195 240) (word Async) (sequence 242 244) (choice 243 3) (choice 141 113)
+    (sequence 230 87)
+    // begins_bound, from 245 on
+    (choice 53 246) (choice 24 247) (choice 185 248) (choice 220 249) (choice 145 250) (choice 236 251) (choice 195 252)
+    (choice 240 253) (choice 141 254) (choice 113 255) (choice 17 256) (choice 2 257) (choice 32 37)
+    // for_lifetimes, from 258 on
+    (sequence 145 259) (sequence 39 260) (sequence 148 50)
+    // lifetime_parameters, from 261 on
+    (choice 262 3) (sequence 263 264) (name 267) (sequence 265 49) (many 266) (sequence 48 263)
+    // lifetime_parameter, from 267 on
+    (sequence 53 268) (choice 66 3)
+    // use_argument, from 269 on
+    (choice 53 270) (choice 271 272) (unit Name) (word SelfType)
+    // pattern_fragment, from 273 on
+    (sequence 274 277) (never 275) (choice 276 113) (sign '.' '.' '=') (name 280)
+    // pattern_param_fragment, from 278 on
+    (sequence 274 279) (name 295)
+    // pattern, from 280 on
+    (sequence 281 283) (choice 282 3) (front '|') (sequence 279 284) (sequence 285 289) (many 286) (sequence 282 287)
+    (sequence 288 279) (never 282) (never 290) (choice 291 292) (sign '|') (choice 293 294) (sign '|' '|') (sign '@')
+    // pattern_no_top_alt, from 295 on
+    (choice 296 298) (sequence 276 297) (name 362) (choice 299 302) (sequence 300 301) (sign '.' '.') (choice 297 3)
+    (choice 303 308) (sequence 77 304) (sequence 305 306) (choice 79 80) (choice 307 3) (name 360) (choice 309 310) (name 367)
+    (choice 187 311) (choice 113 312) (choice 313 314) (name 369) (choice 24 315) (choice 185 316) (choice 191 317)
+    (choice 318 321) (sequence 319 320) (word Box) (name 332) (choice 322 326) (sequence 91 323) (sequence 92 324)
+    (choice 307 325) (name 365) (sequence 327 329) (never 328) (sequence 271 257) (sequence 1 330) (sequence 92 331)
+    (choice 161 324)
+    // pattern_without_range, from 332 on
+    (choice 333 337) (sequence 77 334) (sequence 305 335) (never 336) (name 361) (choice 309 338) (choice 187 339)
+    (choice 113 340) (choice 313 341) (choice 24 342) (choice 185 343) (choice 191 344) (choice 318 345) (choice 346 349)
+    (sequence 91 347) (sequence 92 348) (sequence 325 335) (choice 350 354) (sequence 327 351) (sequence 1 352)
+    (sequence 92 353) (choice 161 348) (sequence 300 355) (never 356) (choice 78 357) (choice 79 358) (choice 271 359)
+    (choice 39 2)
+    // range_tail, from 360 on
+    (choice 296 299)
+    // range_operator, from 361 on
+    (choice 276 300)
+    // range_end, from 362 on
+    (choice 363 364) (sequence 77 305) (name 89)
+    // fields, from 365 on
+    (choice 366 3) (choice 24 14)
+    // reference_pattern, from 367 on
+    (sequence 198 368) (sequence 202 320)
+    // identifier_pattern, from 369 on
+    (choice 370 376) (sequence 371 372) (word Ref) (sequence 202 373) (sequence 271 374) (choice 375 3) (name 393)
+    (choice 377 385) (sequence 196 378) (sequence 379 381) (choice 380 3) (sequence 371 202) (sequence 271 382)
+    (sequence 383 374) (never 384) (choice 2 366) (sequence 271 386) (sequence 387 374) (never 388) (choice 2 389)
+    (choice 161 390) (choice 24 391) (choice 14 392) (choice 30 336)
+    // binding, from 393 on
+    (sequence 294 279)
+    // expression_2021_fragment, from 394 on
+    (sequence 395 397) (never 396) (choice 187 195) (name 398)
+    // expression, from 398 on
+    (choice 399 400) (name 419) (sequence 401 402) (name 439) (sequence 403 406) (many 404) (sequence 405 397)
+    (unit AssignmentOperator) (sequence 407 408) (never 405) (choice 399 335)
+    // expression_before_block, from 409 on
+    (choice 410 411) (name 428) (sequence 412 413) (name 454) (sequence 414 417) (many 415) (sequence 405 416) (name 409)
+    (sequence 407 418) (choice 410 335)
+    // range, from 419 on
+    (choice 420 422) (sequence 276 421) (choice 399 401) (sequence 300 423) (choice 424 426) (sequence 425 421) (never 426)
+    (never 427) (name 688)
+    // range_before_block, from 428 on
+    (choice 429 433) (sequence 276 430) (sequence 431 432) (never 14) (choice 410 412) (sequence 300 434) (choice 435 437)
+    (sequence 436 432) (never 437) (never 438) (unit BeginsExpression)
+    // operation, from 439 on
+    (sequence 440 442) (many 441) (name 689) (sequence 443 444) (name 466) (sequence 445 451) (many 446) (choice 447 450)
+    (sequence 448 449) (unit BinaryOperator) (name 462) (sequence 86 28) (sequence 452 453) (never 448) (never 86)
+    // operation_before_block, from 454 on
+    (sequence 440 455) (sequence 456 457) (name 486) (sequence 458 451) (many 459) (choice 460 450) (sequence 448 461)
+    (name 464)
+    // operand, from 462 on
+    (choice 399 463) (sequence 440 443)
+    // operand_before_block, from 464 on
+    (choice 410 465) (sequence 440 456)
+    // unary, from 466 on
+    (choice 467 477) (sequence 468 470) (never 469) (never 17) (sequence 471 472) (name 590) (sequence 473 475) (many 474)
+    (name 506) (never 476) (name 522) (sequence 469 478) (choice 479 481) (sequence 480 462) (name 498) (sequence 482 472)
+    (choice 483 484) (name 525) (choice 485 471) (name 565)
+    // unary_before_block, from 486 on
+    (choice 487 490) (sequence 468 488) (sequence 489 472) (name 600) (sequence 469 491) (choice 492 493) (sequence 480 464)
+    (sequence 494 472) (choice 495 496) (name 532) (choice 497 489) (name 579)
+    // unary_operator, from 498 on
+    (choice 78 499) (choice 113 500) (choice 15 501) (sequence 198 502) (choice 503 3) (choice 504 196) (sequence 505 194)
+    (word Raw)
+    // postfix, from 506 on
+    (choice 141 507) (choice 24 508) (choice 185 509) (sequence 510 511) (sign '.') (choice 512 513) (word Await)
+    (choice 514 521) (sequence 17 515) (choice 516 518) (sequence 2 517) (sequence 20 24) (never 519) (sequence 2 520)
+    (choice 30 24) (unit Number)
+    // bad_postfix, from 522 on
+    (choice 510 523) (choice 524 38) (sign '.' '.' '.')
+    // closure, from 525 on
+    (sequence 526 527) (name 535) (choice 528 530) (sequence 27 529) (sequence 28 14) (sequence 531 397) (never 27)
+    // closure_before_block, from 532 on
+    (sequence 526 533) (choice 528 534) (sequence 531 416)
+    // closure_head, from 535 on
+    (sequence 230 536) (sequence 537 546) (choice 538 3) (sequence 195 539) (never 540) (never 541) (choice 542 543)
+    (word Static) (choice 544 545) (word Move) (choice 293 282) (sequence 547 548) (choice 542 3) (sequence 549 550)
+    (choice 240 3) (sequence 551 552) (choice 544 3) (choice 293 553) (sequence 282 554) (sequence 555 282) (choice 556 3)
+    (sequence 557 558) (name 561) (sequence 559 49) (many 560) (sequence 48 557)
+    // closure_parameter, from 561 on
+    (sequence 440 562) (sequence 279 563) (choice 564 3) (sequence 67 59)
+    // jump, from 565 on
+    (choice 566 570) (sequence 567 568) (word Return) (choice 569 426) (sequence 425 397) (choice 571 574) (sequence 572 573)
+    (word Break) (sequence 200 568) (choice 575 577) (sequence 576 200) (word Continue) (sequence 578 568) (word Yield)
+    // jump_before_block, from 579 on
+    (choice 580 583) (sequence 567 581) (choice 582 426) (sequence 425 416) (choice 584 588) (sequence 572 585)
+    (sequence 200 586) (choice 587 437) (sequence 436 416) (choice 575 589) (sequence 578 581)
+    // primary, from 590 on
+    (choice 591 596) (sequence 1 592) (sequence 92 593) (choice 161 594) (sequence 119 595) (choice 14 3) (choice 597 598)
+    (name 606) (sequence 91 599) (sequence 92 594)
+    // primary_before_block, from 600 on
+    (choice 601 603) (sequence 1 602) (sequence 92 160) (choice 597 604) (sequence 91 605) (sequence 92 119)
+    // basic, from 606 on
+    (choice 79 607) (choice 80 608) (choice 24 609) (choice 185 610) (choice 14 611) (choice 191 612) (choice 187 613)
+    (name 614)
+    // block_like, from 614 on
+    (choice 615 617) (sequence 616 14) (word Try) (choice 618 632) (sequence 619 620) (word If) (sequence 621 622) (name 662)
+    (sequence 14 623) (sequence 624 631) (choice 625 3) (sequence 626 627) (word Else) (choice 14 628) (sequence 629 613)
+    (never 630) (never 619) (never 626) (choice 633 636) (sequence 634 635) (word Match) (sequence 416 14) (choice 637 638)
+    (sequence 205 14) (choice 639 644) (sequence 640 643) (choice 641 240) (sequence 549 642) (word Gen) (sequence 551 14)
+    (choice 645 646) (sequence 195 14) (choice 647 648) (name 651) (sequence 53 649) (sequence 67 650) (choice 647 14)
+    // loop, from 651 on
+    (choice 652 654) (sequence 653 14) (word Loop) (choice 655 658) (sequence 656 657) (word While) (sequence 621 14)
+    (sequence 145 659) (sequence 277 660) (sequence 661 635) (word In)
+    // conditions, from 662 on
+    (sequence 663 664) (name 669) (sequence 665 668) (many 666) (sequence 667 663) (name 686) (never 667)
+    // one_condition, from 669 on
+    (choice 670 674) (sequence 671 672) (word Let) (sequence 277 673) (sequence 64 674) (name 675)
+    // let_value, from 675 on
+    (sequence 440 676) (sequence 456 677) (sequence 678 681) (many 679) (choice 680 450) (sequence 668 460) (sequence 682 684)
+    (never 683) (sequence 668 448) (sequence 414 685) (choice 410 3)
+    // lazy_operator, from 686 on
+    (choice 687 293) (sign '&' '&')
+    // begins, from 688 on
+    (choice 14 438)
+    // attribute, from 689 on
+    (sequence 690 185) (sign '#')
+    // meta, from 691 on
+    (choice 692 693) (sequence 205 24) (sequence 694 695) (name 105) (choice 696 3) (choice 115 697) (sequence 64 397)
+    // visibility, from 698 on
+    (choice 699 3) (sequence 700 701) (word Pub) (choice 24 3)
+    // statement, from 702 on
+    (choice 703 704) (sign ';') (choice 705 707) (sequence 440 706) (name 717) (choice 708 715) (sequence 440 709)
+    (sequence 710 714) (never 711) (choice 712 713) (word Default) (word Safe) (name 740) (choice 716 397) (name 725)
+    // let_statement, from 717 on
+    (sequence 671 718) (sequence 277 719) (sequence 563 720) (choice 721 3) (sequence 64 722) (sequence 397 723)
+    (choice 724 3) (sequence 626 14)
+    // block_statement, from 725 on
+    (sequence 440 726) (sequence 727 735) (choice 14 728) (choice 729 732) (sequence 730 613) (never 731) (choice 240 642)
+    (sequence 1 733) (sequence 92 734) (sequence 113 14) (never 736) (choice 510 141)
+    // item, from 737 on
+    (sequence 440 738) (choice 714 739) (name 772)
+    // declaration, from 740 on
+    (sequence 741 742) (name 698) (choice 743 744) (sequence 712 744) (name 745)
+    // item_kind, from 745 on
+    (choice 746 747) (name 818) (choice 748 749) (name 785) (choice 750 751) (name 796) (choice 752 753) (name 806)
+    (choice 754 755) (name 816) (choice 756 757) (name 839) (choice 758 759) (name 843) (choice 760 761) (name 846)
+    (choice 762 763) (name 856) (choice 764 765) (name 862) (choice 766 767) (name 867) (choice 768 769) (name 869)
+    (choice 770 771) (name 883) (name 776)
+    // macro_item, from 772 on
+    (sequence 694 773) (sequence 113 774) (choice 14 775) (sequence 115 703)
+    // macro_definition, from 776 on
+    (choice 777 781) (sequence 778 779) (word MacroRules) (sequence 113 780) (sequence 271 774) (sequence 782 783)
+    (word Macro) (sequence 271 784) (sequence 701 14)
+    // use_declaration, from 785 on
+    (sequence 220 786) (sequence 1 787) (sequence 788 703) (choice 14 789) (choice 15 790) (sequence 17 791)
+    (sequence 107 792) (choice 793 3) (choice 794 795) (sequence 2 13) (name 804)
+    // extern_crate, from 796 on
+    (sequence 209 797) (sequence 798 799) (word Crate) (sequence 800 802) (choice 271 801) (word SelfValue) (sequence 803 703)
+    (choice 795 3)
+    // rename, from 804 on
+    (sequence 86 805) (choice 271 187)
+    // static_item, from 806 on
+    (sequence 807 809) (choice 808 3) (choice 205 713) (sequence 542 810) (sequence 202 811) (sequence 271 812)
+    (sequence 67 813) (sequence 59 814) (sequence 815 703) (choice 697 3)
+    // constant_item, from 816 on
+    (sequence 195 817) (sequence 805 812)
+    // function, from 818 on
+    (sequence 819 821) (many 820) (name 834) (sequence 213 822) (sequence 271 823) (sequence 824 826) (choice 825 3)
+    (name 893) (sequence 24 827) (sequence 828 830) (choice 829 3) (sequence 27 59) (sequence 831 833) (choice 832 3)
+    (name 913) (choice 14 703)
+    // function_qualifier, from 834 on
+    (choice 195 835) (choice 240 836) (choice 642 837) (choice 205 838) (choice 713 208)
+    // module_item, from 839 on
+    (sequence 204 840) (sequence 841 842) (word Mod) (sequence 271 833)
+    // extern_block, from 843 on
+    (sequence 204 844) (sequence 209 845) (sequence 210 14)
+    // type_alias, from 846 on
+    (sequence 847 848) (word Type) (sequence 271 849) (sequence 824 850) (sequence 268 851) (sequence 831 852)
+    (sequence 853 855) (choice 854 3) (sequence 64 59) (sequence 831 703)
+    // structure, from 856 on
+    (sequence 857 858) (word Struct) (sequence 271 859) (sequence 824 860) (choice 861 830) (sequence 24 855)
+    // enumeration, from 862 on
+    (sequence 863 864) (word Enum) (sequence 271 865) (sequence 824 866) (sequence 831 14)
+    // union, from 867 on
+    (sequence 868 864) (word Union)
+    // trait, from 869 on
+    (sequence 870 871) (choice 195 3) (sequence 204 872) (sequence 873 875) (choice 874 3) (word Auto) (sequence 876 877)
+    (word Trait) (sequence 271 878) (sequence 824 879) (choice 880 881) (sequence 268 866) (sequence 64 882) (sequence 68 855)
+    // implementation, from 883 on
+    (sequence 204 884) (sequence 125 885) (sequence 824 886) (sequence 870 887) (sequence 888 890) (choice 889 59)
+    (sequence 113 59) (sequence 891 866) (choice 892 3) (sequence 145 59)
+    // generic_parameters, from 893 on
+    (sequence 32 894) (sequence 895 50) (choice 896 3) (sequence 897 898) (name 901) (sequence 899 49) (many 900)
+    (sequence 48 897)
+    // generic_parameter, from 901 on
+    (sequence 440 902) (choice 263 903) (choice 904 911) (sequence 195 905) (sequence 271 906) (sequence 67 907)
+    (sequence 59 908) (choice 909 3) (sequence 64 910) (choice 70 271) (sequence 271 912) (sequence 268 853)
+    // where_clause, from 913 on
+    (sequence 914 915) (word Where) (choice 916 3) (sequence 917 918) (name 921) (sequence 919 49) (many 920)
+    (sequence 48 917)
+    // where_predicate, from 921 on
+    (choice 922 923) (sequence 53 66) (sequence 230 924) (sequence 28 66)
 };
