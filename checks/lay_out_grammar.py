@@ -116,20 +116,25 @@ def plain(part):
 
 
 def laid(names):
-    """The rules, the place of each name's, where the rules of each name begin, and the place of each part."""
+    """The rules, the place of each name's, where the rules of each name begin, and the place of each part. A name that is a part is
+    laid out where what it stands for is."""
     rules, starts, begins, places = [], {}, {}, {}
 
     def place(part):
         if part not in places:
             at = places[part] = len(rules)
             rules.append(None)
-            rules[at] = (part[0], *[place(it) for it in part[1:]]) if part[0] in ("choice", "sequence", "many", "never") else part
+            parts = part[1:] if part[0] in ("choice", "sequence", "many", "never") else ()
+            rules[at] = (part[0], *[it if it[0] == "name" else place(it) for it in parts]) if parts else part
         return places[part]
 
     for name, (_, part) in names.items():
         begins[name] = len(rules)
         starts[name] = place(plain(part))
-    return [("name", starts[rule[1]]) if rule[0] == "name" else rule for rule in rules], starts, begins, places
+    for name in names:
+        places[("name", name)] = starts[name]
+    whole = [("name", starts[rule[1]]) if rule[0] == "name" else rule for rule in rules]
+    return [tuple(places[it] if isinstance(it, tuple) else it for it in rule) for rule in whole], starts, begins, places
 
 
 def marks_of(rules):

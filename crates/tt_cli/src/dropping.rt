@@ -8,7 +8,7 @@ fn refused(rt: &HostRuntime, name: &str, error: DropRulesError) -> Failure {
         DropRulesError::Text(fault) => format!(in rt.alloc();
             "{name}: no rules can be dropped, since what comes of it is not read again: {fault}"
         ),
-        DropRulesError::Limit(fault) => format!(in rt.alloc(); "{name}: {fault}"),
+        DropRulesError::Memory => return Failure::Memory,
     };
     match told {
         Ok(message) => Failure::plain(rt, message.as_str()),

@@ -16,7 +16,8 @@ use Rattle.tt.specs.Types.SpanPart.{SpanPart}
 use Rattle.tt_drop_rules.specs.declared.place.Attributes.{Attributes}
 use Rattle.tt_drop_rules.specs.declared.place.Place.{Place}
 use Rattle.tt_drop_rules.specs.declared.place.Place.TheVariants as at
-use Rattle.tt_drop_rules.specs.Parts.{Part, word, rules, leaf_words, words_in, last_span, begin_at, byte_or, first_parts, parts_in, held, rules_from}
+use Rattle.tt_drop_rules.specs.Parts.{Part, word, rules, leaf_words, words_in, last_span, byte_or, first_parts, parts_in, held, rules_from}
+use Rattle.tt_edit.specs.Places.{begin_at}
 use Rattle.tt_drop_rules.specs.Places.{First, drops, takes, others as plain, first_in, first_from, may_go, begun, no_attributes, passing, taking, is_sign, is_attribute, since_without, behind_sign, signed, attributes_behind_leaf, attributes_behind_subtree, behind_first}
 use Rattle.tt_drop_rules.specs.Without.{cut_of, cuts}
 use Rattle.tt_edit.specs.Laid.{Lies, Laid, byte_behind, lies_leaf, lies_node}

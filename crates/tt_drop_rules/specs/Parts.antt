@@ -1,10 +1,9 @@
 -- What stands in a text, as far as it matters to what is needed: words, and definitions that may go.
-use Rattle.std.specs.Prelude.{◌==◌, ◌++◌, ℕ, Bool, true, false, List, [], ◌∷◌, map, Option, None, Some, option_map, if◌then◌else◌}
+use Rattle.std.specs.Prelude.{◌==◌, ◌++◌, ℕ, Bool, true, false, List, [], ◌∷◌, map, Option, None, Some, if◌then◌else◌}
 use Rattle.tt.specs.Forest.{Forest, end, leaf, node, flat}
 use Rattle.tt.specs.Gluing.{after_trees}
-use Rattle.tt.specs.Moves.{first_token}
 use Rattle.tt.specs.Span.{start_of, end_of}
-use Rattle.tt.specs.Token.{first_span, leaf_span}
+use Rattle.tt.specs.Token.{leaf_span}
 use Rattle.tt.specs.Types.Leaf.{Leaf}
 use Rattle.tt.specs.Types.Leaf.TheVariants as leaf_of
 use Rattle.tt.specs.Types.Span.{Span}
@@ -17,6 +16,7 @@ use Rattle.tt_drop_rules.specs.declared.place.Attributes.{Attributes}
 use Rattle.tt_drop_rules.specs.declared.place.Place.{Place}
 use Rattle.tt_drop_rules.specs.declared.place.Place.TheVariants as at
 use Rattle.tt_drop_rules.specs.Places.{First, drops, takes, others, first_in, begun, passing, taking, is_attribute, behind_leaf, behind_subtree}
+use Rattle.tt_edit.specs.Places.{begin_at}
 use Rattle.tt_items.specs.Items.{Definition}
 
 -- the definition of a macro that may go: its name, the bytes at which its attributes or it begin and at which it ends, and the words in its arms
@@ -49,14 +49,6 @@ words_among (it ∷ behind) = token_words it ++ words_among behind
 -- the texts of all idents in trees, at any depth
 abbrev pub words_in : Forest → List (List ℕ)
 words_in trees = words_among (flat trees)
-
--- where trees begin, or that span, where there are none
-abbrev pub span_or : Option Span → (instead : Span) → Span
-span_or None instead = instead
-span_or (Some it) instead = it
-
-abbrev pub begin_at : Forest → (instead : Span) → Span
-begin_at trees instead = span_or (option_map first_span (first_token trees)) instead
 
 -- four trees of a definition stand before the `;` that may be the last
 abbrev pub before_semicolon : ℕ

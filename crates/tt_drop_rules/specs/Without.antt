@@ -1,12 +1,12 @@
 -- A text without the definitions that it does not need.
 use Rattle.std.specs.Prelude.{◌≡◌, ℕ, Bool, List, [], ◌∷◌, Option, if◌then◌else◌}
 use Rattle.tt.specs.Forest.{Root}
-use Rattle.tt.specs.Types.SpanPart.{SpanPart}
 use Rattle.tt_drop_rules.specs.declared.fault.DropRulesError.{DropRulesError}
 use Rattle.tt_drop_rules.specs.declared.fault.DropRulesError.TheVariants as error
 use Rattle.tt_drop_rules.specs.Needing.{AreRight}
 use Rattle.tt_drop_rules.specs.Parts.{Part, word, rules, Rules, parts_in}
 use Rattle.tt_drop_rules.specs.Places.{begun}
+use Rattle.tt_edit.specs.Places.{text_part}
 use Rattle.tt_edit.specs.Texts.{Replacement, Writing, begun as begun_text, replaced, with_all, FitAll}
 use Rattle.tt_text.specs.Parsed.{IsParse}
 use Rattle.tt_text.specs.Refusal.{IsRefusal}
@@ -26,10 +26,6 @@ abbrev pub cut_behind : (goes : List ℕ → Bool) → Part → Writing → Writ
 cut_behind goes (word it) writing = writing
 cut_behind goes (rules it) writing = if goes it.name then replaced (cut_of it) writing else writing
 
--- the places in a text are bytes of the first file
-abbrev pub text_part : SpanPart
-text_part = record { anchor = record { file_id = record { 0 = 0 }; ast_id = record { 0 = 0 } }; ctx = record { 0 = 0 } }
-
 -- a text without the definitions that are not needed, of those that may go; all else stays byte for byte
 pub record IsWithout (only : Option (List ℕ)) (source result : List ℕ) : Type 0 where
   pub tree : Root
@@ -39,7 +35,7 @@ pub record IsWithout (only : Option (List ℕ)) (source result : List ℕ) : Typ
   pub fits : FitAll (cuts goes (parts_in only begun tree.children)) (begun_text source)
   pub text : result ≡ with_all (cuts goes (parts_in only begun tree.children)) (begun_text source)
 
--- why none comes of a text: it is not read, or memory is wanting or a limit is passed
+-- why none comes of a text: it is not read, or memory is wanting
 abbrev pub IsDropRulesError : (text : List ℕ) → DropRulesError → Type 0
 IsDropRulesError text (error.Text fault) = IsRefusal text_part text fault
-IsDropRulesError text (error.Limit fault) = Unit {0}
+IsDropRulesError text error.Memory = Unit {0}

@@ -1,11 +1,9 @@
 //! Why a text is not written without what it does not need.
 ghost use Rattle.std.specs.Prelude.{◌≡◌};
-ghost use Rattle.tt.specs.Types.TtFault.TheVariants.{Memory};
-ghost use Rattle.tt_drop_rules.specs.declared.fault.DropRulesError.TheVariants.{Text, Limit};
+ghost use Rattle.tt_drop_rules.specs.declared.fault.DropRulesError.TheVariants.{Text, Memory};
 
 use std::alloc::AllocError;
 use thiserror::Error;
-use tt::TtFault;
 use tt_text::TextFault;
 
 /// Why a text is not written without what it does not need.
@@ -14,9 +12,9 @@ pub enum DropRulesError {
     /// The text is not read as trees.
     #[error("{0}")]
     Text(TextFault),
-    /// Memory is wanting, or a limit of trees is passed.
-    #[error("{0}")]
-    Limit(TtFault),
+    /// Memory is wanting.
+    #[error("out of memory")]
+    Memory,
 }
 
 impl From<TextFault> for DropRulesError {
@@ -28,17 +26,9 @@ impl From<TextFault> for DropRulesError {
 }
 
 impl From<AllocError> for DropRulesError {
-    ghost from_gives = { λ _ error. error ≡ Limit Memory };
+    ghost from_gives = { λ _ error. error ≡ Memory };
 
     fn from(_error: AllocError) -> DropRulesError {
-        DropRulesError::Limit(TtFault::Memory)
-    }
-}
-
-impl From<TtFault> for DropRulesError {
-    ghost from_gives = { λ fault error. error ≡ Limit fault };
-
-    fn from(fault: TtFault) -> DropRulesError {
-        DropRulesError::Limit(fault)
+        DropRulesError::Memory
     }
 }

@@ -3,7 +3,7 @@ ghost use Rattle.std.specs.Prelude.{◌≡◌, IfOk};
 ghost use Rattle.tt.specs.Iters.{rest_of};
 ghost use Rattle.tt.specs.Token.{leaf_span};
 ghost use Rattle.tt_drop_rules.specs.Firsts.{first_of};
-ghost use Rattle.tt_drop_rules.specs.Parts.{begin_at, last_span, rules_from, rules_of};
+ghost use Rattle.tt_drop_rules.specs.Parts.{last_span, rules_from, rules_of};
 ghost use Rattle.tt_drop_rules.specs.Places.{may_go, first_in};
 ghost use Rattle.tt_items.specs.Items.{definition_of};
 
@@ -12,7 +12,7 @@ use crate::place::Attributes;
 use crate::words::words_in;
 use std::alloc::{AllocError, Global};
 use tt::{Leaf, Span, Symbol, TtIter};
-use tt_edit::{end_of, start_of};
+use tt_edit::{begin_at, end_of, start_of};
 use tt_items::{Definition, Item, item_in};
 use tt_pattern::pass;
 
@@ -54,16 +54,6 @@ pub(crate) fn first_in<'a>(trees: TtIter<'a>, only: &Option<Symbol>) -> First<'a
         }
         Item::Call(call) => First::Takes(call.len),
         Item::Other => First::Others,
-    }
-}
-
-// Where trees begin, or that span, where there are none.
-fn begin_at(trees: &TtIter<'_>, instead: Span) -> Span
-    ensures { result ≡ begin_at (rest_of trees.now) instead }
-{
-    match trees.next_span() {
-        Some(span) => span,
-        None => instead,
     }
 }
 

@@ -6,17 +6,20 @@ use crate::cutting::without;
 use crate::fault::DropRulesError;
 use crate::needing::unneeded;
 use crate::walk::parts_in;
-use std::alloc::Global;
-use tt::{ErasedFileAstId, FileId, SpanAnchor, Symbol, SyntaxContext, TtFault};
-use tt_text::parse_to_token_tree;
+use std::alloc::{AllocError, Global};
+use tt::Symbol;
+use tt_edit::parse;
 
 // The name, if there is one.
-fn name_of(alloc: Global, only: Option<&str>) -> Result<Option<Symbol>, TtFault>
+fn name_of(alloc: Global, only: Option<&str>) -> Result<Option<Symbol>, AllocError>
     ensures { IfOk result (λ it. it ≡ option_map (λ name. name.now) only.entry) }
 {
-    match only {
-        None => Ok(None),
-        Some(name) => Ok(Some(Symbol::new(alloc, name)?)),
+    let Some(name) = only else {
+        return Ok(None);
+    };
+    match Symbol::new(alloc, name) {
+        Ok(name) => Ok(Some(name)),
+        Err(_) => Err(AllocError),
     }
 }
 
@@ -33,11 +36,7 @@ pub fn without_rules(
     ensures ok { IfOk result (λ it. IsWithout (option_map (λ name. name.now) only.entry) text.now (string_bytes it)) }
     ensures err { IfErr result (IsDropRulesError text.now) }
 {
-    let anchor = SpanAnchor {
-        file_id: FileId(0),
-        ast_id: ErasedFileAstId(0),
-    };
-    let tree = parse_to_token_tree(alloc, anchor, SyntaxContext(0), text)?;
+    let tree = parse(alloc, text)?;
     let only = name_of(alloc, only)?;
     let parts = parts_in(alloc, tree.iter(), &only)?;
     let unneeded = unneeded(alloc, parts.as_slice())?;

@@ -7,4 +7,4 @@ mod output;
 mod place;
 
 pub use output::Output;
-pub use place::{end_of, start_of};
+pub use place::{begin_at, end_of, parse, start_of};

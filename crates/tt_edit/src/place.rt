@@ -1,8 +1,36 @@
-//! Where in a text a token stands.
-ghost use Rattle.std.specs.Prelude.{◌≡◌};
+//! Where in a text tokens and trees stand.
+ghost use Rattle.std.specs.Prelude.{◌≡◌, IfOk, IfErr};
+ghost use Rattle.tt.specs.Iters.{rest_of};
 ghost use Rattle.tt.specs.Span.{start_of, end_of};
+ghost use Rattle.tt_edit.specs.Places.{begin_at, text_part};
+ghost use Rattle.tt_text.specs.Parsed.{IsParse};
+ghost use Rattle.tt_text.specs.Refusal.{IsRefusal};
 
-use tt::Span;
+use std::alloc::Global;
+use tt::{ErasedFileAstId, FileId, Span, SpanAnchor, SyntaxContext, TopSubtree, TtIter};
+use tt_text::{TextFault, parse_to_token_tree};
+
+/// The tree of a text, whose spans are bytes of the first file, or why it has none.
+pub fn parse(alloc: Global, text: &str) -> Result<TopSubtree, TextFault>
+    ensures ok { IfOk result (IsParse text_part text.now) }
+    ensures err { IfErr result (IsRefusal text_part text.now) }
+{
+    let anchor = SpanAnchor {
+        file_id: FileId(0),
+        ast_id: ErasedFileAstId(0),
+    };
+    parse_to_token_tree(alloc, anchor, SyntaxContext(0), text)
+}
+
+/// Where trees begin, or that span, where there are none.
+pub fn begin_at(trees: &TtIter<'_>, instead: Span) -> Span
+    ensures { result ≡ begin_at (rest_of trees.now) instead }
+{
+    match trees.next_span() {
+        Some(span) => span,
+        None => instead,
+    }
+}
 
 /// The byte where a span begins.
 pub fn start_of(span: Span) -> u32

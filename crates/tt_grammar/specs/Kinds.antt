@@ -1,4 +1,4 @@
--- Kinds of units, and with which of them a unit begins that passes a test.
+-- Kinds of units: a number below 64 for each. Units that the grammar seldom tells apart share one.
 use Rattle.std.specs.Prelude.{ℕ, Option, None, Some, slice_get}
 use Rattle.tt.specs.Types.DelimiterKind.TheVariants as delimiter
 use Rattle.tt_grammar.specs.declared.kind.TheConstants.{KINDS_OF_CHARS}

@@ -1,5 +1,5 @@
 -- The machine as it runs, as its definitions have it.
-use Rattle.std.specs.Prelude.{option_map}
+use Rattle.std.specs.Prelude.{Bool, true, false, Option, None, Some, option_map}
 use Rattle.tt_grammar.specs.declared.machine.Begun.{Begun}
 use Rattle.tt_grammar.specs.declared.machine.Frame.{Frame}
 use Rattle.tt_grammar.specs.declared.machine.Frame.TheVariants as frame
@@ -9,11 +9,17 @@ use Rattle.tt_grammar.specs.declared.machine.State.{State}
 use Rattle.tt_grammar.specs.declared.machine.State.TheVariants as state
 use Rattle.tt_grammar.specs.Machine as machine
 use Rattle.tt_grammar.specs.Places.{position_of}
+use Rattle.tt_grammar.specs.Positions.{Position}
 
--- what it does next
-abbrev pub state_of : State → machine.State
-state_of (state.Reading at from) = machine.reading at (position_of from)
-state_of (state.Answered answer) = machine.answered (option_map position_of answer)
+-- the answer of an expression that ends where the machine is, or fails
+abbrev pub answer_at : (here : Position) → (ends : Bool) → Option Position
+answer_at here true = Some here
+answer_at here false = None
+
+-- what it does next there
+abbrev pub state_at : (here : Position) → State → machine.State
+state_at here (state.Reading at) = machine.reading at here
+state_at here (state.Answered ends) = machine.answered (answer_at here ends)
 
 -- what waits
 abbrev pub frame_of : Frame → machine.Frame
@@ -23,10 +29,10 @@ frame_of (frame.InRepetition at from) = machine.in_repetition at (position_of fr
 frame_of (frame.InNot from) = machine.in_not (position_of from)
 
 -- how an expression begins
-abbrev pub begun_of : Begun → machine.Begun
-begun_of begun = record { state = state_of begun.state; waiting = option_map frame_of begun.waiting }
+abbrev pub begun_at : (here : Position) → Begun → machine.Begun
+begun_at here begun = record { state = state_at here begun.state; waiting = option_map frame_of begun.waiting }
 
 -- what a step comes to
-abbrev pub next_of : Next → machine.Next
-next_of (next.Goes state) = machine.goes (state_of state)
-next_of (next.Ends answer) = machine.ends (option_map position_of answer)
+abbrev pub next_at : (here : Position) → Next → machine.Next
+next_at here (next.Goes state) = machine.goes (state_at here state)
+next_at here (next.Ends ends) = machine.ends (answer_at here ends)

@@ -1,4 +1,4 @@
-//! Kinds of units: what is known of an expression before a unit is known by the unit's kind.
+//! Kinds of units, by which it is known what an expression comes to before it is read.
 ghost use Rattle.std.specs.Prelude.{◌≡◌, slice_get};
 ghost use Rattle.tt_grammar.specs.Kinds.{kind_of_word, kind_or_other, kind_of_char, kind_of};
 

@@ -1,11 +1,11 @@
 //! The machine: what it does next, and what waits for the answer.
 ghost use Rattle.std.specs.Prelude.{◌≡◌, reverse, map, slice_get, IfOk, option_map};
 ghost use Rattle.tt_grammar.specs.Known.{glance_at};
-ghost use Rattle.tt_grammar.specs.Machine.{resumed, begun_behind, begun_sequence_open, begun_sequence, begun_first, begun_choice, begun_repetition, begun_not, begun_open, begun, IsStep};
+ghost use Rattle.tt_grammar.specs.Machine.{resumed, begun_sequence_open, begun_sequence, begun_first, begun_choice, begun_repetition, begun_not, begun_open, begun, IsStep};
 ghost use Rattle.tt_grammar.specs.Parses.{Parses};
 ghost use Rattle.tt_grammar.specs.Places.{position_of};
 ghost use Rattle.tt_grammar.specs.Positions.{takes};
-ghost use Rattle.tt_grammar.specs.Running.{state_of, frame_of, begun_of, next_of};
+ghost use Rattle.tt_grammar.specs.Running.{answer_at, state_at, frame_of, begun_at, next_at};
 
 use crate::known::Glance;
 use crate::place::Place;
@@ -13,13 +13,13 @@ use crate::rule::Rule;
 use crate::table::Table;
 use std::alloc::{AllocError, Global};
 
-/// What the machine does next.
+/// What the machine does next at the place where it is.
 #[derive(Clone, Copy)]
-pub(crate) enum State<'t> {
-    /// It reads by an expression, from a place on.
-    Reading(usize, Place<'t>),
-    /// An expression has answered: the place where it ends, if it does not fail.
-    Answered(Option<Place<'t>>),
+pub(crate) enum State {
+    /// It reads by an expression, from there on.
+    Reading(usize),
+    /// An expression has answered: it ends there, or it fails.
+    Answered(bool),
 }
 
 /// What waits for the answer of a part.
@@ -38,78 +38,76 @@ pub(crate) enum Frame<'t> {
 /// What is next when an expression begins, and what waits for it.
 #[derive(Clone, Copy)]
 pub(crate) struct Begun<'t> {
-    state: State<'t>,
+    state: State,
     waiting: Option<Frame<'t>>,
 }
 
-/// What a step comes to.
+/// What a step comes to: what is next, or whether the expression ends at the place where the machine is.
 #[derive(Clone, Copy)]
-pub(crate) enum Next<'t> {
-    Goes(State<'t>),
-    Ends(Option<Place<'t>>),
+pub(crate) enum Next {
+    Goes(State),
+    Ends(bool),
 }
 
 // What comes of an answer that was waited for.
 #[inline(always)]
-fn resume<'t>(frame: Frame<'t>, answer: Option<Place<'t>>) -> State<'t>
-    ensures { state_of result ≡ resumed (frame_of frame.entry) (option_map position_of answer.entry) }
+fn resume<'t>(frame: Frame<'t>, ends: bool, here: &mut Place<'t>) -> State
+    ensures { state_at (position_of here.new) result ≡ resumed (frame_of frame.entry) (answer_at (position_of here.old) ends) }
 {
-    match (frame, answer) {
-        (Frame::InSequence(_), None) => State::Answered(None),
-        (Frame::InSequence(second), Some(middle)) => State::Reading(second, middle),
-        (Frame::InChoice(other, from), None) => State::Reading(other, from),
-        (Frame::InChoice(_, _), Some(to)) => State::Answered(Some(to)),
-        (Frame::InRepetition(_, from), None) => State::Answered(Some(from)),
-        (Frame::InRepetition(at, _), Some(middle)) => State::Reading(at, middle),
-        (Frame::InNot(from), None) => State::Answered(Some(from)),
-        (Frame::InNot(_), Some(_)) => State::Answered(None),
+    match (frame, ends) {
+        (Frame::InSequence(_), false) => State::Answered(false),
+        (Frame::InSequence(second), true) => State::Reading(second),
+        (Frame::InChoice(other, from), false) => {
+            *here = from;
+            State::Reading(other)
+        }
+        (Frame::InChoice(_, _), true) => State::Answered(true),
+        (Frame::InRepetition(_, from), false) => {
+            *here = from;
+            State::Answered(true)
+        }
+        (Frame::InRepetition(at, _), true) => State::Reading(at),
+        (Frame::InNot(from), false) => {
+            *here = from;
+            State::Answered(true)
+        }
+        (Frame::InNot(_), true) => State::Answered(false),
     }
 }
 
 // It has answered, and nothing waits.
 #[inline(always)]
-fn at_once(answer: Option<Place<'_>>) -> Begun<'_>
-    ensures state { result.state ≡ State.Answered answer.entry }
+fn at_once<'t>(ends: bool) -> Begun<'t>
+    ensures state { result.state ≡ State.Answered ends }
     ensures waiting { result.waiting ≡ None }
 {
     Begun {
-        state: State::Answered(answer),
+        state: State::Answered(ends),
         waiting: None,
     }
 }
 
-// It is read from a place on, and nothing waits.
+// It is read, and nothing waits.
 #[inline(always)]
-fn alone(at: usize, from: Place<'_>) -> Begun<'_>
-    ensures state { result.state ≡ State.Reading at from.entry }
+fn alone<'t>(at: usize) -> Begun<'t>
+    ensures state { result.state ≡ State.Reading at }
     ensures waiting { result.waiting ≡ None }
 {
     Begun {
-        state: State::Reading(at, from),
+        state: State::Reading(at),
         waiting: None,
     }
 }
 
-// A part that is read from a place on, and what waits for it.
+// A part that is read, and what waits for it.
 #[inline(always)]
-fn within<'t>(part: usize, from: Place<'t>, frame: Frame<'t>) -> Begun<'t>
-    ensures state { result.state ≡ State.Reading part from.entry }
+fn within<'t>(part: usize, frame: Frame<'t>) -> Begun<'t>
+    ensures state { result.state ≡ State.Reading part }
     ensures waiting { result.waiting ≡ Some frame.entry }
 {
     Begun {
-        state: State::Reading(part, from),
+        state: State::Reading(part),
         waiting: Some(frame),
-    }
-}
-
-// How one after another begins behind a first part that has answered.
-#[inline(always)]
-fn begin_behind<'t>(second: usize, answer: Option<Place<'t>>) -> Begun<'t>
-    ensures { begun_of result ≡ begun_behind second (option_map position_of answer.entry) }
-{
-    match answer {
-        None => at_once(None),
-        Some(middle) => alone(second, middle),
     }
 }
 
@@ -119,102 +117,113 @@ fn begin_sequence_open<'t>(
     rules: &[Rule],
     first: usize,
     second: usize,
-    from: Place<'t>,
+    here: &mut Place<'t>,
 ) -> Begun<'t>
-    ensures { begun_of result ≡ begun_sequence_open takes first second (position_of from.entry) (slice_get rules.now first) }
+    ensures { begun_at (position_of here.new) result ≡ begun_sequence_open takes first second (position_of here.old) (slice_get rules.now first) }
 {
     match rules.get(first) {
-        Some(Rule::Unit(test)) => begin_behind(second, from.behind(*test)),
-        _ => within(first, from, Frame::InSequence(second)),
+        Some(Rule::Unit(test)) => {
+            if here.take(*test) {
+                alone(second)
+            } else {
+                at_once(false)
+            }
+        }
+        _ => within(first, Frame::InSequence(second)),
     }
 }
 
 // How one after another begins.
 #[inline(always)]
-fn begin_sequence<'t>(table: Table<'_>, first: usize, second: usize, from: Place<'t>) -> Begun<'t>
-    ensures { begun_of result ≡ begun_sequence takes first second (position_of from.entry) (slice_get table.entry.rules.now first) (glance_at table.entry.known.now first (position_of from.entry)) }
+fn begin_sequence<'t>(
+    table: Table<'_>,
+    first: usize,
+    second: usize,
+    here: &mut Place<'t>,
+) -> Begun<'t>
+    ensures { begun_at (position_of here.new) result ≡ begun_sequence takes first second (position_of here.old) (slice_get table.entry.rules.now first) (glance_at table.entry.known.now first (position_of here.old)) }
 {
-    match from.glance(table.known, first) {
-        Glance::Fails => at_once(None),
-        Glance::Idles => alone(second, from),
-        Glance::Open => begin_sequence_open(table.rules, first, second, from),
+    match here.glance(table.known, first) {
+        Glance::Fails => at_once(false),
+        Glance::Idles => alone(second),
+        Glance::Open => begin_sequence_open(table.rules, first, second, here),
     }
 }
 
 // How a choice begins whose first part is tried.
 #[inline(always)]
-fn begin_first<'t>(table: Table<'_>, first: usize, other: usize, from: Place<'t>) -> Begun<'t>
-    ensures { begun_of result ≡ begun_first first other (position_of from.entry) (glance_at table.entry.known.now other (position_of from.entry)) }
+fn begin_first<'t>(table: Table<'_>, first: usize, other: usize, here: &Place<'t>) -> Begun<'t>
+    ensures { begun_at (position_of here.now) result ≡ begun_first first other (position_of here.now) (glance_at table.entry.known.now other (position_of here.now)) }
 {
-    match from.glance(table.known, other) {
-        Glance::Fails => alone(first, from),
-        Glance::Idles | Glance::Open => within(first, from, Frame::InChoice(other, from)),
+    match here.glance(table.known, other) {
+        Glance::Fails => alone(first),
+        Glance::Idles | Glance::Open => within(first, Frame::InChoice(other, *here)),
     }
 }
 
 // How a choice begins.
 #[inline(always)]
-fn begin_choice<'t>(table: Table<'_>, first: usize, other: usize, from: Place<'t>) -> Begun<'t>
-    ensures { begun_of result ≡ begun_choice first other (position_of from.entry) (glance_at table.entry.known.now first (position_of from.entry)) (glance_at table.entry.known.now other (position_of from.entry)) }
+fn begin_choice<'t>(table: Table<'_>, first: usize, other: usize, here: &Place<'t>) -> Begun<'t>
+    ensures { begun_at (position_of here.now) result ≡ begun_choice first other (position_of here.now) (glance_at table.entry.known.now first (position_of here.now)) (glance_at table.entry.known.now other (position_of here.now)) }
 {
-    match from.glance(table.known, first) {
-        Glance::Fails => alone(other, from),
-        Glance::Idles => at_once(Some(from)),
-        Glance::Open => begin_first(table, first, other, from),
+    match here.glance(table.known, first) {
+        Glance::Fails => alone(other),
+        Glance::Idles => at_once(true),
+        Glance::Open => begin_first(table, first, other, here),
     }
 }
 
 // How as often as it goes begins.
 #[inline(always)]
-fn begin_repetition<'t>(table: Table<'_>, at: usize, part: usize, from: Place<'t>) -> Begun<'t>
-    ensures { begun_of result ≡ begun_repetition at part (position_of from.entry) (glance_at table.entry.known.now part (position_of from.entry)) }
+fn begin_repetition<'t>(table: Table<'_>, at: usize, part: usize, here: &Place<'t>) -> Begun<'t>
+    ensures { begun_at (position_of here.now) result ≡ begun_repetition at part (position_of here.now) (glance_at table.entry.known.now part (position_of here.now)) }
 {
-    match from.glance(table.known, part) {
-        Glance::Fails => at_once(Some(from)),
-        Glance::Idles | Glance::Open => within(part, from, Frame::InRepetition(at, from)),
+    match here.glance(table.known, part) {
+        Glance::Fails => at_once(true),
+        Glance::Idles | Glance::Open => within(part, Frame::InRepetition(at, *here)),
     }
 }
 
 // How only where it fails begins.
 #[inline(always)]
-fn begin_not<'t>(table: Table<'_>, part: usize, from: Place<'t>) -> Begun<'t>
-    ensures { begun_of result ≡ begun_not part (position_of from.entry) (glance_at table.entry.known.now part (position_of from.entry)) }
+fn begin_not<'t>(table: Table<'_>, part: usize, here: &Place<'t>) -> Begun<'t>
+    ensures { begun_at (position_of here.now) result ≡ begun_not part (position_of here.now) (glance_at table.entry.known.now part (position_of here.now)) }
 {
-    match from.glance(table.known, part) {
-        Glance::Fails => at_once(Some(from)),
-        Glance::Idles => at_once(None),
-        Glance::Open => within(part, from, Frame::InNot(from)),
+    match here.glance(table.known, part) {
+        Glance::Fails => at_once(true),
+        Glance::Idles => at_once(false),
+        Glance::Open => within(part, Frame::InNot(*here)),
     }
 }
 
 // How an expression begins of which nothing is known.
 #[inline(always)]
-fn begin_open<'t>(table: Table<'_>, at: usize, from: Place<'t>) -> Begun<'t>
-    ensures { begun_of result ≡ begun_open takes (glance_at table.entry.known.now) table.entry.rules.now at (position_of from.entry) (slice_get table.entry.rules.now at) }
+fn begin_open<'t>(table: Table<'_>, at: usize, here: &mut Place<'t>) -> Begun<'t>
+    ensures { begun_at (position_of here.new) result ≡ begun_open takes (glance_at table.entry.known.now) table.entry.rules.now at (position_of here.old) (slice_get table.entry.rules.now at) }
 {
     let Some(rule) = table.rules.get(at) else {
-        return at_once(None);
+        return at_once(false);
     };
     match *rule {
-        Rule::Empty => at_once(Some(from)),
-        Rule::Unit(test) => at_once(from.behind(test)),
-        Rule::Name(other) => alone(other, from),
-        Rule::Sequence(first, second) => begin_sequence(table, first, second, from),
-        Rule::Choice(first, other) => begin_choice(table, first, other, from),
-        Rule::ZeroOrMore(part) => begin_repetition(table, at, part, from),
-        Rule::Not(part) => begin_not(table, part, from),
+        Rule::Empty => at_once(true),
+        Rule::Unit(test) => at_once(here.take(test)),
+        Rule::Name(other) => alone(other),
+        Rule::Sequence(first, second) => begin_sequence(table, first, second, here),
+        Rule::Choice(first, other) => begin_choice(table, first, other, here),
+        Rule::ZeroOrMore(part) => begin_repetition(table, at, part, here),
+        Rule::Not(part) => begin_not(table, part, here),
     }
 }
 
 // How an expression begins.
 #[inline(always)]
-fn begin<'t>(table: Table<'_>, at: usize, from: Place<'t>) -> Begun<'t>
-    ensures { begun_of result ≡ begun takes (glance_at table.entry.known.now) table.entry.rules.now at (position_of from.entry) }
+fn begin<'t>(table: Table<'_>, at: usize, here: &mut Place<'t>) -> Begun<'t>
+    ensures { begun_at (position_of here.new) result ≡ begun takes (glance_at table.entry.known.now) table.entry.rules.now at (position_of here.old) }
 {
-    match from.glance(table.known, at) {
-        Glance::Fails => at_once(None),
-        Glance::Idles => at_once(Some(from)),
-        Glance::Open => begin_open(table, at, from),
+    match here.glance(table.known, at) {
+        Glance::Fails => at_once(false),
+        Glance::Idles => at_once(true),
+        Glance::Open => begin_open(table, at, here),
     }
 }
 
@@ -222,22 +231,23 @@ fn begin<'t>(table: Table<'_>, at: usize, from: Place<'t>) -> Begun<'t>
 #[inline(always)]
 fn step<'t>(
     table: Table<'_>,
-    state: State<'t>,
+    state: State,
+    here: &mut Place<'t>,
     frames: &mut Vec<Frame<'t>>,
-) -> Result<Next<'t>, AllocError>
-    ensures { IfOk result (λ next. IsStep takes (glance_at table.entry.known.now) table.entry.rules.now (state_of state.entry) (map frame_of (reverse frames.old.items)) (next_of next) (map frame_of (reverse frames.new.items))) }
+) -> Result<Next, AllocError>
+    ensures { IfOk result (λ next. IsStep takes (glance_at table.entry.known.now) table.entry.rules.now (state_at (position_of here.old) state) (map frame_of (reverse frames.old.items)) (next_at (position_of here.new) next) (map frame_of (reverse frames.new.items))) }
 {
     match state {
-        State::Reading(at, from) => {
-            let Begun { state, waiting } = begin(table, at, from);
+        State::Reading(at) => {
+            let Begun { state, waiting } = begin(table, at, here);
             if let Some(frame) = waiting {
                 frames.push(frame)?;
             }
             Ok(Next::Goes(state))
         }
-        State::Answered(answer) => match frames.pop() {
-            None => Ok(Next::Ends(answer)),
-            Some(frame) => Ok(Next::Goes(resume(frame, answer))),
+        State::Answered(ends) => match frames.pop() {
+            None => Ok(Next::Ends(ends)),
+            Some(frame) => Ok(Next::Goes(resume(frame, ends, here))),
         },
     }
 }
@@ -253,11 +263,12 @@ pub fn parse<'t>(
     ensures { IfOk result (λ answer. Parses table.entry.rules.now at (position_of from.entry) (option_map position_of answer)) }
 {
     let mut frames = Vec::new(alloc);
-    let mut state = State::Reading(at, from);
+    let mut here = from;
+    let mut state = State::Reading(at);
     loop {
-        match step(table, state, &mut frames)? {
+        match step(table, state, &mut here, &mut frames)? {
             Next::Goes(next) => state = next,
-            Next::Ends(answer) => return Ok(answer),
+            Next::Ends(ends) => return Ok(if ends { Some(here) } else { None }),
         }
     }
 }

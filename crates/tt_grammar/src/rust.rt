@@ -32,310 +32,297 @@ macro_rules! rules {
 }
 
 /// Where `expression` is laid out.
-pub(crate) const EXPRESSION: usize = 398;
+pub(crate) const EXPRESSION: usize = 359;
 
 /// Where `expression_2021_fragment` is laid out.
-pub(crate) const EXPRESSION_2021_FRAGMENT: usize = 394;
+pub(crate) const EXPRESSION_2021_FRAGMENT: usize = 356;
 
 /// Where `type` is laid out.
-pub(crate) const TYPE: usize = 109;
+pub(crate) const TYPE: usize = 94;
 
 /// Where `pattern_fragment` is laid out.
-pub(crate) const PATTERN_FRAGMENT: usize = 273;
+pub(crate) const PATTERN_FRAGMENT: usize = 246;
 
 /// Where `pattern_param_fragment` is laid out.
-pub(crate) const PATTERN_PARAM_FRAGMENT: usize = 278;
+pub(crate) const PATTERN_PARAM_FRAGMENT: usize = 250;
 
 /// Where `type_path` is laid out.
 pub(crate) const TYPE_PATH: usize = 0;
 
 /// Where `statement` is laid out.
-pub(crate) const STATEMENT: usize = 702;
+pub(crate) const STATEMENT: usize = 633;
 
 /// Where `item` is laid out.
-pub(crate) const ITEM: usize = 737;
+pub(crate) const ITEM: usize = 665;
 
 /// Where `meta` is laid out.
-pub(crate) const META: usize = 691;
+pub(crate) const META: usize = 623;
 
 /// The rules.
-pub(crate) static RULES: [Rule; 925] = rules! {
+pub(crate) static RULES: [Rule; 830] = rules! {
     // type_path, from 0 on
-    (sequence 1 4) (choice 2 3) (sign ':' ':') (empty) (name 5)
-    // type_path_segments, from 5 on
-    (sequence 6 7) (name 16) (sequence 8 10) (many 9) (sequence 2 6) (never 11) (sequence 2 12) (never 13) (choice 14 15)
+    (sequence 1 4) (choice 2 3) (sign ':' ':') (empty)
+    // type_path_segments, from 4 on
+    (sequence 14 5) (sequence 6 8) (many 7) (sequence 2 14) (never 9) (sequence 2 10) (never 11) (choice 12 13)
     (subtree Brace) (sign '*')
-    // type_path_segment, from 16 on
-    (sequence 17 18) (unit PathSegment) (choice 19 21) (sequence 1 20) (name 40) (choice 22 29) (sequence 1 23)
-    (sequence 24 25) (subtree Parenthesis) (choice 26 3) (sequence 27 28) (sign '-' '>') (name 158) (never 30) (name 31)
-    // less, from 31 on
-    (choice 32 33) (sign '<') (sequence 34 39) (never 35) (never 36) (choice 37 38) (sign '<' '<') (sign '<' '-') (front '<')
-    // generic_arguments, from 40 on
-    (sequence 30 41) (sequence 42 50) (choice 43 3) (sequence 44 45) (name 51) (sequence 46 49) (many 47) (sequence 48 44)
-    (sign ',') (choice 48 3) (front '>')
-    // generic_argument, from 51 on
-    (choice 52 57) (sequence 53 54) (lifetime) (never 55) (never 56) (name 71) (choice 58 69) (sequence 59 60) (name 109)
-    (sequence 61 54) (choice 62 3) (choice 63 66) (sequence 64 65) (sign '=') (name 72) (sequence 67 68) (sign ':') (name 214)
-    (sequence 70 54) (name 74)
-    // generic_argument_end, from 71 on
-    (choice 48 50)
-    // generic_argument_value, from 72 on
-    (choice 73 70) (sequence 59 54)
-    // const_argument, from 74 on
-    (choice 14 75) (choice 76 80) (sequence 77 79) (choice 78 3) (sign '-') (unit Literal) (unit TruthValue)
-    // qualified_self, from 81 on
-    (sequence 30 82) (sequence 59 83) (sequence 84 88) (choice 85 3) (sequence 86 87) (word As) (name 0) (sequence 50 2)
-    // expression_path, from 89 on
-    (choice 90 93) (sequence 91 92) (name 81) (name 94) (sequence 1 92)
-    // expression_path_segments, from 94 on
-    (sequence 95 96) (name 100) (sequence 97 99) (many 98) (sequence 2 95) (never 2)
-    // expression_path_segment, from 100 on
-    (sequence 17 101) (choice 102 3) (choice 103 104) (sequence 2 20) (sequence 2 23)
-    // simple_path, from 105 on
-    (sequence 1 106) (sequence 17 107) (many 108) (sequence 2 17)
-    // type, from 109 on
-    (choice 110 121) (sequence 87 111) (choice 112 118) (sequence 113 114) (sign '!') (sequence 115 116) (unit Delimited)
-    (never 117) (front '+') (sequence 119 120) (never 113) (name 176) (choice 122 131) (sequence 123 126) (choice 124 125)
-    (word Dyn) (word Impl) (choice 127 128) (name 215) (sequence 129 116) (never 130) (name 245) (choice 132 137)
-    (sequence 53 133) (sequence 134 120) (never 135) (never 136) (sign '+') (choice 138 139) (sequence 24 120)
-    (choice 140 143) (sequence 141 142) (sign '?') (sequence 87 120) (choice 144 153) (sequence 145 146) (word For)
-    (sequence 39 147) (sequence 148 149) (name 261) (sequence 50 150) (choice 151 142) (sequence 152 116) (name 203)
-    (choice 154 156) (sequence 91 155) (sequence 4 116) (sequence 157 116) (name 181)
-    // type_no_bounds, from 158 on
-    (choice 159 162) (sequence 87 160) (choice 161 119) (sequence 113 115) (choice 157 163) (choice 24 164) (choice 165 169)
-    (sequence 123 166) (sequence 167 116) (choice 168 129) (name 216) (choice 170 171) (sequence 91 4) (sequence 145 172)
-    (sequence 39 173) (sequence 148 174) (sequence 50 175) (choice 152 87)
-    // more_bounds, from 176 on
-    (sequence 177 179) (many 178) (sequence 117 168) (sequence 180 116) (choice 117 3)
-    // plain_type, from 181 on
-    (choice 113 182) (choice 183 184) (name 192) (choice 185 186) (subtree Bracket) (choice 187 188) (word Underscore)
-    (choice 189 190) (name 197) (choice 152 191) (unit Opaque)
-    // pointer_type, from 192 on
-    (sequence 15 193) (sequence 194 28) (choice 195 196) (word Const) (word Mut)
-    // reference_type, from 197 on
-    (sequence 198 199) (front '&') (sequence 200 201) (choice 53 3) (sequence 202 28) (choice 196 3)
-    // function_type, from 203 on
-    (sequence 204 206) (choice 205 3) (word Unsafe) (sequence 207 212) (choice 208 3) (sequence 209 210) (word Extern)
-    (choice 211 3) (unit Text) (sequence 213 23) (word Fn)
-    // bounds, from 214 on
-    (choice 127 3)
-    // some_bounds, from 215 on
-    (sequence 168 176)
-    // bound, from 216 on
-    (choice 53 217) (choice 24 218) (choice 219 229) (sequence 220 221) (word Use) (sequence 39 222) (sequence 223 50)
-    (choice 224 3) (sequence 225 226) (name 269) (sequence 227 49) (many 228) (sequence 48 225) (sequence 230 232)
-    (choice 231 3) (name 258) (sequence 233 241) (choice 234 3) (choice 235 237) (sequence 236 195) (sign '~')
-    (choice 238 239) (sequence 185 195) (choice 195 240) (word Async) (sequence 242 244) (choice 243 3) (choice 141 113)
-    (sequence 230 87)
-    // begins_bound, from 245 on
-    (choice 53 246) (choice 24 247) (choice 185 248) (choice 220 249) (choice 145 250) (choice 236 251) (choice 195 252)
-    (choice 240 253) (choice 141 254) (choice 113 255) (choice 17 256) (choice 2 257) (choice 32 37)
-    // for_lifetimes, from 258 on
-    (sequence 145 259) (sequence 39 260) (sequence 148 50)
-    // lifetime_parameters, from 261 on
-    (choice 262 3) (sequence 263 264) (name 267) (sequence 265 49) (many 266) (sequence 48 263)
-    // lifetime_parameter, from 267 on
-    (sequence 53 268) (choice 66 3)
-    // use_argument, from 269 on
-    (choice 53 270) (choice 271 272) (unit Name) (word SelfType)
-    // pattern_fragment, from 273 on
-    (sequence 274 277) (never 275) (choice 276 113) (sign '.' '.' '=') (name 280)
-    // pattern_param_fragment, from 278 on
-    (sequence 274 279) (name 295)
-    // pattern, from 280 on
-    (sequence 281 283) (choice 282 3) (front '|') (sequence 279 284) (sequence 285 289) (many 286) (sequence 282 287)
-    (sequence 288 279) (never 282) (never 290) (choice 291 292) (sign '|') (choice 293 294) (sign '|' '|') (sign '@')
-    // pattern_no_top_alt, from 295 on
-    (choice 296 298) (sequence 276 297) (name 362) (choice 299 302) (sequence 300 301) (sign '.' '.') (choice 297 3)
-    (choice 303 308) (sequence 77 304) (sequence 305 306) (choice 79 80) (choice 307 3) (name 360) (choice 309 310) (name 367)
-    (choice 187 311) (choice 113 312) (choice 313 314) (name 369) (choice 24 315) (choice 185 316) (choice 191 317)
-    (choice 318 321) (sequence 319 320) (word Box) (name 332) (choice 322 326) (sequence 91 323) (sequence 92 324)
-    (choice 307 325) (name 365) (sequence 327 329) (never 328) (sequence 271 257) (sequence 1 330) (sequence 92 331)
-    (choice 161 324)
-    // pattern_without_range, from 332 on
-    (choice 333 337) (sequence 77 334) (sequence 305 335) (never 336) (name 361) (choice 309 338) (choice 187 339)
-    (choice 113 340) (choice 313 341) (choice 24 342) (choice 185 343) (choice 191 344) (choice 318 345) (choice 346 349)
-    (sequence 91 347) (sequence 92 348) (sequence 325 335) (choice 350 354) (sequence 327 351) (sequence 1 352)
-    (sequence 92 353) (choice 161 348) (sequence 300 355) (never 356) (choice 78 357) (choice 79 358) (choice 271 359)
-    (choice 39 2)
-    // range_tail, from 360 on
-    (choice 296 299)
-    // range_operator, from 361 on
-    (choice 276 300)
-    // range_end, from 362 on
-    (choice 363 364) (sequence 77 305) (name 89)
-    // fields, from 365 on
-    (choice 366 3) (choice 24 14)
-    // reference_pattern, from 367 on
-    (sequence 198 368) (sequence 202 320)
-    // identifier_pattern, from 369 on
-    (choice 370 376) (sequence 371 372) (word Ref) (sequence 202 373) (sequence 271 374) (choice 375 3) (name 393)
-    (choice 377 385) (sequence 196 378) (sequence 379 381) (choice 380 3) (sequence 371 202) (sequence 271 382)
-    (sequence 383 374) (never 384) (choice 2 366) (sequence 271 386) (sequence 387 374) (never 388) (choice 2 389)
-    (choice 161 390) (choice 24 391) (choice 14 392) (choice 30 336)
-    // binding, from 393 on
-    (sequence 294 279)
-    // expression_2021_fragment, from 394 on
-    (sequence 395 397) (never 396) (choice 187 195) (name 398)
-    // expression, from 398 on
-    (choice 399 400) (name 419) (sequence 401 402) (name 439) (sequence 403 406) (many 404) (sequence 405 397)
-    (unit AssignmentOperator) (sequence 407 408) (never 405) (choice 399 335)
-    // expression_before_block, from 409 on
-    (choice 410 411) (name 428) (sequence 412 413) (name 454) (sequence 414 417) (many 415) (sequence 405 416) (name 409)
-    (sequence 407 418) (choice 410 335)
-    // range, from 419 on
-    (choice 420 422) (sequence 276 421) (choice 399 401) (sequence 300 423) (choice 424 426) (sequence 425 421) (never 426)
-    (never 427) (name 688)
-    // range_before_block, from 428 on
-    (choice 429 433) (sequence 276 430) (sequence 431 432) (never 14) (choice 410 412) (sequence 300 434) (choice 435 437)
-    (sequence 436 432) (never 437) (never 438) (unit BeginsExpression)
-    // operation, from 439 on
-    (sequence 440 442) (many 441) (name 689) (sequence 443 444) (name 466) (sequence 445 451) (many 446) (choice 447 450)
-    (sequence 448 449) (unit BinaryOperator) (name 462) (sequence 86 28) (sequence 452 453) (never 448) (never 86)
-    // operation_before_block, from 454 on
-    (sequence 440 455) (sequence 456 457) (name 486) (sequence 458 451) (many 459) (choice 460 450) (sequence 448 461)
-    (name 464)
-    // operand, from 462 on
-    (choice 399 463) (sequence 440 443)
-    // operand_before_block, from 464 on
-    (choice 410 465) (sequence 440 456)
-    // unary, from 466 on
-    (choice 467 477) (sequence 468 470) (never 469) (never 17) (sequence 471 472) (name 590) (sequence 473 475) (many 474)
-    (name 506) (never 476) (name 522) (sequence 469 478) (choice 479 481) (sequence 480 462) (name 498) (sequence 482 472)
-    (choice 483 484) (name 525) (choice 485 471) (name 565)
-    // unary_before_block, from 486 on
-    (choice 487 490) (sequence 468 488) (sequence 489 472) (name 600) (sequence 469 491) (choice 492 493) (sequence 480 464)
-    (sequence 494 472) (choice 495 496) (name 532) (choice 497 489) (name 579)
-    // unary_operator, from 498 on
-    (choice 78 499) (choice 113 500) (choice 15 501) (sequence 198 502) (choice 503 3) (choice 504 196) (sequence 505 194)
+    // type_path_segment, from 14 on
+    (sequence 15 16) (unit PathSegment) (choice 17 18) (sequence 1 35) (choice 19 25) (sequence 1 20) (sequence 21 22)
+    (subtree Parenthesis) (choice 23 3) (sequence 24 137) (sign '-' '>') (never 26)
+    // less, from 26 on
+    (choice 27 28) (sign '<') (sequence 29 34) (never 30) (never 31) (choice 32 33) (sign '<' '<') (sign '<' '-') (front '<')
+    // generic_arguments, from 35 on
+    (sequence 26 36) (sequence 37 44) (choice 38 3) (sequence 45 39) (sequence 40 43) (many 41) (sequence 42 45) (sign ',')
+    (choice 42 3) (front '>')
+    // generic_argument, from 45 on
+    (choice 46 50) (sequence 47 48) (lifetime) (never 49) (never 60) (choice 51 59) (sequence 94 52) (sequence 53 48)
+    (choice 54 3) (choice 55 57) (sequence 56 61) (sign '=') (sequence 58 190) (sign ':') (sequence 63 48)
+    // generic_argument_end, from 60 on
+    (choice 42 44)
+    // generic_argument_value, from 61 on
+    (choice 62 63) (sequence 94 48)
+    // const_argument, from 63 on
+    (choice 12 64) (choice 65 69) (sequence 66 68) (choice 67 3) (sign '-') (unit Literal) (unit TruthValue)
+    // qualified_self, from 70 on
+    (sequence 26 71) (sequence 94 72) (sequence 73 76) (choice 74 3) (sequence 75 0) (word As) (sequence 44 2)
+    // expression_path, from 77 on
+    (choice 78 79) (sequence 70 80) (sequence 1 80)
+    // expression_path_segments, from 80 on
+    (sequence 85 81) (sequence 82 84) (many 83) (sequence 2 85) (never 2)
+    // expression_path_segment, from 85 on
+    (sequence 15 86) (choice 87 3) (choice 88 89) (sequence 2 35) (sequence 2 20)
+    // simple_path, from 90 on
+    (sequence 1 91) (sequence 15 92) (many 93) (sequence 2 15)
+    // type, from 94 on
+    (choice 95 105) (sequence 0 96) (choice 97 103) (sequence 98 99) (sign '!') (sequence 100 101) (unit Delimited)
+    (never 102) (front '+') (sequence 104 154) (never 98) (choice 106 113) (sequence 107 110) (choice 108 109) (word Dyn)
+    (word Impl) (choice 191 111) (sequence 112 101) (never 219) (choice 114 119) (sequence 47 115) (sequence 116 154)
+    (never 117) (never 118) (sign '+') (choice 120 121) (sequence 21 154) (choice 122 125) (sequence 123 124) (sign '?')
+    (sequence 0 154) (choice 126 133) (sequence 127 128) (word For) (sequence 34 129) (sequence 235 130) (sequence 44 131)
+    (choice 132 124) (sequence 179 101) (choice 134 136) (sequence 70 135) (sequence 4 101) (sequence 159 101)
+    // type_no_bounds, from 137 on
+    (choice 138 141) (sequence 0 139) (choice 140 104) (sequence 98 100) (choice 159 142) (choice 21 143) (choice 144 147)
+    (sequence 107 145) (sequence 146 101) (choice 192 112) (choice 148 149) (sequence 70 4) (sequence 127 150)
+    (sequence 34 151) (sequence 235 152) (sequence 44 153) (choice 179 0)
+    // more_bounds, from 154 on
+    (sequence 155 157) (many 156) (sequence 102 192) (sequence 158 101) (choice 102 3)
+    // plain_type, from 159 on
+    (choice 98 160) (choice 168 161) (choice 162 163) (subtree Bracket) (choice 164 165) (word Underscore) (choice 173 166)
+    (choice 179 167) (unit Opaque)
+    // pointer_type, from 168 on
+    (sequence 13 169) (sequence 170 137) (choice 171 172) (word Const) (word Mut)
+    // reference_type, from 173 on
+    (sequence 174 175) (front '&') (sequence 176 177) (choice 47 3) (sequence 178 137) (choice 172 3)
+    // function_type, from 179 on
+    (sequence 180 182) (choice 181 3) (word Unsafe) (sequence 183 188) (choice 184 3) (sequence 185 186) (word Extern)
+    (choice 187 3) (unit Text) (sequence 189 20) (word Fn)
+    // bounds, from 190 on
+    (choice 191 3)
+    // some_bounds, from 191 on
+    (sequence 192 154)
+    // bound, from 192 on
+    (choice 47 193) (choice 21 194) (choice 195 204) (sequence 196 197) (word Use) (sequence 34 198) (sequence 199 44)
+    (choice 200 3) (sequence 242 201) (sequence 202 43) (many 203) (sequence 42 242) (sequence 205 206) (choice 232 3)
+    (sequence 207 215) (choice 208 3) (choice 209 211) (sequence 210 171) (sign '~') (choice 212 213) (sequence 162 171)
+    (choice 171 214) (word Async) (sequence 216 218) (choice 217 3) (choice 123 98) (sequence 205 0)
+    // begins_bound, from 219 on
+    (choice 47 220) (choice 21 221) (choice 162 222) (choice 196 223) (choice 127 224) (choice 210 225) (choice 171 226)
+    (choice 214 227) (choice 123 228) (choice 98 229) (choice 15 230) (choice 2 231) (choice 27 32)
+    // for_lifetimes, from 232 on
+    (sequence 127 233) (sequence 34 234) (sequence 235 44)
+    // lifetime_parameters, from 235 on
+    (choice 236 3) (sequence 240 237) (sequence 238 43) (many 239) (sequence 42 240)
+    // lifetime_parameter, from 240 on
+    (sequence 47 241) (choice 57 3)
+    // use_argument, from 242 on
+    (choice 47 243) (choice 244 245) (unit Name) (word SelfType)
+    // pattern_fragment, from 246 on
+    (sequence 247 251) (never 248) (choice 249 98) (sign '.' '.' '=')
+    // pattern_param_fragment, from 250 on
+    (sequence 247 266)
+    // pattern, from 251 on
+    (sequence 252 254) (choice 253 3) (front '|') (sequence 266 255) (sequence 256 260) (many 257) (sequence 253 258)
+    (sequence 259 266) (never 253) (never 261) (choice 262 263) (sign '|') (choice 264 265) (sign '|' '|') (sign '@')
+    // pattern_no_top_alt, from 266 on
+    (choice 267 268) (sequence 249 326) (choice 269 272) (sequence 270 271) (sign '.' '.') (choice 326 3) (choice 273 277)
+    (sequence 66 274) (sequence 275 276) (choice 68 69) (choice 324 3) (choice 330 278) (choice 164 279) (choice 98 280)
+    (choice 332 281) (choice 21 282) (choice 162 283) (choice 167 284) (choice 285 287) (sequence 286 297) (word Box)
+    (choice 288 291) (sequence 70 289) (sequence 80 290) (choice 324 328) (sequence 292 294) (never 293) (sequence 244 231)
+    (sequence 1 295) (sequence 80 296) (choice 140 290)
+    // pattern_without_range, from 297 on
+    (choice 298 301) (sequence 66 299) (sequence 275 300) (never 325) (choice 330 302) (choice 164 303) (choice 98 304)
+    (choice 332 305) (choice 21 306) (choice 162 307) (choice 167 308) (choice 285 309) (choice 310 313) (sequence 70 311)
+    (sequence 80 312) (sequence 328 300) (choice 314 318) (sequence 292 315) (sequence 1 316) (sequence 80 317)
+    (choice 140 312) (sequence 270 319) (never 320) (choice 67 321) (choice 68 322) (choice 244 323) (choice 34 2)
+    // range_tail, from 324 on
+    (choice 267 269)
+    // range_operator, from 325 on
+    (choice 249 270)
+    // range_end, from 326 on
+    (choice 327 77) (sequence 66 275)
+    // fields, from 328 on
+    (choice 329 3) (choice 21 12)
+    // reference_pattern, from 330 on
+    (sequence 174 331) (sequence 178 297)
+    // identifier_pattern, from 332 on
+    (choice 333 338) (sequence 334 335) (word Ref) (sequence 178 336) (sequence 244 337) (choice 355 3) (choice 339 347)
+    (sequence 172 340) (sequence 341 343) (choice 342 3) (sequence 334 178) (sequence 244 344) (sequence 345 337) (never 346)
+    (choice 2 329) (sequence 244 348) (sequence 349 337) (never 350) (choice 2 351) (choice 140 352) (choice 21 353)
+    (choice 12 354) (choice 26 325)
+    // binding, from 355 on
+    (sequence 265 266)
+    // expression_2021_fragment, from 356 on
+    (sequence 357 359) (never 358) (choice 164 171)
+    // expression, from 359 on
+    (choice 375 360) (sequence 394 361) (sequence 362 365) (many 363) (sequence 364 359) (unit AssignmentOperator)
+    (sequence 366 367) (never 364) (choice 375 300)
+    // expression_before_block, from 368 on
+    (choice 383 369) (sequence 406 370) (sequence 371 373) (many 372) (sequence 364 368) (sequence 366 374) (choice 383 300)
+    // range, from 375 on
+    (choice 376 378) (sequence 249 377) (choice 375 394) (sequence 270 379) (choice 380 382) (sequence 381 377) (never 382)
+    (never 620)
+    // range_before_block, from 383 on
+    (choice 384 388) (sequence 249 385) (sequence 386 387) (never 12) (choice 383 406) (sequence 270 389) (choice 390 392)
+    (sequence 391 387) (never 392) (never 393) (unit BeginsExpression)
+    // operation, from 394 on
+    (sequence 395 396) (many 621) (sequence 416 397) (sequence 398 403) (many 399) (choice 400 402) (sequence 401 412)
+    (unit BinaryOperator) (sequence 75 137) (sequence 404 405) (never 401) (never 75)
+    // operation_before_block, from 406 on
+    (sequence 395 407) (sequence 430 408) (sequence 409 403) (many 410) (choice 411 402) (sequence 401 414)
+    // operand, from 412 on
+    (choice 375 413) (sequence 395 416)
+    // operand_before_block, from 414 on
+    (choice 383 415) (sequence 395 430)
+    // unary, from 416 on
+    (choice 417 424) (sequence 418 420) (never 419) (never 15) (sequence 529 421) (sequence 422 423) (many 447) (never 463)
+    (sequence 419 425) (choice 426 427) (sequence 439 412) (sequence 428 421) (choice 466 429) (choice 504 529)
+    // unary_before_block, from 430 on
+    (choice 431 433) (sequence 418 432) (sequence 538 421) (sequence 419 434) (choice 435 436) (sequence 439 414)
+    (sequence 437 421) (choice 472 438) (choice 518 538)
+    // unary_operator, from 439 on
+    (choice 67 440) (choice 98 441) (choice 13 442) (sequence 174 443) (choice 444 3) (choice 445 172) (sequence 446 170)
     (word Raw)
-    // postfix, from 506 on
-    (choice 141 507) (choice 24 508) (choice 185 509) (sequence 510 511) (sign '.') (choice 512 513) (word Await)
-    (choice 514 521) (sequence 17 515) (choice 516 518) (sequence 2 517) (sequence 20 24) (never 519) (sequence 2 520)
-    (choice 30 24) (unit Number)
-    // bad_postfix, from 522 on
-    (choice 510 523) (choice 524 38) (sign '.' '.' '.')
-    // closure, from 525 on
-    (sequence 526 527) (name 535) (choice 528 530) (sequence 27 529) (sequence 28 14) (sequence 531 397) (never 27)
-    // closure_before_block, from 532 on
-    (sequence 526 533) (choice 528 534) (sequence 531 416)
-    // closure_head, from 535 on
-    (sequence 230 536) (sequence 537 546) (choice 538 3) (sequence 195 539) (never 540) (never 541) (choice 542 543)
-    (word Static) (choice 544 545) (word Move) (choice 293 282) (sequence 547 548) (choice 542 3) (sequence 549 550)
-    (choice 240 3) (sequence 551 552) (choice 544 3) (choice 293 553) (sequence 282 554) (sequence 555 282) (choice 556 3)
-    (sequence 557 558) (name 561) (sequence 559 49) (many 560) (sequence 48 557)
-    // closure_parameter, from 561 on
-    (sequence 440 562) (sequence 279 563) (choice 564 3) (sequence 67 59)
-    // jump, from 565 on
-    (choice 566 570) (sequence 567 568) (word Return) (choice 569 426) (sequence 425 397) (choice 571 574) (sequence 572 573)
-    (word Break) (sequence 200 568) (choice 575 577) (sequence 576 200) (word Continue) (sequence 578 568) (word Yield)
-    // jump_before_block, from 579 on
-    (choice 580 583) (sequence 567 581) (choice 582 426) (sequence 425 416) (choice 584 588) (sequence 572 585)
-    (sequence 200 586) (choice 587 437) (sequence 436 416) (choice 575 589) (sequence 578 581)
-    // primary, from 590 on
-    (choice 591 596) (sequence 1 592) (sequence 92 593) (choice 161 594) (sequence 119 595) (choice 14 3) (choice 597 598)
-    (name 606) (sequence 91 599) (sequence 92 594)
-    // primary_before_block, from 600 on
-    (choice 601 603) (sequence 1 602) (sequence 92 160) (choice 597 604) (sequence 91 605) (sequence 92 119)
-    // basic, from 606 on
-    (choice 79 607) (choice 80 608) (choice 24 609) (choice 185 610) (choice 14 611) (choice 191 612) (choice 187 613)
-    (name 614)
-    // block_like, from 614 on
-    (choice 615 617) (sequence 616 14) (word Try) (choice 618 632) (sequence 619 620) (word If) (sequence 621 622) (name 662)
-    (sequence 14 623) (sequence 624 631) (choice 625 3) (sequence 626 627) (word Else) (choice 14 628) (sequence 629 613)
-    (never 630) (never 619) (never 626) (choice 633 636) (sequence 634 635) (word Match) (sequence 416 14) (choice 637 638)
-    (sequence 205 14) (choice 639 644) (sequence 640 643) (choice 641 240) (sequence 549 642) (word Gen) (sequence 551 14)
-    (choice 645 646) (sequence 195 14) (choice 647 648) (name 651) (sequence 53 649) (sequence 67 650) (choice 647 14)
-    // loop, from 651 on
-    (choice 652 654) (sequence 653 14) (word Loop) (choice 655 658) (sequence 656 657) (word While) (sequence 621 14)
-    (sequence 145 659) (sequence 277 660) (sequence 661 635) (word In)
-    // conditions, from 662 on
-    (sequence 663 664) (name 669) (sequence 665 668) (many 666) (sequence 667 663) (name 686) (never 667)
-    // one_condition, from 669 on
-    (choice 670 674) (sequence 671 672) (word Let) (sequence 277 673) (sequence 64 674) (name 675)
-    // let_value, from 675 on
-    (sequence 440 676) (sequence 456 677) (sequence 678 681) (many 679) (choice 680 450) (sequence 668 460) (sequence 682 684)
-    (never 683) (sequence 668 448) (sequence 414 685) (choice 410 3)
-    // lazy_operator, from 686 on
-    (choice 687 293) (sign '&' '&')
-    // begins, from 688 on
-    (choice 14 438)
-    // attribute, from 689 on
-    (sequence 690 185) (sign '#')
-    // meta, from 691 on
-    (choice 692 693) (sequence 205 24) (sequence 694 695) (name 105) (choice 696 3) (choice 115 697) (sequence 64 397)
-    // visibility, from 698 on
-    (choice 699 3) (sequence 700 701) (word Pub) (choice 24 3)
-    // statement, from 702 on
-    (choice 703 704) (sign ';') (choice 705 707) (sequence 440 706) (name 717) (choice 708 715) (sequence 440 709)
-    (sequence 710 714) (never 711) (choice 712 713) (word Default) (word Safe) (name 740) (choice 716 397) (name 725)
-    // let_statement, from 717 on
-    (sequence 671 718) (sequence 277 719) (sequence 563 720) (choice 721 3) (sequence 64 722) (sequence 397 723)
-    (choice 724 3) (sequence 626 14)
-    // block_statement, from 725 on
-    (sequence 440 726) (sequence 727 735) (choice 14 728) (choice 729 732) (sequence 730 613) (never 731) (choice 240 642)
-    (sequence 1 733) (sequence 92 734) (sequence 113 14) (never 736) (choice 510 141)
-    // item, from 737 on
-    (sequence 440 738) (choice 714 739) (name 772)
-    // declaration, from 740 on
-    (sequence 741 742) (name 698) (choice 743 744) (sequence 712 744) (name 745)
-    // item_kind, from 745 on
-    (choice 746 747) (name 818) (choice 748 749) (name 785) (choice 750 751) (name 796) (choice 752 753) (name 806)
-    (choice 754 755) (name 816) (choice 756 757) (name 839) (choice 758 759) (name 843) (choice 760 761) (name 846)
-    (choice 762 763) (name 856) (choice 764 765) (name 862) (choice 766 767) (name 867) (choice 768 769) (name 869)
-    (choice 770 771) (name 883) (name 776)
-    // macro_item, from 772 on
-    (sequence 694 773) (sequence 113 774) (choice 14 775) (sequence 115 703)
-    // macro_definition, from 776 on
-    (choice 777 781) (sequence 778 779) (word MacroRules) (sequence 113 780) (sequence 271 774) (sequence 782 783)
-    (word Macro) (sequence 271 784) (sequence 701 14)
-    // use_declaration, from 785 on
-    (sequence 220 786) (sequence 1 787) (sequence 788 703) (choice 14 789) (choice 15 790) (sequence 17 791)
-    (sequence 107 792) (choice 793 3) (choice 794 795) (sequence 2 13) (name 804)
-    // extern_crate, from 796 on
-    (sequence 209 797) (sequence 798 799) (word Crate) (sequence 800 802) (choice 271 801) (word SelfValue) (sequence 803 703)
-    (choice 795 3)
-    // rename, from 804 on
-    (sequence 86 805) (choice 271 187)
-    // static_item, from 806 on
-    (sequence 807 809) (choice 808 3) (choice 205 713) (sequence 542 810) (sequence 202 811) (sequence 271 812)
-    (sequence 67 813) (sequence 59 814) (sequence 815 703) (choice 697 3)
-    // constant_item, from 816 on
-    (sequence 195 817) (sequence 805 812)
-    // function, from 818 on
-    (sequence 819 821) (many 820) (name 834) (sequence 213 822) (sequence 271 823) (sequence 824 826) (choice 825 3)
-    (name 893) (sequence 24 827) (sequence 828 830) (choice 829 3) (sequence 27 59) (sequence 831 833) (choice 832 3)
-    (name 913) (choice 14 703)
-    // function_qualifier, from 834 on
-    (choice 195 835) (choice 240 836) (choice 642 837) (choice 205 838) (choice 713 208)
-    // module_item, from 839 on
-    (sequence 204 840) (sequence 841 842) (word Mod) (sequence 271 833)
-    // extern_block, from 843 on
-    (sequence 204 844) (sequence 209 845) (sequence 210 14)
-    // type_alias, from 846 on
-    (sequence 847 848) (word Type) (sequence 271 849) (sequence 824 850) (sequence 268 851) (sequence 831 852)
-    (sequence 853 855) (choice 854 3) (sequence 64 59) (sequence 831 703)
-    // structure, from 856 on
-    (sequence 857 858) (word Struct) (sequence 271 859) (sequence 824 860) (choice 861 830) (sequence 24 855)
-    // enumeration, from 862 on
-    (sequence 863 864) (word Enum) (sequence 271 865) (sequence 824 866) (sequence 831 14)
-    // union, from 867 on
-    (sequence 868 864) (word Union)
-    // trait, from 869 on
-    (sequence 870 871) (choice 195 3) (sequence 204 872) (sequence 873 875) (choice 874 3) (word Auto) (sequence 876 877)
-    (word Trait) (sequence 271 878) (sequence 824 879) (choice 880 881) (sequence 268 866) (sequence 64 882) (sequence 68 855)
-    // implementation, from 883 on
-    (sequence 204 884) (sequence 125 885) (sequence 824 886) (sequence 870 887) (sequence 888 890) (choice 889 59)
-    (sequence 113 59) (sequence 891 866) (choice 892 3) (sequence 145 59)
-    // generic_parameters, from 893 on
-    (sequence 32 894) (sequence 895 50) (choice 896 3) (sequence 897 898) (name 901) (sequence 899 49) (many 900)
-    (sequence 48 897)
-    // generic_parameter, from 901 on
-    (sequence 440 902) (choice 263 903) (choice 904 911) (sequence 195 905) (sequence 271 906) (sequence 67 907)
-    (sequence 59 908) (choice 909 3) (sequence 64 910) (choice 70 271) (sequence 271 912) (sequence 268 853)
-    // where_clause, from 913 on
-    (sequence 914 915) (word Where) (choice 916 3) (sequence 917 918) (name 921) (sequence 919 49) (many 920)
-    (sequence 48 917)
-    // where_predicate, from 921 on
-    (choice 922 923) (sequence 53 66) (sequence 230 924) (sequence 28 66)
+    // postfix, from 447 on
+    (choice 123 448) (choice 21 449) (choice 162 450) (sequence 451 452) (sign '.') (choice 453 454) (word Await)
+    (choice 455 462) (sequence 15 456) (choice 457 459) (sequence 2 458) (sequence 35 21) (never 460) (sequence 2 461)
+    (choice 26 21) (unit Number)
+    // bad_postfix, from 463 on
+    (choice 451 464) (choice 465 33) (sign '.' '.' '.')
+    // closure, from 466 on
+    (sequence 475 467) (choice 468 470) (sequence 24 469) (sequence 137 12) (sequence 471 359) (never 24)
+    // closure_before_block, from 472 on
+    (sequence 475 473) (choice 468 474) (sequence 471 368)
+    // closure_head, from 475 on
+    (sequence 205 476) (sequence 477 486) (choice 478 3) (sequence 171 479) (never 480) (never 481) (choice 482 483)
+    (word Static) (choice 484 485) (word Move) (choice 264 253) (sequence 487 488) (choice 482 3) (sequence 489 490)
+    (choice 214 3) (sequence 491 492) (choice 484 3) (choice 264 493) (sequence 253 494) (sequence 495 253) (choice 496 3)
+    (sequence 500 497) (sequence 498 43) (many 499) (sequence 42 500)
+    // closure_parameter, from 500 on
+    (sequence 395 501) (sequence 266 502) (choice 503 3) (sequence 58 94)
+    // jump, from 504 on
+    (choice 505 509) (sequence 506 507) (word Return) (choice 508 382) (sequence 381 359) (choice 510 513) (sequence 511 512)
+    (word Break) (sequence 176 507) (choice 514 516) (sequence 515 176) (word Continue) (sequence 517 507) (word Yield)
+    // jump_before_block, from 518 on
+    (choice 519 522) (sequence 506 520) (choice 521 382) (sequence 381 368) (choice 523 527) (sequence 511 524)
+    (sequence 176 525) (choice 526 392) (sequence 391 368) (choice 514 528) (sequence 517 520)
+    // primary, from 529 on
+    (choice 530 535) (sequence 1 531) (sequence 80 532) (choice 140 533) (sequence 104 534) (choice 12 3) (choice 544 536)
+    (sequence 70 537) (sequence 80 533)
+    // primary_before_block, from 538 on
+    (choice 539 541) (sequence 1 540) (sequence 80 139) (choice 544 542) (sequence 70 543) (sequence 80 104)
+    // basic, from 544 on
+    (choice 68 545) (choice 69 546) (choice 21 547) (choice 162 548) (choice 12 549) (choice 167 550) (choice 164 551)
+    // block_like, from 551 on
+    (choice 552 554) (sequence 553 12) (word Try) (choice 555 568) (sequence 556 557) (word If) (sequence 597 558)
+    (sequence 12 559) (sequence 560 567) (choice 561 3) (sequence 562 563) (word Else) (choice 12 564) (sequence 565 551)
+    (never 566) (never 556) (never 562) (choice 569 572) (sequence 570 571) (word Match) (sequence 368 12) (choice 573 574)
+    (sequence 181 12) (choice 575 580) (sequence 576 579) (choice 577 214) (sequence 489 578) (word Gen) (sequence 491 12)
+    (choice 581 582) (sequence 171 12) (choice 586 583) (sequence 47 584) (sequence 58 585) (choice 586 12)
+    // loop, from 586 on
+    (choice 587 589) (sequence 588 12) (word Loop) (choice 590 593) (sequence 591 592) (word While) (sequence 597 12)
+    (sequence 127 594) (sequence 251 595) (sequence 596 571) (word In)
+    // conditions, from 597 on
+    (sequence 602 598) (sequence 599 601) (many 600) (sequence 618 602) (never 618)
+    // one_condition, from 602 on
+    (choice 603 607) (sequence 604 605) (word Let) (sequence 251 606) (sequence 56 607)
+    // let_value, from 607 on
+    (sequence 395 608) (sequence 430 609) (sequence 610 613) (many 611) (choice 612 402) (sequence 601 411) (sequence 614 616)
+    (never 615) (sequence 601 401) (sequence 371 617) (choice 383 3)
+    // lazy_operator, from 618 on
+    (choice 619 264) (sign '&' '&')
+    // begins, from 620 on
+    (choice 12 393)
+    // attribute, from 621 on
+    (sequence 622 162) (sign '#')
+    // meta, from 623 on
+    (choice 624 625) (sequence 181 21) (sequence 90 626) (choice 627 3) (choice 100 628) (sequence 56 359)
+    // visibility, from 629 on
+    (choice 630 3) (sequence 631 632) (word Pub) (choice 21 3)
+    // statement, from 633 on
+    (choice 634 635) (sign ';') (choice 636 637) (sequence 395 645) (choice 638 644) (sequence 395 639) (sequence 640 667)
+    (never 641) (choice 642 643) (word Default) (word Safe) (choice 653 359)
+    // let_statement, from 645 on
+    (sequence 604 646) (sequence 251 647) (sequence 502 648) (choice 649 3) (sequence 56 650) (sequence 359 651)
+    (choice 652 3) (sequence 562 12)
+    // block_statement, from 653 on
+    (sequence 395 654) (sequence 655 663) (choice 12 656) (choice 657 660) (sequence 658 551) (never 659) (choice 214 578)
+    (sequence 1 661) (sequence 80 662) (sequence 98 12) (never 664) (choice 451 123)
+    // item, from 665 on
+    (sequence 395 666) (choice 667 683)
+    // declaration, from 667 on
+    (sequence 629 668) (choice 669 670) (sequence 642 670)
+    // item_kind, from 670 on
+    (choice 728 671) (choice 696 672) (choice 706 673) (choice 716 674) (choice 726 675) (choice 746 676) (choice 750 677)
+    (choice 753 678) (choice 763 679) (choice 769 680) (choice 774 681) (choice 776 682) (choice 790 687)
+    // macro_item, from 683 on
+    (sequence 90 684) (sequence 98 685) (choice 12 686) (sequence 100 634)
+    // macro_definition, from 687 on
+    (choice 688 692) (sequence 689 690) (word MacroRules) (sequence 98 691) (sequence 244 685) (sequence 693 694) (word Macro)
+    (sequence 244 695) (sequence 632 12)
+    // use_declaration, from 696 on
+    (sequence 196 697) (sequence 1 698) (sequence 699 634) (choice 12 700) (choice 13 701) (sequence 15 702) (sequence 92 703)
+    (choice 704 3) (choice 705 714) (sequence 2 11)
+    // extern_crate, from 706 on
+    (sequence 185 707) (sequence 708 709) (word Crate) (sequence 710 712) (choice 244 711) (word SelfValue) (sequence 713 634)
+    (choice 714 3)
+    // rename, from 714 on
+    (sequence 75 715) (choice 244 164)
+    // static_item, from 716 on
+    (sequence 717 719) (choice 718 3) (choice 181 643) (sequence 482 720) (sequence 178 721) (sequence 244 722)
+    (sequence 58 723) (sequence 94 724) (sequence 725 634) (choice 628 3)
+    // constant_item, from 726 on
+    (sequence 171 727) (sequence 715 722)
+    // function, from 728 on
+    (sequence 729 730) (many 741) (sequence 189 731) (sequence 244 732) (sequence 733 734) (choice 800 3) (sequence 21 735)
+    (sequence 736 738) (choice 737 3) (sequence 24 94) (sequence 739 740) (choice 819 3) (choice 12 634)
+    // function_qualifier, from 741 on
+    (choice 171 742) (choice 214 743) (choice 578 744) (choice 181 745) (choice 643 184)
+    // module_item, from 746 on
+    (sequence 180 747) (sequence 748 749) (word Mod) (sequence 244 740)
+    // extern_block, from 750 on
+    (sequence 180 751) (sequence 185 752) (sequence 186 12)
+    // type_alias, from 753 on
+    (sequence 754 755) (word Type) (sequence 244 756) (sequence 733 757) (sequence 241 758) (sequence 739 759)
+    (sequence 760 762) (choice 761 3) (sequence 56 94) (sequence 739 634)
+    // structure, from 763 on
+    (sequence 764 765) (word Struct) (sequence 244 766) (sequence 733 767) (choice 768 738) (sequence 21 762)
+    // enumeration, from 769 on
+    (sequence 770 771) (word Enum) (sequence 244 772) (sequence 733 773) (sequence 739 12)
+    // union, from 774 on
+    (sequence 775 771) (word Union)
+    // trait, from 776 on
+    (sequence 777 778) (choice 171 3) (sequence 180 779) (sequence 780 782) (choice 781 3) (word Auto) (sequence 783 784)
+    (word Trait) (sequence 244 785) (sequence 733 786) (choice 787 788) (sequence 241 773) (sequence 56 789)
+    (sequence 190 762)
+    // implementation, from 790 on
+    (sequence 180 791) (sequence 109 792) (sequence 733 793) (sequence 777 794) (sequence 795 797) (choice 796 94)
+    (sequence 98 94) (sequence 798 773) (choice 799 3) (sequence 127 94)
+    // generic_parameters, from 800 on
+    (sequence 27 801) (sequence 802 44) (choice 803 3) (sequence 807 804) (sequence 805 43) (many 806) (sequence 42 807)
+    // generic_parameter, from 807 on
+    (sequence 395 808) (choice 240 809) (choice 810 817) (sequence 171 811) (sequence 244 812) (sequence 58 813)
+    (sequence 94 814) (choice 815 3) (sequence 56 816) (choice 63 244) (sequence 244 818) (sequence 241 760)
+    // where_clause, from 819 on
+    (sequence 820 821) (word Where) (choice 822 3) (sequence 826 823) (sequence 824 43) (many 825) (sequence 42 826)
+    // where_predicate, from 826 on
+    (choice 827 828) (sequence 47 57) (sequence 205 829) (sequence 137 57)
 };

@@ -1,10 +1,12 @@
 //! What stands first among trees, as a grammar sees it.
-ghost use Rattle.std.specs.Prelude.{◌≡◌};
+ghost use Rattle.std.specs.Prelude.{◌≡◌, Some};
+ghost use Rattle.tt.specs.Gluing.{first_punct};
 ghost use Rattle.tt.specs.Iters.{rest_of};
-ghost use Rattle.tt_grammar.specs.Units.{unit_of_puncts, is_at_lifetime, punct_unit, leaf_unit, first_unit, size_of_unit};
+ghost use Rattle.tt.specs.Moves.{after_tree};
+ghost use Rattle.tt_grammar.specs.Units.{unit_of_puncts, is_at_lifetime, punct_unit, first_unit, size_of_unit};
 
 use crate::words::Word;
-use tt::{DelimiterKind, Leaf, LitKind, Punct, TtElement, TtIter};
+use tt::{DelimiterKind, Leaf, LitKind, Punct, Spacing, TtElement, TtIter};
 
 /// What stands first among trees.
 #[derive(Clone, Copy, PartialEq, Eq)]
@@ -47,11 +49,15 @@ fn is_at_lifetime(mut trees: TtIter<'_>) -> bool
 }
 
 // The unit that a punct begins, which stands first.
-fn punct_unit(trees: &mut TtIter<'_>) -> Unit
-    ensures { result ≡ punct_unit (rest_of trees.old) }
+fn punct_unit(first: &Punct, mut trees: TtIter<'_>) -> Unit
+    requires { first_punct (rest_of trees) ≡ Some first.now }
+    ensures { result ≡ punct_unit (rest_of trees.entry) }
 {
-    if is_at_lifetime(trees.remaining().iter()) {
+    if first.char == '\'' && is_at_lifetime(trees.remaining().iter()) {
         return Unit::Lifetime;
+    }
+    if first.spacing == Spacing::Alone {
+        return Unit::Punct(first.char);
     }
     match trees.expect_glued_punct() {
         Ok(puncts) => unit_of_puncts(&puncts),
@@ -59,26 +65,19 @@ fn punct_unit(trees: &mut TtIter<'_>) -> Unit
     }
 }
 
-// The unit that a leaf begins, which stands first of these trees.
-fn leaf_unit(leaf: &Leaf, trees: &mut TtIter<'_>) -> Unit
-    ensures { result ≡ leaf_unit leaf.now (rest_of trees.old) }
-{
-    match leaf {
-        Leaf::Literal(literal) => Unit::Literal(literal.kind()),
-        Leaf::Ident(ident) => Unit::Word(Word::of(ident)),
-        Leaf::Punct(_) => punct_unit(trees),
-    }
-}
-
 impl Unit {
-    /// What stands first among these.
-    pub fn first(mut trees: TtIter<'_>) -> Unit
-        ensures { result ≡ first_unit (rest_of trees.entry) }
+    /// Takes the first tree: what stands first, of which that tree is the first.
+    pub fn take(trees: &mut TtIter<'_>) -> Unit
+        ensures unit { result ≡ first_unit (rest_of trees.old) }
+        ensures rest { rest_of trees.new ≡ after_tree (rest_of trees.old) }
     {
-        match trees.peek() {
+        let all = trees.remaining();
+        match trees.next() {
             None => Unit::End,
             Some(TtElement::Subtree(header, _)) => Unit::Subtree(header.delimiter.kind),
-            Some(TtElement::Leaf(leaf)) => leaf_unit(&leaf, &mut trees),
+            Some(TtElement::Leaf(Leaf::Literal(literal))) => Unit::Literal(literal.kind()),
+            Some(TtElement::Leaf(Leaf::Ident(ident))) => Unit::Word(Word::of(&ident)),
+            Some(TtElement::Leaf(Leaf::Punct(punct))) => punct_unit(&punct, all.iter()),
         }
     }
 

@@ -13,8 +13,9 @@ struct Row {
 }
 
 // A list of arguments that `>>` closes, and one with `>=` behind it; a comparison; a struct literal, but not behind `if`; an operator
-// without an operand; what is behind a block as a statement; operators that another stands behind.
-const ROWS: [Row; 8] = [
+// without an operand; what is behind a block as a statement; operators that another stands behind; `_` and `const` blocks, which
+// `expr_2021` begins with neither of; calls behind jumps and closures.
+const ROWS: [Row; 9] = [
     Row {
         fragment: GrammarFragment::Expr,
         texts: &[
@@ -38,6 +39,22 @@ const ROWS: [Row; 8] = [
             ("r#if + true", 3),
             ("a => b", 1),
             ("-1.0 - -x.0", 7),
+            ("_", 1),
+            ("const {} + 1", 4),
+            ("&raw const a", 4),
+            ("return (a).b", 4),
+            ("|| {}(a)", 4),
+            ("a.b::<c>(d)", 9),
+        ],
+    },
+    Row {
+        fragment: GrammarFragment::Expr2021,
+        texts: &[
+            ("_", 0),
+            ("const {}", 0),
+            ("a = _", 3),
+            ("a + const {}", 4),
+            ("1 + 2 => x", 3),
         ],
     },
     Row {
@@ -54,6 +71,8 @@ const ROWS: [Row; 8] = [
             ("A<1, -1, true, {x}, K = V, L: M>", 19),
             ("'a + B", 4),
             ("mut T", 0),
+            ("dyn", 1),
+            ("A + !B", 4),
             ("where", 0),
         ],
     },
@@ -69,6 +88,9 @@ const ROWS: [Row; 8] = [
             ("|| a", 0),
             ("..", 2),
             ("-1 | _", 4),
+            ("a | &!", 4),
+            ("true..=false", 5),
+            ("A(b) ..", 2),
             ("mut", 0),
         ],
     },
@@ -79,6 +101,7 @@ const ROWS: [Row; 8] = [
             ("1.. => a", 3),
             ("x: u8", 1),
             ("| A", 0),
+            ("!", 0),
             ("m!(1) + 2", 3),
         ],
     },
@@ -109,6 +132,8 @@ const ROWS: [Row; 8] = [
             ("#[a] struct A;", 5),
             (";", 1),
             ("let", 0),
+            ("async {} + 1", 4),
+            ("default;", 1),
         ],
     },
     Row {
@@ -129,6 +154,8 @@ const ROWS: [Row; 8] = [
             ("unsafe impl A for B {}", 6),
             ("enum A {}", 3),
             ("type A<T> = B<T>; c", 11),
+            ("impl ! {}", 3),
+            ("type A where B: C = D;", 9),
         ],
     },
     Row {

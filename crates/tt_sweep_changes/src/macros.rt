@@ -6,10 +6,10 @@ use tt_sweep::{Call, When, judge};
 use tt_template::FillError;
 use tt_text::{TextFault, parse_to_token_tree};
 
-// Two arms, of which the second takes the input: lists in lists, with separators, in subtrees.
-const ARMS: &str = "(a) => {}; ($($k:ident => [$($v:tt),*]);* $(;)?) => {$($k { $($v)* })*}";
+// Two arms, of which the second takes the input: lists in lists, with separators, in subtrees, of expressions, which the grammar reads.
+const ARMS: &str = "(a) => {}; ($($k:ident => [$($v:expr),*]);* $(;)?) => {$($k { $($v)* })*}";
 
-const INPUT: &str = "a => [1, 2]; b => []; c => [(d)];";
+const INPUT: &str = "a => [1 + 2, 3]; b => []; c => [d(e).f];";
 
 /// How that call of the group ended.
 pub fn judged<R: Print>(rt: &R, alloc: Global, call: &str) -> Result<&'static str, TtFault> {

@@ -3,7 +3,8 @@ use Rattle.tt_drop_rules.specs.Needing.{AreRight}
 use Rattle.tt_drop_rules.specs.Parts.{part_of, parts_in}
 use Rattle.tt_drop_rules.specs.Places.{begun}
 use Rattle.tt_drop_rules.specs.Waiting.{waits_in}
-use Rattle.tt_drop_rules.specs.Without.{text_part, cuts, IsWithout}
+use Rattle.tt_drop_rules.specs.Without.{cuts, IsWithout}
+use Rattle.tt_edit.specs.Places.{text_part}
 use Rattle.tt_edit.specs.Texts.{begun as begun_text, with_all, FitAll}
 use Rattle.tt_text.specs.Parsed.{IsParse}
 use Rattle.tt_drop_rules.proofs.Fitting.{cuts_fit}

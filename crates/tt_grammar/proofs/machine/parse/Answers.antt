@@ -6,7 +6,7 @@ use Rattle.tt_grammar.specs.Machine.{IsStep}
 use Rattle.tt_grammar.specs.Machine as machine
 use Rattle.tt_grammar.specs.Places.{position_of}
 use Rattle.tt_grammar.specs.Positions.{takes}
-use Rattle.tt_grammar.specs.Running.{state_of, frame_of}
+use Rattle.tt_grammar.specs.Running.{state_at, frame_of}
 use Rattle.tt_grammar.proofs.Reaching.{Reaches, reaches_first, fewer_left}
 use Rattle.tt_grammar.proofs.machine.parse.Goals as goal
 
@@ -20,5 +20,5 @@ loop-frames-init c =
 pub loop-frames-smaller : goal.loop-frames-smaller
 loop-frames-smaller c =
     let good : IsGood c.args.table.rules.now = record { marks = c.args.table.marks.now; are_right = c.args.table.good } in
-    let goes : IsStep takes (glance_at c.args.table.known.now) c.args.table.rules.now (state_of c.loop-frames.state) (map frame_of (reverse c.loop-frames.frames.items)) (machine.goes (state_of c.in-Goes.next)) (map frame_of (reverse c.step.new.frames.items)) = search rules in
-    fewer_left c.args.table.known.now c.args.table.rules.now good c.args.table.right (state_of c.loop-frames.state) (map frame_of (reverse c.loop-frames.frames.items)) (state_of c.in-Goes.next) (map frame_of (reverse c.step.new.frames.items)) goes
+    let goes : IsStep takes (glance_at c.args.table.known.now) c.args.table.rules.now (state_at (position_of c.loop-frames.here) c.loop-frames.state) (map frame_of (reverse c.loop-frames.frames.items)) (machine.goes (state_at (position_of c.step.new.here) c.in-Goes.next)) (map frame_of (reverse c.step.new.frames.items)) = search rules in
+    fewer_left c.args.table.known.now c.args.table.rules.now good c.args.table.right (state_at (position_of c.loop-frames.here) c.loop-frames.state) (map frame_of (reverse c.loop-frames.frames.items)) (state_at (position_of c.step.new.here) c.in-Goes.next) (map frame_of (reverse c.step.new.frames.items)) goes
