@@ -10,7 +10,7 @@ use Rattle.tt_grammar.specs.Parses.{Holds, ParsesIn, Parses}
 use Rattle.tt_grammar.specs.Positions.{Position, takes}
 
 -- twice as much
-twice : ℕ → ℕ
+abbrev twice : ℕ → ℕ
 twice zero = zero
 twice (suc n) = suc (suc (twice n))
 
@@ -70,7 +70,7 @@ module _ (rules : List Rule) (starts : Name → ℕ) (stands : Name → Expressi
   part_of_rules depth f (never part) at from answer l h = deeper stands (twice depth) (never part) from answer (f (never part) at from answer l h)
 
   -- From the grammar to the rules.
-  pub to_rules : (depth : ℕ) → ToRules depth
+  to_rules : (depth : ℕ) → ToRules depth
   to_rules zero it at from answer l h = absurd h
   to_rules (suc depth) nothing at from answer l h = by_rule depth at from answer rule.Empty l h
   to_rules (suc depth) (unit wanted) at from answer l h = by_rule depth at from answer (rule.Unit wanted) l h
@@ -96,7 +96,7 @@ module _ (rules : List Rule) (starts : Name → ℕ) (stands : Name → Expressi
       by_rule depth at from answer (rule.Not l.0) l.1 (inr (h.0, part_to_rules depth (to_rules depth) part l.0 from (Some h.0) l.2 h.1, h.2))
 
   -- From the rules to the grammar.
-  pub of_rules : (depth : ℕ) → OfRules depth
+  of_rules : (depth : ℕ) → OfRules depth
   of_rules zero it at from answer l h = absurd h
   of_rules (suc depth) nothing at from answer l h = of_rule depth at from answer rule.Empty l h
   of_rules (suc depth) (unit wanted) at from answer l h = of_rule depth at from answer (rule.Unit wanted) l h

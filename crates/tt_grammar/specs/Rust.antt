@@ -4,7 +4,7 @@ use Rattle.tt.specs.Types.DelimiterKind.TheVariants.{Parenthesis, Brace, Bracket
 use Rattle.tt_grammar.specs.declared.test.Test.TheVariants as test
 use Rattle.tt_grammar.specs.declared.words.Word.TheVariants as it
 use Rattle.tt_grammar.specs.Expressions.{Expression, nothing, unit, name, many, never, maybe, ahead, all_of, one_of, word, lifetime, subtree, sign, front}
-use Rattle.tt_grammar.specs.Names.{Name, type_path, type_path_segments, type_path_segment, less, generic_arguments, generic_argument, generic_argument_end, generic_argument_value, const_argument, qualified_self, expression_path, expression_path_segments, expression_path_segment, simple_path, type, type_no_bounds, more_bounds, plain_type, pointer_type, reference_type, function_type, bounds, some_bounds, bound, begins_bound, for_lifetimes, lifetime_parameters, lifetime_parameter, use_argument, pattern_fragment, pattern_param_fragment, pattern, pattern_no_top_alt, pattern_without_range, range_tail, range_operator, range_end, fields, reference_pattern, identifier_pattern, binding, expression_2021_fragment, expression, expression_before_block, range, range_before_block, operation, operation_before_block, operand, operand_before_block, unary, unary_before_block, unary_operator, postfix, bad_postfix, closure, closure_before_block, closure_head, closure_parameter, jump, jump_before_block, primary, primary_before_block, basic, block_like, loop, conditions, one_condition, let_value, lazy_operator, begins, attribute, meta, visibility, statement, let_statement, block_statement, item, declaration, item_kind, macro_item, macro_definition, use_declaration, extern_crate, rename, static_item, constant_item, function, function_qualifier, module_item, extern_block, type_alias, structure, enumeration, union, trait, implementation, generic_parameters, generic_parameter, where_clause, where_predicate}
+use Rattle.tt_grammar.specs.Names.{Name, type_path, type_path_segments, type_path_segment, less, generic_arguments, generic_argument, generic_argument_end, generic_argument_value, const_argument, qualified_self, expression_path, expression_path_segments, expression_path_segment, simple_path, type, type_no_bounds, more_bounds, plain_type, pointer_type, reference_type, function_type, bounds, some_bounds, bound, begins_bound, for_lifetimes, lifetime_parameters, lifetime_parameter, use_argument, pattern_fragment, pattern_param_fragment, pattern, pattern_no_top_alt, pattern_without_range, range_tail, old_range_tail, range_operator, range_end, fields, reference_pattern, identifier_pattern, binding, expression_2021_fragment, expression, expression_before_block, range, range_before_block, operation, operation_before_block, operand, operand_before_block, unary, unary_before_block, unary_operator, postfix, bad_postfix, closure, closure_before_block, closure_head, closure_parameter, jump, jump_before_block, primary, primary_before_block, basic, block_like, loop, conditions, one_condition, let_value, lazy_operator, begins, attribute, meta, visibility, statement, let_statement, block_statement, item, declaration, item_kind, macro_item, macro_definition, use_declaration, extern_crate, rename, static_item, constant_item, function, function_qualifier, module_item, extern_block, type_alias, structure, enumeration, union, trait, implementation, generic_parameters, generic_parameter, where_clause, where_predicate}
 
 -- what a name stands for
 abbrev pub stands : Name → Expression
@@ -50,15 +50,15 @@ stands type =
     one_of (all_of (name type_path ∷ one_of (all_of (sign (codes "!") ∷ unit test.Delimited ∷ never (front (codes "+")) ∷ [])
     ∷ all_of (never (sign (codes "!")) ∷ name more_bounds ∷ []) ∷ []) ∷ []) ∷ all_of (one_of (word it.Dyn ∷ word it.Impl ∷ [])
     ∷ one_of (name some_bounds ∷ all_of (never (name begins_bound) ∷ never (front (codes "+")) ∷ []) ∷ []) ∷ []) ∷ all_of
-    (lifetime ∷ ahead (sign (codes "+")) ∷ name more_bounds ∷ []) ∷ all_of (subtree Parenthesis ∷ name more_bounds ∷ []) ∷
+    (lifetime ∷ ahead (front (codes "+")) ∷ name more_bounds ∷ []) ∷ all_of (subtree Parenthesis ∷ name more_bounds ∷ []) ∷
     all_of (sign (codes "?") ∷ name type_path ∷ name more_bounds ∷ []) ∷ all_of (word it.For ∷ front (codes "<") ∷ name
     lifetime_parameters ∷ front (codes ">") ∷ one_of (all_of (name function_type ∷ never (front (codes "+")) ∷ []) ∷ all_of
     (name type_path ∷ name more_bounds ∷ []) ∷ []) ∷ []) ∷ all_of (name qualified_self ∷ name type_path_segments ∷ never
     (front (codes "+")) ∷ []) ∷ all_of (name plain_type ∷ never (front (codes "+")) ∷ []) ∷ [])
 stands type_no_bounds =
     one_of (all_of (name type_path ∷ one_of (all_of (sign (codes "!") ∷ unit test.Delimited ∷ []) ∷ never (sign (codes "!")) ∷
-    []) ∷ []) ∷ name plain_type ∷ subtree Parenthesis ∷ all_of (one_of (word it.Dyn ∷ word it.Impl ∷ []) ∷ one_of (name bound
-    ∷ never (name begins_bound) ∷ []) ∷ never (front (codes "+")) ∷ []) ∷ all_of (name qualified_self ∷ name
+    []) ∷ []) ∷ name plain_type ∷ subtree Parenthesis ∷ all_of (one_of (word it.Dyn ∷ word it.Impl ∷ []) ∷ one_of (all_of
+    (name bound ∷ never (front (codes "+")) ∷ []) ∷ never (name begins_bound) ∷ []) ∷ []) ∷ all_of (name qualified_self ∷ name
     type_path_segments ∷ []) ∷ all_of (word it.For ∷ front (codes "<") ∷ name lifetime_parameters ∷ front (codes ">") ∷ one_of
     (name function_type ∷ name type_path ∷ []) ∷ []) ∷ [])
 stands more_bounds =
@@ -102,21 +102,23 @@ stands pattern_no_top_alt =
     all_of (maybe (sign (codes "-")) ∷ one_of (unit test.Literal ∷ unit test.TruthValue ∷ []) ∷ maybe (name range_tail) ∷ [])
     ∷ name reference_pattern ∷ word it.Underscore ∷ sign (codes "!") ∷ name identifier_pattern ∷ subtree Parenthesis ∷ subtree
     Bracket ∷ unit test.Opaque ∷ all_of (word it.Box ∷ name pattern_without_range ∷ []) ∷ all_of (name qualified_self ∷ name
-    expression_path_segments ∷ one_of (name range_tail ∷ name fields ∷ []) ∷ []) ∷ all_of (never (all_of (unit test.Name ∷
-    one_of (sign (codes "<") ∷ sign (codes "<<") ∷ []) ∷ [])) ∷ maybe (sign (codes "::")) ∷ name expression_path_segments ∷
-    one_of (all_of (sign (codes "!") ∷ unit test.Delimited ∷ []) ∷ name range_tail ∷ name fields ∷ []) ∷ []) ∷ [])
+    expression_path_segments ∷ one_of (name range_tail ∷ name fields ∷ []) ∷ []) ∷ all_of (maybe (sign (codes "::")) ∷ name
+    expression_path_segments ∷ one_of (all_of (sign (codes "!") ∷ unit test.Delimited ∷ []) ∷ name range_tail ∷ name fields ∷
+    []) ∷ []) ∷ [])
 stands pattern_without_range =
-    one_of (all_of (maybe (sign (codes "-")) ∷ one_of (unit test.Literal ∷ unit test.TruthValue ∷ []) ∷ never (name
-    range_operator) ∷ []) ∷ name reference_pattern ∷ word it.Underscore ∷ sign (codes "!") ∷ name identifier_pattern ∷ subtree
-    Parenthesis ∷ subtree Bracket ∷ unit test.Opaque ∷ all_of (word it.Box ∷ name pattern_without_range ∷ []) ∷ all_of (name
-    qualified_self ∷ name expression_path_segments ∷ name fields ∷ never (name range_operator) ∷ []) ∷ all_of (never (all_of
-    (unit test.Name ∷ one_of (sign (codes "<") ∷ sign (codes "<<") ∷ []) ∷ [])) ∷ maybe (sign (codes "::")) ∷ name
-    expression_path_segments ∷ one_of (all_of (sign (codes "!") ∷ unit test.Delimited ∷ []) ∷ all_of (name fields ∷ never
-    (name range_operator) ∷ []) ∷ []) ∷ []) ∷ all_of (sign (codes "..") ∷ never (one_of (sign (codes "-") ∷ unit test.Literal
-    ∷ unit test.Name ∷ front (codes "<") ∷ sign (codes "::") ∷ [])) ∷ []) ∷ [])
+    one_of (all_of (maybe (sign (codes "-")) ∷ one_of (unit test.Literal ∷ unit test.TruthValue ∷ []) ∷ name old_range_tail ∷
+    []) ∷ name reference_pattern ∷ word it.Underscore ∷ sign (codes "!") ∷ name identifier_pattern ∷ subtree Parenthesis ∷
+    subtree Bracket ∷ unit test.Opaque ∷ all_of (word it.Box ∷ name pattern_without_range ∷ []) ∷ all_of (name qualified_self
+    ∷ name expression_path_segments ∷ one_of (subtree Parenthesis ∷ subtree Brace ∷ name old_range_tail ∷ []) ∷ []) ∷ all_of
+    (maybe (sign (codes "::")) ∷ name expression_path_segments ∷ one_of (all_of (sign (codes "!") ∷ unit test.Delimited ∷ [])
+    ∷ subtree Parenthesis ∷ subtree Brace ∷ name old_range_tail ∷ []) ∷ []) ∷ all_of (sign (codes "..") ∷ never (one_of (sign
+    (codes "-") ∷ unit test.Literal ∷ unit test.Name ∷ sign (codes "<") ∷ sign (codes "<<") ∷ sign (codes "::") ∷ [])) ∷ []) ∷
+    [])
 stands range_tail =
-    one_of (all_of (sign (codes "..=") ∷ name range_end ∷ []) ∷ all_of (sign (codes "..") ∷ maybe (name range_end) ∷ []) ∷ [])
-stands range_operator = one_of (sign (codes "..=") ∷ sign (codes "..") ∷ [])
+    one_of (all_of (one_of (sign (codes "..=") ∷ sign (codes "...") ∷ []) ∷ name range_end ∷ []) ∷ all_of (sign (codes "..") ∷
+    maybe (name range_end) ∷ []) ∷ [])
+stands old_range_tail = one_of (all_of (sign (codes "...") ∷ name range_end ∷ []) ∷ never (name range_operator) ∷ [])
+stands range_operator = one_of (sign (codes "..=") ∷ sign (codes "...") ∷ sign (codes "..") ∷ [])
 stands range_end =
     one_of (all_of (maybe (sign (codes "-")) ∷ one_of (unit test.Literal ∷ unit test.TruthValue ∷ []) ∷ []) ∷ name
     expression_path ∷ [])
@@ -126,8 +128,8 @@ stands identifier_pattern =
     one_of (all_of (word it.Ref ∷ maybe (word it.Mut) ∷ unit test.Name ∷ maybe (name binding) ∷ []) ∷ all_of (word it.Mut ∷
     maybe (all_of (word it.Ref ∷ maybe (word it.Mut) ∷ [])) ∷ unit test.Name ∷ never (one_of (sign (codes "::") ∷ subtree
     Parenthesis ∷ subtree Brace ∷ [])) ∷ maybe (name binding) ∷ []) ∷ all_of (unit test.Name ∷ never (one_of (sign (codes
-    "::") ∷ all_of (sign (codes "!") ∷ unit test.Delimited ∷ []) ∷ subtree Parenthesis ∷ subtree Brace ∷ name less ∷ name
-    range_operator ∷ [])) ∷ maybe (name binding) ∷ []) ∷ [])
+    "::") ∷ all_of (sign (codes "!") ∷ unit test.Delimited ∷ []) ∷ subtree Parenthesis ∷ subtree Brace ∷ name range_operator ∷
+    [])) ∷ maybe (name binding) ∷ []) ∷ [])
 stands binding = all_of (sign (codes "@") ∷ name pattern_no_top_alt ∷ [])
 stands expression_2021_fragment = all_of (never (one_of (word it.Underscore ∷ word it.Const ∷ [])) ∷ name expression ∷ [])
 stands expression =
@@ -173,7 +175,7 @@ stands postfix =
     all_of (unit test.PathSegment ∷ one_of (all_of (sign (codes "::") ∷ name generic_arguments ∷ subtree Parenthesis ∷ []) ∷
     never (all_of (sign (codes "::") ∷ one_of (name less ∷ subtree Parenthesis ∷ []) ∷ [])) ∷ []) ∷ []) ∷ unit test.Number ∷
     []) ∷ []) ∷ [])
-stands bad_postfix = one_of (sign (codes ".") ∷ sign (codes "...") ∷ sign (codes "<-") ∷ [])
+stands bad_postfix = one_of (sign (codes ".") ∷ sign (codes "<-") ∷ [])
 stands closure =
     all_of (name closure_head ∷ one_of (all_of (sign (codes "->") ∷ name type_no_bounds ∷ subtree Brace ∷ []) ∷ all_of (never
     (sign (codes "->")) ∷ name expression ∷ []) ∷ []) ∷ [])

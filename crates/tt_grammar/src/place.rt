@@ -1,8 +1,10 @@
 //! A place among trees, and the unit that stands there.
+ghost use Rattle.std.specs.Coded.{Coded-set};
 ghost use Rattle.std.specs.Prelude.{◌≡◌, ◌+◌, ◌<◌, ◌≤◌, ◌^◌};
 ghost use Rattle.tt.specs.Forest.{size};
 ghost use Rattle.tt.specs.Moves.{after_tree};
 ghost use Rattle.tt.specs.Views.{trees_of};
+ghost use Rattle.tt_base.specs.Unflat.{forest_code};
 ghost use Rattle.tt_grammar.specs.Kinds.{kind_of};
 ghost use Rattle.tt_grammar.specs.Units.{first_unit};
 
@@ -24,7 +26,7 @@ pub struct Place<'t> {
     passed: usize,
     ghost is_kind: { kind ≡ kind_of unit },
     ghost stands_first: { unit ≡ first_unit (trees_of rest) },
-    ghost is_behind: { trees_of behind ≡ after_tree (trees_of rest) },
+    ghost is_behind: { trees_of behind ≡ after_tree (trees_of rest) } by { Coded-set forest_code (trees_of behind) (after_tree (trees_of rest)) },
     ghost fits: { passed + size (trees_of rest) < 2 ^ 64 },
 }
 

@@ -32,34 +32,34 @@ macro_rules! rules {
 }
 
 /// Where `expression` is laid out.
-pub(crate) const EXPRESSION: usize = 359;
+pub(crate) const EXPRESSION: usize = 360;
 
 /// Where `expression_2021_fragment` is laid out.
-pub(crate) const EXPRESSION_2021_FRAGMENT: usize = 356;
+pub(crate) const EXPRESSION_2021_FRAGMENT: usize = 357;
 
 /// Where `type` is laid out.
 pub(crate) const TYPE: usize = 94;
 
 /// Where `pattern_fragment` is laid out.
-pub(crate) const PATTERN_FRAGMENT: usize = 246;
+pub(crate) const PATTERN_FRAGMENT: usize = 244;
 
 /// Where `pattern_param_fragment` is laid out.
-pub(crate) const PATTERN_PARAM_FRAGMENT: usize = 250;
+pub(crate) const PATTERN_PARAM_FRAGMENT: usize = 248;
 
 /// Where `type_path` is laid out.
 pub(crate) const TYPE_PATH: usize = 0;
 
 /// Where `statement` is laid out.
-pub(crate) const STATEMENT: usize = 633;
+pub(crate) const STATEMENT: usize = 632;
 
 /// Where `item` is laid out.
-pub(crate) const ITEM: usize = 665;
+pub(crate) const ITEM: usize = 664;
 
 /// Where `meta` is laid out.
-pub(crate) const META: usize = 623;
+pub(crate) const META: usize = 622;
 
 /// The rules.
-pub(crate) static RULES: [Rule; 830] = rules! {
+pub(crate) static RULES: [Rule; 829] = rules! {
     // type_path, from 0 on
     (sequence 1 4) (choice 2 3) (sign ':' ':') (empty)
     // type_path_segments, from 4 on
@@ -67,7 +67,7 @@ pub(crate) static RULES: [Rule; 830] = rules! {
     (subtree Brace) (sign '*')
     // type_path_segment, from 14 on
     (sequence 15 16) (unit PathSegment) (choice 17 18) (sequence 1 35) (choice 19 25) (sequence 1 20) (sequence 21 22)
-    (subtree Parenthesis) (choice 23 3) (sequence 24 137) (sign '-' '>') (never 26)
+    (subtree Parenthesis) (choice 23 3) (sequence 24 135) (sign '-' '>') (never 26)
     // less, from 26 on
     (choice 27 28) (sign '<') (sequence 29 34) (never 30) (never 31) (choice 32 33) (sign '<' '<') (sign '<' '-') (front '<')
     // generic_arguments, from 35 on
@@ -75,7 +75,7 @@ pub(crate) static RULES: [Rule; 830] = rules! {
     (choice 42 3) (front '>')
     // generic_argument, from 45 on
     (choice 46 50) (sequence 47 48) (lifetime) (never 49) (never 60) (choice 51 59) (sequence 94 52) (sequence 53 48)
-    (choice 54 3) (choice 55 57) (sequence 56 61) (sign '=') (sequence 58 190) (sign ':') (sequence 63 48)
+    (choice 54 3) (choice 55 57) (sequence 56 61) (sign '=') (sequence 58 188) (sign ':') (sequence 63 48)
     // generic_argument_end, from 60 on
     (choice 42 44)
     // generic_argument_value, from 61 on
@@ -94,235 +94,236 @@ pub(crate) static RULES: [Rule; 830] = rules! {
     (sequence 1 91) (sequence 15 92) (many 93) (sequence 2 15)
     // type, from 94 on
     (choice 95 105) (sequence 0 96) (choice 97 103) (sequence 98 99) (sign '!') (sequence 100 101) (unit Delimited)
-    (never 102) (front '+') (sequence 104 154) (never 98) (choice 106 113) (sequence 107 110) (choice 108 109) (word Dyn)
-    (word Impl) (choice 191 111) (sequence 112 101) (never 219) (choice 114 119) (sequence 47 115) (sequence 116 154)
-    (never 117) (never 118) (sign '+') (choice 120 121) (sequence 21 154) (choice 122 125) (sequence 123 124) (sign '?')
-    (sequence 0 154) (choice 126 133) (sequence 127 128) (word For) (sequence 34 129) (sequence 235 130) (sequence 44 131)
-    (choice 132 124) (sequence 179 101) (choice 134 136) (sequence 70 135) (sequence 4 101) (sequence 159 101)
-    // type_no_bounds, from 137 on
-    (choice 138 141) (sequence 0 139) (choice 140 104) (sequence 98 100) (choice 159 142) (choice 21 143) (choice 144 147)
-    (sequence 107 145) (sequence 146 101) (choice 192 112) (choice 148 149) (sequence 70 4) (sequence 127 150)
-    (sequence 34 151) (sequence 235 152) (sequence 44 153) (choice 179 0)
-    // more_bounds, from 154 on
-    (sequence 155 157) (many 156) (sequence 102 192) (sequence 158 101) (choice 102 3)
-    // plain_type, from 159 on
-    (choice 98 160) (choice 168 161) (choice 162 163) (subtree Bracket) (choice 164 165) (word Underscore) (choice 173 166)
-    (choice 179 167) (unit Opaque)
-    // pointer_type, from 168 on
-    (sequence 13 169) (sequence 170 137) (choice 171 172) (word Const) (word Mut)
-    // reference_type, from 173 on
-    (sequence 174 175) (front '&') (sequence 176 177) (choice 47 3) (sequence 178 137) (choice 172 3)
-    // function_type, from 179 on
-    (sequence 180 182) (choice 181 3) (word Unsafe) (sequence 183 188) (choice 184 3) (sequence 185 186) (word Extern)
-    (choice 187 3) (unit Text) (sequence 189 20) (word Fn)
-    // bounds, from 190 on
-    (choice 191 3)
-    // some_bounds, from 191 on
-    (sequence 192 154)
-    // bound, from 192 on
-    (choice 47 193) (choice 21 194) (choice 195 204) (sequence 196 197) (word Use) (sequence 34 198) (sequence 199 44)
-    (choice 200 3) (sequence 242 201) (sequence 202 43) (many 203) (sequence 42 242) (sequence 205 206) (choice 232 3)
-    (sequence 207 215) (choice 208 3) (choice 209 211) (sequence 210 171) (sign '~') (choice 212 213) (sequence 162 171)
-    (choice 171 214) (word Async) (sequence 216 218) (choice 217 3) (choice 123 98) (sequence 205 0)
-    // begins_bound, from 219 on
-    (choice 47 220) (choice 21 221) (choice 162 222) (choice 196 223) (choice 127 224) (choice 210 225) (choice 171 226)
-    (choice 214 227) (choice 123 228) (choice 98 229) (choice 15 230) (choice 2 231) (choice 27 32)
-    // for_lifetimes, from 232 on
-    (sequence 127 233) (sequence 34 234) (sequence 235 44)
-    // lifetime_parameters, from 235 on
-    (choice 236 3) (sequence 240 237) (sequence 238 43) (many 239) (sequence 42 240)
-    // lifetime_parameter, from 240 on
-    (sequence 47 241) (choice 57 3)
-    // use_argument, from 242 on
-    (choice 47 243) (choice 244 245) (unit Name) (word SelfType)
-    // pattern_fragment, from 246 on
-    (sequence 247 251) (never 248) (choice 249 98) (sign '.' '.' '=')
-    // pattern_param_fragment, from 250 on
-    (sequence 247 266)
-    // pattern, from 251 on
-    (sequence 252 254) (choice 253 3) (front '|') (sequence 266 255) (sequence 256 260) (many 257) (sequence 253 258)
-    (sequence 259 266) (never 253) (never 261) (choice 262 263) (sign '|') (choice 264 265) (sign '|' '|') (sign '@')
-    // pattern_no_top_alt, from 266 on
-    (choice 267 268) (sequence 249 326) (choice 269 272) (sequence 270 271) (sign '.' '.') (choice 326 3) (choice 273 277)
-    (sequence 66 274) (sequence 275 276) (choice 68 69) (choice 324 3) (choice 330 278) (choice 164 279) (choice 98 280)
-    (choice 332 281) (choice 21 282) (choice 162 283) (choice 167 284) (choice 285 287) (sequence 286 297) (word Box)
-    (choice 288 291) (sequence 70 289) (sequence 80 290) (choice 324 328) (sequence 292 294) (never 293) (sequence 244 231)
-    (sequence 1 295) (sequence 80 296) (choice 140 290)
-    // pattern_without_range, from 297 on
-    (choice 298 301) (sequence 66 299) (sequence 275 300) (never 325) (choice 330 302) (choice 164 303) (choice 98 304)
-    (choice 332 305) (choice 21 306) (choice 162 307) (choice 167 308) (choice 285 309) (choice 310 313) (sequence 70 311)
-    (sequence 80 312) (sequence 328 300) (choice 314 318) (sequence 292 315) (sequence 1 316) (sequence 80 317)
-    (choice 140 312) (sequence 270 319) (never 320) (choice 67 321) (choice 68 322) (choice 244 323) (choice 34 2)
-    // range_tail, from 324 on
-    (choice 267 269)
-    // range_operator, from 325 on
-    (choice 249 270)
-    // range_end, from 326 on
-    (choice 327 77) (sequence 66 275)
-    // fields, from 328 on
-    (choice 329 3) (choice 21 12)
-    // reference_pattern, from 330 on
-    (sequence 174 331) (sequence 178 297)
-    // identifier_pattern, from 332 on
-    (choice 333 338) (sequence 334 335) (word Ref) (sequence 178 336) (sequence 244 337) (choice 355 3) (choice 339 347)
-    (sequence 172 340) (sequence 341 343) (choice 342 3) (sequence 334 178) (sequence 244 344) (sequence 345 337) (never 346)
-    (choice 2 329) (sequence 244 348) (sequence 349 337) (never 350) (choice 2 351) (choice 140 352) (choice 21 353)
-    (choice 12 354) (choice 26 325)
-    // binding, from 355 on
-    (sequence 265 266)
-    // expression_2021_fragment, from 356 on
-    (sequence 357 359) (never 358) (choice 164 171)
-    // expression, from 359 on
-    (choice 375 360) (sequence 394 361) (sequence 362 365) (many 363) (sequence 364 359) (unit AssignmentOperator)
-    (sequence 366 367) (never 364) (choice 375 300)
-    // expression_before_block, from 368 on
-    (choice 383 369) (sequence 406 370) (sequence 371 373) (many 372) (sequence 364 368) (sequence 366 374) (choice 383 300)
-    // range, from 375 on
-    (choice 376 378) (sequence 249 377) (choice 375 394) (sequence 270 379) (choice 380 382) (sequence 381 377) (never 382)
-    (never 620)
-    // range_before_block, from 383 on
-    (choice 384 388) (sequence 249 385) (sequence 386 387) (never 12) (choice 383 406) (sequence 270 389) (choice 390 392)
-    (sequence 391 387) (never 392) (never 393) (unit BeginsExpression)
-    // operation, from 394 on
-    (sequence 395 396) (many 621) (sequence 416 397) (sequence 398 403) (many 399) (choice 400 402) (sequence 401 412)
-    (unit BinaryOperator) (sequence 75 137) (sequence 404 405) (never 401) (never 75)
-    // operation_before_block, from 406 on
-    (sequence 395 407) (sequence 430 408) (sequence 409 403) (many 410) (choice 411 402) (sequence 401 414)
-    // operand, from 412 on
-    (choice 375 413) (sequence 395 416)
-    // operand_before_block, from 414 on
-    (choice 383 415) (sequence 395 430)
-    // unary, from 416 on
-    (choice 417 424) (sequence 418 420) (never 419) (never 15) (sequence 529 421) (sequence 422 423) (many 447) (never 463)
-    (sequence 419 425) (choice 426 427) (sequence 439 412) (sequence 428 421) (choice 466 429) (choice 504 529)
-    // unary_before_block, from 430 on
-    (choice 431 433) (sequence 418 432) (sequence 538 421) (sequence 419 434) (choice 435 436) (sequence 439 414)
-    (sequence 437 421) (choice 472 438) (choice 518 538)
-    // unary_operator, from 439 on
-    (choice 67 440) (choice 98 441) (choice 13 442) (sequence 174 443) (choice 444 3) (choice 445 172) (sequence 446 170)
+    (never 102) (front '+') (sequence 104 152) (never 98) (choice 106 113) (sequence 107 110) (choice 108 109) (word Dyn)
+    (word Impl) (choice 189 111) (sequence 112 101) (never 217) (choice 114 117) (sequence 47 115) (sequence 116 152)
+    (never 101) (choice 118 119) (sequence 21 152) (choice 120 123) (sequence 121 122) (sign '?') (sequence 0 152)
+    (choice 124 131) (sequence 125 126) (word For) (sequence 34 127) (sequence 233 128) (sequence 44 129) (choice 130 122)
+    (sequence 177 101) (choice 132 134) (sequence 70 133) (sequence 4 101) (sequence 157 101)
+    // type_no_bounds, from 135 on
+    (choice 136 139) (sequence 0 137) (choice 138 104) (sequence 98 100) (choice 157 140) (choice 21 141) (choice 142 145)
+    (sequence 107 143) (choice 144 112) (sequence 190 101) (choice 146 147) (sequence 70 4) (sequence 125 148)
+    (sequence 34 149) (sequence 233 150) (sequence 44 151) (choice 177 0)
+    // more_bounds, from 152 on
+    (sequence 153 155) (many 154) (sequence 102 190) (sequence 156 101) (choice 102 3)
+    // plain_type, from 157 on
+    (choice 98 158) (choice 166 159) (choice 160 161) (subtree Bracket) (choice 162 163) (word Underscore) (choice 171 164)
+    (choice 177 165) (unit Opaque)
+    // pointer_type, from 166 on
+    (sequence 13 167) (sequence 168 135) (choice 169 170) (word Const) (word Mut)
+    // reference_type, from 171 on
+    (sequence 172 173) (front '&') (sequence 174 175) (choice 47 3) (sequence 176 135) (choice 170 3)
+    // function_type, from 177 on
+    (sequence 178 180) (choice 179 3) (word Unsafe) (sequence 181 186) (choice 182 3) (sequence 183 184) (word Extern)
+    (choice 185 3) (unit Text) (sequence 187 20) (word Fn)
+    // bounds, from 188 on
+    (choice 189 3)
+    // some_bounds, from 189 on
+    (sequence 190 152)
+    // bound, from 190 on
+    (choice 47 191) (choice 21 192) (choice 193 202) (sequence 194 195) (word Use) (sequence 34 196) (sequence 197 44)
+    (choice 198 3) (sequence 240 199) (sequence 200 43) (many 201) (sequence 42 240) (sequence 203 204) (choice 230 3)
+    (sequence 205 213) (choice 206 3) (choice 207 209) (sequence 208 169) (sign '~') (choice 210 211) (sequence 160 169)
+    (choice 169 212) (word Async) (sequence 214 216) (choice 215 3) (choice 121 98) (sequence 203 0)
+    // begins_bound, from 217 on
+    (choice 47 218) (choice 21 219) (choice 160 220) (choice 194 221) (choice 125 222) (choice 208 223) (choice 169 224)
+    (choice 212 225) (choice 121 226) (choice 98 227) (choice 15 228) (choice 2 229) (choice 27 32)
+    // for_lifetimes, from 230 on
+    (sequence 125 231) (sequence 34 232) (sequence 233 44)
+    // lifetime_parameters, from 233 on
+    (choice 234 3) (sequence 238 235) (sequence 236 43) (many 237) (sequence 42 238)
+    // lifetime_parameter, from 238 on
+    (sequence 47 239) (choice 57 3)
+    // use_argument, from 240 on
+    (choice 47 241) (choice 242 243) (unit Name) (word SelfType)
+    // pattern_fragment, from 244 on
+    (sequence 245 249) (never 246) (choice 247 98) (sign '.' '.' '=')
+    // pattern_param_fragment, from 248 on
+    (sequence 245 264)
+    // pattern, from 249 on
+    (sequence 250 252) (choice 251 3) (front '|') (sequence 264 253) (sequence 254 258) (many 255) (sequence 251 256)
+    (sequence 257 264) (never 251) (never 259) (choice 260 261) (sign '|') (choice 262 263) (sign '|' '|') (sign '@')
+    // pattern_no_top_alt, from 264 on
+    (choice 265 266) (sequence 247 328) (choice 267 270) (sequence 268 269) (sign '.' '.') (choice 328 3) (choice 271 275)
+    (sequence 66 272) (sequence 273 274) (choice 68 69) (choice 319 3) (choice 332 276) (choice 162 277) (choice 98 278)
+    (choice 334 279) (choice 21 280) (choice 160 281) (choice 165 282) (choice 283 285) (sequence 284 292) (word Box)
+    (choice 286 289) (sequence 70 287) (sequence 80 288) (choice 319 330) (sequence 1 290) (sequence 80 291) (choice 138 288)
+    // pattern_without_range, from 292 on
+    (choice 293 295) (sequence 66 294) (sequence 273 323) (choice 332 296) (choice 162 297) (choice 98 298) (choice 334 299)
+    (choice 21 300) (choice 160 301) (choice 165 302) (choice 283 303) (choice 304 308) (sequence 70 305) (sequence 80 306)
+    (choice 21 307) (choice 12 323) (choice 309 312) (sequence 1 310) (sequence 80 311) (choice 138 306) (sequence 268 313)
+    (never 314) (choice 67 315) (choice 68 316) (choice 242 317) (choice 27 318) (choice 32 2)
+    // range_tail, from 319 on
+    (choice 320 267) (sequence 321 328) (choice 247 322) (sign '.' '.' '.')
+    // old_range_tail, from 323 on
+    (choice 324 325) (sequence 322 328) (never 326)
+    // range_operator, from 326 on
+    (choice 247 327) (choice 322 268)
+    // range_end, from 328 on
+    (choice 329 77) (sequence 66 273)
+    // fields, from 330 on
+    (choice 331 3) (choice 21 12)
+    // reference_pattern, from 332 on
+    (sequence 172 333) (sequence 176 292)
+    // identifier_pattern, from 334 on
+    (choice 335 340) (sequence 336 337) (word Ref) (sequence 176 338) (sequence 242 339) (choice 356 3) (choice 341 349)
+    (sequence 170 342) (sequence 343 345) (choice 344 3) (sequence 336 176) (sequence 242 346) (sequence 347 339) (never 348)
+    (choice 2 331) (sequence 242 350) (sequence 351 339) (never 352) (choice 2 353) (choice 138 354) (choice 21 355)
+    (choice 12 326)
+    // binding, from 356 on
+    (sequence 263 264)
+    // expression_2021_fragment, from 357 on
+    (sequence 358 360) (never 359) (choice 162 169)
+    // expression, from 360 on
+    (choice 376 361) (sequence 395 362) (sequence 363 366) (many 364) (sequence 365 360) (unit AssignmentOperator)
+    (sequence 367 368) (never 365) (choice 376 325)
+    // expression_before_block, from 369 on
+    (choice 384 370) (sequence 407 371) (sequence 372 374) (many 373) (sequence 365 369) (sequence 367 375) (choice 384 325)
+    // range, from 376 on
+    (choice 377 379) (sequence 247 378) (choice 376 395) (sequence 268 380) (choice 381 383) (sequence 382 378) (never 383)
+    (never 619)
+    // range_before_block, from 384 on
+    (choice 385 389) (sequence 247 386) (sequence 387 388) (never 12) (choice 384 407) (sequence 268 390) (choice 391 393)
+    (sequence 392 388) (never 393) (never 394) (unit BeginsExpression)
+    // operation, from 395 on
+    (sequence 396 397) (many 620) (sequence 417 398) (sequence 399 404) (many 400) (choice 401 403) (sequence 402 413)
+    (unit BinaryOperator) (sequence 75 135) (sequence 405 406) (never 402) (never 75)
+    // operation_before_block, from 407 on
+    (sequence 396 408) (sequence 431 409) (sequence 410 404) (many 411) (choice 412 403) (sequence 402 415)
+    // operand, from 413 on
+    (choice 376 414) (sequence 396 417)
+    // operand_before_block, from 415 on
+    (choice 384 416) (sequence 396 431)
+    // unary, from 417 on
+    (choice 418 425) (sequence 419 421) (never 420) (never 15) (sequence 528 422) (sequence 423 424) (many 448) (never 464)
+    (sequence 420 426) (choice 427 428) (sequence 440 413) (sequence 429 422) (choice 465 430) (choice 503 528)
+    // unary_before_block, from 431 on
+    (choice 432 434) (sequence 419 433) (sequence 537 422) (sequence 420 435) (choice 436 437) (sequence 440 415)
+    (sequence 438 422) (choice 471 439) (choice 517 537)
+    // unary_operator, from 440 on
+    (choice 67 441) (choice 98 442) (choice 13 443) (sequence 172 444) (choice 445 3) (choice 446 170) (sequence 447 168)
     (word Raw)
-    // postfix, from 447 on
-    (choice 123 448) (choice 21 449) (choice 162 450) (sequence 451 452) (sign '.') (choice 453 454) (word Await)
-    (choice 455 462) (sequence 15 456) (choice 457 459) (sequence 2 458) (sequence 35 21) (never 460) (sequence 2 461)
+    // postfix, from 448 on
+    (choice 121 449) (choice 21 450) (choice 160 451) (sequence 452 453) (sign '.') (choice 454 455) (word Await)
+    (choice 456 463) (sequence 15 457) (choice 458 460) (sequence 2 459) (sequence 35 21) (never 461) (sequence 2 462)
     (choice 26 21) (unit Number)
-    // bad_postfix, from 463 on
-    (choice 451 464) (choice 465 33) (sign '.' '.' '.')
-    // closure, from 466 on
-    (sequence 475 467) (choice 468 470) (sequence 24 469) (sequence 137 12) (sequence 471 359) (never 24)
-    // closure_before_block, from 472 on
-    (sequence 475 473) (choice 468 474) (sequence 471 368)
-    // closure_head, from 475 on
-    (sequence 205 476) (sequence 477 486) (choice 478 3) (sequence 171 479) (never 480) (never 481) (choice 482 483)
-    (word Static) (choice 484 485) (word Move) (choice 264 253) (sequence 487 488) (choice 482 3) (sequence 489 490)
-    (choice 214 3) (sequence 491 492) (choice 484 3) (choice 264 493) (sequence 253 494) (sequence 495 253) (choice 496 3)
-    (sequence 500 497) (sequence 498 43) (many 499) (sequence 42 500)
-    // closure_parameter, from 500 on
-    (sequence 395 501) (sequence 266 502) (choice 503 3) (sequence 58 94)
-    // jump, from 504 on
-    (choice 505 509) (sequence 506 507) (word Return) (choice 508 382) (sequence 381 359) (choice 510 513) (sequence 511 512)
-    (word Break) (sequence 176 507) (choice 514 516) (sequence 515 176) (word Continue) (sequence 517 507) (word Yield)
-    // jump_before_block, from 518 on
-    (choice 519 522) (sequence 506 520) (choice 521 382) (sequence 381 368) (choice 523 527) (sequence 511 524)
-    (sequence 176 525) (choice 526 392) (sequence 391 368) (choice 514 528) (sequence 517 520)
-    // primary, from 529 on
-    (choice 530 535) (sequence 1 531) (sequence 80 532) (choice 140 533) (sequence 104 534) (choice 12 3) (choice 544 536)
-    (sequence 70 537) (sequence 80 533)
-    // primary_before_block, from 538 on
-    (choice 539 541) (sequence 1 540) (sequence 80 139) (choice 544 542) (sequence 70 543) (sequence 80 104)
-    // basic, from 544 on
-    (choice 68 545) (choice 69 546) (choice 21 547) (choice 162 548) (choice 12 549) (choice 167 550) (choice 164 551)
-    // block_like, from 551 on
-    (choice 552 554) (sequence 553 12) (word Try) (choice 555 568) (sequence 556 557) (word If) (sequence 597 558)
-    (sequence 12 559) (sequence 560 567) (choice 561 3) (sequence 562 563) (word Else) (choice 12 564) (sequence 565 551)
-    (never 566) (never 556) (never 562) (choice 569 572) (sequence 570 571) (word Match) (sequence 368 12) (choice 573 574)
-    (sequence 181 12) (choice 575 580) (sequence 576 579) (choice 577 214) (sequence 489 578) (word Gen) (sequence 491 12)
-    (choice 581 582) (sequence 171 12) (choice 586 583) (sequence 47 584) (sequence 58 585) (choice 586 12)
-    // loop, from 586 on
-    (choice 587 589) (sequence 588 12) (word Loop) (choice 590 593) (sequence 591 592) (word While) (sequence 597 12)
-    (sequence 127 594) (sequence 251 595) (sequence 596 571) (word In)
-    // conditions, from 597 on
-    (sequence 602 598) (sequence 599 601) (many 600) (sequence 618 602) (never 618)
-    // one_condition, from 602 on
-    (choice 603 607) (sequence 604 605) (word Let) (sequence 251 606) (sequence 56 607)
-    // let_value, from 607 on
-    (sequence 395 608) (sequence 430 609) (sequence 610 613) (many 611) (choice 612 402) (sequence 601 411) (sequence 614 616)
-    (never 615) (sequence 601 401) (sequence 371 617) (choice 383 3)
-    // lazy_operator, from 618 on
-    (choice 619 264) (sign '&' '&')
-    // begins, from 620 on
-    (choice 12 393)
-    // attribute, from 621 on
-    (sequence 622 162) (sign '#')
-    // meta, from 623 on
-    (choice 624 625) (sequence 181 21) (sequence 90 626) (choice 627 3) (choice 100 628) (sequence 56 359)
-    // visibility, from 629 on
-    (choice 630 3) (sequence 631 632) (word Pub) (choice 21 3)
-    // statement, from 633 on
-    (choice 634 635) (sign ';') (choice 636 637) (sequence 395 645) (choice 638 644) (sequence 395 639) (sequence 640 667)
-    (never 641) (choice 642 643) (word Default) (word Safe) (choice 653 359)
-    // let_statement, from 645 on
-    (sequence 604 646) (sequence 251 647) (sequence 502 648) (choice 649 3) (sequence 56 650) (sequence 359 651)
-    (choice 652 3) (sequence 562 12)
-    // block_statement, from 653 on
-    (sequence 395 654) (sequence 655 663) (choice 12 656) (choice 657 660) (sequence 658 551) (never 659) (choice 214 578)
-    (sequence 1 661) (sequence 80 662) (sequence 98 12) (never 664) (choice 451 123)
-    // item, from 665 on
-    (sequence 395 666) (choice 667 683)
-    // declaration, from 667 on
-    (sequence 629 668) (choice 669 670) (sequence 642 670)
-    // item_kind, from 670 on
-    (choice 728 671) (choice 696 672) (choice 706 673) (choice 716 674) (choice 726 675) (choice 746 676) (choice 750 677)
-    (choice 753 678) (choice 763 679) (choice 769 680) (choice 774 681) (choice 776 682) (choice 790 687)
-    // macro_item, from 683 on
-    (sequence 90 684) (sequence 98 685) (choice 12 686) (sequence 100 634)
-    // macro_definition, from 687 on
-    (choice 688 692) (sequence 689 690) (word MacroRules) (sequence 98 691) (sequence 244 685) (sequence 693 694) (word Macro)
-    (sequence 244 695) (sequence 632 12)
-    // use_declaration, from 696 on
-    (sequence 196 697) (sequence 1 698) (sequence 699 634) (choice 12 700) (choice 13 701) (sequence 15 702) (sequence 92 703)
-    (choice 704 3) (choice 705 714) (sequence 2 11)
-    // extern_crate, from 706 on
-    (sequence 185 707) (sequence 708 709) (word Crate) (sequence 710 712) (choice 244 711) (word SelfValue) (sequence 713 634)
-    (choice 714 3)
-    // rename, from 714 on
-    (sequence 75 715) (choice 244 164)
-    // static_item, from 716 on
-    (sequence 717 719) (choice 718 3) (choice 181 643) (sequence 482 720) (sequence 178 721) (sequence 244 722)
-    (sequence 58 723) (sequence 94 724) (sequence 725 634) (choice 628 3)
-    // constant_item, from 726 on
-    (sequence 171 727) (sequence 715 722)
-    // function, from 728 on
-    (sequence 729 730) (many 741) (sequence 189 731) (sequence 244 732) (sequence 733 734) (choice 800 3) (sequence 21 735)
-    (sequence 736 738) (choice 737 3) (sequence 24 94) (sequence 739 740) (choice 819 3) (choice 12 634)
-    // function_qualifier, from 741 on
-    (choice 171 742) (choice 214 743) (choice 578 744) (choice 181 745) (choice 643 184)
-    // module_item, from 746 on
-    (sequence 180 747) (sequence 748 749) (word Mod) (sequence 244 740)
-    // extern_block, from 750 on
-    (sequence 180 751) (sequence 185 752) (sequence 186 12)
-    // type_alias, from 753 on
-    (sequence 754 755) (word Type) (sequence 244 756) (sequence 733 757) (sequence 241 758) (sequence 739 759)
-    (sequence 760 762) (choice 761 3) (sequence 56 94) (sequence 739 634)
-    // structure, from 763 on
-    (sequence 764 765) (word Struct) (sequence 244 766) (sequence 733 767) (choice 768 738) (sequence 21 762)
-    // enumeration, from 769 on
-    (sequence 770 771) (word Enum) (sequence 244 772) (sequence 733 773) (sequence 739 12)
-    // union, from 774 on
-    (sequence 775 771) (word Union)
-    // trait, from 776 on
-    (sequence 777 778) (choice 171 3) (sequence 180 779) (sequence 780 782) (choice 781 3) (word Auto) (sequence 783 784)
-    (word Trait) (sequence 244 785) (sequence 733 786) (choice 787 788) (sequence 241 773) (sequence 56 789)
-    (sequence 190 762)
-    // implementation, from 790 on
-    (sequence 180 791) (sequence 109 792) (sequence 733 793) (sequence 777 794) (sequence 795 797) (choice 796 94)
-    (sequence 98 94) (sequence 798 773) (choice 799 3) (sequence 127 94)
-    // generic_parameters, from 800 on
-    (sequence 27 801) (sequence 802 44) (choice 803 3) (sequence 807 804) (sequence 805 43) (many 806) (sequence 42 807)
-    // generic_parameter, from 807 on
-    (sequence 395 808) (choice 240 809) (choice 810 817) (sequence 171 811) (sequence 244 812) (sequence 58 813)
-    (sequence 94 814) (choice 815 3) (sequence 56 816) (choice 63 244) (sequence 244 818) (sequence 241 760)
-    // where_clause, from 819 on
-    (sequence 820 821) (word Where) (choice 822 3) (sequence 826 823) (sequence 824 43) (many 825) (sequence 42 826)
-    // where_predicate, from 826 on
-    (choice 827 828) (sequence 47 57) (sequence 205 829) (sequence 137 57)
+    // bad_postfix, from 464 on
+    (choice 452 33)
+    // closure, from 465 on
+    (sequence 474 466) (choice 467 469) (sequence 24 468) (sequence 135 12) (sequence 470 360) (never 24)
+    // closure_before_block, from 471 on
+    (sequence 474 472) (choice 467 473) (sequence 470 369)
+    // closure_head, from 474 on
+    (sequence 203 475) (sequence 476 485) (choice 477 3) (sequence 169 478) (never 479) (never 480) (choice 481 482)
+    (word Static) (choice 483 484) (word Move) (choice 262 251) (sequence 486 487) (choice 481 3) (sequence 488 489)
+    (choice 212 3) (sequence 490 491) (choice 483 3) (choice 262 492) (sequence 251 493) (sequence 494 251) (choice 495 3)
+    (sequence 499 496) (sequence 497 43) (many 498) (sequence 42 499)
+    // closure_parameter, from 499 on
+    (sequence 396 500) (sequence 264 501) (choice 502 3) (sequence 58 94)
+    // jump, from 503 on
+    (choice 504 508) (sequence 505 506) (word Return) (choice 507 383) (sequence 382 360) (choice 509 512) (sequence 510 511)
+    (word Break) (sequence 174 506) (choice 513 515) (sequence 514 174) (word Continue) (sequence 516 506) (word Yield)
+    // jump_before_block, from 517 on
+    (choice 518 521) (sequence 505 519) (choice 520 383) (sequence 382 369) (choice 522 526) (sequence 510 523)
+    (sequence 174 524) (choice 525 393) (sequence 392 369) (choice 513 527) (sequence 516 519)
+    // primary, from 528 on
+    (choice 529 534) (sequence 1 530) (sequence 80 531) (choice 138 532) (sequence 104 533) (choice 12 3) (choice 543 535)
+    (sequence 70 536) (sequence 80 532)
+    // primary_before_block, from 537 on
+    (choice 538 540) (sequence 1 539) (sequence 80 137) (choice 543 541) (sequence 70 542) (sequence 80 104)
+    // basic, from 543 on
+    (choice 68 544) (choice 69 545) (choice 21 546) (choice 160 547) (choice 12 548) (choice 165 549) (choice 162 550)
+    // block_like, from 550 on
+    (choice 551 553) (sequence 552 12) (word Try) (choice 554 567) (sequence 555 556) (word If) (sequence 596 557)
+    (sequence 12 558) (sequence 559 566) (choice 560 3) (sequence 561 562) (word Else) (choice 12 563) (sequence 564 550)
+    (never 565) (never 555) (never 561) (choice 568 571) (sequence 569 570) (word Match) (sequence 369 12) (choice 572 573)
+    (sequence 179 12) (choice 574 579) (sequence 575 578) (choice 576 212) (sequence 488 577) (word Gen) (sequence 490 12)
+    (choice 580 581) (sequence 169 12) (choice 585 582) (sequence 47 583) (sequence 58 584) (choice 585 12)
+    // loop, from 585 on
+    (choice 586 588) (sequence 587 12) (word Loop) (choice 589 592) (sequence 590 591) (word While) (sequence 596 12)
+    (sequence 125 593) (sequence 249 594) (sequence 595 570) (word In)
+    // conditions, from 596 on
+    (sequence 601 597) (sequence 598 600) (many 599) (sequence 617 601) (never 617)
+    // one_condition, from 601 on
+    (choice 602 606) (sequence 603 604) (word Let) (sequence 249 605) (sequence 56 606)
+    // let_value, from 606 on
+    (sequence 396 607) (sequence 431 608) (sequence 609 612) (many 610) (choice 611 403) (sequence 600 412) (sequence 613 615)
+    (never 614) (sequence 600 402) (sequence 372 616) (choice 384 3)
+    // lazy_operator, from 617 on
+    (choice 618 262) (sign '&' '&')
+    // begins, from 619 on
+    (choice 12 394)
+    // attribute, from 620 on
+    (sequence 621 160) (sign '#')
+    // meta, from 622 on
+    (choice 623 624) (sequence 179 21) (sequence 90 625) (choice 626 3) (choice 100 627) (sequence 56 360)
+    // visibility, from 628 on
+    (choice 629 3) (sequence 630 631) (word Pub) (choice 21 3)
+    // statement, from 632 on
+    (choice 633 634) (sign ';') (choice 635 636) (sequence 396 644) (choice 637 643) (sequence 396 638) (sequence 639 666)
+    (never 640) (choice 641 642) (word Default) (word Safe) (choice 652 360)
+    // let_statement, from 644 on
+    (sequence 603 645) (sequence 249 646) (sequence 501 647) (choice 648 3) (sequence 56 649) (sequence 360 650)
+    (choice 651 3) (sequence 561 12)
+    // block_statement, from 652 on
+    (sequence 396 653) (sequence 654 662) (choice 12 655) (choice 656 659) (sequence 657 550) (never 658) (choice 212 577)
+    (sequence 1 660) (sequence 80 661) (sequence 98 12) (never 663) (choice 452 121)
+    // item, from 664 on
+    (sequence 396 665) (choice 666 682)
+    // declaration, from 666 on
+    (sequence 628 667) (choice 668 669) (sequence 641 669)
+    // item_kind, from 669 on
+    (choice 727 670) (choice 695 671) (choice 705 672) (choice 715 673) (choice 725 674) (choice 745 675) (choice 749 676)
+    (choice 752 677) (choice 762 678) (choice 768 679) (choice 773 680) (choice 775 681) (choice 789 686)
+    // macro_item, from 682 on
+    (sequence 90 683) (sequence 98 684) (choice 12 685) (sequence 100 633)
+    // macro_definition, from 686 on
+    (choice 687 691) (sequence 688 689) (word MacroRules) (sequence 98 690) (sequence 242 684) (sequence 692 693) (word Macro)
+    (sequence 242 694) (sequence 631 12)
+    // use_declaration, from 695 on
+    (sequence 194 696) (sequence 1 697) (sequence 698 633) (choice 12 699) (choice 13 700) (sequence 15 701) (sequence 92 702)
+    (choice 703 3) (choice 704 713) (sequence 2 11)
+    // extern_crate, from 705 on
+    (sequence 183 706) (sequence 707 708) (word Crate) (sequence 709 711) (choice 242 710) (word SelfValue) (sequence 712 633)
+    (choice 713 3)
+    // rename, from 713 on
+    (sequence 75 714) (choice 242 162)
+    // static_item, from 715 on
+    (sequence 716 718) (choice 717 3) (choice 179 642) (sequence 481 719) (sequence 176 720) (sequence 242 721)
+    (sequence 58 722) (sequence 94 723) (sequence 724 633) (choice 627 3)
+    // constant_item, from 725 on
+    (sequence 169 726) (sequence 714 721)
+    // function, from 727 on
+    (sequence 728 729) (many 740) (sequence 187 730) (sequence 242 731) (sequence 732 733) (choice 799 3) (sequence 21 734)
+    (sequence 735 737) (choice 736 3) (sequence 24 94) (sequence 738 739) (choice 818 3) (choice 12 633)
+    // function_qualifier, from 740 on
+    (choice 169 741) (choice 212 742) (choice 577 743) (choice 179 744) (choice 642 182)
+    // module_item, from 745 on
+    (sequence 178 746) (sequence 747 748) (word Mod) (sequence 242 739)
+    // extern_block, from 749 on
+    (sequence 178 750) (sequence 183 751) (sequence 184 12)
+    // type_alias, from 752 on
+    (sequence 753 754) (word Type) (sequence 242 755) (sequence 732 756) (sequence 239 757) (sequence 738 758)
+    (sequence 759 761) (choice 760 3) (sequence 56 94) (sequence 738 633)
+    // structure, from 762 on
+    (sequence 763 764) (word Struct) (sequence 242 765) (sequence 732 766) (choice 767 737) (sequence 21 761)
+    // enumeration, from 768 on
+    (sequence 769 770) (word Enum) (sequence 242 771) (sequence 732 772) (sequence 738 12)
+    // union, from 773 on
+    (sequence 774 770) (word Union)
+    // trait, from 775 on
+    (sequence 776 777) (choice 169 3) (sequence 178 778) (sequence 779 781) (choice 780 3) (word Auto) (sequence 782 783)
+    (word Trait) (sequence 242 784) (sequence 732 785) (choice 786 787) (sequence 239 772) (sequence 56 788)
+    (sequence 188 761)
+    // implementation, from 789 on
+    (sequence 178 790) (sequence 109 791) (sequence 732 792) (sequence 776 793) (sequence 794 796) (choice 795 94)
+    (sequence 98 94) (sequence 797 772) (choice 798 3) (sequence 125 94)
+    // generic_parameters, from 799 on
+    (sequence 27 800) (sequence 801 44) (choice 802 3) (sequence 806 803) (sequence 804 43) (many 805) (sequence 42 806)
+    // generic_parameter, from 806 on
+    (sequence 396 807) (choice 238 808) (choice 809 816) (sequence 169 810) (sequence 242 811) (sequence 58 812)
+    (sequence 94 813) (choice 814 3) (sequence 56 815) (choice 63 242) (sequence 242 817) (sequence 239 759)
+    // where_clause, from 818 on
+    (sequence 819 820) (word Where) (choice 821 3) (sequence 825 822) (sequence 823 43) (many 824) (sequence 42 825)
+    // where_predicate, from 825 on
+    (choice 826 827) (sequence 47 57) (sequence 203 828) (sequence 135 57)
 };
