@@ -2,4 +2,8 @@
 #![tactic(auto)]
 
 #[cfg(test)]
+mod by_name;
+#[cfg(test)]
+mod row;
+#[cfg(test)]
 mod rows;

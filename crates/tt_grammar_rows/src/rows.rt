@@ -1,16 +1,7 @@
 //! Texts, and how many of their trees a fragment takes: the compiler takes as many of each.
-use std::alloc::Global;
+use crate::row::{Row, all_are_taken};
 use std::test::Fail;
-use tt::{ErasedFileAstId, FileId, SpanAnchor, SyntaxContext};
-use tt_grammar::reach;
 use tt_pattern::GrammarFragment;
-use tt_text::parse_to_token_tree;
-
-// A fragment, and texts with how many trees it takes of each; none is said by a 0.
-struct Row {
-    fragment: GrammarFragment,
-    texts: &'static [(&'static str, usize)],
-}
 
 // A list of arguments that `>>` closes, and one with `>=` behind it; a comparison; a struct literal, but not behind `if`; an operator
 // without an operand; what is behind a block as a statement; operators that another stands behind; `_` and `const` blocks, which
@@ -170,39 +161,9 @@ const ROWS: [Row; 9] = [
     },
 ];
 
-// How many trees of the text the fragment takes; 0 where it takes none.
-fn taken(alloc: Global, fragment: GrammarFragment, text: &str) -> Option<usize> {
-    let anchor = SpanAnchor {
-        file_id: FileId(0),
-        ast_id: ErasedFileAstId(0),
-    };
-    let tree = parse_to_token_tree(alloc, anchor, SyntaxContext(0), text).ok()?;
-    let count = reach(alloc, fragment, tree.token_trees().iter()).ok()?;
-    Some(count.unwrap_or(0))
-}
-
-// Whether the fragment takes so many of each text.
-fn are_taken(alloc: Global, row: &Row) -> bool {
-    for (text, count) in row.texts {
-        if taken(alloc, row.fragment, text) != Some(*count) {
-            return false;
-        }
-    }
-    true
-}
-
-fn all_are_taken(alloc: Global) -> bool {
-    for row in &ROWS {
-        if !are_taken(alloc, row) {
-            return false;
-        }
-    }
-    true
-}
-
 #[test]
 fn fragments_reach_so_far(rt: HostRuntime) -> Result<(), Fail> {
-    if all_are_taken(rt.alloc()) {
+    if all_are_taken(rt.alloc(), &ROWS) {
         Ok(())
     } else {
         Err(Fail::new("a fragment reaches otherwise"))
