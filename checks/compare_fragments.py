@@ -34,7 +34,10 @@ KNOWN = (
     ("other parameters than lifetimes behind `for`", r".*\bfor < (# \[\w*\] )*[^'>#]"),
     ("`::{` and `::*` where a statement begins", r"stmt .*:: (\{|\*)"),
     ("fields named by keywords", r".* \. (?!self|await)[a-z]+$"),
-    ("a bound alone as a type where no other may follow", r".*( as| ->|[&*]|const|mut)( '\w \+| [~?]| const| async)"),
+    ("parameters behind `unsafe` in a type", r".*\bunsafe <"),
+    ("`const` blocks as items", r"item .*\bconst \{"),
+    ("`[const]` before a bound", r".*\b(dyn|impl|:|\+) \[\w*\]"),
+    ("a bound alone as a type", r".*( as| ->|[&*<:=]|const|mut)( '\w \+| [~?]| const| async)"),
     ("an operator behind a range that has no end", r"(?!stmt .*\}).* \.\. [-+*/%^|&<>=!]+ "),
     ("a block behind an operator where a statement begins", r"stmt (.* )?(&&?|[-*!]|const|mut|\.\.=?) (# \[\w*\] )*.*\}( [^.?].*)?$"),
 )
