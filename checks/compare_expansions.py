@@ -10,6 +10,7 @@ which).
 """
 import argparse
 import collections
+import functools
 import json
 import os
 import re
@@ -52,6 +53,7 @@ class Compiler:
         return output_of(str(program))[1] if status == 0 else told
 
 
+@functools.lru_cache(maxsize=4)
 def tokens_of(program, text):
     """The tokens of a text, but for white space and comments that document nothing."""
     _, lines, _ = output_of(program, "tokens", "-", given=text)

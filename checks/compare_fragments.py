@@ -29,26 +29,17 @@ FRONT = "m! { "
 ERROR = re.compile(r"main\.rs:(\d+):(\d+): error(?:\[(\w+)\])?: (.*)")
 # Classes of texts that were cut short, each by what such a text looks like behind the name of its fragment.
 KNOWN = (
-    ("`_` and a `const` block, by `expr_2021`", r"expr_2021 (.*[^.] )?(_|const \{)"),
-    ("`..=` where a pattern's fragment begins, or behind `let` and `for`", r"pat_param \.\.= |.*\b(let|for) (\| )?\.\.= "),
-    ("`default` and `safe` where a statement begins", r"stmt (# \[\w*\] )*(default|safe) (?!::|\.|!|=)"),
-    ("`_` behind `return`, `break`, `yield`, `..` and `raw const`", r".*(return|(break|continue)( '\w)?|yield|\.\.=?|raw const|raw mut) _"),
-    ("calls, `?` and fields behind jumps and closures", r".*\b(return|break|continue|yield)( '\w+)? [?(\[.]|.*\|.* (-> .*\{.?\}|\.\.) [?(\[.]"),
-    ("attributes behind an operator in front", r".*(&|&&|-|\*|!|raw const|raw mut|& mut) # \["),
-    ("`impl ! {}`", r"item .*\bimpl (< .*> )?(const )?! (for|\{|where)"),
-    ("conditions that begin with a block", r".*\b(if|while|&&|\|\||=) \{"),
-    ("`async` blocks as statements", r"stmt (# \[\w*\] )*('\w : )?async (move )?\{"),
-    ("`dyn` and `impl` with nothing behind, or before `::`", r".*\b(dyn|impl)( ::|$| [{>;|=,)!]| where| for <)"),
-    ("a bound before `+=`", r".*\+="),
-    ("a pattern of `!`", r"(pat|pat_param|stmt) .*!$"),
-    ("`|=` behind a pattern", r"(pat|stmt) .*\|="),
-    ("`true` and `false` in ranges of patterns", r"(pat|pat_param|stmt) .*((true|false) \.\.|\.\.=? (true|false)|- (true|false))"),
-    ("a range operator behind a pattern that is no end of a range", r"(pat|pat_param|stmt) .*\.\.=?$"),
-    ("`<` behind the path of a pattern", r"(pat|pat_param|stmt) .*(<|<<|<-)$"),
     ("`use<..>` alone as a type", r".*\buse <"),
-    ("`...` behind an expression", r".*\.\.\."),
-    ("`::` behind a field, and fields named by keywords", r".* \. \w+( ::|$)"),
+    ("`const` before `impl`", r"(item|stmt) .*\bconst impl\b"),
+    ("other parameters than lifetimes behind `for`", r".*\bfor < (# \[\w*\] )*[^'>#]"),
     ("`::{` and `::*` where a statement begins", r"stmt .*:: (\{|\*)"),
+    ("fields named by keywords", r".* \. (?!self|await)[a-z]+$"),
+    ("parameters behind `unsafe` in a type", r".*\bunsafe <"),
+    ("`const` blocks as items", r"item .*\bconst \{"),
+    ("`[const]` before a bound", r".*\b(dyn|impl|:|\+) \[\w*\]"),
+    ("a bound alone as a type", r".*( as| ->|[&*<:=]|const|mut)( '\w \+| [~?]| const| async)"),
+    ("an operator behind a range that has no end", r"(?!stmt .*\}).* \.\. [-+*/%^|&<>=!]+ "),
+    ("a block behind an operator where a statement begins", r"stmt (.* )?(&&?|[-*!]|const|mut|\.\.=?) (# \[\w*\] )*.*\}( [^.?].*)?$"),
 )
 
 TREES = {}

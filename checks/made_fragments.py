@@ -56,6 +56,18 @@ def heights_of_names():
 
 
 HEIGHTS = heights_of_names()
+# What is told of a choice, by the choice itself: of each alternative how deep it goes at least, and how likely it is.
+CHOICES = {}
+
+
+def alternatives(part, depth):
+    """The alternatives of a choice that go no deeper than is left, or least deep, and how likely each is."""
+    if id(part) not in CHOICES:
+        CHOICES[id(part)] = [(it, height(it, HEIGHTS), 1 if str(it[1]).startswith("range") else 9) for it in part[1]]
+    told = CHOICES[id(part)]
+    most = max(min(deep for _, deep, _ in told), DEPTH - depth)
+    some = [it for it in told if it[1] <= most]
+    return [it for it, _, _ in some], [likely for _, _, likely in some]
 
 
 class Maker:
@@ -75,10 +87,7 @@ class Maker:
         if kind == "name":
             return self.words(inner, depth + 1)
         if kind == "choice":
-            most = max(height(part, HEIGHTS), DEPTH - depth)
-            some = [it for it in inner if height(it, HEIGHTS) <= most]
-            weights = [1 if str(it[1]).startswith("range") else 9 for it in some]
-            return self.part(self.chance.choices(some, weights)[0], name, depth)
+            return self.part(self.chance.choices(*alternatives(part, depth))[0], name, depth)
         if kind == "sequence":
             return [word for it in inner for word in self.part(it, name, depth)]
         if kind in "&!":
