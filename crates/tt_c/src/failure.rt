@@ -233,6 +233,8 @@ fn macro_fault(fault: MacroFault) -> Fault
         MacroFault::Ambiguous(_) => Fault::Ambiguous,
         MacroFault::Expansion(error) => fill_fault(error.fault),
         MacroFault::TooDeep => Fault::TooDeep,
+        MacroFault::NotWritable => Fault::NotWritable,
+        MacroFault::TooLong => Fault::MadeTooLong,
     }
 }
 
@@ -247,13 +249,5 @@ pub(crate) fn expand_text_failure(error: ExpandTextError) -> Failure
             at: finding.at as usize,
         },
         ExpandTextError::Limit(fault) => limit_failure(fault),
-        ExpandTextError::NotWritable(at) => Failure {
-            fault: Fault::NotWritable,
-            at: at as usize,
-        },
-        ExpandTextError::TooLong(at) => Failure {
-            fault: Fault::MadeTooLong,
-            at: at as usize,
-        },
     }
 }

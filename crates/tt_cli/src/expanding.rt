@@ -11,7 +11,7 @@ use std::io::{self, Write};
 use std::process::ExitCode;
 use tt::TtFault;
 use tt_expand::{ExpandOptions, ExpandTextError, Expanded, Finding, expand_leniently};
-use tt_source::{Diagnostic, Level, SourceFile, Style, diagnostic_text};
+use tt_source::{SourceFile, Style};
 
 const BYTE_ORDER_MARK: &str = "\u{feff}";
 
@@ -22,26 +22,6 @@ struct Outcome {
     // whether a byte order mark stands before it
     has_mark: bool,
     counts: Counts,
-}
-
-// What is told of a byte of a text.
-fn told_at<'x>(
-    alloc: Global,
-    style: Style,
-    name: &'x str,
-    text: &'x str,
-    at: u32,
-    message: &'x str,
-) -> Result<String, AllocError> {
-    let source = SourceFile::new(alloc, name, text)?;
-    let diagnostic = Diagnostic {
-        level: Level::Error,
-        message,
-        spot: Some(source.spot(at as usize)),
-        notes: Vec::new(alloc),
-        placed_note: None,
-    };
-    diagnostic_text(alloc, style, &diagnostic)
 }
 
 // What is told where a limit is passed.
@@ -67,14 +47,6 @@ fn refused(
         ExpandTextError::Limit(fault) => past_limit(rt, name, fault),
         ExpandTextError::Macro(finding) => {
             Failure::told(told_of(alloc, style, name, text, limit, &[finding]))
-        }
-        ExpandTextError::NotWritable(at) => {
-            let message = "what this becomes would not read back as it is";
-            Failure::told(told_at(alloc, style, name, text, at, message))
-        }
-        ExpandTextError::TooLong(at) => {
-            let message = "what this becomes has 4294967295 bytes or more";
-            Failure::told(told_at(alloc, style, name, text, at, message))
         }
     }
 }

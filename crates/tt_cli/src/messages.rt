@@ -94,5 +94,11 @@ pub fn message(alloc: Global, name: &str, fault: MacroFault) -> Result<String, A
         MacroFault::TooDeep => {
             format!(in alloc; "`{name}` is called in too many expansions, one inside the other")
         }
+        MacroFault::NotWritable => format!(in alloc;
+            "what comes of `{name}` cannot be written: this would read back as something else"
+        ),
+        MacroFault::TooLong => format!(in alloc;
+            "what comes of `{name}` has 4294967295 bytes or more"
+        ),
     }
 }

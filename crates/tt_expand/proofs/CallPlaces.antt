@@ -10,7 +10,8 @@ use Rattle.tt.specs.Types.Delimiter.{Delimiter}
 use Rattle.tt.specs.Types.Ident.{Ident}
 use Rattle.tt.specs.Types.Leaf.TheVariants as leaf_of
 use Rattle.tt.specs.Types.Span.{Span}
-use Rattle.tt_expand.specs.Coming.{begin_at, takes_in, end_in, rest_in}
+use Rattle.tt_expand.specs.Coming.{takes_in, end_in, rest_in}
+use Rattle.tt_edit.specs.Places.{begin_at}
 use Rattle.tt_items.specs.Items.{Definition, Call, calls, call_from, call_behind, call_in, definition_in, is_at_colons, is_at_root, item_from, item_in, name_in}
 use Rattle.tt_edit.specs.Laid.{Lies, Laid, lies_end, lies_leaf, lies_node}
 use Rattle.tt_edit.proofs.LaidFacts.{laid_behind, laid_order, laid_past, starts_before}

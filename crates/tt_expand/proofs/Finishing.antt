@@ -1,5 +1,5 @@
 -- What is built once what comes of the levels that are left is.
-use Rattle.std.proofs.Common.{◌≡◌, ℕ, List, [], ◌∷◌, refl, ap, sym, subst, ◌∙◌}
+use Rattle.std.proofs.Common.{◌≡◌, ℕ, false, List, [], ◌∷◌, refl, ap, sym, subst, ◌∙◌}
 use Rattle.tt.specs.Building.{Stack, above, append, close_innermost}
 use Rattle.tt.specs.Forest.{Forest, end, leaf, node, join}
 use Rattle.tt.specs.Types.Delimiter.{Delimiter}
@@ -53,37 +53,37 @@ module _ (close : Span) (closes : List Span) (others : Outcome) (outer : List Ou
 
 -- Whatever comes of what is left, what comes of the trees is built once that is: what is known, the levels, and what is built, at first and now.
 pub record IsGoing (setting : Setting) (limit : ℕ) (siblings : Siblings) (trees : Forest) (before : Known) (old : Stack) (levels : List Level) (now : Known) (stack : Stack) : Type 0 where
-  pub finishes : (after : Known) (outcomes : List Outcome) → Ends setting limit levels now after outcomes
-      → (outcome : Outcome) × Comes setting limit (begun_among siblings) 0 before trees after outcome × (finished (closes_of levels) outcomes stack ≡ append (trees_left outcome) old)
+  pub finishes : (after : Known) (outcomes : List Outcome) → Ends setting false limit levels now after outcomes
+      → (outcome : Outcome) × Comes setting false limit (begun_among siblings) 0 before trees after outcome × (finished (closes_of levels) outcomes stack ≡ append (trees_left outcome) old)
 
 module _ (setting : Setting) (limit : ℕ) (siblings : Siblings) (trees : Forest) (before now others : Known) (old stack : Stack) (level next : Level) (outer nexts : List Level)
     (going : IsGoing setting limit siblings trees before old (level ∷ outer) now stack) where
   -- It goes on where something more is built in the innermost level.
-  pub goes_on : (grown : List Outcome → List Outcome) (built : Stack) → Leads setting limit (level ∷ outer) now grown (next ∷ nexts) others
+  pub goes_on : (grown : List Outcome → List Outcome) (built : Stack) → Leads setting false limit (level ∷ outer) now grown (next ∷ nexts) others
       → closes_of (next ∷ nexts) ≡ closes_of (level ∷ outer)
       → ((first : Outcome) (more : List Outcome) → finished (closes_of (level ∷ outer)) (grown (first ∷ more)) stack ≡ finished (closes_of (level ∷ outer)) (first ∷ more) built)
       → IsGoing setting limit siblings trees before old (next ∷ nexts) others built
   goes_on grown built leads closes same = record { finishes = by }
     where
-      by : (after : Known) (outcomes : List Outcome) → Ends setting limit (next ∷ nexts) others after outcomes
-          → (outcome : Outcome) × Comes setting limit (begun_among siblings) 0 before trees after outcome × (finished (closes_of (next ∷ nexts)) outcomes built ≡ append (trees_left outcome) old)
+      by : (after : Known) (outcomes : List Outcome) → Ends setting false limit (next ∷ nexts) others after outcomes
+          → (outcome : Outcome) × Comes setting false limit (begun_among siblings) 0 before trees after outcome × (finished (closes_of (next ∷ nexts)) outcomes built ≡ append (trees_left outcome) old)
       by after [] e = absurd e
       by after (first ∷ more) e =
           let (outcome, comes, is) = going.finishes after (grown (first ∷ more)) (leads after (first ∷ more) e) in
           (outcome, comes, ap (λ cs. finished cs (first ∷ more) built) closes ∙ sym (same first more) ∙ is)
 
   -- It goes on in a subtree.
-  pub goes_into : (it : Delimiter) → Leads setting limit (level ∷ outer) now (first_subtree it) (next ∷ nexts) others → closes_of (next ∷ nexts) ≡ it.close ∷ closes_of (level ∷ outer)
+  pub goes_into : (it : Delimiter) → Leads setting false limit (level ∷ outer) now (first_subtree it) (next ∷ nexts) others → closes_of (next ∷ nexts) ≡ it.close ∷ closes_of (level ∷ outer)
       → IsGoing setting limit siblings trees before old (next ∷ nexts) others (above stack it.kind it.open_span end)
   goes_into it leads closes = record { finishes = by }
     where
-      by : (after : Known) (outcomes : List Outcome) → Ends setting limit (next ∷ nexts) others after outcomes
-          → (outcome : Outcome) × Comes setting limit (begun_among siblings) 0 before trees after outcome
+      by : (after : Known) (outcomes : List Outcome) → Ends setting false limit (next ∷ nexts) others after outcomes
+          → (outcome : Outcome) × Comes setting false limit (begun_among siblings) 0 before trees after outcome
           × (finished (closes_of (next ∷ nexts)) outcomes (above stack it.kind it.open_span end) ≡ append (trees_left outcome) old)
       by after [] e = absurd e
       by after (held ∷ []) e = absurd (none after held (leads after (held ∷ []) e))
         where
-          none : (after : Known) (held : Outcome) → Ends setting limit (level ∷ outer) now after [] → ⊥
+          none : (after : Known) (held : Outcome) → Ends setting false limit (level ∷ outer) now after [] → ⊥
           none after held e = e
       by after (held ∷ first ∷ more) e =
           let (outcome, comes, is) = going.finishes after (first_subtree it (held ∷ first ∷ more)) (leads after (held ∷ first ∷ more) e) in (
@@ -94,12 +94,12 @@ module _ (setting : Setting) (limit : ℕ) (siblings : Siblings) (trees : Forest
           )
 
   -- It goes on behind one.
-  pub goes_out : (close : Span) → Leads setting limit (level ∷ outer) now (λ outcomes. nothing ∷ outcomes) (next ∷ nexts) others → close ∷ closes_of (next ∷ nexts) ≡ closes_of (level ∷ outer)
+  pub goes_out : (close : Span) → Leads setting false limit (level ∷ outer) now (λ outcomes. nothing ∷ outcomes) (next ∷ nexts) others → close ∷ closes_of (next ∷ nexts) ≡ closes_of (level ∷ outer)
       → IsGoing setting limit siblings trees before old (next ∷ nexts) others (close_innermost close stack)
   goes_out close leads closes = record { finishes = by }
     where
-      by : (after : Known) (outcomes : List Outcome) → Ends setting limit (next ∷ nexts) others after outcomes
-          → (outcome : Outcome) × Comes setting limit (begun_among siblings) 0 before trees after outcome
+      by : (after : Known) (outcomes : List Outcome) → Ends setting false limit (next ∷ nexts) others after outcomes
+          → (outcome : Outcome) × Comes setting false limit (begun_among siblings) 0 before trees after outcome
           × (finished (closes_of (next ∷ nexts)) outcomes (close_innermost close stack) ≡ append (trees_left outcome) old)
       by after [] e = absurd e
       by after (first ∷ more) e =
@@ -114,16 +114,16 @@ pub begins : (setting : Setting) (limit : ℕ) (siblings : Siblings) (trees : Fo
     → IsGoing setting limit siblings trees before old (begun siblings trees close ∷ []) before old
 begins setting limit siblings trees before old close = record { finishes = by }
   where
-    by : (after : Known) (outcomes : List Outcome) → Ends setting limit (begun siblings trees close ∷ []) before after outcomes
-        → (outcome : Outcome) × Comes setting limit (begun_among siblings) 0 before trees after outcome × (finished (close ∷ []) outcomes old ≡ append (trees_left outcome) old)
+    by : (after : Known) (outcomes : List Outcome) → Ends setting false limit (begun siblings trees close ∷ []) before after outcomes
+        → (outcome : Outcome) × Comes setting false limit (begun_among siblings) 0 before trees after outcome × (finished (close ∷ []) outcomes old ≡ append (trees_left outcome) old)
     by after [] e = absurd e
-    by after (it ∷ []) (inside, comes, e) = (it, subst (λ k. Comes setting limit (begun_among siblings) 0 before trees k it) e comes, refl)
+    by after (it ∷ []) (inside, comes, e) = (it, subst (λ k. Comes setting false limit (begun_among siblings) 0 before trees k it) e comes, refl)
     by after (it ∷ other ∷ more) (inside, comes, e) = absurd e
 
 -- All is built.
 pub ends_so : (setting : Setting) (limit : ℕ) (siblings : Siblings) (trees : Forest) (before now after : Known) (old stack : Stack) (level : Level) (outer : List Level)
-    → IsGoing setting limit siblings trees before old (level ∷ outer) now stack → Ends setting limit (level ∷ outer) now after (nothing ∷ [])
-    → (outcome : Outcome) × Comes setting limit (begun_among siblings) 0 before trees after outcome × (stack ≡ append (trees_left outcome) old)
+    → IsGoing setting limit siblings trees before old (level ∷ outer) now stack → Ends setting false limit (level ∷ outer) now after (nothing ∷ [])
+    → (outcome : Outcome) × Comes setting false limit (begun_among siblings) 0 before trees after outcome × (stack ≡ append (trees_left outcome) old)
 ends_so setting limit siblings trees before now after old stack level [] going e =
     let (outcome, comes, is) = going.finishes after (nothing ∷ []) e in
     (outcome, comes, sym (append-end stack) ∙ is)

@@ -1,10 +1,10 @@
 -- What takes the place of calls in a text fits into it.
-use Rattle.std.proofs.Common.{ℕ, List, refl, arith}
+use Rattle.std.proofs.Common.{ℕ, Bool, List, refl, arith}
 use Rattle.std.specs.Str.{IsUtf8}
 use Rattle.tt.specs.Forest.{Forest, Root}
 use Rattle.tt_base.specs.declared.span.SpanPart.{SpanPart}
 use Rattle.tt_items.specs.declared.position.Position.{Position}
-use Rattle.tt_expand.specs.Coming.{Comes, ends, on_leaf, on_node, on_definition, on_other_call, into_other_call, on_faulty_call, on_call}
+use Rattle.tt_expand.specs.Coming.{Comes, ends, on_leaf, on_node, on_definition, on_other_call, into_other_call, on_faulty_call, on_call, on_unwritten_call}
 use Rattle.tt_expand.specs.Expansion.{replacements}
 use Rattle.tt_expand.specs.Knowing.{Setting, Known}
 use Rattle.tt_edit.specs.Laid.{Laid, lies_leaf, lies_node}
@@ -17,8 +17,8 @@ use Rattle.tt_edit.proofs.ParsedOrder.{parsed_laid}
 use Rattle.tt_text.specs.Parsed.{IsParse}
 
 -- What comes of trees that lie in a text takes the place of parts of it that follow one another.
-comes_follow : {text : List ℕ} {setting : Setting} {limit plain from to : ℕ} {position : Position} {known after : Known} {trees : Forest} {outcome : Outcome}
-    → Comes setting limit position plain known trees after outcome → Laid text from trees to → Follow text from (replacements outcome) to
+comes_follow : {text : List ℕ} {setting : Setting} {in_text : Bool} {limit plain from to : ℕ} {position : Position} {known after : Known} {trees : Forest} {outcome : Outcome}
+    → Comes setting in_text limit position plain known trees after outcome → Laid text from trees to → Follow text from (replacements outcome) to
 comes_follow ends laid = none (laid_order laid)
 comes_follow (on_leaf plain others) (lies_leaf {it = it} lies behind) =
     follow_from (omega (arith, lies.after, starts_before it lies.range.order)) (comes_follow others behind)
@@ -28,11 +28,14 @@ comes_follow (on_definition {it = it} inside going is read others) laid = comes_
 comes_follow (on_other_call {it = it} going is unexpanded not_into others) laid = comes_follow others (laid_behind it.len laid)
 comes_follow (into_other_call going is unexpanded into others) laid = comes_follow others laid
 comes_follow (on_faulty_call {it = it} at fault going is called some faulty others) laid = comes_follow others (laid_behind it.len laid)
-comes_follow {setting = setting} (on_call {position = position} {it = it} {trees = trees} tree going is some free expands held others) laid =
+comes_follow {setting = setting} (on_call {position = position} {it = it} {trees = trees} tree going is some free expands held may others) laid =
     let (lies, behind) = call_laid setting.root trees it position is laid in
     next lies (comes_follow others behind)
+comes_follow {setting = setting} (on_unwritten_call {position = position} {it = it} {trees = trees} tree at fault going is called some free expands held unwritten others) laid =
+    let (lies, behind) = call_laid setting.root trees it position is laid in
+    follow_from (omega (arith, lies.after, lies.range.order)) (comes_follow others behind)
 
 -- What comes of the trees of a text fits into it.
-pub comes_fit : {setting : Setting} {limit plain : ℕ} {position : Position} {known after : Known} {outcome : Outcome} (part : SpanPart) (text : List ℕ) (root : Root)
-    → IsUtf8 text → IsParse part text root → Comes setting limit position plain known root.children after outcome → FitAll (replacements outcome) (begun text)
+pub comes_fit : {setting : Setting} {in_text : Bool} {limit plain : ℕ} {position : Position} {known after : Known} {outcome : Outcome} (part : SpanPart) (text : List ℕ) (root : Root)
+    → IsUtf8 text → IsParse part text root → Comes setting in_text limit position plain known root.children after outcome → FitAll (replacements outcome) (begun text)
 comes_fit part text root utf8 parse comes = follow_fit (begun text) refl (omega arith) (comes_follow comes (parsed_laid part text root utf8 parse))

@@ -1,66 +1,71 @@
 -- What comes next where a call is passed.
-use Rattle.std.proofs.Common.{◌≡◌, ◌<◌, ◌≤◌, ℕ, Bool, List, ◌∷◌, map, reverse, true, false, None, cond, refl, ap, ap₂, sym, subst, ◌∙◌, arith}
+use Rattle.std.proofs.Common.{◌≡◌, ◌<◌, ◌≤◌, ℕ, suc, Bool, List, ◌∷◌, map, reverse, true, false, None, Some, cond, refl, ap, ap₂, sym, subst, ◌∙◌, arith}
 use Rattle.tt.specs.Forest.{Forest, Root, size}
 use Rattle.tt.specs.Gluing.{after_trees}
 use Rattle.tt.specs.Iters.{rest_of}
 use Rattle.tt.specs.Moves.{after_tree}
+use Rattle.tt.specs.Span.{start_of}
+use Rattle.tt_expand.specs.declared.fault.Finding.{Finding}
+use Rattle.tt_expand.specs.declared.fault.MacroFault.{MacroFault}
 use Rattle.tt_expand.specs.declared.walk.Event.{Event}
 use Rattle.tt_expand.specs.declared.walk.Event.TheVariants as event
 use Rattle.tt_expand.specs.declared.walk.Walk.{Walk}
 use Rattle.tt_expand.specs.Calling.{IsFaulty, IsExpanded}
-use Rattle.tt_expand.specs.Coming.{begin_at, end_in, takes_in, begun_by, is_conditional_in, placed_at, Comes}
+use Rattle.tt_expand.specs.Coming.{end_in, len_in, takes_in, begun_by, is_conditional_in, placed_at, Comes}
+use Rattle.tt_edit.specs.Places.{begin_at}
 use Rattle.tt_items.specs.Items.{Call, calls}
-use Rattle.tt_expand.specs.Knowing.{Setting, Known}
-use Rattle.tt_expand.specs.Macros.{called_by, arms_of, known_behind}
+use Rattle.tt_expand.specs.Knowing.{Setting, Known, with_finding}
+use Rattle.tt_expand.specs.Macros.{MayStand, IsUnwritten, called_by, arms_of, found_of, known_behind}
 use Rattle.tt_expand.specs.Outcomes.{Outcome, trees_left, placed}
 use Rattle.tt_expand.specs.Passing.{IsStay, IsInvoked}
 use Rattle.tt_items.specs.Positions.{begun as begun_among}
-use Rattle.tt_expand.specs.Walks.{Level, level_of, levels_of, past, past_call, first_stay, first_becomes, Leads, closes_of, work_in, IsNext, IsFirst, IsAtItem, Steps}
-use Rattle.tt_expand.proofs.Leading.{leads_other, leads_faulty, leads_call}
+use Rattle.tt_expand.specs.Walks.{Level, level_of, levels_of, past, past_call, first_stay, first_becomes, Leads, GoesPast, found_by, closes_of, work_in, IsNext, IsFirst, IsAtItem, Steps}
+use Rattle.tt_expand.proofs.Leading.{leads_other, leads_faulty, leads_call, leads_unwritten}
 use Rattle.tt_items.proofs.Lengths.{call_less, fewer_behind}
 use Rattle.tt_matcher.specs.Fragments.{front_trees, is_brace}
 use Rattle.tt.specs.Types.Span.{Span}
 
-module _ (setting : Setting) (limit : ℕ) (old : Walk) (known : Known) (it : Call) (there : IsAtItem (calls it) setting old known) where
+module _ (setting : Setting) (in_text : Bool) (limit : ℕ) (old : Walk) (known : Known) (it : Call) (there : IsAtItem (calls it) setting old known) where
   -- What comes next where it stays.
   staying : (event : Event) (new : Walk) (others : Known)
-      → Leads setting limit (levels_of old) known (first_stay (front_trees it.len (rest_of old.level.rest)))
+      → Leads setting in_text limit (levels_of old) known (first_stay (front_trees it.len (rest_of old.level.rest)))
       (past it.len (is_brace it.delimiter.kind) (level_of old.level) ∷ map level_of (reverse old.outer.items)) others
-      → IsStay it old event new → IsNext setting limit (levels_of old) known event (levels_of new) others
+      → IsStay it old event new → IsNext setting in_text limit (levels_of old) known event (levels_of new) others
   staying event.End new others leads is = absurd is
   staying (event.Leaf l) new others leads is = absurd is
   staying (event.Opens h) new others leads is = absurd is
   staying (event.Closes c) new others leads is = absurd is
   staying (event.Invocation i) new others leads is = absurd is
   staying (event.Stays trees) new others leads (taken, now, outer) =
-      subst (λ os. IsNext setting limit (levels_of old) known (event.Stays trees) (level_of new.level ∷ map level_of (reverse os)) others) (sym outer)
-      (subst (λ l. IsNext setting limit (levels_of old) known (event.Stays trees) (l ∷ map level_of (reverse old.outer.items)) others) (sym now)
-      (subst (λ f. Leads setting limit (levels_of old) known (first_stay f) (past it.len (is_brace it.delimiter.kind) (level_of old.level) ∷ map level_of (reverse old.outer.items)) others) (sym taken) leads))
+      subst (λ os. IsNext setting in_text limit (levels_of old) known (event.Stays trees) (level_of new.level ∷ map level_of (reverse os)) others) (sym outer)
+      (subst (λ l. IsNext setting in_text limit (levels_of old) known (event.Stays trees) (l ∷ map level_of (reverse old.outer.items)) others) (sym now)
+      (subst (λ f. Leads setting in_text limit (levels_of old) known (first_stay f) (past it.len (is_brace it.delimiter.kind) (level_of old.level) ∷ map level_of (reverse old.outer.items)) others) (sym taken) leads))
 
   -- It stays where nothing expands it.
   pub next_other : (event : Event) (new : Walk) → arms_of (called_by setting known.macros it) ≡ None → setting.everywhere ≡ false → IsStay it old event new
-      → IsNext setting limit (levels_of old) known event (levels_of new) (known_behind it (called_by setting known.macros it) known)
+      → IsNext setting in_text limit (levels_of old) known event (levels_of new) (known_behind it (called_by setting known.macros it) known)
   next_other event new none not_into is =
       staying event new (known_behind it (called_by setting known.macros it) known)
-      (leads_other setting limit (level_of old.level) (map level_of (reverse old.outer.items)) known there.first there.goes_on it there.item none not_into) is
+      (leads_other setting in_text limit (level_of old.level) (map level_of (reverse old.outer.items)) known there.first there.goes_on it there.item none not_into) is
 
   -- It stays where something is wrong with it.
   pub next_faulty : (event : Event) (new : Walk) (others : Known) → IsFaulty setting limit (is_conditional_in old.level.position it (after_trees it.len (rest_of old.level.rest))) it known others → IsStay it old event new
-      → IsNext setting limit (levels_of old) known event (levels_of new) others
+      → IsNext setting in_text limit (levels_of old) known event (levels_of new) others
   next_faulty event new others wrong is =
-      staying event new others (leads_faulty setting limit (level_of old.level) (map level_of (reverse old.outer.items)) known there.first there.goes_on it there.item others wrong) is
+      staying event new others (leads_faulty setting in_text limit (level_of old.level) (map level_of (reverse old.outer.items)) known there.first there.goes_on it there.item others wrong) is
 
   -- A tree comes of it.
-  pub next_expanded : (event : Event) (new : Walk) (others : Known) (tree : Root) → IsExpanded setting limit (is_conditional_in old.level.position it (after_trees it.len (rest_of old.level.rest))) it tree known others → IsInvoked it tree old event new
-      → IsNext setting limit (levels_of old) known event (levels_of new) others
-  next_expanded event.End new others tree from is = absurd is
-  next_expanded (event.Leaf l) new others tree from is = absurd is
-  next_expanded (event.Opens h) new others tree from is = absurd is
-  next_expanded (event.Closes c) new others tree from is = absurd is
-  next_expanded (event.Stays f) new others tree from is = absurd is
-  next_expanded (event.Invocation i) new others tree from (is, now, outer) =
-      subst (λ os. IsNext setting limit (levels_of old) known (event.Invocation i) (level_of new.level ∷ map level_of (reverse os)) others) (sym outer)
-      (subst (λ l. IsNext setting limit (levels_of old) known (event.Invocation i) (l ∷ map level_of (reverse old.outer.items)) others) (sym now) (
+  pub next_expanded : (event : Event) (new : Walk) (others : Known) (tree : Root) (defined_at : ℕ)
+      → IsExpanded setting limit (is_conditional_in old.level.position it (after_trees it.len (rest_of old.level.rest))) it tree defined_at known others
+      → IsInvoked it tree defined_at old event new → IsNext setting in_text limit (levels_of old) known event (levels_of new) others
+  next_expanded event.End new others tree defined_at from is = absurd is
+  next_expanded (event.Leaf l) new others tree defined_at from is = absurd is
+  next_expanded (event.Opens h) new others tree defined_at from is = absurd is
+  next_expanded (event.Closes c) new others tree defined_at from is = absurd is
+  next_expanded (event.Stays f) new others tree defined_at from is = absurd is
+  next_expanded (event.Invocation i) new others tree defined_at from (is, now, outer) =
+      subst (λ os. IsNext setting in_text limit (levels_of old) known (event.Invocation i) (level_of new.level ∷ map level_of (reverse os)) others) (sym outer)
+      (subst (λ l. IsNext setting in_text limit (levels_of old) known (event.Invocation i) (l ∷ map level_of (reverse old.outer.items)) others) (sym now) (
         from.left,
         from.fits,
         by,
@@ -72,24 +77,50 @@ module _ (setting : Setting) (limit : ℕ) (old : Walk) (known : Known) (it : Ca
       begin : Span
       begin = begin_at (rest_of old.level.rest) it.name.span
 
-      stop : Span
-      stop = end_in old.level.position it behind
-
       nexts : List Level
       nexts = past_call it (level_of old.level) ∷ map level_of (reverse old.outer.items)
 
-      by : (inside : Known) (held : Outcome) → Comes setting from.left (begun_among i.siblings) 0 others i.tree.children inside held
-          → Leads setting limit (levels_of old) known (first_becomes i.first_span i.last_span (placed i.is_statement i.delimiter (trees_left held))) nexts inside
-      by inside held comes =
-          subst (λ s. Leads setting limit (levels_of old) known (first_becomes s i.last_span (placed i.is_statement i.delimiter (trees_left held))) nexts inside) (sym is.first)
-          (subst (λ s. Leads setting limit (levels_of old) known (first_becomes begin s (placed i.is_statement i.delimiter (trees_left held))) nexts inside) (sym is.last)
-          (subst (λ d. Leads setting limit (levels_of old) known (first_becomes begin stop (placed i.is_statement d (trees_left held))) nexts inside) (sym is.delimiter)
-          (subst (λ b. Leads setting limit (levels_of old) known (first_becomes begin stop (placed b it.delimiter (trees_left held))) nexts inside) (sym is.is_statement)
-          (subst (λ n. Leads setting n (levels_of old) known (first_becomes begin stop (placed_at old.level.position it behind (trees_left held))) nexts inside) (sym from.fits)
-          (leads_call setting from.left (level_of old.level) (map level_of (reverse old.outer.items)) known there.first there.goes_on it from.arms tree there.item from.expands from.free from.makes inside held
-          (subst (λ k. Comes setting from.left (begun_by old.level.position it behind) 0 k tree.children inside held) from.known
-          (subst (λ t. Comes setting from.left (begun_by old.level.position it behind) 0 others t.children inside held) is.makes
-          (subst (λ s. Comes setting from.left (begun_among s) 0 others i.tree.children inside held) is.siblings comes))))))))
+      found : (at : ℕ) (fault : MacroFault) → found_by i at fault ≡ found_of it from.macro at fault
+      found at fault = ap₂ finding is.name (is.defined ∙ sym from.defined)
+        where
+          finding : List ℕ → ℕ → Finding
+          finding name place = record { name = name; at = at; fault = fault; defined_at = Some place }
+
+      put : (held : Outcome) → placed i.is_statement i.delimiter (trees_left held) ≡ placed_at old.level.position it behind (trees_left held)
+      put held = ap₂ (λ b d. placed b d (trees_left held)) is.is_statement is.delimiter
+
+      by : (inside : Known) (held : Outcome) → Comes setting false from.left (begun_among i.siblings) 0 others i.tree.children inside held
+          → GoesPast setting in_text limit (levels_of old) known i (placed i.is_statement i.delimiter (trees_left held)) nexts inside
+      by inside held comes = record { stands = stands; stays = stays }
+        where
+          came : Comes setting false from.left (begun_by old.level.position it behind) 0 known tree.children inside held
+          came =
+              subst (λ k. Comes setting false from.left (begun_by old.level.position it behind) 0 k tree.children inside held) from.known
+              (subst (λ t. Comes setting false from.left (begun_by old.level.position it behind) 0 others t.children inside held) is.makes
+              (subst (λ s. Comes setting false from.left (begun_among s) 0 others i.tree.children inside held) is.siblings comes))
+
+          stands : MayStand in_text (placed i.is_statement i.delimiter (trees_left held))
+              → Leads setting in_text limit (levels_of old) known (first_becomes i.first_span i.last_span (placed i.is_statement i.delimiter (trees_left held))) nexts inside
+          stands may =
+              subst (λ s. Leads setting in_text limit (levels_of old) known (first_becomes s i.last_span (placed i.is_statement i.delimiter (trees_left held))) nexts inside) (sym is.first)
+              (subst (λ s. Leads setting in_text limit (levels_of old) known (first_becomes begin s (placed i.is_statement i.delimiter (trees_left held))) nexts inside) (sym is.last)
+              (subst (λ f. Leads setting in_text limit (levels_of old) known (first_becomes begin (end_in old.level.position it behind) f) nexts inside) (sym (put held))
+              (subst (λ n. Leads setting in_text n (levels_of old) known (first_becomes begin (end_in old.level.position it behind) (placed_at old.level.position it behind (trees_left held))) nexts inside) (sym from.fits)
+              (leads_call setting from.left (level_of old.level) (map level_of (reverse old.outer.items)) known there.first there.goes_on it from.macro from.arms tree there.item
+              from.called from.expands from.free from.makes inside held came in_text (subst (MayStand in_text) (put held) may)))))
+
+          stays : in_text ≡ true → (at : ℕ) (fault : MacroFault) → IsUnwritten (placed i.is_statement i.delimiter (trees_left held)) (start_of i.first_span.range) at fault
+              → (stay : Forest) × Leads setting in_text limit (levels_of old) known (first_stay stay) nexts (with_finding (found_by i at fault) inside)
+          stays text at fault unwritten = (
+            front_trees (len_in old.level.position it behind) (rest_of old.level.rest),
+            subst (λ b. Leads setting b limit (levels_of old) known (first_stay (front_trees (len_in old.level.position it behind) (rest_of old.level.rest))) nexts (with_finding (found_by i at fault) inside)) (sym text)
+                (subst (λ n. Leads setting true n (levels_of old) known (first_stay (front_trees (len_in old.level.position it behind) (rest_of old.level.rest))) nexts (with_finding (found_by i at fault) inside)) (sym from.fits)
+                (subst (λ f. Leads setting true (suc from.left) (levels_of old) known (first_stay (front_trees (len_in old.level.position it behind) (rest_of old.level.rest))) nexts (with_finding f inside)) (sym (found at fault))
+                (leads_unwritten setting from.left (level_of old.level) (map level_of (reverse old.outer.items)) known there.first there.goes_on it from.macro from.arms tree there.item
+                from.called from.expands from.free from.makes inside held came at fault
+                (subst (λ s. IsUnwritten (placed_at old.level.position it behind (trees_left held)) (start_of s.range) at fault) is.first
+                (subst (λ f. IsUnwritten f (start_of i.first_span.range) at fault) (put held) unwritten))))),
+          )
 
 module _ (root : List ℕ) (old : Walk) (it : Call) (there : IsFirst (calls it) root old) where
   -- Less is left to do behind it.
@@ -116,13 +147,13 @@ module _ (root : List ℕ) (old : Walk) (it : Call) (there : IsFirst (calls it) 
   fewer true rest = fewer_behind 1 rest
   fewer false rest = omega arith
 
-  pub invoked_step : (tree : Root) (event : Event) (new : Walk) → IsInvoked it tree old event new → Steps (levels_of old) event (levels_of new)
-  invoked_step tree event.End new is = absurd is
-  invoked_step tree (event.Leaf l) new is = absurd is
-  invoked_step tree (event.Opens h) new is = absurd is
-  invoked_step tree (event.Closes c) new is = absurd is
-  invoked_step tree (event.Stays f) new is = absurd is
-  invoked_step tree (event.Invocation i) new (is, now, outer) =
+  pub invoked_step : (tree : Root) (defined_at : ℕ) (event : Event) (new : Walk) → IsInvoked it tree defined_at old event new → Steps (levels_of old) event (levels_of new)
+  invoked_step tree defined_at event.End new is = absurd is
+  invoked_step tree defined_at (event.Leaf l) new is = absurd is
+  invoked_step tree defined_at (event.Opens h) new is = absurd is
+  invoked_step tree defined_at (event.Closes c) new is = absurd is
+  invoked_step tree defined_at (event.Stays f) new is = absurd is
+  invoked_step tree defined_at (event.Invocation i) new (is, now, outer) =
       let behind = after_trees it.len (rest_of old.level.rest) in
       stepped (level_of new.level) (past_call it (level_of old.level)) now refl (fewer (takes_in old.level.position it behind) behind)
       (map level_of (reverse new.outer.items)) (ap (λ os. map level_of (reverse os)) outer)

@@ -9,13 +9,13 @@ use Rattle.tt.specs.Views.{trees_of}
 use Rattle.tt_expand.specs.declared.walk.Event.{Event}
 use Rattle.tt_expand.specs.declared.walk.Event.TheVariants as event
 use Rattle.tt_expand.specs.Coming.{Comes}
-use Rattle.tt_expand.specs.Expansion.{replacement, replacements, IsSame, IsEventWritten, GoesOn}
-use Rattle.tt_expand.specs.Knowing.{Setting, Known}
+use Rattle.tt_expand.specs.Expansion.{replacement, replacements, IsSame, IsPut, IsEventWritten, GoesOn}
+use Rattle.tt_expand.specs.Knowing.{Setting, Known, with_finding}
 use Rattle.tt_expand.specs.Outcomes.{Outcome, nothing, trees_left, placed}
 use Rattle.tt_items.specs.Positions.{begun as begun_among}
 use Rattle.tt_items.specs.declared.position.Siblings.TheVariants.{Items}
 use Rattle.tt_edit.specs.Texts.{Replacement, Writing, finished, with_all, FitAll, IsReplaced, AreReplaced}
-use Rattle.tt_expand.specs.Walks.{Level, begun, Ends, Leads, first_leaf, first_subtree, first_stay, first_becomes, work_in, IsNext, Steps}
+use Rattle.tt_expand.specs.Walks.{Level, begun, Ends, Leads, first_leaf, first_subtree, first_stay, first_becomes, GoesPast, found_by, work_in, IsNext, Steps}
 
 -- all that gives way in what comes of levels
 abbrev pub all_replacements : List Outcome → List Replacement
@@ -24,74 +24,74 @@ all_replacements (it ∷ others) = replacements it ++ all_replacements others
 
 -- whatever comes of what is left, that and what is replaced already is what comes of the trees
 pub record IsReading (setting : Setting) (limit : ℕ) (trees : Forest) (before : Known) (levels : List Level) (now : Known) (done : List Replacement) : Type 0 where
-  pub finishes : (after : Known) (outcomes : List Outcome) → Ends setting limit levels now after outcomes
-      → (outcome : Outcome) × Comes setting limit (begun_among Items) 0 before trees after outcome × (done ++ all_replacements outcomes ≡ replacements outcome)
+  pub finishes : (after : Known) (outcomes : List Outcome) → Ends setting true limit levels now after outcomes
+      → (outcome : Outcome) × Comes setting true limit (begun_among Items) 0 before trees after outcome × (done ++ all_replacements outcomes ≡ replacements outcome)
 
 -- Nothing is replaced yet.
 pub begins : (setting : Setting) (limit : ℕ) (trees : Forest) (before : Known) (close : Span) → IsReading setting limit trees before (begun Items trees close ∷ []) before []
 begins setting limit trees before close = record { finishes = by }
   where
-    by : (after : Known) (outcomes : List Outcome) → Ends setting limit (begun Items trees close ∷ []) before after outcomes
-        → (outcome : Outcome) × Comes setting limit (begun_among Items) 0 before trees after outcome × ([] ++ all_replacements outcomes ≡ replacements outcome)
+    by : (after : Known) (outcomes : List Outcome) → Ends setting true limit (begun Items trees close ∷ []) before after outcomes
+        → (outcome : Outcome) × Comes setting true limit (begun_among Items) 0 before trees after outcome × ([] ++ all_replacements outcomes ≡ replacements outcome)
     by after [] e = absurd e
-    by after (it ∷ []) (inside, comes, e) = (it, subst (λ k. Comes setting limit (begun_among Items) 0 before trees k it) e comes, append-nil (replacements it))
+    by after (it ∷ []) (inside, comes, e) = (it, subst (λ k. Comes setting true limit (begun_among Items) 0 before trees k it) e comes, append-nil (replacements it))
     by after (it ∷ other ∷ more) (inside, comes, e) = absurd e
 
 module _ (setting : Setting) (limit : ℕ) (trees : Forest) (before now others : Known) (level : Level) (outer nexts : List Level) (done : List Replacement)
     (reading : IsReading setting limit trees before (level ∷ outer) now done) where
   -- It goes on, where something more may be replaced.
-  reads_on : (grown : List Outcome → List Outcome) (more : List Replacement) → Leads setting limit (level ∷ outer) now grown nexts others
-      → ((after : Known) (outcomes : List Outcome) → Ends setting limit (level ∷ outer) now after (grown outcomes) → all_replacements (grown outcomes) ≡ more ++ all_replacements outcomes)
+  reads_on : (grown : List Outcome → List Outcome) (more : List Replacement) → Leads setting true limit (level ∷ outer) now grown nexts others
+      → ((after : Known) (outcomes : List Outcome) → Ends setting true limit (level ∷ outer) now after (grown outcomes) → all_replacements (grown outcomes) ≡ more ++ all_replacements outcomes)
       → IsReading setting limit trees before nexts others (done ++ more)
   reads_on grown more leads same = record { finishes = by }
     where
-      by : (after : Known) (outcomes : List Outcome) → Ends setting limit nexts others after outcomes
-          → (outcome : Outcome) × Comes setting limit (begun_among Items) 0 before trees after outcome × ((done ++ more) ++ all_replacements outcomes ≡ replacements outcome)
+      by : (after : Known) (outcomes : List Outcome) → Ends setting true limit nexts others after outcomes
+          → (outcome : Outcome) × Comes setting true limit (begun_among Items) 0 before trees after outcome × ((done ++ more) ++ all_replacements outcomes ≡ replacements outcome)
       by after outcomes e =
           let ended = leads after outcomes e in
           let (outcome, comes, is) = reading.finishes after (grown outcomes) ended in
           (outcome, comes, append_assoc done more (all_replacements outcomes) ∙ ap (λ l. done ++ l) (sym (same after outcomes ended)) ∙ is)
 
   -- Past a leaf, past trees that stay, into a subtree and out of one nothing is.
-  pub reads_leaf : (it : Leaf) → Leads setting limit (level ∷ outer) now (first_leaf it) nexts others → IsReading setting limit trees before nexts others done
+  pub reads_leaf : (it : Leaf) → Leads setting true limit (level ∷ outer) now (first_leaf it) nexts others → IsReading setting limit trees before nexts others done
   reads_leaf it leads = subst (IsReading setting limit trees before nexts others) (append-nil done) (reads_on (first_leaf it) [] leads same)
     where
-      same : (after : Known) (outcomes : List Outcome) → Ends setting limit (level ∷ outer) now after (first_leaf it outcomes) → all_replacements (first_leaf it outcomes) ≡ all_replacements outcomes
+      same : (after : Known) (outcomes : List Outcome) → Ends setting true limit (level ∷ outer) now after (first_leaf it outcomes) → all_replacements (first_leaf it outcomes) ≡ all_replacements outcomes
       same after [] e = refl
       same after (first ∷ more) e = refl
 
-  pub reads_stay : (stay : Forest) → Leads setting limit (level ∷ outer) now (first_stay stay) nexts others → IsReading setting limit trees before nexts others done
+  pub reads_stay : (stay : Forest) → Leads setting true limit (level ∷ outer) now (first_stay stay) nexts others → IsReading setting limit trees before nexts others done
   reads_stay stay leads = subst (IsReading setting limit trees before nexts others) (append-nil done) (reads_on (first_stay stay) [] leads same)
     where
-      same : (after : Known) (outcomes : List Outcome) → Ends setting limit (level ∷ outer) now after (first_stay stay outcomes) → all_replacements (first_stay stay outcomes) ≡ all_replacements outcomes
+      same : (after : Known) (outcomes : List Outcome) → Ends setting true limit (level ∷ outer) now after (first_stay stay outcomes) → all_replacements (first_stay stay outcomes) ≡ all_replacements outcomes
       same after [] e = refl
       same after (first ∷ more) e = refl
 
-  pub reads_subtree : (it : Delimiter) → Leads setting limit (level ∷ outer) now (first_subtree it) nexts others → IsReading setting limit trees before nexts others done
+  pub reads_subtree : (it : Delimiter) → Leads setting true limit (level ∷ outer) now (first_subtree it) nexts others → IsReading setting limit trees before nexts others done
   reads_subtree it leads = subst (IsReading setting limit trees before nexts others) (append-nil done) (reads_on (first_subtree it) [] leads same)
     where
-      same : (after : Known) (outcomes : List Outcome) → Ends setting limit (level ∷ outer) now after (first_subtree it outcomes) → all_replacements (first_subtree it outcomes) ≡ all_replacements outcomes
+      same : (after : Known) (outcomes : List Outcome) → Ends setting true limit (level ∷ outer) now after (first_subtree it outcomes) → all_replacements (first_subtree it outcomes) ≡ all_replacements outcomes
       same after [] e = refl
       same after (held ∷ []) e = absurd e
       same after (held ∷ first ∷ more) e = append_assoc (replacements held) (replacements first) (all_replacements more)
 
-  pub reads_end : Leads setting limit (level ∷ outer) now (λ outcomes. nothing ∷ outcomes) nexts others → IsReading setting limit trees before nexts others done
+  pub reads_end : Leads setting true limit (level ∷ outer) now (λ outcomes. nothing ∷ outcomes) nexts others → IsReading setting limit trees before nexts others done
   reads_end leads =
       subst (IsReading setting limit trees before nexts others) (append-nil done) (reads_on (λ outcomes. nothing ∷ outcomes) [] leads (λ after outcomes e. refl))
 
   -- Past a call it is.
-  pub reads_call : (first last : Span) (put : Forest) → Leads setting limit (level ∷ outer) now (first_becomes first last put) nexts others
+  pub reads_call : (first last : Span) (put : Forest) → Leads setting true limit (level ∷ outer) now (first_becomes first last put) nexts others
       → IsReading setting limit trees before nexts others (done ++ replacement first last put ∷ [])
   reads_call first last put leads = reads_on (first_becomes first last put) (replacement first last put ∷ []) leads same
     where
-      same : (after : Known) (outcomes : List Outcome) → Ends setting limit (level ∷ outer) now after (first_becomes first last put outcomes)
+      same : (after : Known) (outcomes : List Outcome) → Ends setting true limit (level ∷ outer) now after (first_becomes first last put outcomes)
           → all_replacements (first_becomes first last put outcomes) ≡ replacement first last put ∷ all_replacements outcomes
       same after [] e = absurd e
       same after (it ∷ more) e = refl
 
   -- All is.
-  pub reads_all : (after : Known) → Ends setting limit (level ∷ outer) now after (nothing ∷ [])
-      → (outcome : Outcome) × Comes setting limit (begun_among Items) 0 before trees after outcome × (done ≡ replacements outcome)
+  pub reads_all : (after : Known) → Ends setting true limit (level ∷ outer) now after (nothing ∷ [])
+      → (outcome : Outcome) × Comes setting true limit (begun_among Items) 0 before trees after outcome × (done ≡ replacements outcome)
   reads_all after e =
       let (outcome, comes, is) = reading.finishes after (nothing ∷ []) e in
       (outcome, comes, sym (append-nil done) ∙ is)
@@ -120,29 +120,43 @@ module _ (setting : Setting) (limit : ℕ) (trees : Forest) (before now others t
   same goes (known, written) =
       (done, subst (λ k. IsReading setting limit trees before nexts k done) (sym known) goes, subst (AreReplaced done source) (sym written) are)
 
-  pub reads_event : (it : Event) → IsNext setting limit (level ∷ outer) now it nexts others → GoesOn it true → IsEventWritten setting limit it others then old new → IsRead
+  pub reads_event : (it : Event) → IsNext setting true limit (level ∷ outer) now it nexts others → GoesOn it true → IsEventWritten setting limit it others then old new → IsRead
   reads_event event.End next goes is = absurd (cc goes)
   reads_event (event.Leaf it) next goes is = same (reads_leaf setting limit trees before now others level outer nexts done reading it next) is
   reads_event (event.Opens header) next goes is = same (reads_subtree setting limit trees before now others level outer nexts done reading header.delimiter next) is
   reads_event (event.Closes close) next goes is = same (reads_end setting limit trees before now others level outer nexts done reading next) is
   reads_event (event.Stays stay) next goes is = same (reads_stay setting limit trees before now others level outer nexts done reading (trees_of stay) next) is
-  reads_event (event.Invocation it) (left, fits, leads) goes is =
+  reads_event (event.Invocation it) (left, fits, goes_past) goes is =
       let back : limit - 1 ≡ left = omega (arith, fits) in
-      let comes : Comes setting left (begun_among it.siblings) 0 others it.tree.children then is.outcome =
-      subst (λ n. Comes setting n (begun_among it.siblings) 0 others it.tree.children then is.outcome) back is.comes in
-      let put : Forest = placed it.is_statement it.delimiter (trees_left is.outcome) in (
+      let comes : Comes setting false left (begun_among it.siblings) 0 others it.tree.children is.inside is.outcome =
+      subst (λ n. Comes setting false n (begun_among it.siblings) 0 others it.tree.children is.inside is.outcome) back is.comes in
+      by (goes_past is.inside is.outcome comes) is.put
+    where
+      put : Forest
+      put = placed it.is_statement it.delimiter (trees_left is.outcome)
+
+      by : GoesPast setting true limit (level ∷ outer) now it put nexts is.inside → IsPut it put is.inside then old new → IsRead
+      by past (inl (may, known, replaced)) = (
         done ++ replacement it.first_span it.last_span put ∷ [],
-        reads_call setting limit trees before now then level outer nexts done reading it.first_span it.last_span put (leads then is.outcome comes),
-        replaced_more done source old new (replacement it.first_span it.last_span put) are is.replaced,
+        reads_call setting limit trees before now then level outer nexts done reading it.first_span it.last_span put
+            (subst (Leads setting true limit (level ∷ outer) now (first_becomes it.first_span it.last_span put) nexts) (sym known) (past.stands may)),
+        replaced_more done source old new (replacement it.first_span it.last_span put) are replaced,
       )
+      by past (inr (at, fault, unwritten, known, written)) =
+          let (stay, leads) = past.stays refl at fault unwritten in
+          let found = with_finding (found_by it at fault) is.inside in (
+            done,
+            subst (λ k. IsReading setting limit trees before nexts k done) (sym known) (reads_stay setting limit trees before now found level outer nexts done reading stay leads),
+            subst (AreReplaced done source) (sym written) are,
+          )
 
   -- At the end all is.
-  pub reads_to_end : (it : Event) → IsNext setting limit (level ∷ outer) now it nexts others → GoesOn it false → IsEventWritten setting limit it others then old new
-      → (outcome : Outcome) × Comes setting limit (begun_among Items) 0 before trees then outcome × AreReplaced (replacements outcome) source new
+  pub reads_to_end : (it : Event) → IsNext setting true limit (level ∷ outer) now it nexts others → GoesOn it false → IsEventWritten setting limit it others then old new
+      → (outcome : Outcome) × Comes setting true limit (begun_among Items) 0 before trees then outcome × AreReplaced (replacements outcome) source new
   reads_to_end event.End ended goes (known, written) =
       let (outcome, comes, all) = reads_all setting limit trees before now others level outer nexts done reading others ended in (
         outcome,
-        subst (λ k. Comes setting limit (begun_among Items) 0 before trees k outcome) (sym known) comes,
+        subst (λ k. Comes setting true limit (begun_among Items) 0 before trees k outcome) (sym known) comes,
         subst (λ l. AreReplaced l source new) all (subst (AreReplaced done source) (sym written) are),
       )
   reads_to_end (event.Leaf it) next goes is = absurd (cc goes)

@@ -27,7 +27,7 @@ IsMadeWithin limit (made.Faulty at fault) = Unit {0}
 abbrev pub IsCalledWithin : (limit : ℕ) → Called → Type 0
 IsCalledWithin limit called.Other = Unit {0}
 IsCalledWithin limit called.Faulty = Unit {0}
-IsCalledWithin limit (called.Tree tree) = 0 < limit
+IsCalledWithin limit (called.Tree tree defined_at) = 0 < limit
 
 -- a call is wrong in some way, and that is found
 pub record IsFaulty (setting : Setting) (limit : ℕ) (is_conditional : Bool) (it : Call) (before after : Known) : Type 0 where
@@ -40,13 +40,16 @@ pub record IsFaulty (setting : Setting) (limit : ℕ) (is_conditional : Bool) (i
   pub wrong : IsCallFault is_conditional limit arms it at fault
   pub found : after ≡ with_finding (found_of it macro at fault) before
 
--- a call becomes a tree
-pub record IsExpanded (setting : Setting) (limit : ℕ) (is_conditional : Bool) (it : Call) (tree : Root) (before after : Known) : Type 0 where
+-- a call of a macro whose name stands at that byte in its definition becomes a tree
+pub record IsExpanded (setting : Setting) (limit : ℕ) (is_conditional : Bool) (it : Call) (tree : Root) (defined_at : ℕ) (before after : Known) : Type 0 where
   pub left : ℕ
+  pub macro : Macro
   pub arms : List Arm
   pub free : is_conditional ≡ false
   pub fits : limit ≡ suc left
-  pub expands : arms_of (called_by setting before.macros it) ≡ Some arms
+  pub called : called_by setting before.macros it ≡ Some macro
+  pub defined : macro.defined_at ≡ defined_at
+  pub expands : macro.arms ≡ Some arms
   pub makes : IsExpansion arms 0 0 it.input (expansion.Tree tree)
   pub known : after ≡ before
 
@@ -55,4 +58,4 @@ abbrev pub IsCalled : Setting → (limit : ℕ) → (is_conditional : Bool) → 
 IsCalled setting limit is_conditional it before called.Other after =
     (arms_of (called_by setting before.macros it) ≡ None) × (after ≡ known_behind it (called_by setting before.macros it) before)
 IsCalled setting limit is_conditional it before called.Faulty after = IsFaulty setting limit is_conditional it before after
-IsCalled setting limit is_conditional it before (called.Tree tree) after = IsExpanded setting limit is_conditional it tree before after
+IsCalled setting limit is_conditional it before (called.Tree tree defined_at) after = IsExpanded setting limit is_conditional it tree defined_at before after

@@ -1,17 +1,18 @@
 -- What comes of trees in which macros are defined and called.
-use Rattle.std.specs.Prelude.{◌≡◌, ◌⊎◌, ◌<◌, ◌-◌, ℕ, suc, Bool, true, false, List, length, take, Option, None, Some, option_map, if◌then◌else◌}
+use Rattle.std.specs.Prelude.{◌≡◌, ◌⊎◌, ◌<◌, ◌-◌, ℕ, suc, Bool, true, false, List, length, take, None, Some, if◌then◌else◌}
 use Rattle.tt.specs.Forest.{Forest, Root, end, leaf, node}
 use Rattle.tt.specs.Gluing.{after_trees}
-use Rattle.tt.specs.Moves.{first_token, after_tree}
-use Rattle.tt.specs.Token.{first_span}
+use Rattle.tt.specs.Moves.{after_tree}
+use Rattle.tt.specs.Span.{start_of}
 use Rattle.tt.specs.Types.Delimiter.{Delimiter}
 use Rattle.tt.specs.Types.Leaf.{Leaf}
 use Rattle.tt.specs.Types.Span.{Span}
 use Rattle.tt_expand.specs.declared.fault.MacroFault.{MacroFault}
+use Rattle.tt_edit.specs.Places.{begin_at}
 use Rattle.tt_items.specs.declared.position.Position.{Position}
 use Rattle.tt_items.specs.Items.{Definition, Call, defines, calls, other, item_in}
 use Rattle.tt_expand.specs.Knowing.{Setting, Known, with_finding}
-use Rattle.tt_expand.specs.Macros.{IsRead, IsCallFault, called_by, arms_of, found_of, known_behind}
+use Rattle.tt_expand.specs.Macros.{IsRead, IsCallFault, MayStand, IsUnwritten, called_by, arms_of, found_of, known_behind}
 use Rattle.tt_expand.specs.Outcomes.{Outcome, nothing, passes, enters, stays, becomes, trees_left, placed}
 use Rattle.tt_items.specs.Positions.{begun, first_in, behind, behind_leaf, behind_subtree, keeps_macros, is_statement, is_conditional, takes_semicolon, siblings_of_call}
 use Rattle.tt_expand.specs.Scopes.{Macro}
@@ -29,14 +30,6 @@ abbrev pub known_after : (are_kept : Bool) → (before inside : Known) → Known
 known_after true before inside = inside
 known_after false before inside = record inside { macros = take (length before.macros) inside.macros }
 
--- where trees begin, or the other span, where there are none
-abbrev pub span_or : Option Span → (instead : Span) → Span
-span_or None instead = instead
-span_or (Some it) instead = it
-
-abbrev pub begin_at : Forest → (instead : Span) → Span
-begin_at trees instead = span_or (option_map first_span (first_token trees)) instead
-
 -- the `;` before these trees is a part of a call
 abbrev pub takes_in : Position → Call → (rest : Forest) → Bool
 takes_in position it rest = takes_semicolon it.delimiter.kind rest position
@@ -44,6 +37,10 @@ takes_in position it rest = takes_semicolon it.delimiter.kind rest position
 -- where the call ends then
 abbrev pub end_in : Position → Call → (rest : Forest) → Span
 end_in position it rest = if takes_in position it rest then begin_at rest it.delimiter.close else it.delimiter.close
+
+-- how many trees it is then
+abbrev pub len_in : Position → Call → (rest : Forest) → ℕ
+len_in position it rest = if takes_in position it rest then suc it.len else it.len
 
 -- what stands behind it, and what stands before that
 abbrev pub rest_in : Position → Call → (rest : Forest) → Forest
@@ -65,54 +62,68 @@ begun_by position it rest = begun (siblings_of_call it.delimiter.kind rest posit
 abbrev pub placed_at : Position → Call → (behind held : Forest) → Forest
 placed_at position it behind held = placed (is_statement it.delimiter.kind behind position) it.delimiter held
 
--- what comes of trees, with so many expansions one inside the other, behind what stands before them, where so many are taken as they are and
--- that is known; and what is known then
-pub data Comes (setting : Setting) : (limit : ℕ) → Position → (plain : ℕ) → Known → Forest → Known → Outcome → Type 0 where
-  ends : {limit plain : ℕ} {position : Position} {known : Known} → Comes setting limit position plain known end known nothing
-  on_leaf : {limit plain : ℕ} {position : Position} {known after : Known} {it : Leaf} {rest : Forest} {others : Outcome}
+-- what comes of trees of the text itself, or else of an expansion, with so many expansions one inside the other, behind what stands before
+-- them, where so many are taken as they are and that is known; and what is known then. What comes of a call in the text is written in its
+-- place. Where it cannot be, the call stays, with the `;` that is a part of it, and that is found; what was found and defined in what comes
+-- of it is known behind it all the same
+pub data Comes (setting : Setting) : (in_text : Bool) → (limit : ℕ) → Position → (plain : ℕ) → Known → Forest → Known → Outcome → Type 0 where
+  ends : {in_text : Bool} {limit plain : ℕ} {position : Position} {known : Known} → Comes setting in_text limit position plain known end known nothing
+  on_leaf : {in_text : Bool} {limit plain : ℕ} {position : Position} {known after : Known} {it : Leaf} {rest : Forest} {others : Outcome}
       → IsPlain setting known plain (leaf it rest)
-      → Comes setting limit (behind_leaf it rest position) (plain - 1) known rest after others
-      → Comes setting limit position plain known (leaf it rest) after (passes it others)
-  on_node : {limit plain : ℕ} {position : Position} {known inside after : Known} {delimiter : Delimiter} {children rest : Forest} {held others : Outcome}
+      → Comes setting in_text limit (behind_leaf it rest position) (plain - 1) known rest after others
+      → Comes setting in_text limit position plain known (leaf it rest) after (passes it others)
+  on_node : {in_text : Bool} {limit plain : ℕ} {position : Position} {known inside after : Known} {delimiter : Delimiter} {children rest : Forest} {held others : Outcome}
       → IsPlain setting known plain (node delimiter children rest)
-      → Comes setting limit (first_in delimiter.kind position) 0 known children inside held
-      → Comes setting limit (behind_subtree delimiter.kind position) (plain - 1) (known_after (keeps_macros delimiter.kind position) known inside) rest after others
-      → Comes setting limit position plain known (node delimiter children rest) after (enters delimiter held others)
-  on_definition : {limit : ℕ} {position : Position} {known after : Known} {it : Definition} {trees : Forest} {others : Outcome} (inside : Known)
+      → Comes setting in_text limit (first_in delimiter.kind position) 0 known children inside held
+      → Comes setting in_text limit (behind_subtree delimiter.kind position) (plain - 1) (known_after (keeps_macros delimiter.kind position) known inside) rest after others
+      → Comes setting in_text limit position plain known (node delimiter children rest) after (enters delimiter held others)
+  on_definition : {in_text : Bool} {limit : ℕ} {position : Position} {known after : Known} {it : Definition} {trees : Forest} {others : Outcome} (inside : Known)
       → known.is_over ≡ false
       → item_in setting.root trees ≡ defines it
       → IsRead setting it known inside
-      → Comes setting limit (behind true position) 0 inside (after_trees it.len trees) after others
-      → Comes setting limit position 0 known trees after (stays (front_trees it.len trees) others)
-  on_other_call : {limit : ℕ} {position : Position} {known after : Known} {it : Call} {trees : Forest} {others : Outcome}
+      → Comes setting in_text limit (behind true position) 0 inside (after_trees it.len trees) after others
+      → Comes setting in_text limit position 0 known trees after (stays (front_trees it.len trees) others)
+  on_other_call : {in_text : Bool} {limit : ℕ} {position : Position} {known after : Known} {it : Call} {trees : Forest} {others : Outcome}
       → known.is_over ≡ false
       → item_in setting.root trees ≡ calls it
       → arms_of (called_by setting known.macros it) ≡ None
       → setting.everywhere ≡ false
-      → Comes setting limit (behind (is_brace it.delimiter.kind) position) 0 (known_behind it (called_by setting known.macros it) known) (after_trees it.len trees) after others
-      → Comes setting limit position 0 known trees after (stays (front_trees it.len trees) others)
-  into_other_call : {limit : ℕ} {position : Position} {known after : Known} {it : Call} {trees : Forest} {others : Outcome}
+      → Comes setting in_text limit (behind (is_brace it.delimiter.kind) position) 0 (known_behind it (called_by setting known.macros it) known) (after_trees it.len trees) after others
+      → Comes setting in_text limit position 0 known trees after (stays (front_trees it.len trees) others)
+  into_other_call : {in_text : Bool} {limit : ℕ} {position : Position} {known after : Known} {it : Call} {trees : Forest} {others : Outcome}
       → known.is_over ≡ false
       → item_in setting.root trees ≡ calls it
       → arms_of (called_by setting known.macros it) ≡ None
       → setting.everywhere ≡ true
-      → Comes setting limit position it.len (known_behind it (called_by setting known.macros it) known) trees after others
-      → Comes setting limit position 0 known trees after others
-  on_faulty_call : {limit : ℕ} {position : Position} {known after : Known} {it : Call} {macro : Macro} {arms : List Arm} {trees : Forest} {others : Outcome} (at : ℕ) (fault : MacroFault)
+      → Comes setting in_text limit position it.len (known_behind it (called_by setting known.macros it) known) trees after others
+      → Comes setting in_text limit position 0 known trees after others
+  on_faulty_call : {in_text : Bool} {limit : ℕ} {position : Position} {known after : Known} {it : Call} {macro : Macro} {arms : List Arm} {trees : Forest} {others : Outcome} (at : ℕ) (fault : MacroFault)
       → known.is_over ≡ false
       → item_in setting.root trees ≡ calls it
       → called_by setting known.macros it ≡ Some macro
       → macro.arms ≡ Some arms
       → IsCallFault (is_conditional_in position it (after_trees it.len trees)) limit arms it at fault
-      → Comes setting limit (behind (is_brace it.delimiter.kind) position) 0 (with_finding (found_of it macro at fault) known) (after_trees it.len trees) after others
-      → Comes setting limit position 0 known trees after (stays (front_trees it.len trees) others)
-  on_call : {limit : ℕ} {position : Position} {known inside after : Known} {it : Call} {arms : List Arm} {trees : Forest} {held others : Outcome} (tree : Root)
+      → Comes setting in_text limit (behind (is_brace it.delimiter.kind) position) 0 (with_finding (found_of it macro at fault) known) (after_trees it.len trees) after others
+      → Comes setting in_text limit position 0 known trees after (stays (front_trees it.len trees) others)
+  on_call : {in_text : Bool} {limit : ℕ} {position : Position} {known inside after : Known} {it : Call} {arms : List Arm} {trees : Forest} {held others : Outcome} (tree : Root)
       → known.is_over ≡ false
       → item_in setting.root trees ≡ calls it
       → arms_of (called_by setting known.macros it) ≡ Some arms
       → is_conditional_in position it (after_trees it.len trees) ≡ false
       → IsExpansion arms 0 0 it.input (expansion.Tree tree)
-      → Comes setting limit (begun_by position it (after_trees it.len trees)) 0 known tree.children inside held
-      → Comes setting (suc limit) (behind_in position it (after_trees it.len trees)) 0 inside (rest_in position it (after_trees it.len trees)) after others
-      → Comes setting (suc limit) position 0 known trees after
+      → Comes setting false limit (begun_by position it (after_trees it.len trees)) 0 known tree.children inside held
+      → MayStand in_text (placed_at position it (after_trees it.len trees) (trees_left held))
+      → Comes setting in_text (suc limit) (behind_in position it (after_trees it.len trees)) 0 inside (rest_in position it (after_trees it.len trees)) after others
+      → Comes setting in_text (suc limit) position 0 known trees after
       (becomes (begin_at trees it.name.span) (end_in position it (after_trees it.len trees)) (placed_at position it (after_trees it.len trees) (trees_left held)) others)
+  on_unwritten_call : {limit : ℕ} {position : Position} {known inside after : Known} {it : Call} {macro : Macro} {arms : List Arm} {trees : Forest} {held others : Outcome} (tree : Root) (at : ℕ) (fault : MacroFault)
+      → known.is_over ≡ false
+      → item_in setting.root trees ≡ calls it
+      → called_by setting known.macros it ≡ Some macro
+      → macro.arms ≡ Some arms
+      → is_conditional_in position it (after_trees it.len trees) ≡ false
+      → IsExpansion arms 0 0 it.input (expansion.Tree tree)
+      → Comes setting false limit (begun_by position it (after_trees it.len trees)) 0 known tree.children inside held
+      → IsUnwritten (placed_at position it (after_trees it.len trees) (trees_left held)) (start_of (begin_at trees it.name.span).range) at fault
+      → Comes setting true (suc limit) (behind_in position it (after_trees it.len trees)) 0 (with_finding (found_of it macro at fault) inside) (rest_in position it (after_trees it.len trees)) after others
+      → Comes setting true (suc limit) position 0 known trees after (stays (front_trees (len_in position it (after_trees it.len trees)) trees) others)

@@ -1,5 +1,5 @@
 -- What comes of trees is added to a builder.
-use Rattle.std.specs.Prelude.{◌≡◌, ℕ}
+use Rattle.std.specs.Prelude.{◌≡◌, ℕ, false}
 use Rattle.tt.specs.Building.{Stack, append}
 use Rattle.tt.specs.Forest.{Forest}
 use Rattle.tt_expand.specs.declared.walk.Invocation.{Invocation}
@@ -12,11 +12,11 @@ use Rattle.tt_items.specs.declared.position.Siblings.{Siblings}
 -- what comes of trees that are such siblings, with so many expansions one inside the other, is added to the innermost level of those that are built
 pub record AreExpanded (setting : Setting) (limit : ℕ) (siblings : Siblings) (trees : Forest) (before : Known) (old : Stack) (after : Known) (new : Stack) : Type 0 where
   pub outcome : Outcome
-  pub comes : Comes setting limit (begun siblings) 0 before trees after outcome
+  pub comes : Comes setting false limit (begun siblings) 0 before trees after outcome
   pub added : new ≡ append (trees_left outcome) old
 
 -- what comes of a call is
 pub record IsPlaced (setting : Setting) (limit : ℕ) (it : Invocation) (before : Known) (old : Stack) (after : Known) (new : Stack) : Type 0 where
   pub outcome : Outcome
-  pub comes : Comes setting limit (begun it.siblings) 0 before it.tree.children after outcome
+  pub comes : Comes setting false limit (begun it.siblings) 0 before it.tree.children after outcome
   pub added : new ≡ append (placed it.is_statement it.delimiter (trees_left outcome)) old

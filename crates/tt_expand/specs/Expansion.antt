@@ -1,24 +1,29 @@
 -- What a text becomes whose macros are expanded.
-use Rattle.std.specs.Prelude.{◌≡◌, ◌<◌, ◌-◌, ◌++◌, ℕ, Bool, true, false, List, [], ◌∷◌, Option, None, Some, length, slice_get, option_map, string_bytes}
+use Rattle.std.specs.Prelude.{◌≡◌, ◌<◌, ◌-◌, ◌++◌, ◌⊎◌, ℕ, Bool, true, false, List, [], ◌∷◌, Option, None, Some, length, slice_get, option_map, string_bytes}
 use Rattle.tt.specs.Forest.{Forest, Root}
 use Rattle.tt.specs.Span.{start_of, end_of}
 use Rattle.tt.specs.Types.Span.{Span}
-use Rattle.tt.specs.Types.SpanPart.{SpanPart}
 use Rattle.tt_expand.specs.declared.fault.ExpandTextError.{ExpandTextError}
 use Rattle.tt_expand.specs.declared.fault.ExpandTextError.TheVariants as error
 use Rattle.tt_expand.specs.declared.fault.Finding.{Finding}
+use Rattle.tt_expand.specs.declared.fault.MacroFault.{MacroFault}
 use Rattle.tt_expand.specs.declared.options.ExpandOptions.{ExpandOptions}
+use Rattle.tt_expand.specs.declared.source.Written.{Written}
+use Rattle.tt_expand.specs.declared.source.Written.TheVariants as made
 use Rattle.tt_expand.specs.declared.text.Expanded.{Expanded}
 use Rattle.tt_expand.specs.declared.walk.Event.{Event}
 use Rattle.tt_expand.specs.declared.walk.Event.TheVariants as event
 use Rattle.tt_expand.specs.declared.walk.Invocation.{Invocation}
 use Rattle.tt_expand.specs.Coming.{Comes}
 use Rattle.tt_expand.specs.Findings.{is_warning}
-use Rattle.tt_expand.specs.Knowing.{Setting, Known, knows_nothing}
+use Rattle.tt_expand.specs.Knowing.{Setting, Known, knows_nothing, with_finding}
+use Rattle.tt_expand.specs.Macros.{MayStand, IsUnwritten}
 use Rattle.tt_expand.specs.Outcomes.{Outcome, nothing, passes, enters, stays, becomes, trees_left, placed}
 use Rattle.tt_items.specs.Positions.{begun as begun_among}
 use Rattle.tt_items.specs.declared.position.Siblings.TheVariants.{Items}
+use Rattle.tt_edit.specs.Places.{text_part}
 use Rattle.tt_edit.specs.Texts.{Replacement, Writing, begun, finished, with_all, IsReplaced, AreReplaced, FitAll}
+use Rattle.tt_expand.specs.Walks.{found_by}
 use Rattle.tt_text.specs.Parsed.{IsParse}
 use Rattle.tt_text.specs.Refusal.{IsRefusal}
 use Rattle.tt_unparse.specs.Text.{text_of}
@@ -35,17 +40,29 @@ replacements (enters delimiter inside behind) = replacements inside ++ replaceme
 replacements (stays trees behind) = replacements behind
 replacements (becomes first last trees behind) = replacement first last trees ∷ replacements behind
 
--- what comes of a call is written as Rust
-pub record IsInvocationText (setting : Setting) (limit : ℕ) (it : Invocation) (before after : Known) (result : List ℕ) : Type 0 where
-  pub outcome : Outcome
-  pub comes : Comes setting limit (begun_among it.siblings) 0 before it.tree.children after outcome
-  pub text : result ≡ text_of (placed it.is_statement it.delimiter (trees_left outcome))
+-- the Rust text of trees that come of a call which begins at a byte, or why they have none
+abbrev pub IsTextOf : Forest → (begin : ℕ) → Written → Type 0
+IsTextOf trees begin (made.Text text) = MayStand true trees × (string_bytes text ≡ text_of trees)
+IsTextOf trees begin (made.Faulty at fault) = IsUnwritten trees begin at fault
 
--- it takes the place of the call, where that is left of the source
-pub record IsInvocationWritten (setting : Setting) (limit : ℕ) (it : Invocation) (before after : Known) (old new : Writing) : Type 0 where
+-- what comes of a call is written as Rust, or cannot be
+pub record IsInvocationText (setting : Setting) (limit : ℕ) (it : Invocation) (before after : Known) (result : Written) : Type 0 where
   pub outcome : Outcome
-  pub comes : Comes setting limit (begun_among it.siblings) 0 before it.tree.children after outcome
-  pub replaced : IsReplaced (replacement it.first_span it.last_span (placed it.is_statement it.delimiter (trees_left outcome))) old new
+  pub comes : Comes setting false limit (begun_among it.siblings) 0 before it.tree.children after outcome
+  pub text : IsTextOf (placed it.is_statement it.delimiter (trees_left outcome)) (start_of it.first_span.range) result
+
+-- trees that come of a call take its place, where that is left of the source; or they are not written, that is found, and it stays
+abbrev pub IsPut : Invocation → Forest → (inside after : Known) → (old new : Writing) → Type 0
+IsPut it trees inside after old new =
+    (MayStand true trees × (after ≡ inside) × IsReplaced (replacement it.first_span it.last_span trees) old new)
+    ⊎ ((at : ℕ) × (fault : MacroFault) × IsUnwritten trees (start_of it.first_span.range) at fault × (after ≡ with_finding (found_by it at fault) inside) × (new ≡ old))
+
+-- what comes of a call does
+pub record IsInvocationWritten (setting : Setting) (limit : ℕ) (it : Invocation) (before after : Known) (old new : Writing) : Type 0 where
+  pub inside : Known
+  pub outcome : Outcome
+  pub comes : Comes setting false limit (begun_among it.siblings) 0 before it.tree.children inside outcome
+  pub put : IsPut it (placed it.is_statement it.delimiter (trees_left outcome)) inside after old new
 
 -- nothing is written, and nothing more is known
 abbrev pub IsSame : (before after : Known) (old new : Writing) → Type 0
@@ -69,25 +86,13 @@ GoesOn (event.Closes close) goes_on = goes_on ≡ true
 GoesOn (event.Stays trees) goes_on = goes_on ≡ true
 GoesOn (event.Invocation it) goes_on = goes_on ≡ true
 
--- why a text is not written that is read
-abbrev pub IsWritingError : ExpandTextError → Type 0
-IsWritingError (error.Text fault) = ⊥
-IsWritingError (error.Macro it) = ⊥
-IsWritingError (error.Limit fault) = Unit {0}
-IsWritingError (error.NotWritable at) = Unit {0}
-IsWritingError (error.TooLong at) = Unit {0}
-
 -- a source of these trees is written, where in the place of each call what comes of it stands
 pub record IsSourceText (setting : Setting) (limit : ℕ) (source : List ℕ) (trees : Forest) (before after : Known) (result : List ℕ) : Type 0 where
   pub outcome : Outcome
-  pub comes : Comes setting limit (begun_among Items) 0 before trees after outcome
+  pub comes : Comes setting true limit (begun_among Items) 0 before trees after outcome
   pub written : Writing
   pub replaced : AreReplaced (replacements outcome) (begun source) written
   pub text : result ≡ finished written
-
--- the places in a text are bytes of the first file
-abbrev pub text_part : SpanPart
-text_part = record { anchor = record { file_id = record { 0 = 0 }; ast_id = record { 0 = 0 } }; ctx = record { 0 = 0 } }
 
 -- how a text is gone through
 abbrev pub setting_by : ExpandOptions → Setting
@@ -99,7 +104,7 @@ pub record IsExpanded (options : ExpandOptions) (source : List ℕ) (it : Expand
   pub read : IsParse text_part source tree
   pub after : Known
   pub outcome : Outcome
-  pub comes : Comes (setting_by options) options.limit (begun_among Items) 0 knows_nothing tree.children after outcome
+  pub comes : Comes (setting_by options) true options.limit (begun_among Items) 0 knows_nothing tree.children after outcome
   pub fits : FitAll (replacements outcome) (begun source)
   pub text : string_bytes it.text ≡ with_all (replacements outcome) (begun source)
   pub findings : it.findings.items ≡ after.findings
@@ -117,18 +122,14 @@ first_fault (it ∷ others) = fault_or (is_warning it.fault) it (first_fault oth
 abbrev pub IsFirstFault : List Finding → (place : ℕ) → Type 0
 IsFirstFault findings place = (place < length findings) × (first_fault findings ≡ slice_get findings place)
 
--- why nothing comes of a text: it is not read; or memory or a limit is passed, or what comes of a call cannot be written
+-- why nothing comes of a text: it is not read; or memory is wanting, or a limit of trees is passed
 abbrev pub IsLenientError : (text : List ℕ) → ExpandTextError → Type 0
 IsLenientError text (error.Text fault) = IsRefusal text_part text fault
 IsLenientError text (error.Macro it) = ⊥
 IsLenientError text (error.Limit fault) = Unit {0}
-IsLenientError text (error.NotWritable at) = Unit {0}
-IsLenientError text (error.TooLong at) = Unit {0}
 
 -- the same; or something is wrong in a macro or in a call, and this is the first such finding
 abbrev pub IsExpandTextError : ExpandOptions → (text : List ℕ) → ExpandTextError → Type 0
 IsExpandTextError options text (error.Macro it) = (expanded : Expanded) × IsExpanded options text expanded × (first_fault expanded.findings.items ≡ Some it)
 IsExpandTextError options text (error.Text fault) = IsRefusal text_part text fault
 IsExpandTextError options text (error.Limit fault) = Unit {0}
-IsExpandTextError options text (error.NotWritable at) = Unit {0}
-IsExpandTextError options text (error.TooLong at) = Unit {0}

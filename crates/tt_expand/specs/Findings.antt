@@ -12,6 +12,8 @@ is_warning wrong.NoMatch = false
 is_warning (wrong.Ambiguous arm) = false
 is_warning (wrong.Expansion why) = false
 is_warning wrong.TooDeep = false
+is_warning wrong.NotWritable = false
+is_warning wrong.TooLong = false
 
 -- nothing is expanded any more
 abbrev pub is_too_deep : MacroFault → Bool
@@ -22,3 +24,5 @@ is_too_deep wrong.NoMatch = false
 is_too_deep (wrong.Ambiguous arm) = false
 is_too_deep (wrong.Expansion why) = false
 is_too_deep wrong.TooDeep = true
+is_too_deep wrong.NotWritable = false
+is_too_deep wrong.TooLong = false

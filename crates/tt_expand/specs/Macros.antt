@@ -1,5 +1,5 @@
 -- What is defined, and what comes of calls.
-use Rattle.std.specs.Prelude.{◌≡◌, ◌⊎◌, ℕ, suc, zero, Bool, true, false, List, Option, None, Some, if◌then◌else◌}
+use Rattle.std.specs.Prelude.{◌≡◌, ◌⊎◌, ◌<◌, ◌+◌, ◌^◌, ℕ, suc, zero, Bool, true, false, List, length, Option, None, Some, if◌then◌else◌}
 use Rattle.tt.specs.Forest.{Forest}
 use Rattle.tt.specs.Span.{start_of}
 use Rattle.tt_expand.specs.declared.fault.Finding.{Finding}
@@ -15,6 +15,9 @@ use Rattle.tt_macro_rules.specs.Expansions.{IsExpansion, IsExpandError}
 use Rattle.tt_macro_rules.specs.Faults.{IsRulesError}
 use Rattle.tt_macro_rules.specs.declared.error.RulesError.{RulesError}
 use Rattle.tt_macro_rules.specs.declared.macro_rules.Expansion.TheVariants as expansion
+use Rattle.tt_unparse.specs.Text.{text_of}
+use Rattle.tt_unparse.specs.Writable.{IsWritable, IsWriteFault}
+use Rattle.tt_unparse.specs.declared.fault.WriteFault.TheVariants as unwritten
 
 -- the macro that is defined
 abbrev pub macro_of : Definition → Option (List Arm) → Macro
@@ -64,6 +67,8 @@ IsInputFault arms it at (wrong.Definition why) = ⊥
 IsInputFault arms it at wrong.Left = ⊥
 IsInputFault arms it at wrong.Conditional = ⊥
 IsInputFault arms it at wrong.TooDeep = ⊥
+IsInputFault arms it at wrong.NotWritable = ⊥
+IsInputFault arms it at wrong.TooLong = ⊥
 
 -- what is wrong with a call that arms expand, in which so many expansions may stand one inside the other; under a condition it is left
 abbrev pub IsCallFault : (is_conditional : Bool) → (limit : ℕ) → List Arm → Call → (at : ℕ) → MacroFault → Type 0
@@ -75,3 +80,23 @@ IsCallFault false (suc limit) arms it at fault = IsInputFault arms it at fault
 abbrev pub known_behind : Call → Option Macro → Known → Known
 known_behind it None known = known
 known_behind it (Some macro) known = with_finding (found_of it macro (start_of it.name.span.range) wrong.Left) known
+
+-- these trees may come of a call: in the text, where they are written in its place, only what can be written as Rust, of a length that
+-- a text may have
+abbrev pub MayStand : (in_text : Bool) → Forest → Type 0
+MayStand false trees = Unit {0}
+MayStand true trees = IsWritable trees × (1 + length (text_of trees) < 2 ^ 32)
+
+-- why trees that come of a call which begins at a byte are not written, and the byte where it shows: where the token comes from that cannot
+-- be, or where the call begins
+abbrev pub IsUnwritten : Forest → (begin : ℕ) → (at : ℕ) → MacroFault → Type 0
+IsUnwritten trees begin at wrong.NotWritable =
+    (place : ℕ) × IsWriteFault trees (unwritten.NotWritable place) × (at ≡ byte_at trees place begin)
+IsUnwritten trees begin at wrong.TooLong = IsWriteFault trees unwritten.TooLong × (at ≡ begin)
+IsUnwritten trees begin at (wrong.Definition why) = ⊥
+IsUnwritten trees begin at wrong.Left = ⊥
+IsUnwritten trees begin at wrong.Conditional = ⊥
+IsUnwritten trees begin at wrong.NoMatch = ⊥
+IsUnwritten trees begin at (wrong.Ambiguous arm) = ⊥
+IsUnwritten trees begin at (wrong.Expansion why) = ⊥
+IsUnwritten trees begin at wrong.TooDeep = ⊥

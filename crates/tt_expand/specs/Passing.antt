@@ -1,5 +1,5 @@
 -- A call that stands first is passed.
-use Rattle.std.specs.Prelude.{◌≡◌}
+use Rattle.std.specs.Prelude.{◌≡◌, ℕ}
 use Rattle.tt.specs.Forest.{Forest, Root}
 use Rattle.tt.specs.Gluing.{after_trees}
 use Rattle.tt.specs.Iters.{rest_of}
@@ -9,7 +9,8 @@ use Rattle.tt_expand.specs.declared.walk.Event.{Event}
 use Rattle.tt_expand.specs.declared.walk.Event.TheVariants as event
 use Rattle.tt_expand.specs.declared.walk.Invocation.{Invocation}
 use Rattle.tt_expand.specs.declared.walk.Walk.{Walk}
-use Rattle.tt_expand.specs.Coming.{begin_at, end_in}
+use Rattle.tt_expand.specs.Coming.{end_in}
+use Rattle.tt_edit.specs.Places.{begin_at}
 use Rattle.tt_items.specs.Items.{Call}
 use Rattle.tt_items.specs.Positions.{is_statement, siblings_of_call}
 use Rattle.tt_expand.specs.Walks.{level_of, past, past_call}
@@ -22,8 +23,10 @@ IsStay it old (event.Stays trees) new =
     × (new.outer.items ≡ old.outer.items)
 IsStay it old other new = ⊥
 
--- what is told of a call that becomes that tree, where these trees stand first
-pub record IsInvocation (it : Call) (trees : Forest) (position : Position) (tree : Root) (invocation : Invocation) : Type 0 where
+-- what is told of a call that becomes that tree, by a macro whose name stands at that byte, where these trees stand first
+pub record IsInvocation (it : Call) (trees : Forest) (position : Position) (tree : Root) (defined_at : ℕ) (invocation : Invocation) : Type 0 where
+  pub name : invocation.name ≡ it.name.sym
+  pub defined : invocation.defined_at ≡ defined_at
   pub first : invocation.first_span ≡ begin_at trees it.name.span
   pub last : invocation.last_span ≡ end_in position it (after_trees it.len trees)
   pub delimiter : invocation.delimiter ≡ it.delimiter
@@ -32,8 +35,8 @@ pub record IsInvocation (it : Call) (trees : Forest) (position : Position) (tree
   pub makes : invocation.tree ≡ tree
 
 -- a call that stands first becomes that tree, and is passed
-abbrev pub IsInvoked : Call → (tree : Root) → (old : Walk) → Event → (new : Walk) → Type 0
-IsInvoked it tree old (event.Invocation invocation) new =
-    IsInvocation it (rest_of old.level.rest) old.level.position tree invocation
+abbrev pub IsInvoked : Call → (tree : Root) → (defined_at : ℕ) → (old : Walk) → Event → (new : Walk) → Type 0
+IsInvoked it tree defined_at old (event.Invocation invocation) new =
+    IsInvocation it (rest_of old.level.rest) old.level.position tree defined_at invocation
     × (level_of new.level ≡ past_call it (level_of old.level)) × (new.outer.items ≡ old.outer.items)
-IsInvoked it tree old other new = ⊥
+IsInvoked it tree defined_at old other new = ⊥

@@ -4,22 +4,27 @@ use Rattle.tt.specs.Forest.{Forest, size}
 use Rattle.tt.specs.Gluing.{after_trees}
 use Rattle.tt.specs.Iters.{rest_of}
 use Rattle.tt.specs.Moves.{after_tree}
+use Rattle.tt.specs.Span.{start_of}
 use Rattle.tt.specs.Types.Delimiter.{Delimiter}
 use Rattle.tt.specs.Types.DelimiterKind.{DelimiterKind}
 use Rattle.tt.specs.Types.Leaf.{Leaf}
 use Rattle.tt.specs.Types.Span.{Span}
 use Rattle.tt.specs.Views.{trees_of}
+use Rattle.tt_expand.specs.declared.fault.Finding.{Finding}
+use Rattle.tt_expand.specs.declared.fault.MacroFault.{MacroFault}
 use Rattle.tt_expand.specs.declared.known.Known as known_in_code
 use Rattle.tt_items.specs.declared.position.Position.{Position}
 use Rattle.tt_items.specs.declared.position.Siblings.{Siblings}
 use Rattle.tt_matcher.specs.Fragments.{is_brace}
 use Rattle.tt_expand.specs.declared.walk.Event.{Event}
 use Rattle.tt_expand.specs.declared.walk.Event.TheVariants as event
+use Rattle.tt_expand.specs.declared.walk.Invocation.{Invocation}
 use Rattle.tt_expand.specs.declared.walk.Level as rust
 use Rattle.tt_expand.specs.declared.walk.Walk.{Walk}
 use Rattle.tt_expand.specs.Coming.{Comes, takes_in}
 use Rattle.tt_items.specs.Items.{Item, Call, item_in}
-use Rattle.tt_expand.specs.Knowing.{Setting, Known, IsKnown, left_in_scope}
+use Rattle.tt_expand.specs.Knowing.{Setting, Known, IsKnown, with_finding, left_in_scope}
+use Rattle.tt_expand.specs.Macros.{MayStand, IsUnwritten}
 use Rattle.tt_expand.specs.Outcomes.{Outcome, nothing, passes, enters, stays, becomes, trees_left, placed}
 use Rattle.tt_items.specs.Positions.{begun as begun_among, first_in, behind, behind_leaf, behind_subtree, keeps_macros}
 
@@ -65,12 +70,12 @@ past_call it level =
     past_semicolon (takes_in level.position it (after_trees it.len level.rest)) (past it.len (is_brace it.delimiter.kind) level)
 
 -- what comes of what is left of each level, the innermost first
-abbrev pub Ends : Setting → (limit : ℕ) → List Level → (before after : Known) → List Outcome → Type 0
-Ends setting limit [] before after [] = before ≡ after
-Ends setting limit [] before after (it ∷ others) = ⊥
-Ends setting limit (level ∷ outer) before after [] = ⊥
-Ends setting limit (level ∷ outer) before after (it ∷ others) =
-    (inside : Known) × Comes setting limit level.position level.plain before level.rest inside it × Ends setting limit outer (left_in_scope level.kept inside) after others
+abbrev pub Ends : Setting → (in_text : Bool) → (limit : ℕ) → List Level → (before after : Known) → List Outcome → Type 0
+Ends setting in_text limit [] before after [] = before ≡ after
+Ends setting in_text limit [] before after (it ∷ others) = ⊥
+Ends setting in_text limit (level ∷ outer) before after [] = ⊥
+Ends setting in_text limit (level ∷ outer) before after (it ∷ others) =
+    (inside : Known) × Comes setting in_text limit level.position level.plain before level.rest inside it × Ends setting in_text limit outer (left_in_scope level.kept inside) after others
 
 -- what comes of levels, where something comes first in the innermost
 abbrev pub first_leaf : Leaf → List Outcome → List Outcome
@@ -91,9 +96,9 @@ first_becomes first last trees [] = []
 first_becomes first last trees (others ∷ outer) = becomes first last trees others ∷ outer
 
 -- the levels and what is known become others, and what comes of those, so grown, comes of these
-abbrev pub Leads : Setting → (limit : ℕ) → List Level → Known → (grown : List Outcome → List Outcome) → List Level → Known → Type 0
-Leads setting limit levels known grown nexts others =
-    (after : Known) (outcomes : List Outcome) → Ends setting limit nexts others after outcomes → Ends setting limit levels known after (grown outcomes)
+abbrev pub Leads : Setting → (in_text : Bool) → (limit : ℕ) → List Level → Known → (grown : List Outcome → List Outcome) → List Level → Known → Type 0
+Leads setting in_text limit levels known grown nexts others =
+    (after : Known) (outcomes : List Outcome) → Ends setting in_text limit nexts others after outcomes → Ends setting in_text limit levels known after (grown outcomes)
 
 -- where levels close
 abbrev pub closes_of : List Level → List Span
@@ -127,17 +132,29 @@ abbrev pub IsLeft : Walk → Option Span → Walk → Type 0
 IsLeft old None new = map level_of (reverse old.outer.items) ≡ []
 IsLeft old (Some close) new = (close ≡ old.level.close) × (map level_of (reverse old.outer.items) ≡ levels_of new)
 
+-- what is found in a call
+abbrev pub found_by : Invocation → (at : ℕ) → MacroFault → Finding
+found_by it at fault = record { name = it.name; at = at; fault = fault; defined_at = Some it.defined_at }
+
+-- what comes then past a call of which those trees come: they stand in its place, where they may; and trees of the text stay, where they
+-- are not written, which is found
+pub record GoesPast (setting : Setting) (in_text : Bool) (limit : ℕ) (levels : List Level) (known : Known) (it : Invocation) (trees : Forest) (nexts : List Level) (inside : Known) : Type 0 where
+  pub stands : MayStand in_text trees → Leads setting in_text limit levels known (first_becomes it.first_span it.last_span trees) nexts inside
+  pub stays :
+      in_text ≡ true → (at : ℕ) (fault : MacroFault) → IsUnwritten trees (start_of it.first_span.range) at fault
+      → (stay : Forest) × Leads setting in_text limit levels known (first_stay stay) nexts (with_finding (found_by it at fault) inside)
+
 -- what comes next in a walk, and what comes then
-abbrev pub IsNext : Setting → (limit : ℕ) → List Level → Known → Event → List Level → Known → Type 0
-IsNext setting limit levels known event.End nexts others = Ends setting limit levels known others (nothing ∷ [])
-IsNext setting limit levels known (event.Leaf it) nexts others = Leads setting limit levels known (first_leaf it) nexts others
-IsNext setting limit levels known (event.Opens header) nexts others = Leads setting limit levels known (first_subtree header.delimiter) nexts others
-IsNext setting limit levels known (event.Closes close) nexts others = Leads setting limit levels known (λ outcomes. nothing ∷ outcomes) nexts others
-IsNext setting limit levels known (event.Stays trees) nexts others = Leads setting limit levels known (first_stay (trees_of trees)) nexts others
-IsNext setting limit levels known (event.Invocation it) nexts others =
+abbrev pub IsNext : Setting → (in_text : Bool) → (limit : ℕ) → List Level → Known → Event → List Level → Known → Type 0
+IsNext setting in_text limit levels known event.End nexts others = Ends setting in_text limit levels known others (nothing ∷ [])
+IsNext setting in_text limit levels known (event.Leaf it) nexts others = Leads setting in_text limit levels known (first_leaf it) nexts others
+IsNext setting in_text limit levels known (event.Opens header) nexts others = Leads setting in_text limit levels known (first_subtree header.delimiter) nexts others
+IsNext setting in_text limit levels known (event.Closes close) nexts others = Leads setting in_text limit levels known (λ outcomes. nothing ∷ outcomes) nexts others
+IsNext setting in_text limit levels known (event.Stays trees) nexts others = Leads setting in_text limit levels known (first_stay (trees_of trees)) nexts others
+IsNext setting in_text limit levels known (event.Invocation it) nexts others =
     (left : ℕ) × (limit ≡ suc left)
-    × ((inside : Known) (held : Outcome) → Comes setting left (begun_among it.siblings) 0 others it.tree.children inside held
-    → Leads setting limit levels known (first_becomes it.first_span it.last_span (placed it.is_statement it.delimiter (trees_left held))) nexts inside)
+    × ((inside : Known) (held : Outcome) → Comes setting false left (begun_among it.siblings) 0 others it.tree.children inside held
+    → GoesPast setting in_text limit levels known it (placed it.is_statement it.delimiter (trees_left held)) nexts inside)
 
 -- how levels become others: which are entered and left, and that less is left to do
 abbrev pub Steps : List Level → Event → List Level → Type 0
@@ -153,11 +170,11 @@ abbrev pub IsWithin : (limit : ℕ) → Event → Type 0
 IsWithin limit (event.Invocation it) = 0 < limit
 IsWithin limit other = Unit {0}
 
--- whatever is known, if that may be known there, that comes next, and something is known then
+-- whatever is known, if that may be known there, that comes next, in the text or in an expansion, and something is known then
 abbrev pub Goes : (may : Known → Type 0) → Setting → (limit : ℕ) → (old : Walk) → (before : known_in_code.Known) → Event → (new : Walk) → (after : known_in_code.Known) → Type 0
 Goes may setting limit old before it new after =
     (known : Known) → IsKnown known before → may known
-    → (others : Known) × IsKnown others after × IsNext setting limit (levels_of old) known it (levels_of new) others
+    → (others : Known) × IsKnown others after × ((in_text : Bool) → IsNext setting in_text limit (levels_of old) known it (levels_of new) others)
 
 -- that stands first
 abbrev pub IsFirst : Item → (root : List ℕ) → Walk → Type 0

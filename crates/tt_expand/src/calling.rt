@@ -35,8 +35,8 @@ pub(crate) enum Called {
     Other,
     /// Something is wrong with it.
     Faulty,
-    /// That tree.
-    Tree(TopSubtree),
+    /// That tree, by a macro whose name stands at that byte in its definition.
+    Tree(TopSubtree, u32),
 }
 
 // What rules make of a call, with so many expansions one inside the other.
@@ -91,19 +91,19 @@ pub(crate) fn expand_call(
     let Some(it) = called_by(setting, &known.scope, call) else {
         return Ok(Called::Other);
     };
-    let defined_at = Some(it.defined_at);
+    let defined_at = it.defined_at;
     let Some(rules) = &it.rules else {
-        known.find(name, at, MacroFault::Left, defined_at)?;
+        known.find(name, at, MacroFault::Left, Some(defined_at))?;
         return Ok(Called::Other);
     };
     if is_conditional {
-        known.find(name, at, MacroFault::Conditional, defined_at)?;
+        known.find(name, at, MacroFault::Conditional, Some(defined_at))?;
         return Ok(Called::Faulty);
     }
     match make(setting.alloc, limit, rules, call)? {
-        Made::Tree(tree) => Ok(Called::Tree(tree)),
+        Made::Tree(tree) => Ok(Called::Tree(tree, defined_at)),
         Made::Faulty(place, fault) => {
-            known.find(name, place, fault, defined_at)?;
+            known.find(name, place, fault, Some(defined_at))?;
             Ok(Called::Faulty)
         }
     }

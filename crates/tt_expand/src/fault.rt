@@ -34,6 +34,13 @@ pub enum MacroFault {
     /// It stands in as many expansions, one inside the other, as may be.
     #[error("too many expansions, one inside the other")]
     TooDeep,
+    /// What comes of the call cannot be written as Rust, so the call is left as it is. Where that shows, the first token of it comes from
+    /// that would read back as something else; the call begins there, where it is no token.
+    #[error("what this becomes cannot be written")]
+    NotWritable,
+    /// The text of what comes of the call would have 4,294,967,295 bytes or more, so the call is left as it is. It shows where the call begins.
+    #[error("what this becomes is too long a text")]
+    TooLong,
 }
 
 /// What is found in a macro or in a call of one, and where.
@@ -62,12 +69,6 @@ pub enum ExpandTextError {
     /// Memory is wanting, or a limit of trees is passed.
     #[error("{0}")]
     Limit(TtFault),
-    /// A call becomes a token that reads back as something else. The token comes from that byte of the text, or the call begins there.
-    #[error("what comes of macros cannot be written at {0}")]
-    NotWritable(u32),
-    /// The call that begins at that byte of the text becomes a text that is too long.
-    #[error("too long a text comes of the call at {0}")]
-    TooLong(u32),
 }
 
 impl MacroFault {

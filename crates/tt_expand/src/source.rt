@@ -1,13 +1,12 @@
 //! A source, and what its calls become.
-ghost use Rattle.std.specs.Prelude.{◌≡◌, IfOk, IfErr, OnOk, string_bytes};
-ghost use Rattle.tt_expand.specs.Expansion.{IsInvocationText, IsInvocationWritten, IsEventWritten, GoesOn, IsWritingError, IsSourceText};
+ghost use Rattle.std.specs.Prelude.{◌≡◌, IfOk, OnOk, string_bytes};
+ghost use Rattle.tt_expand.specs.Expansion.{IsTextOf, IsInvocationText, IsInvocationWritten, IsEventWritten, GoesOn, IsSourceText};
 ghost use Rattle.tt_expand.specs.Knowing.{Known as KnownOf, IsKnown, setting_of};
 ghost use Rattle.tt_edit.specs.Texts.{writing_of};
 ghost use Rattle.tt_expand.specs.Walks.{IsWithin};
-ghost use Rattle.tt_unparse.specs.Text.{text_of};
 
 use crate::expanding::place;
-use crate::fault::ExpandTextError;
+use crate::fault::MacroFault;
 use crate::known::Known;
 use crate::places::start_at;
 use crate::setting::Setting;
@@ -18,32 +17,36 @@ use tt_edit::{Output, end_of, start_of};
 use tt_items::Siblings;
 use tt_unparse::{WriteFault, rust_text};
 
-// What comes of a call that begins at a byte, as a text.
-fn written(alloc: Global, at: u32, tree: &TopSubtree) -> Result<String, ExpandTextError>
-    ensures text { IfOk result (λ text. string_bytes text ≡ text_of tree.now.children) }
-    ensures err { IfErr result IsWritingError }
+/// The text of what comes of a call, or why there is none and the byte where that shows.
+#[derive(Drop)]
+pub(crate) enum Written {
+    Text(String),
+    Faulty(u32, MacroFault),
+}
+
+// What comes of a call that begins at a byte, as a text, or why it has none.
+fn write_tree(alloc: Global, begin: u32, tree: &TopSubtree) -> Result<Written, TtFault>
+    ensures { IfOk result (IsTextOf tree.now.children begin) }
 {
     match rust_text(alloc, tree.token_trees()) {
-        Ok(text) => Ok(text),
-        Err(WriteFault::Memory) => Err(ExpandTextError::Limit(TtFault::Memory)),
-        Err(WriteFault::NotWritable { at: place }) => Err(ExpandTextError::NotWritable(start_at(
-            tree.token_trees(),
-            place,
-            at,
-        ))),
-        Err(WriteFault::TooLong) => Err(ExpandTextError::TooLong(at)),
+        Ok(text) => Ok(Written::Text(text)),
+        Err(WriteFault::Memory) => Err(TtFault::Memory),
+        Err(WriteFault::NotWritable { at: place }) => {
+            let at = start_at(tree.token_trees(), place, begin);
+            Ok(Written::Faulty(at, MacroFault::NotWritable))
+        }
+        Err(WriteFault::TooLong) => Ok(Written::Faulty(begin, MacroFault::TooLong)),
     }
 }
 
-// The text of what comes of a call.
+// The text of what comes of a call, or why it has none.
 fn invocation_text(
     setting: &Setting,
     known: &mut Known,
     limit: usize,
     invocation: &Invocation,
-) -> Result<String, ExpandTextError>
-    ensures err { IfErr result IsWritingError }
-    ensures text { IfOk result (λ text. (before : KnownOf) → IsKnown before known.old → (after : KnownOf) × IsKnown after known.new × IsInvocationText (setting_of setting.now) limit invocation.now before after (string_bytes text)) }
+) -> Result<Written, TtFault>
+    ensures { IfOk result (λ written. (before : KnownOf) → IsKnown before known.old → (after : KnownOf) × IsKnown after known.new × IsInvocationText (setting_of setting.now) limit invocation.now before after written) }
 {
     let top = Delimiter {
         kind: DelimiterKind::Invisible,
@@ -52,25 +55,32 @@ fn invocation_text(
     let mut builder = TopSubtreeBuilder::new(setting.alloc, top)?;
     place(setting, known, limit, invocation, &mut builder)?;
     let tree = builder.build()?;
-    written(setting.alloc, start_of(invocation.first_span), &tree)
+    write_tree(setting.alloc, start_of(invocation.first_span), &tree)
 }
 
-// Writes what comes of a call in its place, in which so many expansions may stand one inside the other.
+// Writes what comes of a call in its place, in which so many expansions may stand one inside the other. Where that has no text, it is found.
 fn write_invocation(
     setting: &Setting,
     known: &mut Known,
     limit: usize,
     invocation: &Invocation,
     output: &mut Output<'_>,
-) -> Result<(), ExpandTextError>
-    ensures err { IfErr result IsWritingError }
-    ensures written { OnOk result ((before : KnownOf) → IsKnown before known.old → (after : KnownOf) × IsKnown after known.new × IsInvocationWritten (setting_of setting.now) limit invocation.now before after (writing_of output.old) (writing_of output.new)) }
+) -> Result<(), TtFault>
+    ensures { OnOk result ((before : KnownOf) → IsKnown before known.old → (after : KnownOf) × IsKnown after known.new × IsInvocationWritten (setting_of setting.now) limit invocation.now before after (writing_of output.old) (writing_of output.new)) }
 {
-    let text = invocation_text(setting, known, limit, invocation)?;
-    let start = start_of(invocation.first_span) as usize;
-    let end = end_of(invocation.last_span) as usize;
-    let _is_left = output.replace(start, end, text.as_str())?;
-    Ok(())
+    match invocation_text(setting, known, limit, invocation)? {
+        Written::Text(text) => {
+            let start = start_of(invocation.first_span) as usize;
+            let end = end_of(invocation.last_span) as usize;
+            let _is_left = output.replace(start, end, text.as_str())?;
+            Ok(())
+        }
+        Written::Faulty(at, fault) => {
+            let defined_at = Some(invocation.defined_at);
+            known.find(&invocation.name, at, fault, defined_at)?;
+            Ok(())
+        }
+    }
 }
 
 // Writes what comes of a call; all else stays as it is. Whether this is not the end.
@@ -80,9 +90,8 @@ fn write_event(
     limit: usize,
     event: Event<'_>,
     output: &mut Output<'_>,
-) -> Result<bool, ExpandTextError>
+) -> Result<bool, TtFault>
     requires { IsWithin limit event }
-    ensures err { IfErr result IsWritingError }
     ensures goes_on { IfOk result (GoesOn event.entry) }
     ensures written { OnOk result ((before : KnownOf) → IsKnown before known.old → (after : KnownOf) × IsKnown after known.new × IsEventWritten (setting_of setting.now) limit event.entry before after (writing_of output.old) (writing_of output.new)) }
 {
@@ -103,9 +112,8 @@ pub(crate) fn expand_source(
     limit: usize,
     source: &str,
     tree: &TopSubtree,
-) -> Result<String, ExpandTextError>
-    ensures err { IfErr result IsWritingError }
-    ensures text { IfOk result (λ text. (before : KnownOf) → IsKnown before known.old → (after : KnownOf) × IsKnown after known.new × IsSourceText (setting_of setting.now) limit source.now tree.now.children before after (string_bytes text)) }
+) -> Result<String, TtFault>
+    ensures { IfOk result (λ text. (before : KnownOf) → IsKnown before known.old → (after : KnownOf) × IsKnown after known.new × IsSourceText (setting_of setting.now) limit source.now tree.now.children before after (string_bytes text)) }
 {
     let mut output = Output::new(setting.alloc, source);
     let close = tree.top_subtree().delimiter.close;

@@ -9,8 +9,8 @@ use crate::options::ExpandOptions;
 use crate::setting::Setting;
 use crate::source::expand_source;
 use std::alloc::Global;
-use tt::{ErasedFileAstId, FileId, SpanAnchor, Symbol, SyntaxContext, TtFault};
-use tt_text::parse_to_token_tree;
+use tt::{Symbol, TtFault};
+use tt_edit::parse;
 
 /// A text whose calls are expanded.
 #[derive(Drop)]
@@ -49,11 +49,7 @@ pub fn expand_leniently(
     ensures ok { IfOk result (IsExpanded options.entry text.now) }
     ensures err { IfErr result (IsLenientError text.now) }
 {
-    let anchor = SpanAnchor {
-        file_id: FileId(0),
-        ast_id: ErasedFileAstId(0),
-    };
-    let tree = parse_to_token_tree(alloc, anchor, SyntaxContext(0), text)?;
+    let tree = parse(alloc, text)?;
     let setting = setting_by(alloc, options)?;
     let mut known = Known::new(alloc);
     let text = expand_source(&setting, &mut known, options.limit, text, &tree)?;

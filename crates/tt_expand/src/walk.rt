@@ -3,7 +3,8 @@ ghost use Rattle.std.specs.Prelude.{◌≡◌, ◌∷◌, [], ℕ, IfOk, OnOk, i
 ghost use Rattle.tt.specs.Gluing.{after_trees};
 ghost use Rattle.tt.specs.Iters.{rest_of};
 ghost use Rattle.tt.specs.Views.{trees_of};
-ghost use Rattle.tt_expand.specs.Coming.{begin_at, is_conditional_in, IsPlain};
+ghost use Rattle.tt_expand.specs.Coming.{is_conditional_in, IsPlain};
+ghost use Rattle.tt_edit.specs.Places.{begin_at};
 ghost use Rattle.tt_items.specs.Items.{defines, calls, definition_of, call_of};
 ghost use Rattle.tt_expand.specs.Knowing.{Setting as SettingOf, setting_of};
 ghost use Rattle.tt_expand.specs.Passing.{IsStay, IsInvoked};
@@ -16,9 +17,10 @@ use crate::known::Known;
 use crate::setting::Setting;
 use std::alloc::{AllocError, Global};
 use tt::{
-    Delimiter, DelimiterKind, Leaf, Span, Subtree, TokenTreesView, TopSubtree, TtElement, TtFault,
-    TtIter,
+    Delimiter, DelimiterKind, Leaf, Span, Subtree, Symbol, TokenTreesView, TopSubtree, TtElement,
+    TtFault, TtIter,
 };
+use tt_edit::begin_at;
 use tt_items::{Call, Definition, Item, Position, Siblings, item_in};
 use tt_pattern::pass;
 
@@ -34,10 +36,12 @@ pub(crate) struct Level<'a> {
     kept: Option<usize>,
 }
 
-/// A call that is expanded: where it begins and ends, where its subtree stands, whether it is a statement or an item, and what comes of it
-/// and is among such siblings.
+/// A call that is expanded: the name of its macro and the byte where that stands in its definition, where the call begins and ends, where
+/// its subtree stands, whether it is a statement or an item, and what comes of it and is among such siblings.
 #[derive(Drop)]
 pub(crate) struct Invocation {
+    pub(crate) name: Symbol,
+    pub(crate) defined_at: u32,
     pub(crate) first_span: Span,
     pub(crate) last_span: Span,
     pub(crate) delimiter: Delimiter,
@@ -65,16 +69,6 @@ pub(crate) struct Walk<'a> {
     level: Level<'a>,
     /// The innermost last.
     outer: Vec<Level<'a>>,
-}
-
-// Where trees begin, or the other span, where there are none.
-fn begin_at(trees: &TtIter<'_>, other: Span) -> Span
-    ensures { result ≡ begin_at (rest_of trees.now) other }
-{
-    match trees.next_span() {
-        Some(span) => span,
-        None => other,
-    }
 }
 
 impl<'a> Level<'a> {
@@ -241,10 +235,16 @@ fn stay<'a>(walk: &mut Walk<'a>, call: &Call<'a>) -> Event<'a>
     Event::Stays(walk.level.take_all(call.len, ends))
 }
 
-// Past a call that stands first, of which that tree comes.
-fn invoke<'a>(walk: &mut Walk<'a>, call: &Call<'a>, tree: TopSubtree) -> Event<'a>
-    ensures { IsInvoked (call_of call.now) tree walk.old result walk.new }
+// Past a call that stands first, of which that tree comes, by a macro whose name stands at that byte in its definition.
+fn invoke<'a>(
+    walk: &mut Walk<'a>,
+    call: &Call<'a>,
+    tree: TopSubtree,
+    defined_at: u32,
+) -> Result<Event<'a>, AllocError>
+    ensures { IfOk result (λ event. IsInvoked (call_of call.now) tree defined_at walk.old event walk.new) }
 {
+    let name = call.name.sym.clone()?;
     let delimiter = call.header.delimiter;
     let kind = delimiter.kind;
     let position = walk.level.position;
@@ -252,14 +252,16 @@ fn invoke<'a>(walk: &mut Walk<'a>, call: &Call<'a>, tree: TopSubtree) -> Event<'
     walk.level.pass_all(call.len, kind == DelimiterKind::Brace);
     let behind = walk.level.rest.remaining();
     let takes = position.takes_semicolon(kind, behind.iter());
-    Event::Invocation(Invocation {
+    Ok(Event::Invocation(Invocation {
+        name,
+        defined_at,
         first_span,
         last_span: walk.level.pass_semicolon(takes, delimiter.close),
         delimiter,
         is_statement: position.is_statement(kind, behind.iter()),
         siblings: position.siblings_of_call(kind, behind.iter()),
         tree,
-    })
+    }))
 }
 
 // Past a call that stands first, or into it.
@@ -276,7 +278,7 @@ fn next_call<'a>(
 {
     let is_conditional = walk.level.is_conditional(call);
     match expand_call(setting, known, limit, is_conditional, call)? {
-        Called::Tree(tree) => Ok(invoke(walk, call, tree)),
+        Called::Tree(tree, defined_at) => Ok(invoke(walk, call, tree, defined_at)?),
         Called::Faulty => Ok(stay(walk, call)),
         Called::Other => {
             if setting.everywhere {

@@ -1,4 +1,4 @@
-use Rattle.std.proofs.Common.{[], ◌≡◌, ◌∙◌, ◌<◌, ◌+◌, ◌-◌, ℕ, suc, ◌∷◌, List, length, map, reverse, refl, ap, sym, subst, arith}
+use Rattle.std.proofs.Common.{[], ◌≡◌, ◌∙◌, ◌<◌, ◌+◌, ◌-◌, ℕ, false, suc, ◌∷◌, List, length, map, reverse, refl, ap, sym, subst, arith}
 use Rattle.indexmap.proofs.MapLemmas.{OnOk-map}
 use Rattle.tt.specs.Building.{Stack, append, depth, pushed, opened, closed, extended}
 use Rattle.tt.specs.Forest.{Forest, end, leaf}
@@ -43,8 +43,8 @@ expand_trees-returns-in-End-clause-expanded t c before is =
     let outer : List Level = map level_of (reverse c.trees.walk.outer.items) in
     let (now, known, going) = c.trees.invariant.going before is in
     let (others, then, next) = c.in_ok-next.ensures.next now known tt in
-    let ended : Ends setting c.args.limit (level ∷ outer) now others (nothing ∷ []) =
-    subst (λ e. IsNext setting c.args.limit (level ∷ outer) now e (levels_of c.next.new.walk) others) c.in-End.is next in
+    let ended : Ends setting false c.args.limit (level ∷ outer) now others (nothing ∷ []) =
+    subst (λ e. IsNext setting false c.args.limit (level ∷ outer) now e (levels_of c.next.new.walk) others) c.in-End.is (next false) in
     let (outcome, comes, built) = ends_so setting c.args.limit c.args.siblings trees before now others c.args.builder.now.stack c.trees.builder.stack level outer going ended in
     (others, then, record { outcome = outcome; comes = comes; added = built })
 
@@ -72,8 +72,8 @@ expand_trees-trees-preserved-in-Continue-branch-3 t c =
       going = λ before is.
           let (now, known, going) = c.trees.invariant.going before is in
           let (others, then, comes_next) = c.in_ok-next.ensures.next now known tt in
-          let leads : Leads setting limit (level ∷ outer) now (first_leaf c.in-Leaf.leaf) (next ∷ nexts) others =
-          subst (λ e. IsNext setting limit (level ∷ outer) now e (next ∷ nexts) others) c.in-Leaf.is comes_next in (
+          let leads : Leads setting false limit (level ∷ outer) now (first_leaf c.in-Leaf.leaf) (next ∷ nexts) others =
+          subst (λ e. IsNext setting false limit (level ∷ outer) now e (next ∷ nexts) others) c.in-Leaf.is (comes_next false) in (
             others,
             then,
             subst (λ s. IsGoing setting limit c.args.siblings trees before old (next ∷ nexts) others s.stack) (sym grown) (goes_on setting limit c.args.siblings trees before now others old stack level next outer nexts going (first_leaf c.in-Leaf.leaf) (append (leaf c.in-Leaf.leaf end) stack) leads steps.0 (λ first more. finished_leaf level.close (closes_of outer) first more stack c.in-Leaf.leaf)),
@@ -106,8 +106,8 @@ expand_trees-trees-preserved-in-Continue-branch-4 t c =
       going = λ before is.
           let (now, known, going) = c.trees.invariant.going before is in
           let (others, then, comes_next) = c.in_ok-next.ensures.next now known tt in
-          let leads : Leads setting limit (level ∷ outer) now (first_subtree c.in-Opens.header.delimiter) (next ∷ nexts) others =
-          subst (λ e. IsNext setting limit (level ∷ outer) now e (next ∷ nexts) others) c.in-Opens.is comes_next in (
+          let leads : Leads setting false limit (level ∷ outer) now (first_subtree c.in-Opens.header.delimiter) (next ∷ nexts) others =
+          subst (λ e. IsNext setting false limit (level ∷ outer) now e (next ∷ nexts) others) c.in-Opens.is (comes_next false) in (
             others,
             then,
             subst (λ s. IsGoing setting limit c.args.siblings trees before old (next ∷ nexts) others s.stack) (sym grown) (goes_into setting limit c.args.siblings trees before now others old stack level next outer nexts going c.in-Opens.header.delimiter leads steps.0),
@@ -146,8 +146,8 @@ expand_trees-trees-preserved-in-Continue-branch-5 t c =
       going = λ before is.
           let (now, known, going) = c.trees.invariant.going before is in
           let (others, then, comes_next) = c.in_ok-next.ensures.next now known tt in
-          let leads : Leads setting limit (level ∷ outer) now (λ outcomes. nothing ∷ outcomes) (next ∷ nexts) others =
-          subst (λ e. IsNext setting limit (level ∷ outer) now e (next ∷ nexts) others) c.in-Closes.is comes_next in (
+          let leads : Leads setting false limit (level ∷ outer) now (λ outcomes. nothing ∷ outcomes) (next ∷ nexts) others =
+          subst (λ e. IsNext setting false limit (level ∷ outer) now e (next ∷ nexts) others) c.in-Closes.is (comes_next false) in (
             others,
             then,
             subst (λ s. IsGoing setting limit c.args.siblings trees before old (next ∷ nexts) others s.stack) (sym grown) (goes_out setting limit c.args.siblings trees before now others old stack level next outer nexts going c.in-Closes.close leads steps.0),
@@ -180,8 +180,8 @@ expand_trees-trees-preserved-in-Continue-branch-6 t c =
       going = λ before is.
           let (now, known, going) = c.trees.invariant.going before is in
           let (others, then, comes_next) = c.in_ok-next.ensures.next now known tt in
-          let leads : Leads setting limit (level ∷ outer) now (first_stay (trees_of c.in-Stays.trees)) (next ∷ nexts) others =
-          subst (λ e. IsNext setting limit (level ∷ outer) now e (next ∷ nexts) others) c.in-Stays.is comes_next in (
+          let leads : Leads setting false limit (level ∷ outer) now (first_stay (trees_of c.in-Stays.trees)) (next ∷ nexts) others =
+          subst (λ e. IsNext setting false limit (level ∷ outer) now e (next ∷ nexts) others) c.in-Stays.is (comes_next false) in (
             others,
             then,
             subst (λ s. IsGoing setting limit c.args.siblings trees before old (next ∷ nexts) others s.stack) (sym grown) (goes_on setting limit c.args.siblings trees before now others old stack level next outer nexts going (first_stay (trees_of c.in-Stays.trees)) (append (trees_of c.in-Stays.trees) stack) leads steps.0 (λ first more. finished_stay level.close (closes_of outer) first more stack (trees_of c.in-Stays.trees))),
@@ -219,17 +219,17 @@ expand_trees-trees-preserved t c =
       going = λ before is.
           let (now, known, going) = c.trees.invariant.going before is in
           let (others, then, comes_next) = c.in_ok-next.ensures.next now known tt in
-          let (left, fits, goes) = subst (λ e. IsNext setting limit (level ∷ outer) now e (next ∷ nexts) others) c.in-Invocation.is comes_next in
+          let (left, fits, goes) = subst (λ e. IsNext setting false limit (level ∷ outer) now e (next ∷ nexts) others) c.in-Invocation.is (comes_next false) in
           let (inside, ready, put) = c.in_ok-place-in-Invocation.ensures.placed others then in
           let back : limit - 1 ≡ left = omega (arith, fits) in
-          let comes : Comes setting left (begun_among it.siblings) 0 others it.tree.children inside put.outcome =
-          subst (λ n. Comes setting n (begun_among it.siblings) 0 others it.tree.children inside put.outcome) back put.comes in
+          let comes : Comes setting false left (begun_among it.siblings) 0 others it.tree.children inside put.outcome =
+          subst (λ n. Comes setting false n (begun_among it.siblings) 0 others it.tree.children inside put.outcome) back put.comes in
           let held : Forest = placed it.is_statement it.delimiter (trees_left put.outcome) in (
             inside,
             ready,
             subst (IsGoing setting limit c.args.siblings trees before old (next ∷ nexts) inside) (sym put.added)
                 (goes_on setting limit c.args.siblings trees before now inside old stack level next outer nexts going (first_becomes it.first_span it.last_span held) (append held stack)
-                (goes inside put.outcome comes) steps.0 (λ first more. finished_becomes level.close (closes_of outer) first more stack it.first_span it.last_span held)),
+                ((goes inside put.outcome comes).stands tt) steps.0 (λ first more. finished_becomes level.close (closes_of outer) first more stack it.first_span it.last_span held)),
           );
       entered = omega (arith, c.in_ok-place-in-Invocation.ensures.open, c.trees.invariant.entered, ap length steps.0);
       top = c.in_ok-place-in-Invocation.ensures.top ∙ c.trees.invariant.top;

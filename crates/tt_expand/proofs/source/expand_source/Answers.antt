@@ -35,11 +35,11 @@ trees-preserved c before is =
     let (others, then, next) = c.in_ok-event.ensures.next now known tt in
     let (after, ready, written) = c.in_ok-goes_on.ensures.written others then in
     let goes : GoesOn event true = subst (GoesOn event) c.if-not-goes_on.false c.in_ok-goes_on.ensures.goes_on in
-    let (all, read, replaced) = reads_event setting limit trees before now others after (begun c.args.source.now) level outer nexts done old new reading are event next goes written in
+    let (all, read, replaced) = reads_event setting limit trees before now others after (begun c.args.source.now) level outer nexts done old new reading are event (next true) goes written in
     (after, ready, all, read, replaced)
 
-pub returns-then-not-goes_on-clause-text : goal.returns-then-not-goes_on-clause-text
-returns-then-not-goes_on-clause-text c before is =
+pub returns-then-not-goes_on : goal.returns-then-not-goes_on
+returns-then-not-goes_on c before is =
     let setting : Setting = setting_of c.args.setting.now in
     let limit = c.args.limit in
     let trees = c.args.tree.now.children in
@@ -53,7 +53,7 @@ returns-then-not-goes_on-clause-text c before is =
     let (others, then, next) = c.in_ok-event.ensures.next now known tt in
     let (after, ready, written) = c.in_ok-goes_on.ensures.written others then in
     let goes : GoesOn event false = subst (GoesOn event) c.if-not-goes_on.true c.in_ok-goes_on.ensures.goes_on in
-    let (outcome, comes, replaced) = reads_to_end setting limit trees before now others after (begun c.args.source.now) level outer nexts done old new reading are event next goes written in
+    let (outcome, comes, replaced) = reads_to_end setting limit trees before now others after (begun c.args.source.now) level outer nexts done old new reading are event (next true) goes written in
     (after, ready, record { outcome = outcome; comes = comes; written = new; replaced = replaced; text = c.in_ok-finish.ensures })
 
 pub trees-smaller : goal.trees-smaller

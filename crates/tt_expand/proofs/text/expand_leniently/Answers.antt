@@ -1,9 +1,7 @@
-use Rattle.std.proofs.Common.{rules, ◌≡◌, ◌∙◌, Err, sym, subst}
-use Rattle.std.specs.Prelude.{IfErr}
-use Rattle.tt_expand.specs.declared.fault.ExpandTextError.{ExpandTextError}
-use Rattle.tt_expand.specs.declared.fault.ExpandTextError.TheVariants as error
+use Rattle.std.proofs.Common.{◌∙◌, true, subst}
 use Rattle.tt_expand.specs.Coming.{Comes}
-use Rattle.tt_expand.specs.Expansion.{text_part, setting_by, replacements, IsLenientError, IsWritingError}
+use Rattle.tt_expand.specs.Expansion.{setting_by, replacements}
+use Rattle.tt_edit.specs.Places.{text_part}
 use Rattle.tt_expand.specs.Knowing.{knows_nothing}
 use Rattle.tt_items.specs.Positions.{begun as begun_among}
 use Rattle.tt_items.specs.declared.position.Siblings.TheVariants.{Items}
@@ -13,27 +11,15 @@ use Rattle.tt_expand.proofs.Replacing.{all_replaced}
 use Rattle.tt_expand.proofs.text.expand_leniently.Goals as goal
 use Rattle.tt_text.specs.Parsed.{IsParse}
 
-pub returns-in_err-text-clause-err : goal.returns-in_err-text-clause-err
-returns-in_err-text-clause-err c =
-    let failed : c.from_residual-in_err-text.result ≡ Err c.in_err-text.field-0.0 = search rules in
-    subst (λ r. IfErr r (IsLenientError c.args.text.now)) (sym failed) (by c.in_err-text.field-0.0 c.in_err-text.ensures.err)
-  where
-    by : (why : ExpandTextError) → IsWritingError why → IsLenientError c.args.text.now why
-    by (error.Text fault) is = absurd is
-    by (error.Macro it) is = absurd is
-    by (error.Limit fault) is = tt
-    by (error.NotWritable at) is = tt
-    by (error.TooLong at) is = tt
-
 pub returns-clause-ok : goal.returns-clause-ok
 returns-clause-ok c =
     let text = c.args.text.now in
     let tree = c.in_ok-tree.tree in
     let options = c.args.options in
     let read : IsParse text_part text tree = c.in_ok-tree.ensures.ok in
-    let (after, ready, source) = c.in_ok-text.ensures.text knows_nothing c.new-known.ensures in
-    let comes : Comes (setting_by options) options.limit (begun_among Items) 0 knows_nothing tree.children after source.outcome =
-    subst (λ s. Comes s options.limit (begun_among Items) 0 knows_nothing tree.children after source.outcome) c.in_ok-setting.ensures source.comes in
+    let (after, ready, source) = c.in_ok-text.ensures knows_nothing c.new-known.ensures in
+    let comes : Comes (setting_by options) true options.limit (begun_among Items) 0 knows_nothing tree.children after source.outcome =
+    subst (λ s. Comes s true options.limit (begun_among Items) 0 knows_nothing tree.children after source.outcome) c.in_ok-setting.ensures source.comes in
     let fits : FitAll (replacements source.outcome) (begun text) = comes_fit text_part text tree c.utf8.text read comes in
     record {
       tree = tree;

@@ -2,7 +2,8 @@ use Rattle.std.proofs.Common.{rules, ◌≡◌, ◌∙◌, cond, refl, ap, ap₂
 use Rattle.tt.specs.Gluing.{after_trees}
 use Rattle.tt.specs.Iters.{rest_of}
 use Rattle.tt.specs.Views.{trees_of}
-use Rattle.tt_expand.specs.Coming.{begin_at, takes_in}
+use Rattle.tt_expand.specs.Coming.{takes_in}
+use Rattle.tt_edit.specs.Places.{begin_at}
 use Rattle.tt_expand.specs.Walks.{Level, level_of, past, past_semicolon}
 use Rattle.tt_items.specs.Items.{Call, call_of}
 use Rattle.tt_items.specs.Positions.{is_statement, siblings_of_call, takes_semicolon}
@@ -20,6 +21,8 @@ returns c =
     let takes : c.takes_semicolon-takes.result ≡ takes_in level.position it (after_trees it.len level.rest) =
     c.takes_semicolon-takes.ensures ∙ ap (λ f. takes_semicolon it.delimiter.kind f level.position) (c.iter.ensures ∙ behind) in (
       record {
+        name = search rules;
+        defined = refl;
         first = c.begin_at-first_span.ensures;
         last = c.pass_semicolon.ensures.last
             ∙ ap₂ (λ b f. cond b (begin_at f close) close) takes (ap (λ l. l.rest) passed);

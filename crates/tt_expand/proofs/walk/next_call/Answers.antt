@@ -16,17 +16,18 @@ use Rattle.tt_expand.proofs.walk.next_call.Goals as goal
 abbrev under_condition : Walk → Call → Bool
 under_condition walk it = is_conditional_in walk.level.position it (after_trees it.len (rest_of walk.level.rest))
 
-pub returns-in-Tree-clause-next : goal.returns-in-Tree-clause-next
-returns-in-Tree-clause-next c known is there =
+pub returns-in_ok-invoke-in-Tree-clause-next : goal.returns-in_ok-invoke-in-Tree-clause-next
+returns-in_ok-invoke-in-Tree-clause-next c known is there =
     let setting = setting_of c.args.setting.now in
     let it : Call = call_of c.args.call.now in
     let free = c.is_conditional-is_conditional.result in
     let tree = c.in-Tree.tree in
+    let at = c.in-Tree.defined_at in
     let (others, called, then) = c.in_ok-tree.ensures.called known is in
-    let from : IsExpanded setting c.args.limit (under_condition c.args.walk.now it) it tree known others =
-    subst (λ b. IsExpanded setting c.args.limit b it tree known others) c.is_conditional-is_conditional.ensures
+    let from : IsExpanded setting c.args.limit (under_condition c.args.walk.now it) it tree at known others =
+    subst (λ b. IsExpanded setting c.args.limit b it tree at known others) c.is_conditional-is_conditional.ensures
     (subst (λ r. IsCalled setting c.args.limit free it known r others) c.in-Tree.is called) in
-    (others, then, next_expanded setting c.args.limit c.args.walk.now known it there c.invoke.result c.invoke.new.walk others tree from c.invoke.ensures)
+    (others, then, λ in_text. next_expanded setting in_text c.args.limit c.args.walk.now known it there c.in_ok-invoke-in-Tree.field-0 c.invoke.new.walk others tree at from c.in_ok-invoke-in-Tree.ensures)
 
 pub returns-in-Faulty-clause-next : goal.returns-in-Faulty-clause-next
 returns-in-Faulty-clause-next c known is there =
@@ -37,7 +38,7 @@ returns-in-Faulty-clause-next c known is there =
     let wrong : IsFaulty setting c.args.limit (under_condition c.args.walk.now it) it known others =
     subst (λ b. IsFaulty setting c.args.limit b it known others) c.is_conditional-is_conditional.ensures
     (subst (λ r. IsCalled setting c.args.limit free it known r others) c.in-Faulty.is called) in
-    (others, then, next_faulty setting c.args.limit c.args.walk.now known it there c.stay.result c.stay.new.walk others wrong c.stay.ensures)
+    (others, then, λ in_text. next_faulty setting in_text c.args.limit c.args.walk.now known it there c.stay.result c.stay.new.walk others wrong c.stay.ensures)
 
 pub returns-else-setting-clause-next : goal.returns-else-setting-clause-next
 returns-else-setting-clause-next c known is there =
@@ -51,8 +52,8 @@ returns-else-setting-clause-next c known is there =
     let (none, same) = subst (λ r. IsCalled setting c.args.limit free it known r others) c.in-Other.is called in (
       others,
       then,
-      subst (IsNext setting c.args.limit (levels_of walk) known event (levels_of new)) (sym same)
-          (next_other setting c.args.limit walk known it there event new none c.if-setting.false c.stay-else-setting.ensures),
+      λ in_text. subst (IsNext setting in_text c.args.limit (levels_of walk) known event (levels_of new)) (sym same)
+          (next_other setting in_text c.args.limit walk known it there event new none c.if-setting.false c.stay-else-setting.ensures),
     )
 
 pub returns-in_ok-next_tree-in-Other-clause-limit : goal.returns-in_ok-next_tree-in-Other-clause-limit
@@ -68,18 +69,18 @@ returns-in_ok-next_tree-in-Other-clause-next c known is there =
     let outer : List Level = map level_of (reverse c.args.walk.now.outer.items) in
     let (others, called, then) = c.in_ok-tree.ensures.called known is in
     let (none, same) = subst (λ r. IsCalled setting limit free it known r others) c.in-Other.is called in
-    let leads : Leads setting limit (level ∷ outer) known (λ outcomes. outcomes) (record level { plain = it.len } ∷ outer) others =
-    subst (Leads setting limit (level ∷ outer) known (λ outcomes. outcomes) (record level { plain = it.len } ∷ outer)) (sym same)
-    (leads_into setting limit level outer known there.first there.goes_on it there.item none c.if-setting.true) in
+    let leads : (in_text : Bool) → Leads setting in_text limit (level ∷ outer) known (λ outcomes. outcomes) (record level { plain = it.len } ∷ outer) others =
+    λ in_text. subst (Leads setting in_text limit (level ∷ outer) known (λ outcomes. outcomes) (record level { plain = it.len } ∷ outer)) (sym same)
+    (leads_into setting in_text limit level outer known there.first there.goes_on it there.item none c.if-setting.true) in
     let (nexts, after, next) = c.in_ok-next_tree-in-Other.ensures.next setting limit others then (inr (inl (call_long setting.root level.rest it there.item))) in (
       nexts,
       after,
-      next_by setting limit (level ∷ outer) (record level { plain = it.len } ∷ outer) known others leads c.in_ok-next_tree-in-Other.field-0 (levels_of c.next_tree.new.walk) nexts next,
+      λ in_text. next_by setting in_text limit (level ∷ outer) (record level { plain = it.len } ∷ outer) known others (leads in_text) c.in_ok-next_tree-in-Other.field-0 (levels_of c.next_tree.new.walk) nexts (next in_text),
     )
 
-pub returns-in-Tree-clause-steps : goal.returns-in-Tree-clause-steps
-returns-in-Tree-clause-steps c there =
-    invoked_step c.args.setting.now.root c.args.walk.now (call_of c.args.call.now) there c.in-Tree.tree c.invoke.result c.invoke.new.walk c.invoke.ensures
+pub returns-in_ok-invoke-in-Tree-clause-steps : goal.returns-in_ok-invoke-in-Tree-clause-steps
+returns-in_ok-invoke-in-Tree-clause-steps c there =
+    invoked_step c.args.setting.now.root c.args.walk.now (call_of c.args.call.now) there c.in-Tree.tree c.in-Tree.defined_at c.in_ok-invoke-in-Tree.field-0 c.invoke.new.walk c.in_ok-invoke-in-Tree.ensures
 
 pub returns-in-Faulty-clause-steps : goal.returns-in-Faulty-clause-steps
 returns-in-Faulty-clause-steps c there =

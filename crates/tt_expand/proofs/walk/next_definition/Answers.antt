@@ -20,9 +20,9 @@ returns-clause-next c limit known is there =
     let now : level_of c.take_all.new.self ≡ past it.len true level = c.take_all.ensures.level in (
       others,
       then,
-      subst (λ l. IsNext setting limit (level ∷ outer) known (event.Stays c.take_all.result) (l ∷ outer) others) (sym now)
-          (subst (λ f. Leads setting limit (level ∷ outer) known (first_stay f) (past it.len true level ∷ outer) others) (sym taken)
-          (leads_definition setting limit level outer known there.first there.goes_on it others there.item read)),
+      λ in_text. subst (λ l. IsNext setting in_text limit (level ∷ outer) known (event.Stays c.take_all.result) (l ∷ outer) others) (sym now)
+          (subst (λ f. Leads setting in_text limit (level ∷ outer) known (first_stay f) (past it.len true level ∷ outer) others) (sym taken)
+          (leads_definition setting in_text limit level outer known there.first there.goes_on it others there.item read)),
     )
 
 pub returns-clause-steps : goal.returns-clause-steps

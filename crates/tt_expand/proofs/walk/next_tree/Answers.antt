@@ -22,8 +22,8 @@ returns-in-Some-clause-next c setting limit known is plain =
     let left : IsLeft c.args.walk.now (Some close) c.leave-in-None.new.self = c.in-Some.ensures in (
       others,
       c.leave.ensures known is,
-      subst (λ ls. IsNext setting limit (level ∷ outer) known (event.Closes close) ls others) left.1
-          (leads_end setting limit level outer known none),
+      λ in_text. subst (λ ls. IsNext setting in_text limit (level ∷ outer) known (event.Closes close) ls others) left.1
+          (leads_end setting in_text limit level outer known none),
     )
 
 pub returns-in-None-leave-clause-next : goal.returns-in-None-leave-clause-next
@@ -36,7 +36,7 @@ returns-in-None-leave-clause-next c setting limit known is plain =
     let last : outer ≡ [] = c.in-None-leave.ensures in (
       others,
       c.leave.ensures known is,
-      leads_end setting limit level outer known none others [] (subst (λ o. Ends setting limit o others others []) (sym last) refl),
+      λ in_text. leads_end setting in_text limit level outer known none others [] (subst (λ o. Ends setting in_text limit o others others []) (sym last) refl),
     )
 
 pub returns-in-Some-Leaf-clause-next : goal.returns-in-Some-Leaf-clause-next
@@ -49,8 +49,8 @@ returns-in-Some-Leaf-clause-next c setting limit known is plain =
     let now : level_of c.pass_leaf.new.self ≡ past_leaf it level = c.pass_leaf.ensures in (
       known,
       is,
-      subst (λ l. IsNext setting limit (level ∷ outer) known (event.Leaf it) (l ∷ outer) known) (sym now)
-          (leads_leaf setting limit level outer known it begins plain),
+      λ in_text. subst (λ l. IsNext setting in_text limit (level ∷ outer) known (event.Leaf it) (l ∷ outer) known) (sym now)
+          (leads_leaf setting in_text limit level outer known it begins plain),
     )
 
 pub returns-in_ok-enter-in-Some-Subtree-clause-next : goal.returns-in_ok-enter-in-Some-Subtree-clause-next
@@ -66,8 +66,8 @@ returns-in_ok-enter-in-Some-Subtree-clause-next c setting limit known is plain =
     c.in_ok-enter-in-Some-Subtree.ensures ∙ ap (λ n. entered header.delimiter children n (level ∷ outer)) count in (
       known,
       is,
-      subst (λ ls. IsNext setting limit (level ∷ outer) known (event.Opens header) ls known) (sym now)
-          (leads_subtree setting limit level outer known header.delimiter children begins plain),
+      λ in_text. subst (λ ls. IsNext setting in_text limit (level ∷ outer) known (event.Opens header) ls known) (sym now)
+          (leads_subtree setting in_text limit level outer known header.delimiter children begins plain),
     )
 
 pub returns-in-Some-clause-steps : goal.returns-in-Some-clause-steps
