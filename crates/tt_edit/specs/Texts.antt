@@ -1,25 +1,47 @@
 -- A text in which other texts take the place of parts of it.
-use Rattle.std.specs.Prelude.{◌≡◌, ◌⊎◌, ◌≤◌, ◌-◌, ◌++◌, ◌||◌, ◌==◌, ℕ, not, Bool, false, List, [], ◌∷◌, length, take, drop, slice_get, Option, None, Some, codes, string_bytes}
+use Rattle.std.specs.Prelude.{◌≡◌, ◌⊎◌, ◌≤◌, ◌-◌, ◌++◌, ◌||◌, ◌&&◌, ◌==◌, ℕ, not, Bool, false, List, [], ◌∷◌, length, take, drop, slice_get, Option, None, Some, codes, string_bytes}
 use Rattle.std.specs.List.{list_any}
 use Rattle.std.specs.Str.{IsCharBoundary}
 use Rattle.tt.specs.TreeText.{space_if}
 use Rattle.tt_edit.specs.declared.output.Output.{Output}
 
--- white space, brackets, a comma and a semicolon: a token ends before such a byte, and one begins behind it, whatever stands around
+-- white space and brackets: a token ends before such a byte, and one begins behind it, whatever stands around
 abbrev pub apart_bytes : List ℕ
-apart_bytes = codes " \t\n\r()[]{},;"
+apart_bytes = codes " \t\n\r()[]{}"
+
+-- a comma and a semicolon, and all puncts
+abbrev pub separator_bytes : List ℕ
+separator_bytes = codes ",;"
+
+abbrev pub sign_bytes : List ℕ
+sign_bytes = codes ",;.:@#~?$=!<>-&|+*/^%"
 
 -- whether it is one of these
 abbrev pub is_apart : ℕ → Bool
 is_apart byte = list_any (λ it. it == byte) apart_bytes
 
+abbrev pub is_separator : ℕ → Bool
+is_separator byte = list_any (λ it. it == byte) separator_bytes
+
+abbrev pub is_sign : ℕ → Bool
+is_sign byte = list_any (λ it. it == byte) sign_bytes
+
+-- whether a punct that touches a token which begins with this byte is joint: one before a punct is, and before a lifetime
+abbrev pub is_joined_before : ℕ → Bool
+is_joined_before byte = is_sign byte || (byte == 39)
+
+-- whether tokens of which one ends with a byte, and the other begins with one, stay as they are where they touch
+abbrev pub may_touch : (last first : ℕ) → Bool
+may_touch last first =
+    is_apart last || (is_apart first || ((is_separator first && not (is_sign last)) || (is_separator last && not (is_joined_before first))))
+
 -- whether a space stands between two texts, of which one ends with a byte and the other begins with one
 abbrev pub wants_space : Option ℕ → Option ℕ → Bool
 wants_space None first = false
 wants_space (Some last) None = false
-wants_space (Some last) (Some first) = not (is_apart last || is_apart first)
+wants_space (Some last) (Some first) = not (may_touch last first)
 
--- the one text behind the other, and a space between where their tokens could become one
+-- the one text behind the other, and a space between where their tokens could become one, or a punct joint
 abbrev pub joined : (before behind : List ℕ) → List ℕ
 joined before behind = before ++ space_if (wants_space (slice_get before (length before - 1)) (slice_get behind 0)) ++ behind
 

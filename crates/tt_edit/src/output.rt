@@ -1,6 +1,6 @@
 //! A text in which other texts take the place of parts of it.
 ghost use Rattle.std.specs.Prelude.{◌≡◌, ◌≤◌, IfOk, OnOk, MatchBool, MatchOption, take, drop, slice_get, length, ◌-◌, string_bytes};
-ghost use Rattle.tt_edit.specs.Texts.{is_apart, wants_space, joined, IsRange};
+ghost use Rattle.tt_edit.specs.Texts.{is_apart, is_separator, is_sign, may_touch, wants_space, joined, IsRange};
 
 use std::alloc::{AllocError, Global};
 
@@ -19,8 +19,57 @@ fn is_apart(byte: u8) -> bool
 {
     matches!(
         byte,
-        b' ' | b'\t' | b'\n' | b'\r' | b'(' | b')' | b'[' | b']' | b'{' | b'}' | b',' | b';'
+        b' ' | b'\t' | b'\n' | b'\r' | b'(' | b')' | b'[' | b']' | b'{' | b'}'
     )
+}
+
+// Whether it is a comma or a semicolon.
+fn is_separator(byte: u8) -> bool
+    ensures { result ≡ is_separator byte }
+{
+    matches!(byte, b',' | b';')
+}
+
+// Whether it is a punct.
+fn is_sign(byte: u8) -> bool
+    ensures { result ≡ is_sign byte }
+{
+    matches!(
+        byte,
+        b',' | b';'
+            | b'.'
+            | b':'
+            | b'@'
+            | b'#'
+            | b'~'
+            | b'?'
+            | b'$'
+            | b'='
+            | b'!'
+            | b'<'
+            | b'>'
+            | b'-'
+            | b'&'
+            | b'|'
+            | b'+'
+            | b'*'
+            | b'/'
+            | b'^'
+            | b'%'
+    )
+}
+
+// Whether tokens of which one ends with a byte, and the other begins with one, stay as they are where they touch.
+fn may_touch(last: u8, first: u8) -> bool
+    ensures { result ≡ may_touch last first }
+{
+    if is_apart(last) || is_apart(first) {
+        return true;
+    }
+    if is_separator(first) && !is_sign(last) {
+        return true;
+    }
+    is_separator(last) && !is_sign(first) && first != b'\''
 }
 
 // Whether a space stands between two texts.
@@ -33,10 +82,10 @@ fn wants_space(before: &str, behind: &str) -> bool
     let Some(first) = behind.as_bytes().first() else {
         return false;
     };
-    !(is_apart(*last) || is_apart(*first))
+    !may_touch(*last, *first)
 }
 
-// Adds a text, behind a space where their tokens could become one.
+// Adds a text, behind a space where their tokens could become one, or a punct joint.
 fn push_apart(text: &mut String, more: &str) -> Result<(), AllocError>
     ensures { OnOk result (string_bytes text.new ≡ joined (string_bytes text.old) more.now) }
 {
