@@ -1,2 +1,3 @@
 pub mod Lengths
 pub mod Rows
+pub mod Shapes

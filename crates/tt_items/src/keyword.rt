@@ -1,57 +1,75 @@
 //! Words of the language, which name no macro.
 ghost use Rattle.std.specs.Prelude.{◌≡◌};
-ghost use Rattle.tt_items.specs.Keywords.{is_keyword};
+ghost use Rattle.tt_items.specs.Keywords.{is_keyword, is_item_word, is_body_word, is_reserved_word};
 
-/// Whether a word is a keyword of the edition 2024, a reserved one too, or `_`.
-pub(crate) fn is_keyword(word: &str) -> bool
-    ensures { result ≡ is_keyword word.now }
+// Whether a word stands in the heads of items.
+fn is_item_word(word: &str) -> bool
+    ensures { result ≡ is_item_word word.now }
 {
     matches!(
         word,
-        "_" | "as"
-            | "break"
-            | "const"
-            | "continue"
-            | "crate"
-            | "else"
+        "const"
             | "enum"
             | "extern"
-            | "false"
             | "fn"
-            | "for"
-            | "if"
             | "impl"
-            | "in"
-            | "let"
-            | "loop"
-            | "match"
             | "mod"
-            | "move"
-            | "mut"
             | "pub"
-            | "ref"
-            | "return"
-            | "self"
-            | "Self"
             | "static"
             | "struct"
-            | "super"
             | "trait"
-            | "true"
             | "type"
             | "unsafe"
             | "use"
             | "where"
-            | "while"
+    )
+}
+
+// Whether a word stands in statements, expressions, patterns and types, as `_` does.
+fn is_body_word(word: &str) -> bool
+    ensures { result ≡ is_body_word word.now }
+{
+    matches!(
+        word,
+        "_" | "as"
             | "async"
             | "await"
+            | "break"
+            | "continue"
+            | "crate"
             | "dyn"
-            | "abstract"
+            | "else"
+            | "false"
+            | "for"
+            | "gen"
+            | "if"
+            | "in"
+            | "let"
+            | "loop"
+            | "match"
+            | "move"
+            | "mut"
+            | "ref"
+            | "return"
+            | "self"
+            | "Self"
+            | "super"
+            | "true"
+            | "while"
+    )
+}
+
+// Whether a word is reserved for later editions, or for none.
+fn is_reserved_word(word: &str) -> bool
+    ensures { result ≡ is_reserved_word word.now }
+{
+    matches!(
+        word,
+        "abstract"
             | "become"
             | "box"
             | "do"
             | "final"
-            | "gen"
             | "macro"
             | "override"
             | "priv"
@@ -61,4 +79,11 @@ pub(crate) fn is_keyword(word: &str) -> bool
             | "virtual"
             | "yield"
     )
+}
+
+/// Whether a word is a keyword of the edition 2024, a reserved one too, or `_`.
+pub(crate) fn is_keyword(word: &str) -> bool
+    ensures { result ≡ is_keyword word.now }
+{
+    is_item_word(word) || is_body_word(word) || is_reserved_word(word)
 }
