@@ -31,7 +31,8 @@ uint32_t tt_bytes_to_text(const uint8_t *bytes, size_t bytes_len, uint8_t *out, 
 /* A Rust text in which each call of a macro that is defined in it becomes what the macro makes of it. All else stays byte for byte. Up to
  * 128 expansions stand one inside the other, for which 192 KiB of stack were enough where it was measured, and $crate becomes crate. A call
  * under #[cfg(..)] stays.
- * Faults: 1 to 44; 81 to 92 but for 84, of definitions; 100 to 106, of calls. *at is a byte of the text; 0 for faults 1, 2 and 4 to 9. */
+ * Faults: 1 to 44; 81 to 92 but for 84, of definitions; 100 to 106, of calls; and 5 to 9 of either. *at is a byte of the text; 0 for faults
+ * 1, 2 and 4, and for 5 to 9 where the text itself is past the limit. */
 uint32_t tt_expand_text(const uint8_t *text, size_t text_len, uint8_t *out, size_t out_len, size_t *written, size_t *at);
 
 /* The bytes of what a macro makes of an input. Its arms, `(pattern) => {template}` with `;` between them, and the input are trees in bytes.

@@ -167,9 +167,10 @@ macro_fault (found.Expansion error) = fill_fault error.fault
 macro_fault found.TooDeep = told.TooDeep
 macro_fault found.NotWritable = told.NotWritable
 macro_fault found.TooLong = told.MadeTooLong
+macro_fault (found.TooLarge fault) = limit_fault fault
 
 -- a text whose macros are not expanded
 abbrev pub expand_text_failure : ExpandTextError → Failure
 expand_text_failure (expanding.Text fault) = text_failure fault
 expand_text_failure (expanding.Macro it) = at_place (macro_fault it.fault) it.at
-expand_text_failure (expanding.Limit fault) = placeless (limit_fault fault)
+expand_text_failure expanding.Memory = placeless told.Memory

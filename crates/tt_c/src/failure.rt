@@ -235,6 +235,7 @@ fn macro_fault(fault: MacroFault) -> Fault
         MacroFault::TooDeep => Fault::TooDeep,
         MacroFault::NotWritable => Fault::NotWritable,
         MacroFault::TooLong => Fault::MadeTooLong,
+        MacroFault::TooLarge(fault) => limit_fault(fault),
     }
 }
 
@@ -248,6 +249,6 @@ pub(crate) fn expand_text_failure(error: ExpandTextError) -> Failure
             fault: macro_fault(finding.fault),
             at: finding.at as usize,
         },
-        ExpandTextError::Limit(fault) => limit_failure(fault),
+        ExpandTextError::Memory => placeless(Fault::Memory),
     }
 }

@@ -24,14 +24,6 @@ struct Outcome {
     counts: Counts,
 }
 
-// What is told where a limit is passed.
-fn past_limit(rt: &HostRuntime, name: &str, fault: TtFault) -> Failure {
-    match format!(in rt.alloc(); "{name}: {fault}") {
-        Ok(message) => Failure::plain(rt, message.as_str()),
-        Err(_refused) => Failure::Memory,
-    }
-}
-
 // What is told of why the text of that name is not expanded.
 fn refused(
     rt: &HostRuntime,
@@ -44,7 +36,7 @@ fn refused(
     let style = style_of(rt);
     match error {
         ExpandTextError::Text(fault) => told(rt, name, text, fault),
-        ExpandTextError::Limit(fault) => past_limit(rt, name, fault),
+        ExpandTextError::Memory => Failure::Memory,
         ExpandTextError::Macro(finding) => {
             Failure::told(told_of(alloc, style, name, text, limit, &[finding]))
         }

@@ -100,5 +100,6 @@ pub fn message(alloc: Global, name: &str, fault: MacroFault) -> Result<String, A
         MacroFault::TooLong => format!(in alloc;
             "what comes of `{name}` has 4294967295 bytes or more"
         ),
+        MacroFault::TooLarge(fault) => format!(in alloc; "`{name}` is too large: {fault}"),
     }
 }

@@ -1,5 +1,5 @@
 -- Where a call lies in a text.
-use Rattle.std.proofs.Common.{◌≡◌, ◌≤◌, ℕ, suc, Bool, true, false, List, Option, None, Some, refl, ap, sym, subst, ◌∙◌, arith, cond, codes}
+use Rattle.std.proofs.Common.{◌≡◌, ◌≤◌, ℕ, suc, Bool, true, false, List, refl, ap, sym, subst, ◌∙◌, arith, cond, codes}
 use Rattle.std.specs.Prelude.{◌&&◌, ◌||◌, ◌==◌, not}
 use Rattle.std.specs.Str.{IsCharBoundary}
 use Rattle.tt.specs.Forest.{Forest, end, leaf, node}
@@ -7,13 +7,13 @@ use Rattle.tt.specs.Gluing.{after_trees}
 use Rattle.tt.specs.Moves.{after_tree}
 use Rattle.tt.specs.Span.{start_of, end_of}
 use Rattle.tt.specs.Types.Delimiter.{Delimiter}
-use Rattle.tt.specs.Types.Ident.{Ident}
 use Rattle.tt.specs.Types.Leaf.TheVariants as leaf_of
 use Rattle.tt.specs.Types.Span.{Span}
 use Rattle.tt_expand.specs.Coming.{takes_in, end_in, rest_in}
 use Rattle.tt_edit.specs.Places.{begin_at}
-use Rattle.tt_items.specs.Items.{Definition, Call, calls, call_from, call_behind, call_in, definition_in, is_at_colons, is_at_root, item_from, item_in, name_in}
+use Rattle.tt_items.specs.Items.{Call, calls, item_in}
 use Rattle.tt_edit.specs.Laid.{Lies, Laid, lies_end, lies_leaf, lies_node}
+use Rattle.tt_items.proofs.Shapes.{call_ends}
 use Rattle.tt_edit.proofs.LaidFacts.{laid_behind, laid_order, laid_past, starts_before}
 use Rattle.tt_expand.proofs.ManyTrees.{after_more}
 use Rattle.tt_pattern.proofs.Passing.{after_end}
@@ -21,49 +21,6 @@ use Rattle.tt_items.specs.Positions.{is_items}
 use Rattle.tt_items.specs.declared.position.Position.{Position}
 use Rattle.tt_matcher.specs.Fragments.{is_brace}
 use Rattle.tt_pattern.specs.Units.{is_at_punct}
-
--- a call's subtree is the last of its trees, and stands behind two or more of them
-pub record EndsWithSubtree (trees : Forest) (it : Call) : Type 0 where
-  pub before : ℕ
-  pub rest : Forest
-  pub stands : after_trees (suc before) trees ≡ node it.delimiter it.input rest
-  pub len : it.len ≡ suc (suc before)
-
-abbrev EndsWith : Forest → Option Call → Type 0
-EndsWith trees None = Unit {0}
-EndsWith trees (Some it) = EndsWithSubtree trees it
-
-ends_behind : (whole : Forest) (before : ℕ) (is_elsewhere : Bool) (trees : Forest) → after_trees (suc (suc before)) whole ≡ after_trees 2 trees
-    → EndsWith whole (call_behind before is_elsewhere trees)
-ends_behind whole before is_elsewhere trees same = by (name_in trees) (is_at_punct (codes "!") (after_tree trees)) (after_trees 2 trees) same
-  where
-    by : (name : Option Ident) (is_call : Bool) (behind : Forest) → after_trees (suc (suc before)) whole ≡ behind
-        → EndsWith whole (call_from before is_elsewhere name is_call behind)
-    by None is_call behind stands = tt
-    by (Some name) false behind stands = tt
-    by (Some name) true end stands = tt
-    by (Some name) true (leaf it rest) stands = tt
-    by (Some name) true (node delimiter children rest) stands = record { before = suc before; rest = rest; stands = stands; len = omega arith }
-
--- The call that stands first ends with its subtree.
-pub call_ends : (root : List ℕ) (trees : Forest) (it : Call) → item_in root trees ≡ calls it → EndsWithSubtree trees it
-call_ends root trees it is = found (definition_in trees) (call_in root trees) all is
-  where
-    by : (a b : Bool) → EndsWith trees (cond a (call_behind 2 true (after_trees 2 trees)) (cond b (call_behind 3 false (after_trees 3 trees)) (call_behind 0 false trees)))
-    by true b = ends_behind trees 2 true (after_trees 2 trees) refl
-    by false true = ends_behind trees 3 false (after_trees 3 trees) refl
-    by false false = ends_behind trees 0 false trees refl
-
-    all : EndsWith trees (call_in root trees)
-    all = by (is_at_colons trees) (is_at_root root trees && is_at_colons (after_tree trees))
-
-    found : (definition : Option Definition) (call : Option Call) → EndsWith trees call → item_from definition call ≡ calls it → EndsWithSubtree trees it
-    found None None there e = absurd (cc e)
-    found None (Some other) there e = subst (EndsWithSubtree trees) (same e) there
-      where
-        same : calls other ≡ calls it → other ≡ it
-        same e = cc
-    found (Some definition) call there e = absurd (cc e)
 
 -- A subtree that lies in a text behind a byte closes behind it, and the trees behind the subtree lie there.
 past_subtree : {text : List ℕ} {place to : ℕ} {delimiter : Delimiter} {children rest trees : Forest} → trees ≡ node delimiter children rest → Laid text place trees to
@@ -128,7 +85,7 @@ with_semicolon {text} {to = to} other (leaf (leaf_of.Punct it) rest) is lies (li
         by false is = is
 
 -- Where four things are, the last is.
-last_of : (a b c d : Bool) → (a && (b && (c && d))) ≡ true → d ≡ true
+pub last_of : (a b c d : Bool) → (a && (b && (c && d))) ≡ true → d ≡ true
 last_of true true true d is = is
 last_of true true false d is = absurd (cc is)
 last_of true false c d is = absurd (cc is)
@@ -137,9 +94,9 @@ last_of false b c d is = absurd (cc is)
 -- A call is a range of the text, from where its first token begins to where it ends, and what stands behind it lies behind that.
 pub call_laid : {text : List ℕ} {from to : ℕ} (root : List ℕ) (trees : Forest) (it : Call) (position : Position) → item_in root trees ≡ calls it
     → Laid text from trees to
-    → Lies text from (start_of (begin_at trees it.name.span).range) (end_of (end_in position it (after_trees it.len trees)).range)
-    × Laid text (end_of (end_in position it (after_trees it.len trees)).range) (rest_in position it (after_trees it.len trees)) to
-call_laid {text} {from} {to} root trees it position is laid = by (takes_in position it rest) refl
+    → Lies text from (start_of (begin_at trees it.name.span).range) (end_of (end_in position it trees).range)
+    × Laid text (end_of (end_in position it trees).range) (rest_in position it trees) to
+call_laid {text} {from} {to} root trees it position is laid = by (takes_in position it trees) refl
   where
     rest : Forest
     rest = after_trees it.len trees
@@ -150,7 +107,7 @@ call_laid {text} {from} {to} root trees it position is laid = by (takes_in posit
     here : Lies text from (start_of (begin_at trees it.name.span).range) (end_of close.range) × Laid text (end_of close.range) rest to
     here = subtree_laid root trees it is laid
 
-    by : (takes : Bool) → takes_in position it rest ≡ takes
+    by : (takes : Bool) → takes_in position it trees ≡ takes
         → Lies text from (start_of (begin_at trees it.name.span).range) (end_of (cond takes (begin_at rest close) close).range)
         × Laid text (end_of (cond takes (begin_at rest close) close).range) (cond takes (after_tree rest) rest) to
     by true takes =

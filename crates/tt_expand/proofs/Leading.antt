@@ -99,7 +99,7 @@ module _ (setting : Setting) (in_text : Bool) (limit : ℕ) (level : Level) (out
       )
 
       -- Past one that is wrong.
-      pub leads_faulty : (then : Known) → IsFaulty setting limit (is_conditional_in level.position it (after_trees it.len level.rest)) it known then
+      pub leads_faulty : (then : Known) → IsFaulty setting limit (is_conditional_in level.position it level.rest) it known then
           → Leads setting in_text limit (level ∷ outer) known (first_stay (front_trees it.len level.rest)) (past it.len (is_brace it.delimiter.kind) level ∷ outer) then
       leads_faulty then is after [] e = absurd e
       leads_faulty then is after (others ∷ more) (within, comes, behind) = (
@@ -114,38 +114,34 @@ module _ (setting : Setting) (in_text : Bool) (limit : ℕ) (level : Level) (out
 -- Past one of which a tree comes, and of that something in turn.
 module _ (setting : Setting) (left : ℕ) (level : Level) (outer : List Level) (known : Known) (first : level.plain ≡ 0) (goes_on : known.is_over ≡ false) (it : Call)
     (macro : Macro) (arms : List Arm) (tree : Root) (there : item_in setting.root level.rest ≡ calls it) (called : called_by setting known.macros it ≡ Some macro)
-    (expands : macro.arms ≡ Some arms) (free : is_conditional_in level.position it (after_trees it.len level.rest) ≡ false)
+    (expands : macro.arms ≡ Some arms) (free : is_conditional_in level.position it level.rest ≡ false)
     (makes : IsExpansion arms 0 0 it.input (expansion.Tree tree)) (within : Known) (held : Outcome)
-    (comes : Comes setting false left (begun_by level.position it (after_trees it.len level.rest)) 0 known tree.children within held) where
-  -- what stands behind its subtree
-  abbrev rest : Forest
-  rest = after_trees it.len level.rest
-
+    (comes : Comes setting false left (begun_by level.position it level.rest) 0 known tree.children within held) where
   -- what it becomes
   abbrev put : Forest
-  put = placed_at level.position it rest (trees_left held)
+  put = placed_at level.position it level.rest (trees_left held)
 
   -- That stands in its place.
-  pub leads_call : (in_text : Bool) → MayStand in_text put
-      → Leads setting in_text (suc left) (level ∷ outer) known (first_becomes (begin_at level.rest it.name.span) (end_in level.position it rest) put) (past_call it level ∷ outer) within
+  pub leads_call : (in_text : Bool) → MayStand in_text it.delimiter put
+      → Leads setting in_text (suc left) (level ∷ outer) known (first_becomes (begin_at level.rest it.name.span) (end_in level.position it level.rest) put) (past_call it level ∷ outer) within
   leads_call in_text may after [] e = absurd e
   leads_call in_text may after (others ∷ more) (beyond, then, behind) = (
     beyond,
-    subst (λ n. Comes setting in_text (suc left) level.position n known level.rest beyond (becomes (begin_at level.rest it.name.span) (end_in level.position it rest) put others)) (sym first)
+    subst (λ n. Comes setting in_text (suc left) level.position n known level.rest beyond (becomes (begin_at level.rest it.name.span) (end_in level.position it level.rest) put others)) (sym first)
         (on_call tree goes_on there (ap arms_of called ∙ expands) free makes comes may
-        (subst (λ n. Comes setting in_text (suc left) (behind_in level.position it rest) n within (rest_in level.position it rest) beyond others) first then)),
+        (subst (λ n. Comes setting in_text (suc left) (behind_in level.position it level.rest) n within (rest_in level.position it level.rest) beyond others) first then)),
     behind,
   )
 
   -- It stays in the text, where that is not written.
-  pub leads_unwritten : (at : ℕ) (fault : MacroFault) → IsUnwritten put (start_of (begin_at level.rest it.name.span).range) at fault
-      → Leads setting true (suc left) (level ∷ outer) known (first_stay (front_trees (len_in level.position it rest) level.rest)) (past_call it level ∷ outer) (with_finding (found_of it macro at fault) within)
+  pub leads_unwritten : (at : ℕ) (fault : MacroFault) → IsUnwritten it.delimiter put (start_of (begin_at level.rest it.name.span).range) at fault
+      → Leads setting true (suc left) (level ∷ outer) known (first_stay (front_trees (len_in level.position it level.rest) level.rest)) (past_call it level ∷ outer) (with_finding (found_of it macro at fault) within)
   leads_unwritten at fault unwritten after [] e = absurd e
   leads_unwritten at fault unwritten after (others ∷ more) (beyond, then, behind) = (
     beyond,
-    subst (λ n. Comes setting true (suc left) level.position n known level.rest beyond (stays (front_trees (len_in level.position it rest) level.rest) others)) (sym first)
+    subst (λ n. Comes setting true (suc left) level.position n known level.rest beyond (stays (front_trees (len_in level.position it level.rest) level.rest) others)) (sym first)
         (on_unwritten_call tree at fault goes_on there called expands free makes comes unwritten
-        (subst (λ n. Comes setting true (suc left) (behind_in level.position it rest) n (with_finding (found_of it macro at fault) within) (rest_in level.position it rest) beyond others) first then)),
+        (subst (λ n. Comes setting true (suc left) (behind_in level.position it level.rest) n (with_finding (found_of it macro at fault) within) (rest_in level.position it level.rest) beyond others) first then)),
     behind,
   )
 

@@ -14,3 +14,4 @@ pub mod Readiness
 pub mod Replacing
 pub mod Rooting
 pub mod Rows
+pub mod Weaving

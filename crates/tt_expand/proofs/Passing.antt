@@ -49,14 +49,14 @@ module _ (setting : Setting) (in_text : Bool) (limit : ℕ) (old : Walk) (known 
       (leads_other setting in_text limit (level_of old.level) (map level_of (reverse old.outer.items)) known there.first there.goes_on it there.item none not_into) is
 
   -- It stays where something is wrong with it.
-  pub next_faulty : (event : Event) (new : Walk) (others : Known) → IsFaulty setting limit (is_conditional_in old.level.position it (after_trees it.len (rest_of old.level.rest))) it known others → IsStay it old event new
+  pub next_faulty : (event : Event) (new : Walk) (others : Known) → IsFaulty setting limit (is_conditional_in old.level.position it (rest_of old.level.rest)) it known others → IsStay it old event new
       → IsNext setting in_text limit (levels_of old) known event (levels_of new) others
   next_faulty event new others wrong is =
       staying event new others (leads_faulty setting in_text limit (level_of old.level) (map level_of (reverse old.outer.items)) known there.first there.goes_on it there.item others wrong) is
 
   -- A tree comes of it.
   pub next_expanded : (event : Event) (new : Walk) (others : Known) (tree : Root) (defined_at : ℕ)
-      → IsExpanded setting limit (is_conditional_in old.level.position it (after_trees it.len (rest_of old.level.rest))) it tree defined_at known others
+      → IsExpanded setting limit (is_conditional_in old.level.position it (rest_of old.level.rest)) it tree defined_at known others
       → IsInvoked it tree defined_at old event new → IsNext setting in_text limit (levels_of old) known event (levels_of new) others
   next_expanded event.End new others tree defined_at from is = absurd is
   next_expanded (event.Leaf l) new others tree defined_at from is = absurd is
@@ -71,8 +71,8 @@ module _ (setting : Setting) (in_text : Bool) (limit : ℕ) (old : Walk) (known 
         by,
       ))
     where
-      behind : Forest
-      behind = after_trees it.len (rest_of old.level.rest)
+      trees : Forest
+      trees = rest_of old.level.rest
 
       begin : Span
       begin = begin_at (rest_of old.level.rest) it.name.span
@@ -86,40 +86,41 @@ module _ (setting : Setting) (in_text : Bool) (limit : ℕ) (old : Walk) (known 
           finding : List ℕ → ℕ → Finding
           finding name place = record { name = name; at = at; fault = fault; defined_at = Some place }
 
-      put : (held : Outcome) → placed i.is_statement i.delimiter (trees_left held) ≡ placed_at old.level.position it behind (trees_left held)
+      put : (held : Outcome) → placed i.is_statement i.delimiter (trees_left held) ≡ placed_at old.level.position it trees (trees_left held)
       put held = ap₂ (λ b d. placed b d (trees_left held)) is.is_statement is.delimiter
 
       by : (inside : Known) (held : Outcome) → Comes setting false from.left (begun_among i.siblings) 0 others i.tree.children inside held
           → GoesPast setting in_text limit (levels_of old) known i (placed i.is_statement i.delimiter (trees_left held)) nexts inside
       by inside held comes = record { stands = stands; stays = stays }
         where
-          came : Comes setting false from.left (begun_by old.level.position it behind) 0 known tree.children inside held
+          came : Comes setting false from.left (begun_by old.level.position it trees) 0 known tree.children inside held
           came =
-              subst (λ k. Comes setting false from.left (begun_by old.level.position it behind) 0 k tree.children inside held) from.known
-              (subst (λ t. Comes setting false from.left (begun_by old.level.position it behind) 0 others t.children inside held) is.makes
+              subst (λ k. Comes setting false from.left (begun_by old.level.position it trees) 0 k tree.children inside held) from.known
+              (subst (λ t. Comes setting false from.left (begun_by old.level.position it trees) 0 others t.children inside held) is.makes
               (subst (λ s. Comes setting false from.left (begun_among s) 0 others i.tree.children inside held) is.siblings comes))
 
-          stands : MayStand in_text (placed i.is_statement i.delimiter (trees_left held))
+          stands : MayStand in_text i.delimiter (placed i.is_statement i.delimiter (trees_left held))
               → Leads setting in_text limit (levels_of old) known (first_becomes i.first_span i.last_span (placed i.is_statement i.delimiter (trees_left held))) nexts inside
           stands may =
               subst (λ s. Leads setting in_text limit (levels_of old) known (first_becomes s i.last_span (placed i.is_statement i.delimiter (trees_left held))) nexts inside) (sym is.first)
               (subst (λ s. Leads setting in_text limit (levels_of old) known (first_becomes begin s (placed i.is_statement i.delimiter (trees_left held))) nexts inside) (sym is.last)
-              (subst (λ f. Leads setting in_text limit (levels_of old) known (first_becomes begin (end_in old.level.position it behind) f) nexts inside) (sym (put held))
-              (subst (λ n. Leads setting in_text n (levels_of old) known (first_becomes begin (end_in old.level.position it behind) (placed_at old.level.position it behind (trees_left held))) nexts inside) (sym from.fits)
+              (subst (λ f. Leads setting in_text limit (levels_of old) known (first_becomes begin (end_in old.level.position it trees) f) nexts inside) (sym (put held))
+              (subst (λ n. Leads setting in_text n (levels_of old) known (first_becomes begin (end_in old.level.position it trees) (placed_at old.level.position it trees (trees_left held))) nexts inside) (sym from.fits)
               (leads_call setting from.left (level_of old.level) (map level_of (reverse old.outer.items)) known there.first there.goes_on it from.macro from.arms tree there.item
-              from.called from.expands from.free from.makes inside held came in_text (subst (MayStand in_text) (put held) may)))))
+              from.called from.expands from.free from.makes inside held came in_text (subst (λ d. MayStand in_text d (placed_at old.level.position it trees (trees_left held))) is.delimiter (subst (MayStand in_text i.delimiter) (put held) may))))))
 
-          stays : in_text ≡ true → (at : ℕ) (fault : MacroFault) → IsUnwritten (placed i.is_statement i.delimiter (trees_left held)) (start_of i.first_span.range) at fault
+          stays : in_text ≡ true → (at : ℕ) (fault : MacroFault) → IsUnwritten i.delimiter (placed i.is_statement i.delimiter (trees_left held)) (start_of i.first_span.range) at fault
               → (stay : Forest) × Leads setting in_text limit (levels_of old) known (first_stay stay) nexts (with_finding (found_by i at fault) inside)
           stays text at fault unwritten = (
-            front_trees (len_in old.level.position it behind) (rest_of old.level.rest),
-            subst (λ b. Leads setting b limit (levels_of old) known (first_stay (front_trees (len_in old.level.position it behind) (rest_of old.level.rest))) nexts (with_finding (found_by i at fault) inside)) (sym text)
-                (subst (λ n. Leads setting true n (levels_of old) known (first_stay (front_trees (len_in old.level.position it behind) (rest_of old.level.rest))) nexts (with_finding (found_by i at fault) inside)) (sym from.fits)
-                (subst (λ f. Leads setting true (suc from.left) (levels_of old) known (first_stay (front_trees (len_in old.level.position it behind) (rest_of old.level.rest))) nexts (with_finding f inside)) (sym (found at fault))
+            front_trees (len_in old.level.position it trees) (rest_of old.level.rest),
+            subst (λ b. Leads setting b limit (levels_of old) known (first_stay (front_trees (len_in old.level.position it trees) (rest_of old.level.rest))) nexts (with_finding (found_by i at fault) inside)) (sym text)
+                (subst (λ n. Leads setting true n (levels_of old) known (first_stay (front_trees (len_in old.level.position it trees) (rest_of old.level.rest))) nexts (with_finding (found_by i at fault) inside)) (sym from.fits)
+                (subst (λ f. Leads setting true (suc from.left) (levels_of old) known (first_stay (front_trees (len_in old.level.position it trees) (rest_of old.level.rest))) nexts (with_finding f inside)) (sym (found at fault))
                 (leads_unwritten setting from.left (level_of old.level) (map level_of (reverse old.outer.items)) known there.first there.goes_on it from.macro from.arms tree there.item
                 from.called from.expands from.free from.makes inside held came at fault
-                (subst (λ s. IsUnwritten (placed_at old.level.position it behind (trees_left held)) (start_of s.range) at fault) is.first
-                (subst (λ f. IsUnwritten f (start_of i.first_span.range) at fault) (put held) unwritten))))),
+                (subst (λ s. IsUnwritten it.delimiter (placed_at old.level.position it trees (trees_left held)) (start_of s.range) at fault) is.first
+                (subst (λ d. IsUnwritten d (placed_at old.level.position it trees (trees_left held)) (start_of i.first_span.range) at fault) is.delimiter
+                (subst (λ f. IsUnwritten i.delimiter f (start_of i.first_span.range) at fault) (put held) unwritten)))))),
           )
 
 module _ (root : List ℕ) (old : Walk) (it : Call) (there : IsFirst (calls it) root old) where
@@ -154,6 +155,6 @@ module _ (root : List ℕ) (old : Walk) (it : Call) (there : IsFirst (calls it) 
   invoked_step tree defined_at (event.Closes c) new is = absurd is
   invoked_step tree defined_at (event.Stays f) new is = absurd is
   invoked_step tree defined_at (event.Invocation i) new (is, now, outer) =
-      let behind = after_trees it.len (rest_of old.level.rest) in
-      stepped (level_of new.level) (past_call it (level_of old.level)) now refl (fewer (takes_in old.level.position it behind) behind)
+      let trees = rest_of old.level.rest in
+      stepped (level_of new.level) (past_call it (level_of old.level)) now refl (fewer (takes_in old.level.position it trees) (after_trees it.len trees))
       (map level_of (reverse new.outer.items)) (ap (λ os. map level_of (reverse os)) outer)

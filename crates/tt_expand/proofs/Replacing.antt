@@ -120,7 +120,7 @@ module _ (setting : Setting) (limit : ℕ) (trees : Forest) (before now others t
   same goes (known, written) =
       (done, subst (λ k. IsReading setting limit trees before nexts k done) (sym known) goes, subst (AreReplaced done source) (sym written) are)
 
-  pub reads_event : (it : Event) → IsNext setting true limit (level ∷ outer) now it nexts others → GoesOn it true → IsEventWritten setting limit it others then old new → IsRead
+  pub reads_event : (it : Event) → IsNext setting true limit (level ∷ outer) now it nexts others → GoesOn it true → IsEventWritten setting limit it old new others then → IsRead
   reads_event event.End next goes is = absurd (cc goes)
   reads_event (event.Leaf it) next goes is = same (reads_leaf setting limit trees before now others level outer nexts done reading it next) is
   reads_event (event.Opens header) next goes is = same (reads_subtree setting limit trees before now others level outer nexts done reading header.delimiter next) is
@@ -151,7 +151,7 @@ module _ (setting : Setting) (limit : ℕ) (trees : Forest) (before now others t
           )
 
   -- At the end all is.
-  pub reads_to_end : (it : Event) → IsNext setting true limit (level ∷ outer) now it nexts others → GoesOn it false → IsEventWritten setting limit it others then old new
+  pub reads_to_end : (it : Event) → IsNext setting true limit (level ∷ outer) now it nexts others → GoesOn it false → IsEventWritten setting limit it old new others then
       → (outcome : Outcome) × Comes setting true limit (begun_among Items) 0 before trees then outcome × AreReplaced (replacements outcome) source new
   reads_to_end event.End ended goes (known, written) =
       let (outcome, comes, all) = reads_all setting limit trees before now others level outer nexts done reading others ended in (

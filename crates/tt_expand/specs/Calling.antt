@@ -54,8 +54,8 @@ pub record IsExpanded (setting : Setting) (limit : ℕ) (is_conditional : Bool) 
   pub known : after ≡ before
 
 -- what comes of a call, and what is known then: nothing where no arms expand it, something that is wrong, or a tree
-abbrev pub IsCalled : Setting → (limit : ℕ) → (is_conditional : Bool) → Call → (before : Known) → Called → (after : Known) → Type 0
-IsCalled setting limit is_conditional it before called.Other after =
+abbrev pub IsCalled : Setting → (limit : ℕ) → (is_conditional : Bool) → Call → Called → (before after : Known) → Type 0
+IsCalled setting limit is_conditional it called.Other before after =
     (arms_of (called_by setting before.macros it) ≡ None) × (after ≡ known_behind it (called_by setting before.macros it) before)
-IsCalled setting limit is_conditional it before called.Faulty after = IsFaulty setting limit is_conditional it before after
-IsCalled setting limit is_conditional it before (called.Tree tree defined_at) after = IsExpanded setting limit is_conditional it tree defined_at before after
+IsCalled setting limit is_conditional it called.Faulty before after = IsFaulty setting limit is_conditional it before after
+IsCalled setting limit is_conditional it (called.Tree tree defined_at) before after = IsExpanded setting limit is_conditional it tree defined_at before after

@@ -1,11 +1,12 @@
 -- What comes of trees in which macros are defined and called.
-use Rattle.std.specs.Prelude.{◌≡◌, ◌⊎◌, ◌<◌, ◌-◌, ℕ, suc, Bool, true, false, List, length, take, None, Some, if◌then◌else◌}
+use Rattle.std.specs.Prelude.{◌≡◌, ◌⊎◌, ◌<◌, ◌-◌, ℕ, suc, Bool, true, false, List, length, take, None, Some, codes, max, ◌==◌, if◌then◌else◌}
 use Rattle.tt.specs.Forest.{Forest, Root, end, leaf, node}
 use Rattle.tt.specs.Gluing.{after_trees}
 use Rattle.tt.specs.Moves.{after_tree}
 use Rattle.tt.specs.Span.{start_of}
 use Rattle.tt.specs.Types.Delimiter.{Delimiter}
 use Rattle.tt.specs.Types.Leaf.{Leaf}
+use Rattle.tt.specs.Types.Leaf.TheVariants as leaf_of
 use Rattle.tt.specs.Types.Span.{Span}
 use Rattle.tt_expand.specs.declared.fault.MacroFault.{MacroFault}
 use Rattle.tt_edit.specs.Places.{begin_at}
@@ -20,47 +21,74 @@ use Rattle.tt_macro_rules.specs.Arms.{Arm}
 use Rattle.tt_macro_rules.specs.Expansions.{IsExpansion}
 use Rattle.tt_macro_rules.specs.declared.macro_rules.Expansion.TheVariants as expansion
 use Rattle.tt_matcher.specs.Fragments.{front_trees, is_brace}
+use Rattle.tt_pattern.specs.Units.{is_at_punct}
 
 -- the first tree is taken as it is: nothing is expanded any more, or it is one of so many that are, or begins neither a definition nor a call
 abbrev pub IsPlain : Setting → Known → (plain : ℕ) → Forest → Type 0
 IsPlain setting known plain trees = (known.is_over ≡ true) ⊎ ((0 < plain) ⊎ (item_in setting.root trees ≡ other))
+
+-- how many trees behind a leaf are no call, where these stand there: the name of a lifetime, and behind a literal a `.` and the name of a field
+abbrev pub named_behind : Leaf → (rest : Forest) → ℕ
+named_behind (leaf_of.Punct it) rest = if it.char == 39 then 1 else 0
+named_behind (leaf_of.Literal it) rest = if is_at_punct (codes ".") rest then 2 else 0
+named_behind (leaf_of.Ident it) rest = 0
+
+-- so many, or as many as are left of those that are taken as they are
+abbrev pub plain_behind : Leaf → (rest : Forest) → (plain : ℕ) → ℕ
+plain_behind it rest plain = max (plain - 1) (named_behind it rest)
 
 -- what is known behind a subtree: its macros are in scope there if they are kept
 abbrev pub known_after : (are_kept : Bool) → (before inside : Known) → Known
 known_after true before inside = inside
 known_after false before inside = record inside { macros = take (length before.macros) inside.macros }
 
--- the `;` before these trees is a part of a call
-abbrev pub takes_in : Position → Call → (rest : Forest) → Bool
-takes_in position it rest = takes_semicolon it.delimiter.kind rest position
+-- what stands behind a call that stands first among trees
+abbrev pub behind_call : Call → (trees : Forest) → Forest
+behind_call it trees = after_trees it.len trees
 
--- where the call ends then
-abbrev pub end_in : Position → Call → (rest : Forest) → Span
-end_in position it rest = if takes_in position it rest then begin_at rest it.delimiter.close else it.delimiter.close
+-- the `;` behind it is a part of it
+abbrev pub takes_in : Position → Call → (trees : Forest) → Bool
+takes_in position it trees = takes_semicolon it.delimiter.kind (behind_call it trees) position
+
+-- where it ends then
+abbrev pub end_in : Position → Call → (trees : Forest) → Span
+end_in position it trees = if takes_in position it trees then begin_at (behind_call it trees) it.delimiter.close else it.delimiter.close
 
 -- how many trees it is then
-abbrev pub len_in : Position → Call → (rest : Forest) → ℕ
-len_in position it rest = if takes_in position it rest then suc it.len else it.len
+abbrev pub len_in : Position → Call → (trees : Forest) → ℕ
+len_in position it trees = if takes_in position it trees then suc it.len else it.len
 
--- what stands behind it, and what stands before that
-abbrev pub rest_in : Position → Call → (rest : Forest) → Forest
-rest_in position it rest = if takes_in position it rest then after_tree rest else rest
+-- what stands behind it then, and what stands before that
+abbrev pub rest_in : Position → Call → (trees : Forest) → Forest
+rest_in position it trees = if takes_in position it trees then after_tree (behind_call it trees) else behind_call it trees
 
-abbrev pub behind_in : Position → Call → (rest : Forest) → Position
-behind_in position it rest =
-    if takes_in position it rest then behind true (behind (is_brace it.delimiter.kind) position) else behind (is_brace it.delimiter.kind) position
+abbrev pub behind_in : Position → Call → (trees : Forest) → Position
+behind_in position it trees =
+    if takes_in position it trees then behind true (behind (is_brace it.delimiter.kind) position) else behind (is_brace it.delimiter.kind) position
 
--- a call before these trees stands under a condition
-abbrev pub is_conditional_in : Position → Call → (rest : Forest) → Bool
-is_conditional_in position it rest = is_conditional it.delimiter.kind rest position
+-- it stands under a condition
+abbrev pub is_conditional_in : Position → Call → (trees : Forest) → Bool
+is_conditional_in position it trees = is_conditional it.delimiter.kind (behind_call it trees) position
 
 -- before the first of the trees that come of it
-abbrev pub begun_by : Position → Call → (rest : Forest) → Position
-begun_by position it rest = begun (siblings_of_call it.delimiter.kind rest position)
+abbrev pub begun_by : Position → Call → (trees : Forest) → Position
+begun_by position it trees = begun (siblings_of_call it.delimiter.kind (behind_call it trees) position)
 
--- what a call becomes before these trees, of which those come
-abbrev pub placed_at : Position → Call → (behind held : Forest) → Forest
-placed_at position it behind held = placed (is_statement it.delimiter.kind behind position) it.delimiter held
+-- what it becomes, where those come of it
+abbrev pub placed_at : Position → Call → (trees held : Forest) → Forest
+placed_at position it trees held = placed (is_statement it.delimiter.kind (behind_call it trees) position) it.delimiter held
+
+-- where it begins
+abbrev pub begin_in : Call → (trees : Forest) → Span
+begin_in it trees = begin_at trees it.name.span
+
+-- that takes its place
+abbrev pub becomes_in : Position → Call → (trees held : Forest) → Outcome → Outcome
+becomes_in position it trees held others = becomes (begin_in it trees) (end_in position it trees) (placed_at position it trees held) others
+
+-- it stays, with the `;` that is a part of it
+abbrev pub stays_in : Position → Call → (trees : Forest) → Outcome → Outcome
+stays_in position it trees others = stays (front_trees (len_in position it trees) trees) others
 
 -- what comes of trees of the text itself, or else of an expansion, with so many expansions one inside the other, behind what stands before
 -- them, where so many are taken as they are and that is known; and what is known then. What comes of a call in the text is written in its
@@ -70,7 +98,7 @@ pub data Comes (setting : Setting) : (in_text : Bool) → (limit : ℕ) → Posi
   ends : {in_text : Bool} {limit plain : ℕ} {position : Position} {known : Known} → Comes setting in_text limit position plain known end known nothing
   on_leaf : {in_text : Bool} {limit plain : ℕ} {position : Position} {known after : Known} {it : Leaf} {rest : Forest} {others : Outcome}
       → IsPlain setting known plain (leaf it rest)
-      → Comes setting in_text limit (behind_leaf it rest position) (plain - 1) known rest after others
+      → Comes setting in_text limit (behind_leaf it rest position) (plain_behind it rest plain) known rest after others
       → Comes setting in_text limit position plain known (leaf it rest) after (passes it others)
   on_node : {in_text : Bool} {limit plain : ℕ} {position : Position} {known inside after : Known} {delimiter : Delimiter} {children rest : Forest} {held others : Outcome}
       → IsPlain setting known plain (node delimiter children rest)
@@ -88,7 +116,7 @@ pub data Comes (setting : Setting) : (in_text : Bool) → (limit : ℕ) → Posi
       → item_in setting.root trees ≡ calls it
       → arms_of (called_by setting known.macros it) ≡ None
       → setting.everywhere ≡ false
-      → Comes setting in_text limit (behind (is_brace it.delimiter.kind) position) 0 (known_behind it (called_by setting known.macros it) known) (after_trees it.len trees) after others
+      → Comes setting in_text limit (behind (is_brace it.delimiter.kind) position) 0 (known_behind it (called_by setting known.macros it) known) (behind_call it trees) after others
       → Comes setting in_text limit position 0 known trees after (stays (front_trees it.len trees) others)
   into_other_call : {in_text : Bool} {limit : ℕ} {position : Position} {known after : Known} {it : Call} {trees : Forest} {others : Outcome}
       → known.is_over ≡ false
@@ -102,28 +130,27 @@ pub data Comes (setting : Setting) : (in_text : Bool) → (limit : ℕ) → Posi
       → item_in setting.root trees ≡ calls it
       → called_by setting known.macros it ≡ Some macro
       → macro.arms ≡ Some arms
-      → IsCallFault (is_conditional_in position it (after_trees it.len trees)) limit arms it at fault
-      → Comes setting in_text limit (behind (is_brace it.delimiter.kind) position) 0 (with_finding (found_of it macro at fault) known) (after_trees it.len trees) after others
+      → IsCallFault (is_conditional_in position it trees) limit arms it at fault
+      → Comes setting in_text limit (behind (is_brace it.delimiter.kind) position) 0 (with_finding (found_of it macro at fault) known) (behind_call it trees) after others
       → Comes setting in_text limit position 0 known trees after (stays (front_trees it.len trees) others)
   on_call : {in_text : Bool} {limit : ℕ} {position : Position} {known inside after : Known} {it : Call} {arms : List Arm} {trees : Forest} {held others : Outcome} (tree : Root)
       → known.is_over ≡ false
       → item_in setting.root trees ≡ calls it
       → arms_of (called_by setting known.macros it) ≡ Some arms
-      → is_conditional_in position it (after_trees it.len trees) ≡ false
+      → is_conditional_in position it trees ≡ false
       → IsExpansion arms 0 0 it.input (expansion.Tree tree)
-      → Comes setting false limit (begun_by position it (after_trees it.len trees)) 0 known tree.children inside held
-      → MayStand in_text (placed_at position it (after_trees it.len trees) (trees_left held))
-      → Comes setting in_text (suc limit) (behind_in position it (after_trees it.len trees)) 0 inside (rest_in position it (after_trees it.len trees)) after others
-      → Comes setting in_text (suc limit) position 0 known trees after
-      (becomes (begin_at trees it.name.span) (end_in position it (after_trees it.len trees)) (placed_at position it (after_trees it.len trees) (trees_left held)) others)
+      → Comes setting false limit (begun_by position it trees) 0 known tree.children inside held
+      → MayStand in_text it.delimiter (placed_at position it trees (trees_left held))
+      → Comes setting in_text (suc limit) (behind_in position it trees) 0 inside (rest_in position it trees) after others
+      → Comes setting in_text (suc limit) position 0 known trees after (becomes_in position it trees (trees_left held) others)
   on_unwritten_call : {limit : ℕ} {position : Position} {known inside after : Known} {it : Call} {macro : Macro} {arms : List Arm} {trees : Forest} {held others : Outcome} (tree : Root) (at : ℕ) (fault : MacroFault)
       → known.is_over ≡ false
       → item_in setting.root trees ≡ calls it
       → called_by setting known.macros it ≡ Some macro
       → macro.arms ≡ Some arms
-      → is_conditional_in position it (after_trees it.len trees) ≡ false
+      → is_conditional_in position it trees ≡ false
       → IsExpansion arms 0 0 it.input (expansion.Tree tree)
-      → Comes setting false limit (begun_by position it (after_trees it.len trees)) 0 known tree.children inside held
-      → IsUnwritten (placed_at position it (after_trees it.len trees) (trees_left held)) (start_of (begin_at trees it.name.span).range) at fault
-      → Comes setting true (suc limit) (behind_in position it (after_trees it.len trees)) 0 (with_finding (found_of it macro at fault) inside) (rest_in position it (after_trees it.len trees)) after others
-      → Comes setting true (suc limit) position 0 known trees after (stays (front_trees (len_in position it (after_trees it.len trees)) trees) others)
+      → Comes setting false limit (begun_by position it trees) 0 known tree.children inside held
+      → IsUnwritten it.delimiter (placed_at position it trees (trees_left held)) (start_of (begin_in it trees).range) at fault
+      → Comes setting true (suc limit) (behind_in position it trees) 0 (with_finding (found_of it macro at fault) inside) (rest_in position it trees) after others
+      → Comes setting true (suc limit) position 0 known trees after (stays_in position it trees others)

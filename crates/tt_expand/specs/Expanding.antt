@@ -10,13 +10,13 @@ use Rattle.tt_items.specs.Positions.{begun}
 use Rattle.tt_items.specs.declared.position.Siblings.{Siblings}
 
 -- what comes of trees that are such siblings, with so many expansions one inside the other, is added to the innermost level of those that are built
-pub record AreExpanded (setting : Setting) (limit : ℕ) (siblings : Siblings) (trees : Forest) (before : Known) (old : Stack) (after : Known) (new : Stack) : Type 0 where
+pub record AreExpanded (setting : Setting) (limit : ℕ) (siblings : Siblings) (trees : Forest) (old new : Stack) (before after : Known) : Type 0 where
   pub outcome : Outcome
   pub comes : Comes setting false limit (begun siblings) 0 before trees after outcome
   pub added : new ≡ append (trees_left outcome) old
 
 -- what comes of a call is
-pub record IsPlaced (setting : Setting) (limit : ℕ) (it : Invocation) (before : Known) (old : Stack) (after : Known) (new : Stack) : Type 0 where
+pub record IsPlaced (setting : Setting) (limit : ℕ) (it : Invocation) (old new : Stack) (before after : Known) : Type 0 where
   pub outcome : Outcome
   pub comes : Comes setting false limit (begun it.siblings) 0 before it.tree.children after outcome
   pub added : new ≡ append (placed it.is_statement it.delimiter (trees_left outcome)) old

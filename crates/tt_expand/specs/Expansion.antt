@@ -2,7 +2,9 @@
 use Rattle.std.specs.Prelude.{◌≡◌, ◌<◌, ◌-◌, ◌++◌, ◌⊎◌, ℕ, Bool, true, false, List, [], ◌∷◌, Option, None, Some, length, slice_get, option_map, string_bytes}
 use Rattle.tt.specs.Forest.{Forest, Root}
 use Rattle.tt.specs.Span.{start_of, end_of}
+use Rattle.tt.specs.Types.Delimiter.{Delimiter}
 use Rattle.tt.specs.Types.Span.{Span}
+use Rattle.tt_base.specs.declared.span.SpanPart.{SpanPart}
 use Rattle.tt_expand.specs.declared.fault.ExpandTextError.{ExpandTextError}
 use Rattle.tt_expand.specs.declared.fault.ExpandTextError.TheVariants as error
 use Rattle.tt_expand.specs.declared.fault.Finding.{Finding}
@@ -23,9 +25,13 @@ use Rattle.tt_items.specs.Positions.{begun as begun_among}
 use Rattle.tt_items.specs.declared.position.Siblings.TheVariants.{Items}
 use Rattle.tt_edit.specs.Places.{text_part}
 use Rattle.tt_edit.specs.Texts.{Replacement, Writing, begun, finished, with_all, IsReplaced, AreReplaced, FitAll}
+use Rattle.tt_expand.specs.Reading.{sorts_left}
 use Rattle.tt_expand.specs.Walks.{found_by}
 use Rattle.tt_text.specs.Parsed.{IsParse}
-use Rattle.tt_text.specs.Refusal.{IsRefusal}
+use Rattle.tt_text.specs.Refusal.{IsFaultOf, IsRefusal}
+use Rattle.tt_text.specs.Spelled.{Sort, spelled}
+use Rattle.tt_text.specs.declared.fault.SyntaxFault.{SyntaxFault}
+use Rattle.tt_unparse.specs.Settled.{sorts}
 use Rattle.tt_unparse.specs.Text.{text_of}
 
 -- what stands from a span to another gives way to the Rust text of trees
@@ -41,24 +47,24 @@ replacements (stays trees behind) = replacements behind
 replacements (becomes first last trees behind) = replacement first last trees ∷ replacements behind
 
 -- the Rust text of trees that come of a call which begins at a byte, or why they have none
-abbrev pub IsTextOf : Forest → (begin : ℕ) → Written → Type 0
-IsTextOf trees begin (made.Text text) = MayStand true trees × (string_bytes text ≡ text_of trees)
-IsTextOf trees begin (made.Faulty at fault) = IsUnwritten trees begin at fault
+abbrev pub IsTextOf : (call : Delimiter) → Forest → (begin : ℕ) → Written → Type 0
+IsTextOf call trees begin (made.Text text) = MayStand true call trees × (string_bytes text ≡ text_of trees)
+IsTextOf call trees begin (made.Faulty at fault) = IsUnwritten call trees begin at fault
 
 -- what comes of a call is written as Rust, or cannot be
-pub record IsInvocationText (setting : Setting) (limit : ℕ) (it : Invocation) (before after : Known) (result : Written) : Type 0 where
+pub record IsInvocationText (setting : Setting) (limit : ℕ) (it : Invocation) (result : Written) (before after : Known) : Type 0 where
   pub outcome : Outcome
   pub comes : Comes setting false limit (begun_among it.siblings) 0 before it.tree.children after outcome
-  pub text : IsTextOf (placed it.is_statement it.delimiter (trees_left outcome)) (start_of it.first_span.range) result
+  pub text : IsTextOf it.delimiter (placed it.is_statement it.delimiter (trees_left outcome)) (start_of it.first_span.range) result
 
 -- trees that come of a call take its place, where that is left of the source; or they are not written, that is found, and it stays
 abbrev pub IsPut : Invocation → Forest → (inside after : Known) → (old new : Writing) → Type 0
 IsPut it trees inside after old new =
-    (MayStand true trees × (after ≡ inside) × IsReplaced (replacement it.first_span it.last_span trees) old new)
-    ⊎ ((at : ℕ) × (fault : MacroFault) × IsUnwritten trees (start_of it.first_span.range) at fault × (after ≡ with_finding (found_by it at fault) inside) × (new ≡ old))
+    (MayStand true it.delimiter trees × (after ≡ inside) × IsReplaced (replacement it.first_span it.last_span trees) old new)
+    ⊎ ((at : ℕ) × (fault : MacroFault) × IsUnwritten it.delimiter trees (start_of it.first_span.range) at fault × (after ≡ with_finding (found_by it at fault) inside) × (new ≡ old))
 
 -- what comes of a call does
-pub record IsInvocationWritten (setting : Setting) (limit : ℕ) (it : Invocation) (before after : Known) (old new : Writing) : Type 0 where
+pub record IsInvocationWritten (setting : Setting) (limit : ℕ) (it : Invocation) (old new : Writing) (before after : Known) : Type 0 where
   pub inside : Known
   pub outcome : Outcome
   pub comes : Comes setting false limit (begun_among it.siblings) 0 before it.tree.children inside outcome
@@ -69,13 +75,13 @@ abbrev pub IsSame : (before after : Known) (old new : Writing) → Type 0
 IsSame before after old new = (after ≡ before) × (new ≡ old)
 
 -- what is written where that comes next in a walk
-abbrev pub IsEventWritten : Setting → (limit : ℕ) → Event → (before after : Known) (old new : Writing) → Type 0
-IsEventWritten setting limit event.End before after old new = IsSame before after old new
-IsEventWritten setting limit (event.Leaf it) before after old new = IsSame before after old new
-IsEventWritten setting limit (event.Opens header) before after old new = IsSame before after old new
-IsEventWritten setting limit (event.Closes close) before after old new = IsSame before after old new
-IsEventWritten setting limit (event.Stays trees) before after old new = IsSame before after old new
-IsEventWritten setting limit (event.Invocation it) before after old new = IsInvocationWritten setting (limit - 1) it before after old new
+abbrev pub IsEventWritten : Setting → (limit : ℕ) → Event → (old new : Writing) → (before after : Known) → Type 0
+IsEventWritten setting limit event.End old new before after = IsSame before after old new
+IsEventWritten setting limit (event.Leaf it) old new before after = IsSame before after old new
+IsEventWritten setting limit (event.Opens header) old new before after = IsSame before after old new
+IsEventWritten setting limit (event.Closes close) old new before after = IsSame before after old new
+IsEventWritten setting limit (event.Stays trees) old new before after = IsSame before after old new
+IsEventWritten setting limit (event.Invocation it) old new before after = IsInvocationWritten setting (limit - 1) it old new before after
 
 -- it goes on, but for the end
 abbrev pub GoesOn : Event → (goes_on : Bool) → Type 0
@@ -87,7 +93,7 @@ GoesOn (event.Stays trees) goes_on = goes_on ≡ true
 GoesOn (event.Invocation it) goes_on = goes_on ≡ true
 
 -- a source of these trees is written, where in the place of each call what comes of it stands
-pub record IsSourceText (setting : Setting) (limit : ℕ) (source : List ℕ) (trees : Forest) (before after : Known) (result : List ℕ) : Type 0 where
+pub record IsSourceText (setting : Setting) (limit : ℕ) (source : List ℕ) (trees : Forest) (result : List ℕ) (before after : Known) : Type 0 where
   pub outcome : Outcome
   pub comes : Comes setting true limit (begun_among Items) 0 before trees after outcome
   pub written : Writing
@@ -98,7 +104,13 @@ pub record IsSourceText (setting : Setting) (limit : ℕ) (source : List ℕ) (t
 abbrev pub setting_by : ExpandOptions → Setting
 setting_by it = record { root = it.root.now; everywhere = it.everywhere; only = option_map (λ name. name.now) it.only }
 
--- a text that is read as trees, and what comes of it: where it is called, what comes of that call stands, and all else stays byte for byte
+-- a text reads back as what is left: it has no fault of syntax, and whatever trees it is read as are spelled by that
+pub record ReadsAs (text : List ℕ) (left : List Sort) : Type 0 where
+  pub sound : (fault : SyntaxFault) → IsFaultOf text fault → ⊥
+  pub reads : (part : SpanPart) (again : Root) → IsParse part text again → sorts (spelled again.children) ≡ left
+
+-- a text that is read as trees, and what comes of it: where it is called, what comes of that call stands, and all else stays byte for byte;
+-- and that reads back as the trees that are left
 pub record IsExpanded (options : ExpandOptions) (source : List ℕ) (it : Expanded) : Type 0 where
   pub tree : Root
   pub read : IsParse text_part source tree
@@ -107,6 +119,7 @@ pub record IsExpanded (options : ExpandOptions) (source : List ℕ) (it : Expand
   pub comes : Comes (setting_by options) true options.limit (begun_among Items) 0 knows_nothing tree.children after outcome
   pub fits : FitAll (replacements outcome) (begun source)
   pub text : string_bytes it.text ≡ with_all (replacements outcome) (begun source)
+  pub back : ReadsAs (string_bytes it.text) (sorts_left outcome)
   pub findings : it.findings.items ≡ after.findings
 
 -- the first finding that is no warning
@@ -122,14 +135,14 @@ first_fault (it ∷ others) = fault_or (is_warning it.fault) it (first_fault oth
 abbrev pub IsFirstFault : List Finding → (place : ℕ) → Type 0
 IsFirstFault findings place = (place < length findings) × (first_fault findings ≡ slice_get findings place)
 
--- why nothing comes of a text: it is not read; or memory is wanting, or a limit of trees is passed
+-- why nothing comes of a text: it is not read, or memory is wanting
 abbrev pub IsLenientError : (text : List ℕ) → ExpandTextError → Type 0
 IsLenientError text (error.Text fault) = IsRefusal text_part text fault
 IsLenientError text (error.Macro it) = ⊥
-IsLenientError text (error.Limit fault) = Unit {0}
+IsLenientError text error.Memory = Unit {0}
 
 -- the same; or something is wrong in a macro or in a call, and this is the first such finding
 abbrev pub IsExpandTextError : ExpandOptions → (text : List ℕ) → ExpandTextError → Type 0
 IsExpandTextError options text (error.Macro it) = (expanded : Expanded) × IsExpanded options text expanded × (first_fault expanded.findings.items ≡ Some it)
 IsExpandTextError options text (error.Text fault) = IsRefusal text_part text fault
-IsExpandTextError options text (error.Limit fault) = Unit {0}
+IsExpandTextError options text error.Memory = Unit {0}

@@ -14,6 +14,7 @@ is_warning (wrong.Expansion why) = false
 is_warning wrong.TooDeep = false
 is_warning wrong.NotWritable = false
 is_warning wrong.TooLong = false
+is_warning (wrong.TooLarge why) = false
 
 -- nothing is expanded any more
 abbrev pub is_too_deep : MacroFault → Bool
@@ -26,3 +27,4 @@ is_too_deep (wrong.Expansion why) = false
 is_too_deep wrong.TooDeep = true
 is_too_deep wrong.NotWritable = false
 is_too_deep wrong.TooLong = false
+is_too_deep (wrong.TooLarge why) = false

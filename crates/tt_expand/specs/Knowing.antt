@@ -48,3 +48,7 @@ pub record IsKnown (known : Known) (it : known_in_code.Known) : Type 0 where
   pub macros : AreReady known.macros it.scope.macros.items
   pub findings : it.findings.items ≡ known.findings
   pub is_over : it.is_over ≡ known.is_over
+
+-- whatever is known becomes something else that is, and this holds of the two
+abbrev pub Learns : (old new : known_in_code.Known) → (This : (before after : Known) → Type 0) → Type 0
+Learns old new This = (before : Known) → IsKnown before old → (after : Known) × IsKnown after new × This before after

@@ -11,6 +11,7 @@ pub mod Macros
 pub mod Outcomes
 pub mod Passing
 pub mod Places
+pub mod Reading
 pub mod Roots
 pub mod Scopes
 pub mod Walks

@@ -9,8 +9,7 @@ use Rattle.tt_expand.specs.declared.walk.Event.{Event}
 use Rattle.tt_expand.specs.declared.walk.Event.TheVariants as event
 use Rattle.tt_expand.specs.declared.walk.Invocation.{Invocation}
 use Rattle.tt_expand.specs.declared.walk.Walk.{Walk}
-use Rattle.tt_expand.specs.Coming.{end_in}
-use Rattle.tt_edit.specs.Places.{begin_at}
+use Rattle.tt_expand.specs.Coming.{begin_in, end_in}
 use Rattle.tt_items.specs.Items.{Call}
 use Rattle.tt_items.specs.Positions.{is_statement, siblings_of_call}
 use Rattle.tt_expand.specs.Walks.{level_of, past, past_call}
@@ -27,8 +26,8 @@ IsStay it old other new = ⊥
 pub record IsInvocation (it : Call) (trees : Forest) (position : Position) (tree : Root) (defined_at : ℕ) (invocation : Invocation) : Type 0 where
   pub name : invocation.name ≡ it.name.sym
   pub defined : invocation.defined_at ≡ defined_at
-  pub first : invocation.first_span ≡ begin_at trees it.name.span
-  pub last : invocation.last_span ≡ end_in position it (after_trees it.len trees)
+  pub first : invocation.first_span ≡ begin_in it trees
+  pub last : invocation.last_span ≡ end_in position it trees
   pub delimiter : invocation.delimiter ≡ it.delimiter
   pub siblings : invocation.siblings ≡ siblings_of_call it.delimiter.kind (after_trees it.len trees) position
   pub is_statement : invocation.is_statement ≡ is_statement it.delimiter.kind (after_trees it.len trees) position

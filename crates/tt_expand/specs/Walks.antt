@@ -21,7 +21,7 @@ use Rattle.tt_expand.specs.declared.walk.Event.TheVariants as event
 use Rattle.tt_expand.specs.declared.walk.Invocation.{Invocation}
 use Rattle.tt_expand.specs.declared.walk.Level as rust
 use Rattle.tt_expand.specs.declared.walk.Walk.{Walk}
-use Rattle.tt_expand.specs.Coming.{Comes, takes_in}
+use Rattle.tt_expand.specs.Coming.{Comes, plain_behind, takes_in}
 use Rattle.tt_items.specs.Items.{Item, Call, item_in}
 use Rattle.tt_expand.specs.Knowing.{Setting, Known, IsKnown, with_finding, left_in_scope}
 use Rattle.tt_expand.specs.Macros.{MayStand, IsUnwritten}
@@ -47,7 +47,11 @@ levels_of walk = level_of walk.level ∷ map level_of (reverse walk.outer.items)
 -- the first tree is passed: a leaf, or a subtree of a kind
 abbrev pub past_leaf : Leaf → Level → Level
 past_leaf it level =
-    record level { rest = after_tree level.rest; position = behind_leaf it (after_tree level.rest) level.position; plain = level.plain - 1 }
+    record level {
+      rest = after_tree level.rest;
+      position = behind_leaf it (after_tree level.rest) level.position;
+      plain = plain_behind it (after_tree level.rest) level.plain;
+    }
 
 abbrev pub past_subtree : DelimiterKind → Level → Level
 past_subtree kind level = record level { rest = after_tree level.rest; position = behind_subtree kind level.position; plain = level.plain - 1 }
@@ -67,7 +71,7 @@ past_semicolon takes level =
 -- a call is passed, and the `;` behind it, if that is a part of it
 abbrev pub past_call : Call → Level → Level
 past_call it level =
-    past_semicolon (takes_in level.position it (after_trees it.len level.rest)) (past it.len (is_brace it.delimiter.kind) level)
+    past_semicolon (takes_in level.position it level.rest) (past it.len (is_brace it.delimiter.kind) level)
 
 -- what comes of what is left of each level, the innermost first
 abbrev pub Ends : Setting → (in_text : Bool) → (limit : ℕ) → List Level → (before after : Known) → List Outcome → Type 0
@@ -139,9 +143,9 @@ found_by it at fault = record { name = it.name; at = at; fault = fault; defined_
 -- what comes then past a call of which those trees come: they stand in its place, where they may; and trees of the text stay, where they
 -- are not written, which is found
 pub record GoesPast (setting : Setting) (in_text : Bool) (limit : ℕ) (levels : List Level) (known : Known) (it : Invocation) (trees : Forest) (nexts : List Level) (inside : Known) : Type 0 where
-  pub stands : MayStand in_text trees → Leads setting in_text limit levels known (first_becomes it.first_span it.last_span trees) nexts inside
+  pub stands : MayStand in_text it.delimiter trees → Leads setting in_text limit levels known (first_becomes it.first_span it.last_span trees) nexts inside
   pub stays :
-      in_text ≡ true → (at : ℕ) (fault : MacroFault) → IsUnwritten trees (start_of it.first_span.range) at fault
+      in_text ≡ true → (at : ℕ) (fault : MacroFault) → IsUnwritten it.delimiter trees (start_of it.first_span.range) at fault
       → (stay : Forest) × Leads setting in_text limit levels known (first_stay stay) nexts (with_finding (found_by it at fault) inside)
 
 -- what comes next in a walk, and what comes then

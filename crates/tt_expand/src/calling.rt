@@ -3,7 +3,7 @@ ghost use Rattle.std.specs.Prelude.{◌≡◌, List, IfOk, OnOk, option_copied};
 ghost use Rattle.tt.specs.Iters.{rest_of};
 ghost use Rattle.tt_expand.specs.Calling.{IsMade, IsMadeWithin, IsCalled, IsCalledWithin};
 ghost use Rattle.tt_items.specs.Items.{call_of};
-ghost use Rattle.tt_expand.specs.Knowing.{Known as KnownOf, IsKnown, setting_of};
+ghost use Rattle.tt_expand.specs.Knowing.{Learns, setting_of};
 ghost use Rattle.tt_expand.specs.Macros.{called_by};
 ghost use Rattle.tt_expand.specs.Scopes.{Macro as MacroOf, AreReady, IsReadyIf};
 ghost use Rattle.tt_macro_rules.specs.Arms.{Arm};
@@ -11,6 +11,7 @@ ghost use Rattle.tt_macro_rules.specs.Expansions.{AreMade};
 
 use crate::fault::MacroFault;
 use crate::known::Known;
+use crate::memory::OutOfMemory;
 use crate::places::start_at;
 use crate::scope::{Macro, Scope};
 use crate::setting::Setting;
@@ -40,7 +41,12 @@ pub(crate) enum Called {
 }
 
 // What rules make of a call, with so many expansions one inside the other.
-fn make(alloc: Global, limit: usize, rules: &MacroRules, call: &Call<'_>) -> Result<Made, TtFault>
+fn make(
+    alloc: Global,
+    limit: usize,
+    rules: &MacroRules,
+    call: &Call<'_>,
+) -> Result<Made, OutOfMemory>
     ensures limit { IfOk result (IsMadeWithin limit) }
     ensures made { IfOk result (λ made. (arms : List Arm) → AreMade arms rules.now.arms.items → IsMade limit arms (call_of call.now) made) }
 {
@@ -57,7 +63,7 @@ fn make(alloc: Global, limit: usize, rules: &MacroRules, call: &Call<'_>) -> Res
         }
         Ok(Expansion::Ambiguous(arm)) => Ok(Made::Faulty(at, MacroFault::Ambiguous(arm))),
         Err(error) => match error.fault {
-            FillError::Tree(fault) => Err(fault),
+            FillError::Tree(TtFault::Memory) => Err(OutOfMemory),
             _ => Ok(Made::Faulty(at, MacroFault::Expansion(error))),
         },
     }
@@ -82,9 +88,9 @@ pub(crate) fn expand_call(
     limit: usize,
     is_conditional: bool,
     call: &Call<'_>,
-) -> Result<Called, TtFault>
+) -> Result<Called, OutOfMemory>
     ensures limit { IfOk result (IsCalledWithin limit) }
-    ensures called { IfOk result (λ called. (before : KnownOf) → IsKnown before known.old → (after : KnownOf) × IsCalled (setting_of setting.now) limit is_conditional (call_of call.now) before called after × IsKnown after known.new) }
+    ensures called { IfOk result (λ called. Learns known.old known.new (IsCalled (setting_of setting.now) limit is_conditional (call_of call.now) called)) }
 {
     let name = &call.name.sym;
     let at = start_of(call.name.span);

@@ -3,12 +3,13 @@ ghost use Rattle.std.specs.Prelude.{◌≡◌, OnOk};
 ghost use Rattle.tt.specs.Building.{depth};
 ghost use Rattle.tt.specs.Iters.{rest_of};
 ghost use Rattle.tt_expand.specs.Expanding.{IsPlaced, AreExpanded};
-ghost use Rattle.tt_expand.specs.Knowing.{Known as KnownOf, IsKnown, setting_of};
+ghost use Rattle.tt_expand.specs.Knowing.{Learns, setting_of};
 
 use crate::known::Known;
+use crate::memory::OutOfMemory;
 use crate::setting::Setting;
 use crate::walk::{Event, Invocation, Walk, next};
-use tt::{DelimiterKind, Span, TopSubtreeBuilder, TtFault, TtIter};
+use tt::{DelimiterKind, Span, TopSubtreeBuilder, TtIter};
 use tt_items::Siblings;
 
 /// Adds what comes of a call, in which so many expansions may stand one inside the other.
@@ -19,10 +20,10 @@ pub(crate) fn place(
     limit: usize,
     invocation: &Invocation,
     builder: &mut TopSubtreeBuilder,
-) -> Result<(), TtFault>
+) -> Result<(), OutOfMemory>
     ensures top { OnOk result (builder.new.top ≡ builder.old.top) }
     ensures open { OnOk result (depth builder.new.stack ≡ depth builder.old.stack) }
-    ensures placed { OnOk result ((before : KnownOf) → IsKnown before known.old → (after : KnownOf) × IsKnown after known.new × IsPlaced (setting_of setting.now) limit invocation.now before builder.old.stack after builder.new.stack) }
+    ensures placed { OnOk result (Learns known.old known.new (IsPlaced (setting_of setting.now) limit invocation.now builder.old.stack builder.new.stack)) }
 {
     let delimiter = invocation.delimiter;
     let siblings = invocation.siblings;
@@ -48,7 +49,7 @@ pub(crate) fn place(
         delimiter.close,
         builder,
     )?;
-    builder.close(delimiter.close)
+    Ok(builder.close(delimiter.close)?)
 }
 
 /// Adds what comes of trees that are such siblings, with so many expansions one inside the other. It calls itself for each expansion, so at most `limit` deep.
@@ -61,10 +62,10 @@ pub(crate) fn expand_trees(
     trees: TtIter<'_>,
     close: Span,
     builder: &mut TopSubtreeBuilder,
-) -> Result<(), TtFault>
+) -> Result<(), OutOfMemory>
     ensures top { OnOk result (builder.new.top ≡ builder.old.top) }
     ensures open { OnOk result (depth builder.new.stack ≡ depth builder.old.stack) }
-    ensures expanded { OnOk result ((before : KnownOf) → IsKnown before known.old → (after : KnownOf) × IsKnown after known.new × AreExpanded (setting_of setting.now) limit siblings (rest_of trees.entry) before builder.old.stack after builder.new.stack) }
+    ensures expanded { OnOk result (Learns known.old known.new (AreExpanded (setting_of setting.now) limit siblings (rest_of trees.entry) builder.old.stack builder.new.stack)) }
 {
     let mut walk = Walk::new(setting.alloc, trees, siblings, close);
     'trees: loop {

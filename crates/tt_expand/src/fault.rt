@@ -1,12 +1,11 @@
 //! What is found in the macros of a text, and why a text is not expanded.
 ghost use Rattle.std.specs.Prelude.{◌≡◌};
-ghost use Rattle.tt.specs.Types.TtFault.TheVariants.{Memory};
 ghost use Rattle.tt_expand.specs.Findings.{is_warning, is_too_deep};
-ghost use Rattle.tt_expand.specs.declared.fault.ExpandTextError.TheVariants.{Text, Limit};
+ghost use Rattle.tt_expand.specs.declared.fault.ExpandTextError.TheVariants.{Text, Memory};
 
-use std::alloc::{AllocError, AllocFailed};
+use crate::memory::OutOfMemory;
 use thiserror::Error;
-use tt::{Refused, Symbol, TtFault};
+use tt::{Symbol, TtFault};
 use tt_macro_rules::{ExpandError, RulesError};
 use tt_text::TextFault;
 
@@ -41,6 +40,10 @@ pub enum MacroFault {
     /// The text of what comes of the call would have 4,294,967,295 bytes or more, so the call is left as it is. It shows where the call begins.
     #[error("what this becomes is too long a text")]
     TooLong,
+    /// The arms of a definition, with the root's word for each `$crate`, or what comes of a call, are past a limit of trees, so the
+    /// definition or the call is left as it is. It shows where the name of the definition stands, or where the call begins.
+    #[error("{0}")]
+    TooLarge(TtFault),
 }
 
 /// What is found in a macro or in a call of one, and where.
@@ -66,9 +69,9 @@ pub enum ExpandTextError {
     /// Something is wrong in a macro or in a call of one. This is the first such finding.
     #[error("{0}")]
     Macro(Finding),
-    /// Memory is wanting, or a limit of trees is passed.
-    #[error("{0}")]
-    Limit(TtFault),
+    /// Memory is wanting. So it is where what comes of a call is more than 4,294,967,295 tokens while it is put together.
+    #[error("out of memory")]
+    Memory,
 }
 
 impl MacroFault {
@@ -95,34 +98,10 @@ impl From<TextFault> for ExpandTextError {
     }
 }
 
-impl From<TtFault> for ExpandTextError {
-    ghost from_gives = { λ fault error. error ≡ Limit fault };
+impl From<OutOfMemory> for ExpandTextError {
+    ghost from_gives = { λ _ error. error ≡ Memory };
 
-    fn from(fault: TtFault) -> ExpandTextError {
-        ExpandTextError::Limit(fault)
-    }
-}
-
-impl From<AllocError> for ExpandTextError {
-    ghost from_gives = { λ _ error. error ≡ Limit Memory };
-
-    fn from(_error: AllocError) -> ExpandTextError {
-        ExpandTextError::Limit(TtFault::Memory)
-    }
-}
-
-impl<T: Drop> From<AllocFailed<T>> for ExpandTextError {
-    ghost from_gives = { λ _ error. error ≡ Limit Memory };
-
-    fn from(_failed: AllocFailed<T>) -> ExpandTextError {
-        ExpandTextError::Limit(TtFault::Memory)
-    }
-}
-
-impl<T: Drop> From<Refused<T>> for ExpandTextError {
-    ghost from_gives = { λ refused error. error ≡ Limit refused.fault };
-
-    fn from(refused: Refused<T>) -> ExpandTextError {
-        ExpandTextError::Limit(refused.fault)
+    fn from(_error: OutOfMemory) -> ExpandTextError {
+        ExpandTextError::Memory
     }
 }

@@ -8,6 +8,7 @@ mod defining;
 mod expanding;
 mod fault;
 mod known;
+mod memory;
 mod options;
 mod places;
 mod root;

@@ -1,4 +1,5 @@
 //! How a text is expanded.
+ghost use Rattle.std.specs.Prelude.{◌≡◌, false, None, codes};
 
 /// How many expansions may stand one inside the other, where nothing else is asked for.
 pub const USUAL_LIMIT: usize = 128;
@@ -19,7 +20,12 @@ pub struct ExpandOptions<'a> {
 impl<'a> ExpandOptions<'a> {
     /// All macros, with 128 expansions one inside the other at most; `$crate` becomes `crate`, and calls that are not expanded stay as
     /// they are.
-    pub fn usual() -> ExpandOptions<'a> {
+    pub fn usual() -> ExpandOptions<'a>
+        ensures limit { result.limit ≡ 128 }
+        ensures root { result.root.now ≡ codes "crate" }
+        ensures everywhere { result.everywhere ≡ false }
+        ensures only { result.only ≡ None }
+    {
         ExpandOptions {
             limit: USUAL_LIMIT,
             root: "crate",

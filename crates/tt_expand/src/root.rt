@@ -1,6 +1,7 @@
 //! `$crate` in the arms of a macro. What is left of each subtree that was entered is kept in memory, so a tree may be as deep as that holds.
 ghost use Rattle.std.specs.Prelude.{◌≡◌, IfOk, IfErr, OnOk};
 ghost use Rattle.tt.specs.Iters.{rest_of};
+ghost use Rattle.tt.specs.Stored.{IsWithinLimits};
 ghost use Rattle.tt.specs.TreeFault.{under, IsTreeFault};
 ghost use Rattle.tt.specs.Views.{trees_of};
 ghost use Rattle.tt_expand.specs.Roots.{is_crate_root, rooted_leaf, after_leaf, rooted};
@@ -53,6 +54,7 @@ pub(crate) fn rooted(
     root: &Symbol,
 ) -> Result<TopSubtree, TtFault>
     ensures ok { IfOk result (λ tree. tree ≡ under delimiter (rooted root.now (trees_of trees.entry))) }
+    ensures limits { IfOk result (λ tree. IsWithinLimits tree) }
     ensures err { IfErr result (IsTreeFault (under delimiter (rooted root.now (trees_of trees.entry)))) }
 {
     let mut builder = TopSubtreeBuilder::new(alloc, delimiter)?;

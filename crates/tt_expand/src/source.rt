@@ -1,18 +1,21 @@
 //! A source, and what its calls become.
 ghost use Rattle.std.specs.Prelude.{◌≡◌, IfOk, OnOk, string_bytes};
+ghost use Rattle.tt.specs.Stored.{IsWithinLimits};
+ghost use Rattle.tt_expand.specs.Macros.{tree_of};
 ghost use Rattle.tt_expand.specs.Expansion.{IsTextOf, IsInvocationText, IsInvocationWritten, IsEventWritten, GoesOn, IsSourceText};
-ghost use Rattle.tt_expand.specs.Knowing.{Known as KnownOf, IsKnown, setting_of};
+ghost use Rattle.tt_expand.specs.Knowing.{Learns, setting_of};
 ghost use Rattle.tt_edit.specs.Texts.{writing_of};
 ghost use Rattle.tt_expand.specs.Walks.{IsWithin};
 
 use crate::expanding::place;
 use crate::fault::MacroFault;
 use crate::known::Known;
+use crate::memory::OutOfMemory;
 use crate::places::start_at;
 use crate::setting::Setting;
 use crate::walk::{Event, Invocation, Walk, next};
 use std::alloc::Global;
-use tt::{Delimiter, DelimiterKind, TopSubtree, TopSubtreeBuilder, TtFault};
+use tt::{Delimiter, DelimiterKind, Refused, TopSubtree, TopSubtreeBuilder, TtFault};
 use tt_edit::{Output, end_of, start_of};
 use tt_items::Siblings;
 use tt_unparse::{WriteFault, rust_text};
@@ -24,13 +27,19 @@ pub(crate) enum Written {
     Faulty(u32, MacroFault),
 }
 
-// What comes of a call that begins at a byte, as a text, or why it has none.
-fn write_tree(alloc: Global, begin: u32, tree: &TopSubtree) -> Result<Written, TtFault>
-    ensures { IfOk result (IsTextOf tree.now.children begin) }
+// What comes of a call that begins at a byte, and is a tree within the limits, as a text, or why it has none.
+fn write_tree(
+    alloc: Global,
+    begin: u32,
+    delimiter: Delimiter,
+    tree: &TopSubtree,
+) -> Result<Written, OutOfMemory>
+    requires { IsWithinLimits (tree_of delimiter tree.now.children) }
+    ensures { IfOk result (IsTextOf delimiter tree.now.children begin) }
 {
     match rust_text(alloc, tree.token_trees()) {
         Ok(text) => Ok(Written::Text(text)),
-        Err(WriteFault::Memory) => Err(TtFault::Memory),
+        Err(WriteFault::Memory) => Err(OutOfMemory),
         Err(WriteFault::NotWritable { at: place }) => {
             let at = start_at(tree.token_trees(), place, begin);
             Ok(Written::Faulty(at, MacroFault::NotWritable))
@@ -45,8 +54,8 @@ fn invocation_text(
     known: &mut Known,
     limit: usize,
     invocation: &Invocation,
-) -> Result<Written, TtFault>
-    ensures { IfOk result (λ written. (before : KnownOf) → IsKnown before known.old → (after : KnownOf) × IsKnown after known.new × IsInvocationText (setting_of setting.now) limit invocation.now before after written) }
+) -> Result<Written, OutOfMemory>
+    ensures { IfOk result (λ written. Learns known.old known.new (IsInvocationText (setting_of setting.now) limit invocation.now written)) }
 {
     let top = Delimiter {
         kind: DelimiterKind::Invisible,
@@ -54,8 +63,17 @@ fn invocation_text(
     };
     let mut builder = TopSubtreeBuilder::new(setting.alloc, top)?;
     place(setting, known, limit, invocation, &mut builder)?;
-    let tree = builder.build()?;
-    write_tree(setting.alloc, start_of(invocation.first_span), &tree)
+    let begin = start_of(invocation.first_span);
+    match builder.build() {
+        Ok(tree) => write_tree(setting.alloc, begin, invocation.delimiter, &tree),
+        Err(
+            Refused {
+                fault: TtFault::Memory,
+                ..
+            },
+        ) => Err(OutOfMemory),
+        Err(refused) => Ok(Written::Faulty(begin, MacroFault::TooLarge(refused.fault))),
+    }
 }
 
 // Writes what comes of a call in its place, in which so many expansions may stand one inside the other. Where that has no text, it is found.
@@ -65,8 +83,8 @@ fn write_invocation(
     limit: usize,
     invocation: &Invocation,
     output: &mut Output<'_>,
-) -> Result<(), TtFault>
-    ensures { OnOk result ((before : KnownOf) → IsKnown before known.old → (after : KnownOf) × IsKnown after known.new × IsInvocationWritten (setting_of setting.now) limit invocation.now before after (writing_of output.old) (writing_of output.new)) }
+) -> Result<(), OutOfMemory>
+    ensures { OnOk result (Learns known.old known.new (IsInvocationWritten (setting_of setting.now) limit invocation.now (writing_of output.old) (writing_of output.new))) }
 {
     match invocation_text(setting, known, limit, invocation)? {
         Written::Text(text) => {
@@ -90,10 +108,10 @@ fn write_event(
     limit: usize,
     event: Event<'_>,
     output: &mut Output<'_>,
-) -> Result<bool, TtFault>
+) -> Result<bool, OutOfMemory>
     requires { IsWithin limit event }
     ensures goes_on { IfOk result (GoesOn event.entry) }
-    ensures written { OnOk result ((before : KnownOf) → IsKnown before known.old → (after : KnownOf) × IsKnown after known.new × IsEventWritten (setting_of setting.now) limit event.entry before after (writing_of output.old) (writing_of output.new)) }
+    ensures written { OnOk result (Learns known.old known.new (IsEventWritten (setting_of setting.now) limit event.entry (writing_of output.old) (writing_of output.new))) }
 {
     match event {
         Event::End => Ok(false),
@@ -112,8 +130,8 @@ pub(crate) fn expand_source(
     limit: usize,
     source: &str,
     tree: &TopSubtree,
-) -> Result<String, TtFault>
-    ensures { IfOk result (λ text. (before : KnownOf) → IsKnown before known.old → (after : KnownOf) × IsKnown after known.new × IsSourceText (setting_of setting.now) limit source.now tree.now.children before after (string_bytes text)) }
+) -> Result<String, OutOfMemory>
+    ensures { IfOk result (λ text. Learns known.old known.new (IsSourceText (setting_of setting.now) limit source.now tree.now.children (string_bytes text))) }
 {
     let mut output = Output::new(setting.alloc, source);
     let close = tree.top_subtree().delimiter.close;

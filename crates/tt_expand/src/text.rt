@@ -5,11 +5,12 @@ ghost use Rattle.tt_expand.specs.Knowing.{setting_of};
 
 use crate::fault::{ExpandTextError, Finding};
 use crate::known::Known;
+use crate::memory::OutOfMemory;
 use crate::options::ExpandOptions;
 use crate::setting::Setting;
 use crate::source::expand_source;
 use std::alloc::Global;
-use tt::{Symbol, TtFault};
+use tt::Symbol;
 use tt_edit::parse;
 
 /// A text whose calls are expanded.
@@ -22,7 +23,7 @@ pub struct Expanded {
 }
 
 // How a text is gone through.
-fn setting_by(alloc: Global, options: ExpandOptions<'_>) -> Result<Setting, TtFault>
+fn setting_by(alloc: Global, options: ExpandOptions<'_>) -> Result<Setting, OutOfMemory>
     ensures { IfOk result (λ setting. setting_of setting ≡ setting_by options.entry) }
 {
     let only = match options.only {

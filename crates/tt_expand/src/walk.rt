@@ -1,9 +1,8 @@
 //! The walk through trees in which macros are defined and called.
 ghost use Rattle.std.specs.Prelude.{◌≡◌, ◌∷◌, [], ℕ, IfOk, OnOk, if◌then◌else◌};
-ghost use Rattle.tt.specs.Gluing.{after_trees};
 ghost use Rattle.tt.specs.Iters.{rest_of};
 ghost use Rattle.tt.specs.Views.{trees_of};
-ghost use Rattle.tt_expand.specs.Coming.{is_conditional_in, IsPlain};
+ghost use Rattle.tt_expand.specs.Coming.{is_conditional_in, named_behind, IsPlain};
 ghost use Rattle.tt_edit.specs.Places.{begin_at};
 ghost use Rattle.tt_items.specs.Items.{defines, calls, definition_of, call_of};
 ghost use Rattle.tt_expand.specs.Knowing.{Setting as SettingOf, setting_of};
@@ -14,14 +13,15 @@ ghost use Rattle.tt_matcher.specs.Fragments.{front_trees};
 use crate::calling::{Called, expand_call};
 use crate::defining::read;
 use crate::known::Known;
+use crate::memory::OutOfMemory;
 use crate::setting::Setting;
 use std::alloc::{AllocError, Global};
 use tt::{
     Delimiter, DelimiterKind, Leaf, Span, Subtree, Symbol, TokenTreesView, TopSubtree, TtElement,
-    TtFault, TtIter,
+    TtIter,
 };
 use tt_edit::begin_at;
-use tt_items::{Call, Definition, Item, Position, Siblings, item_in};
+use tt_items::{Call, Definition, Item, Position, Siblings, is_at_punct, item_in};
 use tt_pattern::pass;
 
 /// What is left of the trees of a subtree.
@@ -71,15 +71,28 @@ pub(crate) struct Walk<'a> {
     outer: Vec<Level<'a>>,
 }
 
+// How many trees behind a leaf are no call, where these stand there: the name of a lifetime, and behind a literal a `.` and the name of a
+// field.
+fn named_behind(leaf: &Leaf, behind: TtIter<'_>) -> usize
+    ensures { result ≡ named_behind leaf.now (rest_of behind.entry) }
+{
+    match leaf {
+        Leaf::Punct(punct) => { if punct.char == '\'' { 1 } else { 0 } }
+        Leaf::Literal(_) => { if is_at_punct(behind, '.') { 2 } else { 0 } }
+        Leaf::Ident(_) => 0,
+    }
+}
+
 impl<'a> Level<'a> {
     // Behind the leaf that stands first.
     fn pass_leaf(&mut self, leaf: &Leaf)
         ensures { level_of self.new ≡ past_leaf leaf.now (level_of self.old) }
     {
         self.rest.next();
-        self.plain = self.plain.saturating_sub(1);
-        let behind = self.rest.remaining().iter();
-        self.position = self.position.behind_leaf(leaf, behind);
+        let behind = self.rest.remaining();
+        let left = self.plain.saturating_sub(1);
+        self.plain = left.max(named_behind(leaf, behind.iter()));
+        self.position = self.position.behind_leaf(leaf, behind.iter());
     }
 
     // Behind the subtree of that kind that stands first.
@@ -124,7 +137,7 @@ impl<'a> Level<'a> {
 
     // Whether a call that stands first stands under a condition.
     fn is_conditional(&self, call: &Call<'_>) -> bool
-        ensures { result ≡ is_conditional_in self.now.position (call_of call.now) (after_trees call.now.len (rest_of self.now.rest)) }
+        ensures { result ≡ is_conditional_in self.now.position (call_of call.now) (rest_of self.now.rest) }
     {
         let mut behind = self.rest.remaining().iter();
         pass(&mut behind, call.len);
@@ -218,7 +231,7 @@ fn next_definition<'a>(
     setting: &Setting,
     known: &mut Known,
     definition: &Definition<'a>,
-) -> Result<Event<'a>, TtFault>
+) -> Result<Event<'a>, OutOfMemory>
     ensures limit { IfOk result (λ event. (limit : ℕ) → IsWithin limit event) }
     ensures steps { IfOk result (λ event. IsFirst (defines (definition_of definition.now)) setting.now.root walk.old → Steps (levels_of walk.old) event (levels_of walk.new)) }
     ensures next { IfOk result (λ event. (limit : ℕ) → Goes (IsAtItem (defines (definition_of definition.now)) (setting_of setting.now) walk.old) (setting_of setting.now) limit walk.old known.old event walk.new known.new) }
@@ -271,7 +284,7 @@ fn next_call<'a>(
     known: &mut Known,
     limit: usize,
     call: &Call<'a>,
-) -> Result<Event<'a>, TtFault>
+) -> Result<Event<'a>, OutOfMemory>
     ensures limit { IfOk result (IsWithin limit) }
     ensures steps { IfOk result (λ event. IsFirst (calls (call_of call.now)) setting.now.root walk.old → Steps (levels_of walk.old) event (levels_of walk.new)) }
     ensures next { IfOk result (λ event. Goes (IsAtItem (calls (call_of call.now)) (setting_of setting.now) walk.old) (setting_of setting.now) limit walk.old known.old event walk.new known.new) }
@@ -297,7 +310,7 @@ pub(crate) fn next<'a>(
     setting: &Setting,
     known: &mut Known,
     limit: usize,
-) -> Result<Event<'a>, TtFault>
+) -> Result<Event<'a>, OutOfMemory>
     ensures limit { IfOk result (IsWithin limit) }
     ensures steps { IfOk result (λ event. Steps (levels_of walk.old) event (levels_of walk.new)) }
     ensures next { IfOk result (λ event. Goes (λ _. Unit {0}) (setting_of setting.now) limit walk.old known.old event walk.new known.new) }

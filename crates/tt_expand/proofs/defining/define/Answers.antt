@@ -1,9 +1,8 @@
-use Rattle.std.proofs.Common.{rules, ◌≡◌, ◌++◌, ◌∷◌, [], Some, None, inl, inr, refl, ap, ap₂, sym, subst, ◌∙◌}
+use Rattle.std.proofs.Common.{rules, ◌≡◌, ◌++◌, ◌∷◌, [], Some, None, inl, inr, refl, ap, sym, subst, ◌∙◌}
 use Rattle.tt.specs.Forest.{Forest}
 use Rattle.tt.specs.Iters.{rest_of}
 use Rattle.tt.specs.Span.{start_of}
 use Rattle.tt_expand.specs.declared.fault.Finding.{Finding}
-use Rattle.tt_expand.specs.declared.fault.MacroFault.TheVariants as wrong
 use Rattle.tt_expand.specs.declared.scope.Macro as rust
 use Rattle.tt_expand.specs.Defining.{IsRules}
 use Rattle.tt_items.specs.Items.{Definition, definition_of}
@@ -25,11 +24,10 @@ returns c known is =
     let more : c.define.new.self.macros.items ≡ c.match-branch-3.known.scope.macros.items ++ made ∷ [] = c.in_ok-define.ensures.ok in
     elim c.match-branch-3.branch [
       | in-Known w ↦
-          let (arms, spelled, ready) = subst (IsRules it trees) w.in-Known.is c.in_ok-rules.ensures in
+          let (arms, limits, spelled, ready) = subst (IsRules it trees) w.in-Known.is c.in_ok-rules.ensures in
           let before : AreReady known.macros c.match-branch-3.known.scope.macros.items = subst (λ k. AreReady known.macros k.scope.macros.items) (sym w.known-is) is.macros in
           let rules_are : AreRules (Some arms) c.match-branch-3.rules = subst (AreRules (Some arms)) (sym w.rules-is) ready in (
             with_macro (macro_of it (Some arms)) known,
-            inl (arms, spelled, refl),
             record {
               macros =
                   subst (AreReady (known.macros ++ macro_of it (Some arms) ∷ [])) (sym more)
@@ -37,18 +35,18 @@ returns c known is =
               findings = ap (λ k. k.findings.items) w.known-is ∙ is.findings;
               is_over = ap (λ k. k.is_over) w.known-is ∙ is.is_over;
             },
+            inl (arms, limits, spelled, refl),
           )
       | in-Faulty+in_ok-find-in-Faulty w ↦
-          let why = w.in-Faulty.error in
-          let (wrong_arms, at) = subst (IsRules it trees) w.in-Faulty.is c.in_ok-rules.ensures in
-          let made_finding : Finding = record { name = c.in_ok-name.name; at = w.in-Faulty.at; fault = wrong.Definition why; defined_at = None } in
-          let same : made_finding ≡ found_in it trees why = ap₂ (λ n a. record { name = n; at = a; fault = wrong.Definition why; defined_at = None }) name at in
-          let then : Known = with_finding (found_in it trees why) known in
+          let fault = w.in-Faulty.fault in
+          let wrong_there = subst (IsRules it trees) w.in-Faulty.is c.in_ok-rules.ensures in
+          let made_finding : Finding = record { name = c.in_ok-name.name; at = w.in-Faulty.at; fault = fault; defined_at = None } in
+          let same : made_finding ≡ found_in it w.in-Faulty.at fault = ap (λ n. record { name = n; at = w.in-Faulty.at; fault = fault; defined_at = None }) name in
+          let then : Known = with_finding (found_in it w.in-Faulty.at fault) known in
           let found : IsKnown then c.match-branch-3.known =
           subst (IsKnown then) (sym w.known-is) (subst (λ f. IsKnown (with_finding f known) w.find.new.self) same (w.in_ok-find-in-Faulty.ensures known is)) in
           let rules_are : AreRules None c.match-branch-3.rules = subst (AreRules None) (sym w.rules-is) tt in (
             with_macro (macro_of it None) then,
-            inr (why, wrong_arms, refl),
             record {
               macros =
                   subst (AreReady (then.macros ++ macro_of it None ∷ [])) (sym more)
@@ -56,5 +54,6 @@ returns c known is =
               findings = found.findings;
               is_over = found.is_over;
             },
+            inr (w.in-Faulty.at, fault, wrong_there, refl),
           )
     ]

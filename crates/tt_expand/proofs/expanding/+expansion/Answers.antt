@@ -1,5 +1,4 @@
 use Rattle.std.proofs.Common.{[], ◌≡◌, ◌∙◌, ◌<◌, ◌+◌, ◌-◌, ℕ, false, suc, ◌∷◌, List, length, map, reverse, refl, ap, sym, subst, arith}
-use Rattle.indexmap.proofs.MapLemmas.{OnOk-map}
 use Rattle.tt.specs.Building.{Stack, append, depth, pushed, opened, closed, extended}
 use Rattle.tt.specs.Forest.{Forest, end, leaf}
 use Rattle.tt.specs.Iters.{rest_of}
@@ -251,5 +250,4 @@ place-returns-clause-open t c =
     let span = c.args.invocation.now.delimiter.close in
     let inside = c.expand_trees-2.new.builder in
     let deep : depth inside.stack ≡ suc old = c.in_ok-expand_trees.ensures.open ∙ ap (λ s. depth s.stack) c.in_ok-open.ensures.ok in
-    OnOk-map c.close.result (c.close.new.self ≡ closed span inside) (depth c.close.new.self.stack ≡ old)
-    (λ is. ap (λ s. depth s.stack) is ∙ depth_close span inside.stack old deep) c.close.ensures.ok
+    ap (λ s. depth s.stack) c.in_ok-close.ensures.ok ∙ depth_close span inside.stack old deep

@@ -1,15 +1,23 @@
-use Rattle.std.proofs.Common.{◌∙◌, true, subst}
+use Rattle.std.proofs.Common.{◌≡◌, ◌∙◌, [], true, ap, sym, subst}
+use Rattle.std.specs.Prelude.{string_bytes}
 use Rattle.tt_expand.specs.Coming.{Comes}
 use Rattle.tt_expand.specs.Expansion.{setting_by, replacements}
 use Rattle.tt_edit.specs.Places.{text_part}
 use Rattle.tt_expand.specs.Knowing.{knows_nothing}
 use Rattle.tt_items.specs.Positions.{begun as begun_among}
 use Rattle.tt_items.specs.declared.position.Siblings.TheVariants.{Items}
-use Rattle.tt_edit.specs.Texts.{begun, FitAll}
+use Rattle.tt_edit.specs.Texts.{begun, with_all, FitAll}
 use Rattle.tt_expand.proofs.Fitting.{comes_fit}
 use Rattle.tt_expand.proofs.Replacing.{all_replaced}
+use Rattle.tt_expand.proofs.Weaving.{as_texts, text_woven}
+use Rattle.tt_expand.specs.Reading.{splices, sorts_left}
+use Rattle.tt_splice.proofs.CallWeaves.{no_fault_woven, read_woven}
+use Rattle.tt_splice.specs.Calls.{IsWoven}
+use Rattle.tt_splice.specs.Splices.{replacements_of}
 use Rattle.tt_expand.proofs.text.expand_leniently.Goals as goal
 use Rattle.tt_text.specs.Parsed.{IsParse}
+use Rattle.tt_text.specs.Refusal.{IsFaultOf}
+use Rattle.tt_text.specs.Spelled.{spelled}
 
 pub returns-clause-ok : goal.returns-clause-ok
 returns-clause-ok c =
@@ -20,7 +28,12 @@ returns-clause-ok c =
     let (after, ready, source) = c.in_ok-text.ensures knows_nothing c.new-known.ensures in
     let comes : Comes (setting_by options) true options.limit (begun_among Items) 0 knows_nothing tree.children after source.outcome =
     subst (λ s. Comes s true options.limit (begun_among Items) 0 knows_nothing tree.children after source.outcome) c.in_ok-setting.ensures source.comes in
+    let woven : IsWoven [] (spelled tree.children) (splices source.outcome) (sorts_left source.outcome) = text_woven (setting_by options) tree.children source.outcome comes in
     let fits : FitAll (replacements source.outcome) (begun text) = comes_fit text_part text tree c.utf8.text read comes in
+    let written : string_bytes c.in_ok-text.text ≡ with_all (replacements source.outcome) (begun text) =
+    source.text ∙ all_replaced (replacements source.outcome) (begun text) source.written fits source.replaced in
+    let spliced : string_bytes c.in_ok-text.text ≡ with_all (replacements_of (splices source.outcome)) (begun text) =
+    written ∙ ap (λ rs. with_all rs (begun text)) (sym (as_texts source.outcome)) in
     record {
       tree = tree;
       read = read;
@@ -28,6 +41,10 @@ returns-clause-ok c =
       outcome = source.outcome;
       comes = comes;
       fits = fits;
-      text = source.text ∙ all_replaced (replacements source.outcome) (begun text) source.written fits source.replaced;
+      text = written;
+      back = record {
+        sound = λ fault found. no_fault_woven text_part text tree (splices source.outcome) (sorts_left source.outcome) fault c.utf8.text read woven (subst (λ u. IsFaultOf u fault) spliced found);
+        reads = λ part again parse. read_woven text_part part text tree again (splices source.outcome) (sorts_left source.outcome) c.utf8.text read woven (subst (λ u. IsParse part u again) spliced parse);
+      };
       findings = ready.findings;
     }

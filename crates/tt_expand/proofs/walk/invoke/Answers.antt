@@ -18,7 +18,7 @@ returns c =
     let passed : level_of c.pass_all.new.self ≡ past it.len (is_brace it.delimiter.kind) level = search rules in
     let kept : trees_of c.remaining-behind.result ≡ rest_of c.pass_all.new.self.rest = search rules in
     let behind : trees_of c.remaining-behind.result ≡ after_trees it.len level.rest = kept ∙ ap (λ l. l.rest) passed in
-    let takes : c.takes_semicolon-takes.result ≡ takes_in level.position it (after_trees it.len level.rest) =
+    let takes : c.takes_semicolon-takes.result ≡ takes_in level.position it level.rest =
     c.takes_semicolon-takes.ensures ∙ ap (λ f. takes_semicolon it.delimiter.kind f level.position) (c.iter.ensures ∙ behind) in (
       record {
         name = search rules;

@@ -1,5 +1,4 @@
 use Rattle.std.proofs.Common.{◌∷◌, Bool, List, map, reverse, inl, inr, sym, subst}
-use Rattle.tt.specs.Gluing.{after_trees}
 use Rattle.tt.specs.Iters.{rest_of}
 use Rattle.tt_expand.specs.declared.walk.Walk.{Walk}
 use Rattle.tt_expand.specs.Coming.{is_conditional_in}
@@ -14,7 +13,7 @@ use Rattle.tt_expand.proofs.walk.next_call.Goals as goal
 
 -- whether a call that stands first stands under a condition
 abbrev under_condition : Walk → Call → Bool
-under_condition walk it = is_conditional_in walk.level.position it (after_trees it.len (rest_of walk.level.rest))
+under_condition walk it = is_conditional_in walk.level.position it (rest_of walk.level.rest)
 
 pub returns-in_ok-invoke-in-Tree-clause-next : goal.returns-in_ok-invoke-in-Tree-clause-next
 returns-in_ok-invoke-in-Tree-clause-next c known is there =
@@ -23,10 +22,10 @@ returns-in_ok-invoke-in-Tree-clause-next c known is there =
     let free = c.is_conditional-is_conditional.result in
     let tree = c.in-Tree.tree in
     let at = c.in-Tree.defined_at in
-    let (others, called, then) = c.in_ok-tree.ensures.called known is in
+    let (others, then, called) = c.in_ok-tree.ensures.called known is in
     let from : IsExpanded setting c.args.limit (under_condition c.args.walk.now it) it tree at known others =
     subst (λ b. IsExpanded setting c.args.limit b it tree at known others) c.is_conditional-is_conditional.ensures
-    (subst (λ r. IsCalled setting c.args.limit free it known r others) c.in-Tree.is called) in
+    (subst (λ r. IsCalled setting c.args.limit free it r known others) c.in-Tree.is called) in
     (others, then, λ in_text. next_expanded setting in_text c.args.limit c.args.walk.now known it there c.in_ok-invoke-in-Tree.field-0 c.invoke.new.walk others tree at from c.in_ok-invoke-in-Tree.ensures)
 
 pub returns-in-Faulty-clause-next : goal.returns-in-Faulty-clause-next
@@ -34,10 +33,10 @@ returns-in-Faulty-clause-next c known is there =
     let setting = setting_of c.args.setting.now in
     let it : Call = call_of c.args.call.now in
     let free = c.is_conditional-is_conditional.result in
-    let (others, called, then) = c.in_ok-tree.ensures.called known is in
+    let (others, then, called) = c.in_ok-tree.ensures.called known is in
     let wrong : IsFaulty setting c.args.limit (under_condition c.args.walk.now it) it known others =
     subst (λ b. IsFaulty setting c.args.limit b it known others) c.is_conditional-is_conditional.ensures
-    (subst (λ r. IsCalled setting c.args.limit free it known r others) c.in-Faulty.is called) in
+    (subst (λ r. IsCalled setting c.args.limit free it r known others) c.in-Faulty.is called) in
     (others, then, λ in_text. next_faulty setting in_text c.args.limit c.args.walk.now known it there c.stay.result c.stay.new.walk others wrong c.stay.ensures)
 
 pub returns-else-setting-clause-next : goal.returns-else-setting-clause-next
@@ -48,8 +47,8 @@ returns-else-setting-clause-next c known is there =
     let walk = c.args.walk.now in
     let event = c.stay-else-setting.result in
     let new = c.stay-else-setting.new.walk in
-    let (others, called, then) = c.in_ok-tree.ensures.called known is in
-    let (none, same) = subst (λ r. IsCalled setting c.args.limit free it known r others) c.in-Other.is called in (
+    let (others, then, called) = c.in_ok-tree.ensures.called known is in
+    let (none, same) = subst (λ r. IsCalled setting c.args.limit free it r known others) c.in-Other.is called in (
       others,
       then,
       λ in_text. subst (IsNext setting in_text c.args.limit (levels_of walk) known event (levels_of new)) (sym same)
@@ -67,8 +66,8 @@ returns-in_ok-next_tree-in-Other-clause-next c known is there =
     let free = c.is_conditional-is_conditional.result in
     let level : Level = level_of c.args.walk.now.level in
     let outer : List Level = map level_of (reverse c.args.walk.now.outer.items) in
-    let (others, called, then) = c.in_ok-tree.ensures.called known is in
-    let (none, same) = subst (λ r. IsCalled setting limit free it known r others) c.in-Other.is called in
+    let (others, then, called) = c.in_ok-tree.ensures.called known is in
+    let (none, same) = subst (λ r. IsCalled setting limit free it r known others) c.in-Other.is called in
     let leads : (in_text : Bool) → Leads setting in_text limit (level ∷ outer) known (λ outcomes. outcomes) (record level { plain = it.len } ∷ outer) others =
     λ in_text. subst (Leads setting in_text limit (level ∷ outer) known (λ outcomes. outcomes) (record level { plain = it.len } ∷ outer)) (sym same)
     (leads_into setting in_text limit level outer known there.first there.goes_on it there.item none c.if-setting.true) in

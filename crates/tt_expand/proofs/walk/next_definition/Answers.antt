@@ -15,7 +15,7 @@ returns-clause-next c limit known is there =
     let level : Level = level_of c.args.walk.now.level in
     let outer = map level_of (reverse c.args.walk.now.outer.items) in
     let it : Definition = definition_of c.args.definition.now in
-    let (others, read, then) = c.in_ok-read.ensures known is in
+    let (others, then, read) = c.in_ok-read.ensures known is in
     let taken : trees_of c.take_all.result ≡ front_trees it.len level.rest = c.take_all.ensures.taken in
     let now : level_of c.take_all.new.self ≡ past it.len true level = c.take_all.ensures.level in (
       others,

@@ -1,0 +1,267 @@
+-- What takes the place of calls is woven into what a text is spelled by.
+use Rattle.std.proofs.Common.{◌≡◌, ◌<◌, ◌-◌, ◌++◌, ℕ, suc, Bool, true, false, List, [], ◌∷◌, max, Some, None, cond, codes, refl, ap, ap₂, sym, subst, ◌∙◌, arith, append_assoc, append-nil}
+use Rattle.std.proofs.Math.Nat.{le-max_left, le-max_right}
+use Rattle.std.proofs.lemmas.Bool.{eqb-true, false≢true}
+use Rattle.std.specs.Prelude.{◌==◌, ◌||◌, ◌&&◌, not}
+use Rattle.tt.specs.Forest.{Forest, end, leaf, node, join}
+use Rattle.tt.specs.Gluing.{after_trees}
+use Rattle.tt.specs.Moves.{after_tree}
+use Rattle.tt.specs.Span.{start_of, end_of}
+use Rattle.tt.specs.Types.Delimiter.{Delimiter}
+use Rattle.tt.specs.Types.DelimiterKind.{DelimiterKind}
+use Rattle.tt.specs.Types.Leaf.{Leaf}
+use Rattle.tt.specs.Types.Leaf.TheVariants as leaf_of
+use Rattle.tt.specs.Types.Spacing.{Spacing}
+use Rattle.tt_edit.specs.Places.{begin_at}
+use Rattle.tt_expand.proofs.CallPlaces.{last_of}
+use Rattle.tt_expand.proofs.ManyTrees.{after_more}
+use Rattle.tt_items.proofs.Shapes.{EndsClosed, by_subtree, by_semicolon, BeginsWithName, call_begins, call_ends, call_closed, definition_closed, punct_first, ends_by_punct}
+use Rattle.tt_expand.specs.Coming.{Comes, ends, on_leaf, on_node, on_definition, on_other_call, into_other_call, on_faulty_call, on_call, on_unwritten_call, end_in, len_in, named_behind, placed_at, plain_behind, rest_in, takes_in}
+use Rattle.tt_expand.specs.Expansion.{replacement, replacements}
+use Rattle.tt_expand.specs.Knowing.{Setting, Known, asks_for}
+use Rattle.tt_expand.specs.Macros.{arms_of, called_by}
+use Rattle.tt_expand.specs.Outcomes.{Outcome, nothing, passes, enters, stays, becomes, trees_left}
+use Rattle.tt_expand.specs.Reading.{splices, sorts_left}
+use Rattle.tt_expand.specs.Scopes.{Macro, last_named}
+use Rattle.tt_items.specs.Items.{Call, calls, item_in}
+use Rattle.tt_items.specs.Positions.{is_items}
+use Rattle.tt_items.specs.declared.position.Position.{Position}
+use Rattle.tt_macro_rules.specs.Arms.{Arm}
+use Rattle.tt_matcher.proofs.FrontTrees.{front_joined}
+use Rattle.tt_matcher.specs.Fragments.{front_trees, is_brace}
+use Rattle.tt_pattern.specs.Units.{is_at_punct}
+use Rattle.tt_splice.proofs.CallCuts.{behind_pieces}
+use Rattle.tt_splice.specs.Calls.{BeginsCall, EndsCall, IsTaken, IsWoven, ends as woven_end, keeps, gives_way, follows_value, may_begin}
+use Rattle.tt_splice.specs.Splices.{Splice, replacement_of, replacements_of}
+use Rattle.tt_text.proofs.StackFacts.{spelled-join}
+use Rattle.tt_text.specs.Spelled.{Piece, Sort, sign, opening, closing, at_span, piece_of, sort_of, spelled}
+use Rattle.tt_unparse.specs.Marks.{marks}
+use Rattle.tt_unparse.specs.Settled.{settled, sorts}
+
+-- what takes the place of calls, as texts
+replacements_append : (a b : List Splice) → replacements_of (a ++ b) ≡ replacements_of a ++ replacements_of b
+replacements_append [] b = refl
+replacements_append (it ∷ a) b = ap (λ rs. replacement_of it ∷ rs) (replacements_append a b)
+
+-- All that takes the place of calls is so as a text.
+pub as_texts : (it : Outcome) → replacements_of (splices it) ≡ replacements it
+as_texts nothing = refl
+as_texts (passes it behind) = as_texts behind
+as_texts (enters delimiter inside behind) = replacements_append (splices inside) (splices behind) ∙ ap₂ (λ a b. a ++ b) (as_texts inside) (as_texts behind)
+as_texts (stays trees behind) = as_texts behind
+as_texts (becomes first last trees behind) = ap (λ rs. replacement first last trees ∷ rs) (as_texts behind)
+
+-- before a `.` behind a literal two trees are taken as they are
+abbrev pub BeforePoint : (before : List Sort) → Forest → (plain : ℕ) → Type 0
+BeforePoint before trees plain = follows_value before ≡ true → is_at_punct (codes ".") trees ≡ true → 1 < plain
+
+-- behind these leaves and brackets, the latest first, no call begins where none may, since so many trees are taken as they are
+pub record IsHeld (before : List Sort) (trees : Forest) (plain : ℕ) : Type 0 where
+  pub begins : plain ≡ 0 → may_begin before ≡ true
+  pub point : BeforePoint before trees plain
+
+-- Behind a punct none begins where none may.
+held_punct : (char : ℕ) (spacing : Spacing) (before : List Sort) (plain behind : ℕ) → ((char == 46) ≡ true → follows_value before ≡ true → 1 < plain) → ((char == 39) ≡ true → 0 < behind)
+    → max (plain - 1) behind ≡ 0 → may_begin (sign char spacing ∷ before) ≡ true
+held_punct char spacing before plain behind point quote none = by (char == 39) refl (char == 46) refl (follows_value before) refl
+  where
+    by : (q : Bool) → (char == 39) ≡ q → (p : Bool) → (char == 46) ≡ p → (v : Bool) → follows_value before ≡ v → not (q || (p && v)) ≡ true
+    by true e p f v g = absurd (omega (arith, quote e, le-max_right (plain - 1) behind, none))
+    by false e false f v g = refl
+    by false e true f false g = refl
+    by false e true f true g = absurd (omega (arith, point f g, le-max_left (plain - 1) behind, none))
+
+-- Nor behind a leaf, since what stands behind that is taken as it is.
+held_leaf : (it : Leaf) (before : List Sort) (rest : Forest) (plain : ℕ) → IsHeld before (leaf it rest) plain → IsHeld (sort_of it ∷ before) rest (plain_behind it rest plain)
+held_leaf (leaf_of.Ident it) before rest plain held = record { begins = λ none. refl; point = λ follows at. absurd (false≢true follows) }
+held_leaf (leaf_of.Literal it) before rest plain held = record {
+  begins = λ none. refl;
+  point = λ follows at.
+      let two : named_behind (leaf_of.Literal it) rest ≡ 2 = ap (λ b. cond b 2 0) at in
+      omega (arith, two, le-max_right (plain - 1) (named_behind (leaf_of.Literal it) rest));
+}
+held_leaf (leaf_of.Punct it) before rest plain held = record {
+  begins = λ none.
+      held_punct it.char it.spacing before plain (named_behind (leaf_of.Punct it) rest)
+      (λ at follows. held.point follows (ap (λ b. b || false) at))
+      (λ quote. let one : named_behind (leaf_of.Punct it) rest ≡ 1 = ap (λ b. cond b 1 0) quote in omega (arith, one))
+      none;
+  point = λ follows at. absurd (false≢true follows);
+}
+
+-- Behind nothing, and behind a bracket, any call may begin.
+held_none : (trees : Forest) (plain : ℕ) → IsHeld [] trees plain
+held_none trees plain = record { begins = λ none. refl; point = λ follows at. absurd (false≢true follows) }
+
+held_opening : (kind : DelimiterKind) (before : List Sort) (trees : Forest) (plain : ℕ) → IsHeld (opening kind ∷ before) trees plain
+held_opening kind before trees plain = record { begins = λ none. refl; point = λ follows at. absurd (false≢true follows) }
+
+held_closing : (kind : DelimiterKind) (before : List Sort) (trees : Forest) (plain : ℕ) → IsHeld (closing kind ∷ before) trees plain
+held_closing kind before trees plain = record { begins = λ none. refl; point = λ follows at. absurd (false≢true follows) }
+
+-- So it may behind a `;`.
+held_semicolon : (char : ℕ) (spacing : Spacing) (before : List Sort) (trees : Forest) (plain : ℕ) → (char == 59) ≡ true → IsHeld (sign char spacing ∷ before) trees plain
+held_semicolon char spacing before trees plain is =
+    subst (λ c. IsHeld (sign c spacing ∷ before) trees plain) (sym (eqb-true char 59 is)) (record { begins = λ none. refl; point = λ follows at. absurd (false≢true follows) })
+
+behind_last : (pieces : List Piece) (last : Piece) (before : List Sort) → behind_pieces (pieces ++ last ∷ []) before ≡ last.sort ∷ behind_pieces pieces before
+behind_last [] last before = refl
+behind_last (piece ∷ pieces) last before = behind_last pieces last (piece.sort ∷ before)
+
+-- Pieces stay, all of them.
+keeps_all : (pieces : List Piece) (before : List Sort) (more : List Piece) (others : List Splice) (woven : List Sort) → IsWoven (behind_pieces pieces before) more others woven
+    → IsWoven before (pieces ++ more) others (sorts pieces ++ woven)
+keeps_all [] before more others woven is = is
+keeps_all (piece ∷ pieces) before more others woven is = keeps (keeps_all pieces (piece.sort ∷ before) more others woven is)
+
+-- Behind trees that end with a subtree or a `;` any call may begin.
+spelled_subtree : (front : Forest) (delimiter : Delimiter) (children : Forest)
+    → spelled (join front (node delimiter children end))
+    ≡ (spelled front ++ at_span (opening delimiter.kind) delimiter.open_span ∷ spelled children) ++ at_span (closing delimiter.kind) delimiter.close ∷ []
+spelled_subtree front delimiter children =
+    spelled-join front (node delimiter children end)
+    ∙ sym (append_assoc (spelled front) (at_span (opening delimiter.kind) delimiter.open_span ∷ spelled children) (at_span (closing delimiter.kind) delimiter.close ∷ []))
+
+held_closed : (closed : Forest) → EndsClosed closed → (before : List Sort) (trees : Forest) (plain : ℕ) → IsHeld (behind_pieces (spelled closed) before) trees plain
+held_closed closed (by_subtree front delimiter children is) before trees plain =
+    let pieces = spelled front ++ at_span (opening delimiter.kind) delimiter.open_span ∷ spelled children in
+    let last = at_span (closing delimiter.kind) delimiter.close in
+    let same : behind_pieces (spelled closed) before ≡ closing delimiter.kind ∷ behind_pieces pieces before =
+    ap (λ ps. behind_pieces ps before) (ap spelled is ∙ spelled_subtree front delimiter children) ∙ behind_last pieces last before in
+    subst (λ b. IsHeld b trees plain) (sym same) (held_closing delimiter.kind (behind_pieces pieces before) trees plain)
+held_closed closed (by_semicolon front punct semicolon is) before trees plain =
+    let last = piece_of (leaf_of.Punct punct) in
+    let same : behind_pieces (spelled closed) before ≡ sign punct.char punct.spacing ∷ behind_pieces (spelled front) before =
+    ap (λ ps. behind_pieces ps before) (ap spelled is ∙ spelled-join front (leaf (leaf_of.Punct punct) end)) ∙ behind_last (spelled front) last before in
+    subst (λ b. IsHeld b trees plain) (sym same) (held_semicolon punct.char punct.spacing (behind_pieces (spelled front) before) trees plain semicolon)
+
+-- the same pieces, splices and leaves
+moved : {before : List Sort} {pieces pieces_too : List Piece} {others others_too : List Splice} {woven woven_too : List Sort}
+    → pieces ≡ pieces_too → others ≡ others_too → woven ≡ woven_too → IsWoven before pieces others woven → IsWoven before pieces_too others_too woven_too
+moved {before} {pieces} {pieces_too} {others} {others_too} {woven} {woven_too} ps os ws is =
+    subst (λ x. IsWoven before x others_too woven_too) ps (subst (λ x. IsWoven before pieces x woven_too) os (subst (λ x. IsWoven before pieces others x) ws is))
+
+-- How many trees a call is, with its `;`, and what stands behind it.
+split_in : (position : Position) (it : Call) (trees : Forest) → trees ≡ join (front_trees (len_in position it trees) trees) (rest_in position it trees)
+split_in position it trees = by (takes_in position it trees)
+  where
+    by : (takes : Bool) → trees ≡ join (front_trees (cond takes (suc it.len) it.len) trees) (cond takes (after_tree (after_trees it.len trees)) (after_trees it.len trees))
+    by false = front_joined it.len trees
+    by true = front_joined (suc it.len) trees ∙ ap (join (front_trees (suc it.len) trees)) (after_more it.len trees)
+
+-- the pieces of trees before others
+spelled_front : (trees front rest : Forest) (more : List Piece) → trees ≡ join front rest → spelled front ++ (spelled rest ++ more) ≡ spelled trees ++ more
+spelled_front trees front rest more is = sym (append_assoc (spelled front) (spelled rest) more) ∙ ap (λ ps. ps ++ more) (sym (spelled-join front rest) ∙ ap spelled (sym is))
+
+-- A call that is expanded ends with its subtree, or with its `;`.
+module _ (root : List ℕ) (trees : Forest) (position : Position) (it : Call) (is : item_in root trees ≡ calls it) where
+  -- where it ends, and how
+  pub call_end : EndsClosed (front_trees (len_in position it trees) trees) × EndsCall (end_of (end_in position it trees).range) (spelled (front_trees (len_in position it trees) trees))
+  call_end = by (takes_in position it trees) refl
+    where
+      rest : Forest
+      rest = after_trees it.len trees
+
+      by : (takes : Bool) → takes_in position it trees ≡ takes
+          → EndsClosed (front_trees (cond takes (suc it.len) it.len) trees)
+          × EndsCall (end_of (cond takes (begin_at rest it.delimiter.close) it.delimiter.close).range) (spelled (front_trees (cond takes (suc it.len) it.len) trees))
+      by false e =
+          let (front, same) = call_closed root trees it is in (
+            by_subtree front it.delimiter it.input same,
+            (spelled front ++ at_span (opening it.delimiter.kind) it.delimiter.open_span ∷ spelled it.input, at_span (closing it.delimiter.kind) it.delimiter.close, ap spelled same ∙ spelled_subtree front it.delimiter it.input, refl, refl),
+          )
+      by true e =
+          let semicolon = last_of (is_items position.siblings) position.is_start (not (is_brace it.delimiter.kind)) (is_at_punct (codes ";") rest) e in
+          let (punct, others, stands, same) = punct_first 59 rest semicolon in
+          let front = front_trees it.len trees in
+          let all = ends_by_punct it.len trees punct others stands in (
+            by_semicolon front punct same all,
+            (spelled front, piece_of (leaf_of.Punct punct), ap spelled all ∙ spelled-join front (leaf (leaf_of.Punct punct) end), ap (λ f. end_of (begin_at f it.delimiter.close).range) (sym stands), same),
+          )
+
+  -- Its pieces are taken.
+  pub call_taken : it.is_elsewhere ≡ false → IsTaken (spelled (front_trees (len_in position it trees) trees)) (start_of (begin_at trees it.name.span).range) (end_of (end_in position it trees).range)
+  call_taken here = record { trees = front_trees (len_in position it trees) trees; spelled = refl; begins = begun; ends = call_end.1 }
+    where
+      begun : BeginsCall (start_of (begin_at trees it.name.span).range) (spelled (front_trees (len_in position it trees) trees))
+      begun =
+          let call = call_ends root trees it is in
+          let name = call_begins root trees it is here in
+          subst (λ n. BeginsCall (start_of (begin_at trees it.name.span).range) (spelled (front_trees n trees))) (long call.len) (by name)
+        where
+          long : {n : ℕ} → it.len ≡ suc (suc n) → suc (suc (len_in position it trees - 2)) ≡ len_in position it trees
+          long {n} e = more (takes_in position it trees)
+            where
+              more : (takes : Bool) → suc (suc (cond takes (suc it.len) it.len - 2)) ≡ cond takes (suc it.len) it.len
+              more true = omega (arith, e)
+              more false = omega (arith, e)
+
+          by : BeginsWithName trees → BeginsCall (start_of (begin_at trees it.name.span).range) (spelled (front_trees (suc (suc (len_in position it trees - 2))) trees))
+          by name =
+              subst (λ f. BeginsCall (start_of (begin_at f it.name.span).range) (spelled (front_trees (suc (suc (len_in position it trees - 2))) f))) (sym name.stands)
+              (refl, refl, name.sign)
+
+-- A macro is called by its own name, and not looked for elsewhere.
+called_here : (setting : Setting) (macros : List Macro) (it : Call) (arms : List Arm) → arms_of (called_by setting macros it) ≡ Some arms → it.is_elsewhere ≡ false
+called_here setting macros it arms is = by it.is_elsewhere refl is
+  where
+    by : (elsewhere : Bool) → it.is_elsewhere ≡ elsewhere → arms_of (cond elsewhere None (cond (asks_for setting.only it.name.sym) (last_named it.name.sym macros) None)) ≡ Some arms → elsewhere ≡ false
+    by true e f = absurd (cc f)
+    by false e f = refl
+
+module _ (setting : Setting) where
+  -- Trees that stay with all that they hold, and end with a subtree or a `;`, and then others.
+  stays_woven : (trees front rest : Forest) → trees ≡ join front rest → EndsClosed front → (before : List Sort) (more : List Piece) (others : List Splice) (woven : List Sort)
+      → ((behind : List Sort) → IsHeld behind rest 0 → IsWoven behind (spelled rest ++ more) others woven)
+      → IsWoven before (spelled trees ++ more) others (sorts (spelled front) ++ woven)
+  stays_woven trees front rest is closed before more others woven then =
+      moved (spelled_front trees front rest more is) refl refl
+      (keeps_all (spelled front) before (spelled rest ++ more) others woven (then (behind_pieces (spelled front) before) (held_closed front closed before rest 0)))
+
+  -- What comes of trees is woven into their pieces.
+  pub comes_woven : {limit : ℕ} {position : Position} {plain : ℕ} {known after : Known} {trees : Forest} {outcome : Outcome} → Comes setting true limit position plain known trees after outcome
+      → (before : List Sort) → IsHeld before trees plain → (more : List Piece) (others : List Splice) (woven : List Sort) → ((behind : List Sort) → IsWoven behind more others woven)
+      → IsWoven before (spelled trees ++ more) (splices outcome ++ others) (sorts_left outcome ++ woven)
+  comes_woven ends before held more others woven then = then before
+  comes_woven (on_leaf {plain = plain} {it = it} {rest = rest} is comes) before held more others woven then =
+      keeps (comes_woven comes (sort_of it ∷ before) (held_leaf it before rest plain held) more others woven then)
+  comes_woven (on_node {plain = plain} {delimiter = delimiter} {children = children} {rest = rest} {held = inside} {others = behind} is comes past) before held more others woven then =
+      let opens = opening delimiter.kind in
+      let close = closing delimiter.kind in
+      let shut = at_span close delimiter.close in
+      moved (ap (λ ps. at_span opens delimiter.open_span ∷ ps) (sym (append_assoc (spelled children) (shut ∷ spelled rest) more)))
+      (sym (append_assoc (splices inside) (splices behind) others))
+      (ap (λ ws. opens ∷ ws) (sym (append_assoc (sorts_left inside) (close ∷ sorts_left behind) woven)))
+      (keeps (comes_woven comes (opens ∷ before) (held_opening delimiter.kind before children 0) (shut ∷ (spelled rest ++ more)) (splices behind ++ others) (close ∷ (sorts_left behind ++ woven))
+      (λ b. keeps (comes_woven past (close ∷ b) (held_closing delimiter.kind b rest (plain - 1)) more others woven then))))
+  comes_woven (on_definition {it = it} {trees = trees} {others = behind} inside goes_on is read comes) before held more others woven then =
+      moved refl refl (sym (append_assoc (sorts (spelled (front_trees it.len trees))) (sorts_left behind) woven))
+      (stays_woven trees (front_trees it.len trees) (after_trees it.len trees) (front_joined it.len trees) (definition_closed setting.root trees it is) before more (splices behind ++ others) (sorts_left behind ++ woven)
+      (λ b h. comes_woven comes b h more others woven then))
+  comes_woven (on_other_call {it = it} {trees = trees} {others = behind} goes_on is none out comes) before held more others woven then =
+      let (front, same) = call_closed setting.root trees it is in
+      moved refl refl (sym (append_assoc (sorts (spelled (front_trees it.len trees))) (sorts_left behind) woven))
+      (stays_woven trees (front_trees it.len trees) (after_trees it.len trees) (front_joined it.len trees) (by_subtree front it.delimiter it.input same) before more (splices behind ++ others) (sorts_left behind ++ woven)
+      (λ b h. comes_woven comes b h more others woven then))
+  comes_woven (into_other_call {it = it} {trees = trees} goes_on is none into comes) before held more others woven then =
+      comes_woven comes before (record { begins = λ long. held.begins refl; point = λ follows at. omega (arith, held.point follows at) }) more others woven then
+  comes_woven (on_faulty_call {it = it} {trees = trees} {others = behind} at fault goes_on is called some wrong comes) before held more others woven then =
+      let (front, same) = call_closed setting.root trees it is in
+      moved refl refl (sym (append_assoc (sorts (spelled (front_trees it.len trees))) (sorts_left behind) woven))
+      (stays_woven trees (front_trees it.len trees) (after_trees it.len trees) (front_joined it.len trees) (by_subtree front it.delimiter it.input same) before more (splices behind ++ others) (sorts_left behind ++ woven)
+      (λ b h. comes_woven comes b h more others woven then))
+  comes_woven (on_call {position = position} {known = known} {it = it} {arms = arms} {trees = trees} {held = inside} {others = behind} tree goes_on is called free makes comes may past) before held more others woven then =
+      moved (spelled_front trees (front_trees (len_in position it trees) trees) (rest_in position it trees) more (split_in position it trees)) refl
+      (sym (append_assoc (settled (marks 0 (placed_at position it trees (trees_left inside)))) (sorts_left behind) woven))
+      (gives_way (held.begins refl) (call_taken setting.root trees position it is (called_here setting known.macros it arms called)) may.1
+      (comes_woven past [] (held_none (rest_in position it trees) 0) more others woven then))
+  comes_woven (on_unwritten_call {position = position} {it = it} {trees = trees} {others = behind} tree at fault goes_on is called some free makes comes unwritten past) before held more others woven then =
+      moved refl refl (sym (append_assoc (sorts (spelled (front_trees (len_in position it trees) trees))) (sorts_left behind) woven))
+      (stays_woven trees (front_trees (len_in position it trees) trees) (rest_in position it trees) (split_in position it trees) (call_end setting.root trees position it is).0 before more (splices behind ++ others) (sorts_left behind ++ woven)
+      (λ b h. comes_woven past b h more others woven then))
+
+  -- What comes of a whole text is woven into its pieces.
+  pub text_woven : {limit : ℕ} {position : Position} {known after : Known} (trees : Forest) (outcome : Outcome) → Comes setting true limit position 0 known trees after outcome
+      → IsWoven [] (spelled trees) (splices outcome) (sorts_left outcome)
+  text_woven trees outcome comes =
+      moved (append-nil (spelled trees)) (append-nil (splices outcome)) (append-nil (sorts_left outcome)) (comes_woven comes [] (held_none trees 0) [] [] [] (λ behind. woven_end))

@@ -1,0 +1,25 @@
+//! Want of memory, which alone ends a walk.
+use std::alloc::AllocError;
+use tt::{Refused, TtFault};
+
+/// Memory is wanting. So it is said to be where a builder would hold more than 4,294,967,295 tokens.
+#[derive(Clone, Copy)]
+pub(crate) struct OutOfMemory;
+
+impl From<AllocError> for OutOfMemory {
+    fn from(_error: AllocError) -> OutOfMemory {
+        OutOfMemory
+    }
+}
+
+impl From<TtFault> for OutOfMemory {
+    fn from(_fault: TtFault) -> OutOfMemory {
+        OutOfMemory
+    }
+}
+
+impl<T: Drop> From<Refused<T>> for OutOfMemory {
+    fn from(_refused: Refused<T>) -> OutOfMemory {
+        OutOfMemory
+    }
+}
