@@ -62,7 +62,21 @@ def tokens_of(program, text):
         words = line.split(" ", 1)[1]
         if not words.startswith(NO_TOKENS):
             tokens.append(re.search(r'"(.*)"$', words)[1])
-    return tokens
+    return documented(tokens)
+
+
+def documented(tokens):
+    """The tokens, where what documents is one, as a comment or as an attribute: to the compiler they are the same."""
+    found, n = [], 0
+    while n < len(tokens):
+        text = re.fullmatch(r'r(#*)\\"(.*)\\"\1', tokens[n + 4]) if tokens[n : n + 4] == ["#", "[", "doc", "="] and len(tokens) > n + 5 else None
+        if text and tokens[n + 5] == "]":
+            found.append(f"/// {text[2].strip()}")
+            n += 6
+            continue
+        found.append(f"/// {tokens[n][3:].strip()}" if tokens[n].startswith("///") else tokens[n])
+        n += 1
+    return found
 
 
 def without_second(tokens):
@@ -71,8 +85,8 @@ def without_second(tokens):
 
 
 def without_parentheses(tokens):
-    """The tokens that are none."""
-    return [it for it in tokens if it not in ("(", ")")]
+    """The tokens that are none, and without those in texts, where an assertion tells its expression."""
+    return [re.sub("[()]", "", it) for it in tokens if it not in ("(", ")")]
 
 
 def class_of(program, ours, theirs):
