@@ -1,3 +1,4 @@
 pub mod Lengths
 pub mod Rows
 pub mod Shapes
+pub mod Beginnings

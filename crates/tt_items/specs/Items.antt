@@ -10,6 +10,7 @@ use Rattle.tt.specs.Types.DelimiterKind.{DelimiterKind}
 use Rattle.tt.specs.Types.Ident.{Ident}
 use Rattle.tt.specs.Types.IdentIsRaw.{IdentIsRaw}
 use Rattle.tt.specs.Types.IdentIsRaw.TheVariants.{No, Yes}
+use Rattle.tt.specs.Types.Leaf.TheVariants as leaf_of
 use Rattle.tt_items.specs.declared.item.Call as call
 use Rattle.tt_items.specs.declared.item.Definition as definition
 use Rattle.tt_items.specs.declared.item.Item as item
@@ -112,6 +113,22 @@ abbrev pub call_in : (root : List ℕ) → Forest → Option Call
 call_in root trees =
     if is_at_colons trees then call_behind 2 true (after_trees 2 trees)
     else (if is_at_root root trees && is_at_colons (after_tree trees) then call_behind 3 false (after_trees 3 trees) else call_behind 0 false trees)
+
+-- a `!` or a `:` stands first
+abbrev pub is_at_sign : Forest → Bool
+is_at_sign end = false
+is_at_sign (leaf (leaf_of.Literal it) rest) = false
+is_at_sign (leaf (leaf_of.Punct it) rest) = (it.char == 33) || (it.char == 58)
+is_at_sign (leaf (leaf_of.Ident it) rest) = false
+is_at_sign (node delimiter children rest) = false
+
+-- a definition or a call may stand first: an ident and one of these do, or a `:`
+abbrev pub may_begin_item : Forest → Bool
+may_begin_item end = false
+may_begin_item (leaf (leaf_of.Literal it) rest) = false
+may_begin_item (leaf (leaf_of.Punct it) rest) = it.char == 58
+may_begin_item (leaf (leaf_of.Ident it) rest) = is_at_sign rest
+may_begin_item (node delimiter children rest) = false
 
 -- a definition, or else a call, or else something else
 abbrev pub item_from : Option Definition → Option Call → Item

@@ -2,12 +2,12 @@
 ghost use Rattle.std.specs.Prelude.{◌≡◌, ◌≤◌, ◌∷◌, [], option_map};
 ghost use Rattle.tt.specs.Iters.{rest_of};
 ghost use Rattle.tt.specs.Moves.{after_tree};
-ghost use Rattle.tt_items.specs.Items.{name_in, definition_len, defined_as, definition_behind, definition_in, call_behind, is_at_colons, is_at_root, call_in, item_in, definition_of, call_of, item_meant};
+ghost use Rattle.tt_items.specs.Items.{name_in, definition_len, defined_as, definition_behind, definition_in, call_behind, is_at_colons, is_at_root, call_in, is_at_sign, may_begin_item, item_in, definition_of, call_of, item_meant};
 ghost use Rattle.tt_matcher.specs.Fragments.{is_at_word};
 ghost use Rattle.tt_pattern.specs.Units.{is_at_punct};
 
 use crate::keyword::is_keyword;
-use tt::{DelimiterKind, Ident, IdentIsRaw, Subtree, TtIter};
+use tt::{DelimiterKind, Ident, IdentIsRaw, Leaf, Subtree, TtElement, TtIter};
 use tt_pattern::{pass, unit_size};
 
 /// How many trees `::` is.
@@ -193,10 +193,34 @@ fn call_in<'a>(mut trees: TtIter<'a>, root: &str) -> Option<Call<'a>>
     call_behind(trees, 0, false)
 }
 
+// Whether a `!` or a `:` stands first.
+fn is_at_sign(mut trees: TtIter<'_>) -> bool
+    ensures { result ≡ is_at_sign (rest_of trees.entry) }
+{
+    match trees.next() {
+        Some(TtElement::Leaf(Leaf::Punct(punct))) => punct.char == '!' || punct.char == ':',
+        _ => false,
+    }
+}
+
+// Whether a definition or a call may begin so: two trees tell of most places that none does, without a look at words.
+fn may_begin_item(mut trees: TtIter<'_>) -> bool
+    ensures { result ≡ may_begin_item (rest_of trees.entry) }
+{
+    match trees.next() {
+        Some(TtElement::Leaf(Leaf::Ident(_))) => is_at_sign(trees),
+        Some(TtElement::Leaf(Leaf::Punct(punct))) => punct.char == ':',
+        _ => false,
+    }
+}
+
 /// What stands first.
 pub fn item_in<'a>(trees: TtIter<'a>, root: &str) -> Item<'a>
     ensures { item_meant result ≡ item_in root.now (rest_of trees.entry) }
 {
+    if !may_begin_item(trees.remaining().iter()) {
+        return Item::Other;
+    }
     if let Some(definition) = definition_in(trees.remaining().iter()) {
         return Item::Definition(definition);
     }
