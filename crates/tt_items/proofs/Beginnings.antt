@@ -1,5 +1,6 @@
 -- Where neither a definition nor a call may begin, neither stands first.
 use Rattle.std.proofs.Common.{◌≡◌, ℕ, Bool, true, false, List, Option, None, Some, refl, ap, ap₂, cond, codes}
+use Rattle.std.proofs.lemmas.Bool.{or_parts}
 use Rattle.std.specs.Prelude.{◌==◌, ◌||◌, ◌&&◌}
 use Rattle.tt.specs.Forest.{Forest, end, leaf, node}
 use Rattle.tt.specs.Gluing.{after_trees}
@@ -10,18 +11,13 @@ use Rattle.tt_items.specs.Items.{other, call_behind, call_from, definition_behin
 use Rattle.tt_matcher.specs.Fragments.{is_at_word}
 use Rattle.tt_pattern.specs.Units.{is_at_punct, unit_size}
 
--- one of two is not there
-neither : (a b : Bool) → (a || b) ≡ false → (a ≡ false) × (b ≡ false)
-neither true b e = absurd (cc e)
-neither false b e = (refl, e)
-
 -- Neither sign stands first.
 no_sign : (trees : Forest) → is_at_sign trees ≡ false → (is_at_punct (codes "!") trees ≡ false) × (is_at_punct (codes ":") trees ≡ false)
 no_sign end e = (refl, refl)
 no_sign (node delimiter children rest) e = (refl, refl)
 no_sign (leaf (leaf_of.Literal it) rest) e = (refl, refl)
 no_sign (leaf (leaf_of.Ident it) rest) e = (refl, refl)
-no_sign (leaf (leaf_of.Punct it) rest) e = let (bang, colon) = neither (it.char == 33) (it.char == 58) e in (ap (λ b. b || false) bang, ap (λ b. b || false) colon)
+no_sign (leaf (leaf_of.Punct it) rest) e = let (bang, colon) = or_parts (it.char == 33) (it.char == 58) e in (ap (λ b. b || false) bang, ap (λ b. b || false) colon)
 
 -- No `::` stands first where no `:` does.
 no_colons : (trees : Forest) → is_at_punct (codes ":") trees ≡ false → is_at_colons trees ≡ false

@@ -60,14 +60,15 @@ long_call root trees = by (is_at_colons trees) (is_at_root root trees && is_at_c
     by false true = long_behind 3 false (after_trees 3 trees)
     by false false = long_behind 0 false trees
 
--- Behind one tree or more fewer tokens are left.
+-- Behind some trees no more tokens are left.
 pub fewer_behind : (n : ℕ) (trees : Forest) → size (after_trees n trees) ≤ size trees
 fewer_behind zero trees = omega arith
 fewer_behind (suc n) end = fewer_behind n end
 fewer_behind (suc n) (leaf it rest) = omega (arith, fewer_behind n rest)
 fewer_behind (suc n) (node delimiter children rest) = omega (arith, fewer_behind n rest)
 
-less_behind : (n : ℕ) (trees : Forest) → 0 < n → (trees ≡ end → ⊥) → size (after_trees n trees) < size trees
+-- Behind one tree or more, where there is one, fewer are.
+pub less_behind : (n : ℕ) (trees : Forest) → 0 < n → (trees ≡ end → ⊥) → size (after_trees n trees) < size trees
 less_behind zero trees some there = absurd (omega (arith, some))
 less_behind (suc n) end some there = absurd (there refl)
 less_behind (suc n) (leaf it rest) some there = omega (arith, fewer_behind n rest)

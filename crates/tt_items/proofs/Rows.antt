@@ -10,8 +10,9 @@ use Rattle.tt.specs.Types.Leaf.{Leaf}
 use Rattle.tt.specs.Types.Leaf.TheVariants as leaf_of
 use Rattle.tt.specs.Types.Spacing.TheVariants.{Alone}
 use Rattle.tt_base.proofs.Samples.{span, punct, ident, subtree}
+use Rattle.tt_items.specs.Attributes.{attributes_len, conditions_of, item_at}
 use Rattle.tt_items.specs.Items.{Item, calls, defines, other, item_in}
-use Rattle.tt_items.specs.Positions.{begun, first_in, behind, behind_leaf, behind_subtree, keeps_macros, is_statement, is_conditional, takes_semicolon, siblings_of_call}
+use Rattle.tt_items.specs.Positions.{begun, first_in, behind_leaf, behind_subtree, keeps_macros, is_statement, takes_semicolon, siblings_of_call}
 use Rattle.tt_items.specs.declared.position.Position.{Position}
 use Rattle.tt_items.specs.declared.position.Siblings.{Siblings}
 use Rattle.tt_items.specs.declared.position.Siblings.TheVariants.{Items, Statements, Others}
@@ -27,19 +28,27 @@ colons rest = joint 58 (alone 58 rest)
 abbrev pub brackets : DelimiterKind → Forest → Forest
 brackets kind rest = join (subtree kind end) rest
 
--- the name `m`, and a call of it with nothing in its parentheses
+-- `#` and a word in brackets, before others
+abbrev pub attribute : List ℕ → Forest → Forest
+attribute text rest = alone 35 (join (subtree Bracket (word text end)) rest)
+
+-- the name `m`, and a call of it with nothing in its parentheses, behind so many trees of attributes
 abbrev pub m_name : Ident
 m_name = record { sym = codes "m"; span = span 0 1; is_raw = No }
 
-abbrev pub m_call : (is_elsewhere : Bool) → (len : ℕ) → Item
-m_call is_elsewhere len =
+abbrev pub m_call_behind : (attributes : ℕ) → (is_elsewhere : Bool) → (len : ℕ) → Item
+m_call_behind attributes is_elsewhere len =
     calls (record {
+      attributes = attributes;
       name = m_name;
       is_elsewhere = is_elsewhere;
       delimiter = delimiter Parenthesis (span 0 1) (span 1 1);
       input = end;
       len = len;
     })
+
+abbrev pub m_call : (is_elsewhere : Bool) → (len : ℕ) → Item
+m_call is_elsewhere len = m_call_behind 0 is_elsewhere len
 
 -- a definition of it with no arms
 abbrev pub m_definition : DelimiterKind → (len : ℕ) → Item
@@ -171,21 +180,85 @@ operands_come = refl
 abbrev behind_attribute : List ℕ → Position → Position
 behind_attribute text it = behind_subtree Bracket (behind_leaf (punct 35 Alone) (subtree Bracket (word text end)) it)
 
--- `#[cfg] #[inline] m!();` stands under a condition; `#[inline] m!();`, what stands behind `#[cfg] a` and an operand do not.
-conditional : is_conditional Parenthesis (alone 59 end) (behind_attribute (codes "inline") (behind_attribute (codes "cfg") (begun Items))) ≡ true
+-- A condition stands before what is behind `#[cfg] #[inline]`; none does behind `#[inline]`, and behind what follows `#[cfg]`.
+conditional : (behind_attribute (codes "inline") (behind_attribute (codes "cfg") (begun Items))).is_conditional ≡ true
 conditional = refl
 
-unconditional : is_conditional Parenthesis (alone 59 end) (behind_attribute (codes "inline") (begun Items)) ≡ false
+unconditional : (behind_attribute (codes "inline") (begun Items)).is_conditional ≡ false
 unconditional = refl
 
-condition_ends : is_conditional Parenthesis (alone 59 end) (behind true (behind_word (codes "a") (behind_attribute (codes "cfg") (begun Items)))) ≡ false
+condition_ends : (behind_word (codes "a") (behind_attribute (codes "cfg") (begun Items))).is_conditional ≡ false
 condition_ends = refl
-
-conditional_operand : is_conditional Parenthesis (alone 43 end) (behind_attribute (codes "cfg") (begun Statements)) ≡ false
-conditional_operand = refl
 
 -- Behind `#![a]` a statement begins still.
 inner_attribute : is_statement Parenthesis (alone 59 end)
     (behind_subtree Bracket (behind_leaf (punct 33 Alone) end (behind_leaf (punct 35 Alone) (alone 33 end) (begun Statements))))
     ≡ true
 inner_attribute = refl
+
+-- The trees of no attribute, of one and of two; `# m`, `#![a]` and what stands behind another tree are none.
+no_attribute : attributes_len end ≡ 0
+no_attribute = refl
+
+one_attribute : attributes_len (attribute (codes "cfg") end) ≡ 2
+one_attribute = refl
+
+two_attributes : attributes_len (attribute (codes "inline") (attribute (codes "cfg") (word (codes "m") end))) ≡ 4
+two_attributes = refl
+
+sign_alone : attributes_len (alone 35 (word (codes "m") end)) ≡ 0
+sign_alone = refl
+
+inner_is_none : attributes_len (alone 35 (bang (brackets Bracket end))) ≡ 0
+inner_is_none = refl
+
+parentheses_are_none : attributes_len (alone 35 (brackets Parenthesis end)) ≡ 0
+parentheses_are_none = refl
+
+behind_another : attributes_len (attribute (codes "cfg") (word (codes "m") (attribute (codes "cfg") end))) ≡ 2
+behind_another = refl
+
+-- Of `#[cfg]` the condition is that, and of `#[cfg] #[inline] #[cfg]` the first and the last.
+one_condition : conditions_of (attribute (codes "cfg") end) ≡ attribute (codes "cfg") end
+one_condition = refl
+
+two_conditions : conditions_of (attribute (codes "cfg") (attribute (codes "inline") (attribute (codes "cfg") end))) ≡ attribute (codes "cfg") (attribute (codes "cfg") end)
+two_conditions = refl
+
+-- `m!();`
+abbrev m_item : Forest
+m_item = word (codes "m") (bang (brackets Parenthesis (alone 59 end)))
+
+-- `#[cfg] m!();` is one item, as `#[cfg] #[inline] m!();` is, and `#[cfg] m!()` where nothing follows.
+under_condition : item_at (codes "crate") (begun Items) (attribute (codes "cfg") m_item) ≡ m_call_behind 2 false 5
+under_condition = refl
+
+behind_two : item_at (codes "crate") (begun Items) (attribute (codes "cfg") (attribute (codes "inline") m_item)) ≡ m_call_behind 4 false 7
+behind_two = refl
+
+last_statement : item_at (codes "crate") (begun Statements) (attribute (codes "cfg") (word (codes "m") (bang (brackets Parenthesis end)))) ≡ m_call_behind 2 false 5
+last_statement = refl
+
+-- `#[cfg] m!() + ..` is none, nor is a call behind `#[inline]`, or behind the second of two conditions,
+operand_under_condition : item_at (codes "crate") (begun Statements) (attribute (codes "cfg") (word (codes "m") (bang (brackets Parenthesis (alone 43 end))))) ≡ other
+operand_under_condition = refl
+
+other_attribute : item_at (codes "crate") (begun Items) (attribute (codes "inline") m_item) ≡ other
+other_attribute = refl
+
+second_condition : item_at (codes "crate") (behind_attribute (codes "cfg") (begun Items)) (attribute (codes "cfg") m_item) ≡ other
+second_condition = refl
+
+-- nor one where no statement begins, or a definition.
+later_condition : item_at (codes "crate") (behind_word (codes "a") (begun Items)) (attribute (codes "cfg") m_item) ≡ other
+later_condition = refl
+
+definition_under_condition : item_at (codes "crate") (begun Items) (attribute (codes "cfg") (word (codes "macro_rules") (bang (word (codes "m") (brackets Brace end))))) ≡ other
+definition_under_condition = refl
+
+-- Without a condition what stands first is that, also behind one.
+without_condition : item_at (codes "crate") (begun Items) m_item ≡ m_call false 3
+without_condition = refl
+
+behind_condition : item_at (codes "crate") (behind_attribute (codes "cfg") (begun Items)) m_item ≡ m_call false 3
+behind_condition = refl

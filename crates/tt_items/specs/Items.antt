@@ -26,9 +26,10 @@ pub record Definition : Type 0 where
   pub arms : Forest
   pub len : ℕ
 
--- a call of a macro: its name, whether that is looked for elsewhere than among the macros in scope, the input under a delimiter, and how
--- many trees it is
+-- a call of a macro: how many trees of attributes are a part of it, its name, whether that is looked for elsewhere than among the macros in
+-- scope, the input under a delimiter, and how many trees it is, with the attributes
 pub record Call : Type 0 where
+  pub attributes : ℕ
   pub name : Ident
   pub is_elsewhere : Bool
   pub delimiter : Delimiter
@@ -87,7 +88,7 @@ abbrev pub called_as : (before : ℕ) → (is_elsewhere : Bool) → Ident → Fo
 called_as before is_elsewhere name end = None
 called_as before is_elsewhere name (leaf it rest) = None
 called_as before is_elsewhere name (node delimiter children rest) =
-    Some (record { name = name; is_elsewhere = is_elsewhere; delimiter = delimiter; input = children; len = before + 3 })
+    Some (record { attributes = 0; name = name; is_elsewhere = is_elsewhere; delimiter = delimiter; input = children; len = before + 3 })
 
 -- the same, where there are a name and a `!`
 abbrev pub call_from : (before : ℕ) → (is_elsewhere : Bool) → Option Ident → (is_call : Bool) → Forest → Option Call
@@ -147,6 +148,7 @@ definition_of it = record { name = it.name; delimiter = it.header.delimiter; arm
 abbrev pub call_of : call.Call → Call
 call_of it =
     record {
+      attributes = it.attributes;
       name = it.name;
       is_elsewhere = it.is_elsewhere;
       delimiter = it.header.delimiter;

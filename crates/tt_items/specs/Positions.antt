@@ -134,10 +134,6 @@ keeps_macros kind it = it.is_used && (not it.is_attribute && is_brace kind)
 abbrev pub is_statement : DelimiterKind → (behind : Forest) → Position → Bool
 is_statement kind behind it = it.is_start && (is_brace kind || (is_end behind || is_at_punct (codes ";") behind))
 
--- such a call stands under a condition
-abbrev pub is_conditional : DelimiterKind → (behind : Forest) → Position → Bool
-is_conditional kind behind it = it.is_conditional && is_statement kind behind it
-
 -- the `;` behind a call is a part of it: among items, where none may stand alone
 abbrev pub takes_semicolon : DelimiterKind → (behind : Forest) → Position → Bool
 takes_semicolon kind behind it = is_items it.siblings && (it.is_start && (not (is_brace kind) && is_at_punct (codes ";") behind))

@@ -29,12 +29,14 @@ pub struct Definition<'a> {
 /// A call of a macro: a name, `!` and a subtree.
 #[derive(Drop)]
 pub struct Call<'a> {
+    /// How many of its trees are the attributes before it: none, unless it is a statement or an item under a condition, `#[cfg(..)]`.
+    pub attributes: usize,
     pub name: Ident,
     /// Whether `::` stands before the name, and before that something else than the root of the crate.
     pub is_elsewhere: bool,
     pub header: Subtree,
     pub input: TtIter<'a>,
-    /// How many trees it is.
+    /// How many trees it is, with the attributes.
     pub len: usize,
 }
 
@@ -148,6 +150,7 @@ fn call_behind<'a>(mut trees: TtIter<'a>, before: usize, is_elsewhere: bool) -> 
         return None;
     };
     Some(Call {
+        attributes: 0,
         name,
         is_elsewhere,
         header,

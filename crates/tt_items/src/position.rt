@@ -1,8 +1,10 @@
 //! What stands before a tree among its siblings, as far as it matters to it.
 ghost use Rattle.std.specs.Prelude.{◌≡◌, true};
 ghost use Rattle.tt.specs.Iters.{rest_of};
-ghost use Rattle.tt_items.specs.Positions.{is_block, head_behind, held_by, is_attribute_of, is_at_attribute_of, begun, siblings_in, first_in, behind, behind_attribute_sign, behind_punct, behind_ident, behind_leaf, behind_subtree, keeps_macros, is_statement, takes_semicolon, siblings_of_call, is_conditional};
+ghost use Rattle.tt_items.specs.Positions.{is_block, head_behind, held_by, is_attribute_of, is_at_attribute_of, begun, siblings_in, first_in, behind, behind_attribute_sign, behind_punct, behind_ident, behind_leaf, behind_subtree, keeps_macros, is_statement, takes_semicolon, siblings_of_call};
+ghost use Rattle.tt_items.specs.Attributes.{begins_condition};
 
+use crate::attribute::is_condition;
 use crate::item::{is_at_punct, is_at_word};
 use tt::{DelimiterKind, Ident, IdentIsRaw, Leaf, TtElement, TtIter};
 
@@ -40,7 +42,7 @@ pub struct Position {
     head: Head,
     /// Whether `#[macro_use]` stands before, with nothing between but attributes, idents and parentheses.
     is_used: bool,
-    /// Whether `#[cfg(..)]` stands before, with nothing between but attributes.
+    /// Whether a condition, `#[cfg(..)]`, stands before, with nothing between but attributes.
     is_conditional: bool,
     /// Whether `#` or `#!` stands right before.
     is_attribute: bool,
@@ -92,8 +94,8 @@ fn is_attribute_of(word: &str, kind: DelimiterKind, inside: TtIter<'_>) -> bool
     kind == DelimiterKind::Bracket && is_at_word(inside, word)
 }
 
-// Whether such brackets stand first.
-fn is_at_attribute_of(word: &str, mut trees: TtIter<'_>) -> bool
+/// Whether such brackets stand first.
+pub(crate) fn is_at_attribute_of(word: &str, mut trees: TtIter<'_>) -> bool
     ensures { result ≡ is_at_attribute_of word.now (rest_of trees.entry) }
 {
     match trees.next() {
@@ -236,13 +238,6 @@ impl Position {
             && (kind == DelimiterKind::Brace || behind.is_empty() || is_at_punct(behind, ';'))
     }
 
-    /// Whether such a call stands under a condition, `#[cfg(..)]`.
-    pub fn is_conditional(self, kind: DelimiterKind, behind: TtIter<'_>) -> bool
-        ensures { result ≡ is_conditional kind (rest_of behind.entry) self }
-    {
-        self.is_conditional && self.is_statement(kind, behind)
-    }
-
     /// Whether the `;` behind such a call is a part of it: among items it is, and none may stand alone there.
     pub fn takes_semicolon(self, kind: DelimiterKind, behind: TtIter<'_>) -> bool
         ensures { result ≡ takes_semicolon kind (rest_of behind.entry) self }
@@ -262,5 +257,12 @@ impl Position {
         } else {
             Siblings::Others
         }
+    }
+
+    /// Whether the first condition of a statement or an item stands first.
+    pub(crate) fn begins_condition(self, trees: TtIter<'_>) -> bool
+        ensures { result ≡ begins_condition self (rest_of trees.entry) }
+    {
+        self.is_start && !self.is_conditional && is_condition(trees)
     }
 }
