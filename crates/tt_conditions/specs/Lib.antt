@@ -1,0 +1,3 @@
+-- Items and statements under conditions.
+pub mod Parts
+pub mod Spreads
