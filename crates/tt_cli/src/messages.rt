@@ -81,7 +81,7 @@ pub fn message(alloc: Global, name: &str, fault: MacroFault) -> Result<String, A
         MacroFault::Definition(error) => definition_message(alloc, name, error),
         MacroFault::Left => format!(in alloc; "this call of `{name}` is left as it is"),
         MacroFault::Conditional => format!(in alloc;
-            "this call of `{name}` is left as it is, since `#[cfg(..)]` would hold for the first of what comes alone"
+            "this call of `{name}` is left as it is, since `#[cfg(..)]` cannot stand before each part of what comes of it"
         ),
         MacroFault::NoMatch => format!(in alloc; "no rule of `{name}` takes this"),
         MacroFault::Ambiguous(arm) => {

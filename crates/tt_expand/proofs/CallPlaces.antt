@@ -9,13 +9,16 @@ use Rattle.tt.specs.Span.{start_of, end_of}
 use Rattle.tt.specs.Types.Delimiter.{Delimiter}
 use Rattle.tt.specs.Types.Leaf.TheVariants as leaf_of
 use Rattle.tt.specs.Types.Span.{Span}
-use Rattle.tt_expand.specs.Coming.{takes_in, end_in, rest_in}
+use Rattle.tt_expand.specs.Coming.{begin_in, takes_in, end_in, rest_in}
 use Rattle.tt_edit.specs.Places.{begin_at}
 use Rattle.tt_items.specs.Items.{Call, calls, item_in}
 use Rattle.tt_edit.specs.Laid.{Lies, Laid, lies_end, lies_leaf, lies_node}
 use Rattle.tt_items.proofs.Shapes.{call_ends}
 use Rattle.tt_edit.proofs.LaidFacts.{laid_behind, laid_order, laid_past, starts_before}
+use Rattle.tt_expand.proofs.CallParts.{alone, begin_alone, end_alone, rest_alone}
 use Rattle.tt_expand.proofs.ManyTrees.{after_more}
+use Rattle.tt_items.proofs.Conditions.{StandsBehind}
+use Rattle.tt_items.specs.Attributes.{item_at}
 use Rattle.tt_pattern.proofs.Passing.{after_end}
 use Rattle.tt_items.specs.Positions.{is_items}
 use Rattle.tt_items.specs.declared.position.Position.{Position}
@@ -91,12 +94,13 @@ last_of true true false d is = absurd (cc is)
 last_of true false c d is = absurd (cc is)
 last_of false b c d is = absurd (cc is)
 
--- A call is a range of the text, from where its first token begins to where it ends, and what stands behind it lies behind that.
-pub call_laid : {text : List ℕ} {from to : ℕ} (root : List ℕ) (trees : Forest) (it : Call) (position : Position) → item_in root trees ≡ calls it
+-- A call without attributes is a range of the text, from where its first token begins to where it ends, and what stands behind it lies
+-- behind that.
+bare_laid : {text : List ℕ} {from to : ℕ} (root : List ℕ) (trees : Forest) (it : Call) (position : Position) → item_in root trees ≡ calls it
     → Laid text from trees to
     → Lies text from (start_of (begin_at trees it.name.span).range) (end_of (end_in position it trees).range)
     × Laid text (end_of (end_in position it trees).range) (rest_in position it trees) to
-call_laid {text} {from} {to} root trees it position is laid = by (takes_in position it trees) refl
+bare_laid {text} {from} {to} root trees it position is laid = by (takes_in position it trees) refl
   where
     rest : Forest
     rest = after_trees it.len trees
@@ -113,3 +117,18 @@ call_laid {text} {from} {to} root trees it position is laid = by (takes_in posit
     by true takes =
         with_semicolon close rest (last_of (is_items position.siblings) position.is_start (not (is_brace it.delimiter.kind)) (is_at_punct (codes ";") rest) takes) here.0 here.1
     by false takes = here
+
+-- So is a call behind its attributes.
+pub call_laid : {text : List ℕ} {from to : ℕ} (root : List ℕ) (trees : Forest) (it : Call) (position : Position) → item_at root position trees ≡ calls it
+    → Laid text from trees to
+    → Lies text from (start_of (begin_in it trees).range) (end_of (end_in position it trees).range)
+    × Laid text (end_of (end_in position it trees).range) (rest_in position it trees) to
+call_laid {text} {from} {to} root trees it position is laid =
+    let at : StandsBehind root trees it = alone root position trees it is in
+    let behind : Forest = after_trees it.attributes trees in
+    let (lies, rest) = bare_laid root behind at.bare position at.stands (laid_behind it.attributes laid) in (
+      subst (λ s. Lies text from (start_of s.range) (end_of (end_in position it trees).range)) (sym (begin_alone root position trees it is))
+          (subst (λ s. Lies text from (start_of (begin_at behind at.bare.name.span).range) (end_of s.range)) (sym (end_alone root position trees it is)) lies),
+      subst (λ f. Laid text (end_of (end_in position it trees).range) f to) (sym (rest_alone root position trees it is))
+          (subst (λ s. Laid text (end_of s.range) (rest_in position at.bare behind) to) (sym (end_alone root position trees it is)) rest),
+    )

@@ -1,17 +1,21 @@
 -- What is built once what comes of the levels that are left is.
-use Rattle.std.proofs.Common.{◌≡◌, ℕ, false, List, [], ◌∷◌, refl, ap, sym, subst, ◌∙◌}
+use Rattle.std.proofs.Common.{◌≡◌, ℕ, false, List, [], ◌∷◌, inl, inr, refl, ap, sym, subst, ◌∙◌}
 use Rattle.tt.specs.Building.{Stack, above, append, close_innermost}
 use Rattle.tt.specs.Forest.{Forest, end, leaf, node, join}
+use Rattle.tt.specs.Span.{start_of}
 use Rattle.tt.specs.Types.Delimiter.{Delimiter}
 use Rattle.tt.specs.Types.Leaf.{Leaf}
 use Rattle.tt.specs.Types.Span.{Span}
+use Rattle.tt.specs.Views.{trees_of}
 use Rattle.tt_template.proofs.Writes.{append-end, append-join}
 use Rattle.tt_expand.specs.Coming.{Comes}
+use Rattle.tt_expand.specs.Expanding.{IsPutOrKept}
 use Rattle.tt_expand.specs.Knowing.{Setting, Known}
 use Rattle.tt_expand.specs.Outcomes.{Outcome, nothing, passes, enters, stays, becomes, trees_left}
 use Rattle.tt_items.specs.Positions.{begun as begun_among}
 use Rattle.tt_items.specs.declared.position.Siblings.{Siblings}
-use Rattle.tt_expand.specs.Walks.{Level, begun, Ends, Leads, first_leaf, first_subtree, first_stay, first_becomes, closes_of}
+use Rattle.tt_expand.specs.declared.walk.Invocation.{Invocation}
+use Rattle.tt_expand.specs.Walks.{Level, begun, Ends, Leads, GoesPast, stand_of, first_leaf, first_subtree, first_stay, first_becomes, closes_of}
 
 -- what is built once these are, of which the innermost comes first, in levels that close there
 abbrev pub finished : List Span → List Outcome → Stack → Stack
@@ -37,9 +41,11 @@ module _ (close : Span) (closes : List Span) (others : Outcome) (outer : List Ou
   finished_stay trees = finished_more closes close (stays trees others) others outer trees stack refl
 
   -- What comes of a call is.
-  pub finished_becomes : (first last : Span) (trees : Forest)
-      → finished (close ∷ closes) (first_becomes first last trees (others ∷ outer)) stack ≡ finished (close ∷ closes) (others ∷ outer) (append trees stack)
-  finished_becomes first last trees = finished_more closes close (becomes first last trees others) others outer trees stack refl
+  pub finished_becomes : (attributes : Forest) (first last : Span) (put : Forest)
+      → finished (close ∷ closes) (first_becomes attributes first last put (others ∷ outer)) stack ≡ finished (close ∷ closes) (others ∷ outer) (append put (append attributes stack))
+  finished_becomes attributes first last put =
+      finished_more closes close (stays attributes (becomes first last put others)) (becomes first last put others) outer attributes stack refl
+      ∙ finished_more closes close (becomes first last put others) others outer put (append attributes stack) refl
 
   -- A subtree is entered.
   pub finished_subtree : (it : Delimiter) (held : Outcome)
@@ -71,6 +77,18 @@ module _ (setting : Setting) (limit : ℕ) (siblings : Siblings) (trees : Forest
       by after (first ∷ more) e =
           let (outcome, comes, is) = going.finishes after (grown (first ∷ more)) (leads after (first ∷ more) e) in
           (outcome, comes, ap (λ cs. finished cs (first ∷ more) built) closes ∙ sym (same first more) ∙ is)
+
+  -- It goes on where what comes of a call stands in its place, or the call stays.
+  pub goes_past : (it : Invocation) (held : Forest) (inside : Known) (built : Stack) → GoesPast setting false limit (level ∷ outer) now it held (next ∷ nexts) inside
+      → IsPutOrKept it held inside others stack built → closes_of (next ∷ nexts) ≡ closes_of (level ∷ outer) → IsGoing setting limit siblings trees before old (next ∷ nexts) others built
+  goes_past it held inside built past (inl (put, so, known, is)) closes = subst (IsGoing setting limit siblings trees before old (next ∷ nexts) others) (sym is)
+      (goes_on (first_becomes (stand_of it).attributes it.first_span it.last_span put) (append put (append (stand_of it).attributes stack))
+      (subst (Leads setting false limit (level ∷ outer) now (first_becomes (stand_of it).attributes it.first_span it.last_span put) (next ∷ nexts)) (sym known) (past.stands put so tt)) closes
+      (λ first more. finished_becomes level.close (closes_of outer) first more stack (stand_of it).attributes it.first_span it.last_span put))
+  goes_past it held inside built past (inr (fault, misplaced, known, is)) closes = subst (IsGoing setting limit siblings trees before old (next ∷ nexts) others) (sym is)
+      (goes_on (first_stay (trees_of it.whole)) (append (trees_of it.whole) stack)
+      (subst (Leads setting false limit (level ∷ outer) now (first_stay (trees_of it.whole)) (next ∷ nexts)) (sym known) (past.stays (start_of it.first_span.range) fault (inl (misplaced, refl)))) closes
+      (λ first more. finished_stay level.close (closes_of outer) first more stack (trees_of it.whole)))
 
   -- It goes on in a subtree.
   pub goes_into : (it : Delimiter) → Leads setting false limit (level ∷ outer) now (first_subtree it) (next ∷ nexts) others → closes_of (next ∷ nexts) ≡ it.close ∷ closes_of (level ∷ outer)

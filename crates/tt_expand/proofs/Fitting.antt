@@ -4,7 +4,7 @@ use Rattle.std.specs.Str.{IsUtf8}
 use Rattle.tt.specs.Forest.{Forest, Root}
 use Rattle.tt_base.specs.declared.span.SpanPart.{SpanPart}
 use Rattle.tt_items.specs.declared.position.Position.{Position}
-use Rattle.tt_expand.specs.Coming.{Comes, ends, on_leaf, on_node, on_definition, on_other_call, into_other_call, on_faulty_call, on_call, on_unwritten_call}
+use Rattle.tt_expand.specs.Coming.{Comes, ends, on_leaf, on_node, on_definition, on_other_call, into_other_call, into_attributes, on_faulty_call, on_call, on_kept_call}
 use Rattle.tt_expand.specs.Expansion.{replacements}
 use Rattle.tt_expand.specs.Knowing.{Setting, Known}
 use Rattle.tt_edit.specs.Laid.{Laid, lies_leaf, lies_node}
@@ -25,13 +25,14 @@ comes_follow (on_leaf plain others) (lies_leaf {it = it} lies behind) =
 comes_follow (on_node plain held others) (lies_node opens inside closes behind) =
     follow_from opens.after (follow_both (comes_follow held inside) closes.order (comes_follow others behind))
 comes_follow (on_definition {it = it} inside going is read others) laid = comes_follow others (laid_behind it.len laid)
-comes_follow (on_other_call {it = it} going is unexpanded not_into others) laid = comes_follow others (laid_behind it.len laid)
-comes_follow (into_other_call going is unexpanded into others) laid = comes_follow others laid
+comes_follow (on_other_call {it = it} going is bare unexpanded not_into others) laid = comes_follow others (laid_behind it.len laid)
+comes_follow (into_other_call going is bare unexpanded into others) laid = comes_follow others laid
+comes_follow (into_attributes going is some unexpanded others) laid = comes_follow others laid
 comes_follow (on_faulty_call {it = it} at fault going is called some faulty others) laid = comes_follow others (laid_behind it.len laid)
-comes_follow {setting = setting} (on_call {position = position} {it = it} {trees = trees} tree going is some free expands held may others) laid =
+comes_follow {setting = setting} (on_call {position = position} {it = it} {trees = trees} tree put going is some expands held so may others) laid =
     let (lies, behind) = call_laid setting.root trees it position is laid in
     next lies (comes_follow others behind)
-comes_follow {setting = setting} (on_unwritten_call {position = position} {it = it} {trees = trees} tree at fault going is called some free expands held unwritten others) laid =
+comes_follow {setting = setting} (on_kept_call {position = position} {it = it} {trees = trees} tree at fault going is called some expands held kept others) laid =
     let (lies, behind) = call_laid setting.root trees it position is laid in
     follow_from (omega (arith, lies.after, lies.range.order)) (comes_follow others behind)
 

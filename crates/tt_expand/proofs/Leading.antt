@@ -1,24 +1,26 @@
 -- How levels lead to others.
-use Rattle.std.proofs.Common.{◌≡◌, ◌-◌, ℕ, suc, Bool, true, false, List, [], ◌∷◌, length, None, Some, refl, ap, sym, subst, ◌∙◌}
+use Rattle.std.proofs.Common.{◌≡◌, ◌<◌, ◌-◌, ℕ, suc, Bool, true, false, List, [], ◌∷◌, length, None, Some, refl, ap, sym, subst, ◌∙◌}
 use Rattle.tt.specs.Forest.{Forest, Root, end, leaf, node}
 use Rattle.tt.specs.Gluing.{after_trees}
 use Rattle.tt.specs.Moves.{after_tree}
 use Rattle.tt.specs.Span.{start_of}
 use Rattle.tt.specs.Types.Delimiter.{Delimiter}
 use Rattle.tt.specs.Types.Leaf.{Leaf}
+use Rattle.tt.specs.Views.{trees_of}
 use Rattle.tt_expand.specs.declared.fault.MacroFault.{MacroFault}
 use Rattle.tt_expand.specs.Scopes.{Macro}
 use Rattle.tt_expand.specs.declared.walk.Event.{Event}
 use Rattle.tt_expand.specs.declared.walk.Event.TheVariants as event
 use Rattle.tt_expand.specs.Calling.{IsFaulty}
-use Rattle.tt_expand.specs.Coming.{IsPlain, Comes, ends, on_leaf, on_node, on_definition, on_other_call, into_other_call, on_faulty_call, on_call, on_unwritten_call, end_in, len_in, rest_in, behind_in, begun_by, is_conditional_in, placed_at, known_after}
-use Rattle.tt_edit.specs.Places.{begin_at}
-use Rattle.tt_items.specs.Items.{Definition, Call, defines, calls, item_in}
+use Rattle.tt_expand.specs.Coming.{IsPlain, Comes, ends, on_leaf, on_node, on_definition, on_other_call, into_other_call, into_attributes, on_faulty_call, on_call, on_kept_call, attributes_in, begin_in, begun_by, behind_in, end_in, rest_in, stand_in, whole_in, known_after}
+use Rattle.tt_items.specs.Attributes.{item_at}
+use Rattle.tt_items.specs.Items.{Definition, Call, defines, calls}
 use Rattle.tt_expand.specs.Knowing.{Setting, Known, with_finding, left_in_scope}
-use Rattle.tt_expand.specs.Macros.{IsRead, MayStand, IsUnwritten, called_by, arms_of, found_of, known_behind}
-use Rattle.tt_expand.specs.Outcomes.{Outcome, nothing, passes, enters, stays, becomes, trees_left, placed}
+use Rattle.tt_expand.specs.Macros.{IsRead, MayStand, called_by, arms_of, found_of, known_behind}
+use Rattle.tt_expand.specs.Outcomes.{Outcome, nothing, passes, enters, stays, becomes, trees_left}
+use Rattle.tt_expand.specs.Standing.{StandAs, IsKept}
 use Rattle.tt_items.specs.Positions.{behind as past_end, behind_subtree, keeps_macros}
-use Rattle.tt_expand.specs.Walks.{Level, past_leaf, past_subtree, past, past_call, kept_behind, inside, Leads, first_leaf, first_subtree, first_stay, first_becomes, IsNext}
+use Rattle.tt_expand.specs.Walks.{Level, stand_of, past_leaf, past_subtree, past, past_call, kept_behind, inside, Leads, first_leaf, first_subtree, first_stay, first_becomes, IsNext}
 use Rattle.tt_macro_rules.specs.Arms.{Arm}
 use Rattle.tt_macro_rules.specs.Expansions.{IsExpansion}
 use Rattle.tt_macro_rules.specs.declared.macro_rules.Expansion.TheVariants as expansion
@@ -26,18 +28,18 @@ use Rattle.tt_matcher.specs.Fragments.{front_trees, is_brace}
 
 module _ (setting : Setting) (in_text : Bool) (limit : ℕ) (level : Level) (outer : List Level) (known : Known) where
   -- Past a leaf.
-  pub leads_leaf : (it : Leaf) → level.rest ≡ leaf it (after_tree level.rest) → IsPlain setting known level.plain level.rest
+  pub leads_leaf : (it : Leaf) → level.rest ≡ leaf it (after_tree level.rest) → IsPlain setting known level.position level.plain level.rest
       → Leads setting in_text limit (level ∷ outer) known (first_leaf it) (past_leaf it level ∷ outer) known
   leads_leaf it begins plain after [] e = absurd e
   leads_leaf it begins plain after (others ∷ more) (within, comes, behind) = (
     within,
     subst (λ f. Comes setting in_text limit level.position level.plain known f within (passes it others)) (sym begins)
-        (on_leaf (subst (IsPlain setting known level.plain) begins plain) comes),
+        (on_leaf (subst (IsPlain setting known level.position level.plain) begins plain) comes),
     behind,
   )
 
   -- Into a subtree.
-  pub leads_subtree : (delimiter : Delimiter) (children : Forest) → level.rest ≡ node delimiter children (after_tree level.rest) → IsPlain setting known level.plain level.rest
+  pub leads_subtree : (delimiter : Delimiter) (children : Forest) → level.rest ≡ node delimiter children (after_tree level.rest) → IsPlain setting known level.position level.plain level.rest
       → Leads setting in_text limit (level ∷ outer) known (first_subtree delimiter)
       (inside delimiter children level.position (kept_behind (keeps_macros delimiter.kind level.position) (length known.macros)) ∷ past_subtree delimiter.kind level ∷ outer) known
   leads_subtree delimiter children begins plain after [] e = absurd e
@@ -45,7 +47,7 @@ module _ (setting : Setting) (in_text : Bool) (limit : ℕ) (level : Level) (out
   leads_subtree delimiter children begins plain after (held ∷ others ∷ more) (within, comes, (behind, then, rest)) = (
     behind,
     subst (λ f. Comes setting in_text limit level.position level.plain known f behind (enters delimiter held others)) (sym begins)
-        (on_node (subst (IsPlain setting known level.plain) begins plain) comes
+        (on_node (subst (IsPlain setting known level.position level.plain) begins plain) comes
         (subst (λ k. Comes setting in_text limit (behind_subtree delimiter.kind level.position) (level.plain - 1) k (after_tree level.rest) behind others) (same (keeps_macros delimiter.kind level.position)) then)),
     rest,
   )
@@ -64,7 +66,7 @@ module _ (setting : Setting) (in_text : Bool) (limit : ℕ) (level : Level) (out
 
   module _ (first : level.plain ≡ 0) (goes_on : known.is_over ≡ false) where
     -- Past a definition.
-    pub leads_definition : (it : Definition) (others : Known) → item_in setting.root level.rest ≡ defines it → IsRead setting it known others
+    pub leads_definition : (it : Definition) (others : Known) → item_at setting.root level.position level.rest ≡ defines it → IsRead setting it known others
         → Leads setting in_text limit (level ∷ outer) known (first_stay (front_trees it.len level.rest)) (past it.len true level ∷ outer) others
     leads_definition it others there is after [] e = absurd e
     leads_definition it others there is after (left ∷ more) (within, comes, behind) = (
@@ -74,32 +76,42 @@ module _ (setting : Setting) (in_text : Bool) (limit : ℕ) (level : Level) (out
       behind,
     )
 
-    module _ (it : Call) (there : item_in setting.root level.rest ≡ calls it) where
+    module _ (it : Call) (there : item_at setting.root level.position level.rest ≡ calls it) where
       -- Past a call that is not expanded.
-      pub leads_other : arms_of (called_by setting known.macros it) ≡ None → setting.everywhere ≡ false
+      pub leads_other : it.attributes ≡ 0 → arms_of (called_by setting known.macros it) ≡ None → setting.everywhere ≡ false
           → Leads setting in_text limit (level ∷ outer) known (first_stay (front_trees it.len level.rest)) (past it.len (is_brace it.delimiter.kind) level ∷ outer)
           (known_behind it (called_by setting known.macros it) known)
-      leads_other none not_into after [] e = absurd e
-      leads_other none not_into after (others ∷ more) (within, comes, behind) = (
+      leads_other bare none not_into after [] e = absurd e
+      leads_other bare none not_into after (others ∷ more) (within, comes, behind) = (
         within,
         subst (λ n. Comes setting in_text limit level.position n known level.rest within (stays (front_trees it.len level.rest) others)) (sym first)
-            (on_other_call goes_on there none not_into
+            (on_other_call goes_on there bare none not_into
             (subst (λ n. Comes setting in_text limit (past_end (is_brace it.delimiter.kind) level.position) n (known_behind it (called_by setting known.macros it) known) (after_trees it.len level.rest) within others) first comes)),
         behind,
       )
 
       -- Into one.
-      pub leads_into : arms_of (called_by setting known.macros it) ≡ None → setting.everywhere ≡ true
+      pub leads_into : it.attributes ≡ 0 → arms_of (called_by setting known.macros it) ≡ None → setting.everywhere ≡ true
           → Leads setting in_text limit (level ∷ outer) known (λ outcomes. outcomes) (record level { plain = it.len } ∷ outer) (known_behind it (called_by setting known.macros it) known)
-      leads_into none into after [] e = absurd e
-      leads_into none into after (others ∷ more) (within, comes, behind) = (
+      leads_into bare none into after [] e = absurd e
+      leads_into bare none into after (others ∷ more) (within, comes, behind) = (
         within,
-        subst (λ n. Comes setting in_text limit level.position n known level.rest within others) (sym first) (into_other_call goes_on there none into comes),
+        subst (λ n. Comes setting in_text limit level.position n known level.rest within others) (sym first) (into_other_call goes_on there bare none into comes),
+        behind,
+      )
+
+      -- Into the attributes before one.
+      pub leads_attributes : 0 < it.attributes → arms_of (called_by setting known.macros it) ≡ None
+          → Leads setting in_text limit (level ∷ outer) known (λ outcomes. outcomes) (record level { plain = it.attributes } ∷ outer) known
+      leads_attributes some none after [] e = absurd e
+      leads_attributes some none after (others ∷ more) (within, comes, behind) = (
+        within,
+        subst (λ n. Comes setting in_text limit level.position n known level.rest within others) (sym first) (into_attributes goes_on there some none comes),
         behind,
       )
 
       -- Past one that is wrong.
-      pub leads_faulty : (then : Known) → IsFaulty setting limit (is_conditional_in level.position it level.rest) it known then
+      pub leads_faulty : (then : Known) → IsFaulty setting limit it known then
           → Leads setting in_text limit (level ∷ outer) known (first_stay (front_trees it.len level.rest)) (past it.len (is_brace it.delimiter.kind) level ∷ outer) then
       leads_faulty then is after [] e = absurd e
       leads_faulty then is after (others ∷ more) (within, comes, behind) = (
@@ -112,36 +124,33 @@ module _ (setting : Setting) (in_text : Bool) (limit : ℕ) (level : Level) (out
       )
 
 -- Past one of which a tree comes, and of that something in turn.
-module _ (setting : Setting) (left : ℕ) (level : Level) (outer : List Level) (known : Known) (first : level.plain ≡ 0) (goes_on : known.is_over ≡ false) (it : Call)
-    (macro : Macro) (arms : List Arm) (tree : Root) (there : item_in setting.root level.rest ≡ calls it) (called : called_by setting known.macros it ≡ Some macro)
-    (expands : macro.arms ≡ Some arms) (free : is_conditional_in level.position it level.rest ≡ false)
-    (makes : IsExpansion arms 0 0 it.input (expansion.Tree tree)) (within : Known) (held : Outcome)
+module _ (setting : Setting) (in_text : Bool) (left : ℕ) (level : Level) (outer : List Level) (known : Known) (first : level.plain ≡ 0) (goes_on : known.is_over ≡ false) (it : Call)
+    (macro : Macro) (arms : List Arm) (tree : Root) (there : item_at setting.root level.position level.rest ≡ calls it) (called : called_by setting known.macros it ≡ Some macro)
+    (expands : macro.arms ≡ Some arms) (makes : IsExpansion arms 0 0 it.input (expansion.Tree tree)) (within : Known) (held : Outcome)
     (comes : Comes setting false left (begun_by level.position it level.rest) 0 known tree.children within held) where
-  -- what it becomes
-  abbrev put : Forest
-  put = placed_at level.position it level.rest (trees_left held)
-
   -- That stands in its place.
-  pub leads_call : (in_text : Bool) → MayStand in_text it.delimiter put
-      → Leads setting in_text (suc left) (level ∷ outer) known (first_becomes (begin_at level.rest it.name.span) (end_in level.position it level.rest) put) (past_call it level ∷ outer) within
-  leads_call in_text may after [] e = absurd e
-  leads_call in_text may after (others ∷ more) (beyond, then, behind) = (
+  pub leads_call : (put : Forest) → StandAs (stand_in level.position it level.rest) (trees_left held) (Some put) → MayStand in_text it.delimiter put
+      → Leads setting in_text (suc left) (level ∷ outer) known
+      (first_becomes (attributes_in level.position it level.rest) (begin_in it level.rest) (end_in level.position it level.rest) put) (past_call it level ∷ outer) within
+  leads_call put so may after [] e = absurd e
+  leads_call put so may after (others ∷ more) (beyond, then, behind) = (
     beyond,
-    subst (λ n. Comes setting in_text (suc left) level.position n known level.rest beyond (becomes (begin_at level.rest it.name.span) (end_in level.position it level.rest) put others)) (sym first)
-        (on_call tree goes_on there (ap arms_of called ∙ expands) free makes comes may
+    subst (λ n. Comes setting in_text (suc left) level.position n known level.rest beyond
+        (stays (attributes_in level.position it level.rest) (becomes (begin_in it level.rest) (end_in level.position it level.rest) put others))) (sym first)
+        (on_call tree put goes_on there (ap arms_of called ∙ expands) makes comes so may
         (subst (λ n. Comes setting in_text (suc left) (behind_in level.position it level.rest) n within (rest_in level.position it level.rest) beyond others) first then)),
     behind,
   )
 
-  -- It stays in the text, where that is not written.
-  pub leads_unwritten : (at : ℕ) (fault : MacroFault) → IsUnwritten it.delimiter put (start_of (begin_at level.rest it.name.span).range) at fault
-      → Leads setting true (suc left) (level ∷ outer) known (first_stay (front_trees (len_in level.position it level.rest) level.rest)) (past_call it level ∷ outer) (with_finding (found_of it macro at fault) within)
-  leads_unwritten at fault unwritten after [] e = absurd e
-  leads_unwritten at fault unwritten after (others ∷ more) (beyond, then, behind) = (
+  -- It stays, where that does not stand there, or is not written.
+  pub leads_kept : (at : ℕ) (fault : MacroFault) → IsKept in_text (stand_in level.position it level.rest) (trees_left held) (start_of (begin_in it level.rest).range) at fault
+      → Leads setting in_text (suc left) (level ∷ outer) known (first_stay (whole_in level.position it level.rest)) (past_call it level ∷ outer) (with_finding (found_of it macro at fault) within)
+  leads_kept at fault kept after [] e = absurd e
+  leads_kept at fault kept after (others ∷ more) (beyond, then, behind) = (
     beyond,
-    subst (λ n. Comes setting true (suc left) level.position n known level.rest beyond (stays (front_trees (len_in level.position it level.rest) level.rest) others)) (sym first)
-        (on_unwritten_call tree at fault goes_on there called expands free makes comes unwritten
-        (subst (λ n. Comes setting true (suc left) (behind_in level.position it level.rest) n (with_finding (found_of it macro at fault) within) (rest_in level.position it level.rest) beyond others) first then)),
+    subst (λ n. Comes setting in_text (suc left) level.position n known level.rest beyond (stays (whole_in level.position it level.rest) others)) (sym first)
+        (on_kept_call tree at fault goes_on there called expands makes comes kept
+        (subst (λ n. Comes setting in_text (suc left) (behind_in level.position it level.rest) n (with_finding (found_of it macro at fault) within) (rest_in level.position it level.rest) beyond others) first then)),
     behind,
   )
 
@@ -158,11 +167,8 @@ module _ (setting : Setting) (in_text : Bool) (limit : ℕ) (levels others : Lis
     fits,
     λ within held comes.
         let past = is within held comes in
-        let put = placed it.is_statement it.delimiter (trees_left held) in
         record {
-          stands = λ may after outcomes e. leads after (first_becomes it.first_span it.last_span put outcomes) (past.stands may after outcomes e);
-          stays = λ text at fault unwritten.
-              let (stay, is_stay) = past.stays text at fault unwritten in
-              (stay, λ after outcomes e. leads after (first_stay stay outcomes) (is_stay after outcomes e));
+          stands = λ put so may after outcomes e. leads after (first_becomes (stand_of it).attributes it.first_span it.last_span put outcomes) (past.stands put so may after outcomes e);
+          stays = λ at fault kept after outcomes e. leads after (first_stay (trees_of it.whole) outcomes) (past.stays at fault kept after outcomes e);
         },
   )

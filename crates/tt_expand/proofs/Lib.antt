@@ -1,3 +1,4 @@
+pub mod CallParts
 pub mod CallPlaces
 pub mod Calls
 pub mod Finishing
@@ -10,6 +11,7 @@ pub mod ManyTrees
 pub mod Nth
 pub mod Passing
 pub mod PlaceRows
+pub mod Placing
 pub mod Readiness
 pub mod Replacing
 pub mod Rooting

@@ -3,6 +3,7 @@ use Rattle.std.proofs.Common.{◌≡◌, ◌<◌, ◌≤◌, ℕ, suc, Bool, Lis
 use Rattle.tt.specs.Forest.{Forest, Root, size}
 use Rattle.tt.specs.Gluing.{after_trees}
 use Rattle.tt.specs.Iters.{rest_of}
+use Rattle.tt.specs.Views.{trees_of}
 use Rattle.tt.specs.Moves.{after_tree}
 use Rattle.tt.specs.Span.{start_of}
 use Rattle.tt_expand.specs.declared.fault.Finding.{Finding}
@@ -11,17 +12,18 @@ use Rattle.tt_expand.specs.declared.walk.Event.{Event}
 use Rattle.tt_expand.specs.declared.walk.Event.TheVariants as event
 use Rattle.tt_expand.specs.declared.walk.Walk.{Walk}
 use Rattle.tt_expand.specs.Calling.{IsFaulty, IsExpanded}
-use Rattle.tt_expand.specs.Coming.{end_in, len_in, takes_in, begun_by, is_conditional_in, placed_at, Comes}
-use Rattle.tt_edit.specs.Places.{begin_at}
+use Rattle.tt_expand.specs.Coming.{begin_in, begun_by, end_in, stand_in, takes_in, whole_in, Comes}
 use Rattle.tt_items.specs.Items.{Call, calls}
 use Rattle.tt_expand.specs.Knowing.{Setting, Known, with_finding}
-use Rattle.tt_expand.specs.Macros.{MayStand, IsUnwritten, called_by, arms_of, found_of, known_behind}
-use Rattle.tt_expand.specs.Outcomes.{Outcome, trees_left, placed}
+use Rattle.tt_expand.specs.Macros.{MayStand, called_by, arms_of, found_of, known_behind}
+use Rattle.tt_expand.specs.Outcomes.{Outcome, trees_left}
+use Rattle.tt_expand.specs.Standing.{Stand, StandAs, IsKept}
 use Rattle.tt_expand.specs.Passing.{IsStay, IsInvoked}
 use Rattle.tt_items.specs.Positions.{begun as begun_among}
-use Rattle.tt_expand.specs.Walks.{Level, level_of, levels_of, past, past_call, first_stay, first_becomes, Leads, GoesPast, found_by, closes_of, work_in, IsNext, IsFirst, IsAtItem, Steps}
-use Rattle.tt_expand.proofs.Leading.{leads_other, leads_faulty, leads_call, leads_unwritten}
-use Rattle.tt_items.proofs.Lengths.{call_less, fewer_behind}
+use Rattle.tt_expand.specs.Walks.{Level, level_of, levels_of, past, past_call, first_stay, first_becomes, Leads, GoesPast, found_by, stand_of, closes_of, work_in, IsNext, IsFirst, IsAtItem, Steps}
+use Rattle.tt_expand.proofs.Leading.{leads_other, leads_faulty, leads_call, leads_kept}
+use Rattle.tt_items.proofs.Conditions.{call_at_less}
+use Rattle.tt_items.proofs.Lengths.{fewer_behind}
 use Rattle.tt_matcher.specs.Fragments.{front_trees, is_brace}
 use Rattle.tt.specs.Types.Span.{Span}
 
@@ -42,21 +44,21 @@ module _ (setting : Setting) (in_text : Bool) (limit : ℕ) (old : Walk) (known 
       (subst (λ f. Leads setting in_text limit (levels_of old) known (first_stay f) (past it.len (is_brace it.delimiter.kind) (level_of old.level) ∷ map level_of (reverse old.outer.items)) others) (sym taken) leads))
 
   -- It stays where nothing expands it.
-  pub next_other : (event : Event) (new : Walk) → arms_of (called_by setting known.macros it) ≡ None → setting.everywhere ≡ false → IsStay it old event new
+  pub next_other : (event : Event) (new : Walk) → it.attributes ≡ 0 → arms_of (called_by setting known.macros it) ≡ None → setting.everywhere ≡ false → IsStay it old event new
       → IsNext setting in_text limit (levels_of old) known event (levels_of new) (known_behind it (called_by setting known.macros it) known)
-  next_other event new none not_into is =
+  next_other event new bare none not_into is =
       staying event new (known_behind it (called_by setting known.macros it) known)
-      (leads_other setting in_text limit (level_of old.level) (map level_of (reverse old.outer.items)) known there.first there.goes_on it there.item none not_into) is
+      (leads_other setting in_text limit (level_of old.level) (map level_of (reverse old.outer.items)) known there.first there.goes_on it there.item bare none not_into) is
 
   -- It stays where something is wrong with it.
-  pub next_faulty : (event : Event) (new : Walk) (others : Known) → IsFaulty setting limit (is_conditional_in old.level.position it (rest_of old.level.rest)) it known others → IsStay it old event new
+  pub next_faulty : (event : Event) (new : Walk) (others : Known) → IsFaulty setting limit it known others → IsStay it old event new
       → IsNext setting in_text limit (levels_of old) known event (levels_of new) others
   next_faulty event new others wrong is =
       staying event new others (leads_faulty setting in_text limit (level_of old.level) (map level_of (reverse old.outer.items)) known there.first there.goes_on it there.item others wrong) is
 
   -- A tree comes of it.
   pub next_expanded : (event : Event) (new : Walk) (others : Known) (tree : Root) (defined_at : ℕ)
-      → IsExpanded setting limit (is_conditional_in old.level.position it (rest_of old.level.rest)) it tree defined_at known others
+      → IsExpanded setting limit it tree defined_at known others
       → IsInvoked it tree defined_at old event new → IsNext setting in_text limit (levels_of old) known event (levels_of new) others
   next_expanded event.End new others tree defined_at from is = absurd is
   next_expanded (event.Leaf l) new others tree defined_at from is = absurd is
@@ -75,7 +77,13 @@ module _ (setting : Setting) (in_text : Bool) (limit : ℕ) (old : Walk) (known 
       trees = rest_of old.level.rest
 
       begin : Span
-      begin = begin_at (rest_of old.level.rest) it.name.span
+      begin = begin_in it trees
+
+      end : Span
+      end = end_in old.level.position it trees
+
+      stand : Stand
+      stand = stand_in old.level.position it trees
 
       nexts : List Level
       nexts = past_call it (level_of old.level) ∷ map level_of (reverse old.outer.items)
@@ -86,42 +94,37 @@ module _ (setting : Setting) (in_text : Bool) (limit : ℕ) (old : Walk) (known 
           finding : List ℕ → ℕ → Finding
           finding name place = record { name = name; at = at; fault = fault; defined_at = Some place }
 
-      put : (held : Outcome) → placed i.is_statement i.delimiter (trees_left held) ≡ placed_at old.level.position it trees (trees_left held)
-      put held = ap₂ (λ b d. placed b d (trees_left held)) is.is_statement is.delimiter
-
       by : (inside : Known) (held : Outcome) → Comes setting false from.left (begun_among i.siblings) 0 others i.tree.children inside held
-          → GoesPast setting in_text limit (levels_of old) known i (placed i.is_statement i.delimiter (trees_left held)) nexts inside
+          → GoesPast setting in_text limit (levels_of old) known i (trees_left held) nexts inside
       by inside held comes = record { stands = stands; stays = stays }
         where
           came : Comes setting false from.left (begun_by old.level.position it trees) 0 known tree.children inside held
           came =
               subst (λ k. Comes setting false from.left (begun_by old.level.position it trees) 0 k tree.children inside held) from.known
               (subst (λ t. Comes setting false from.left (begun_by old.level.position it trees) 0 others t.children inside held) is.makes
-              (subst (λ s. Comes setting false from.left (begun_among s) 0 others i.tree.children inside held) is.siblings comes))
+              (subst (λ s. Comes setting false from.left (begun_among s.siblings) 0 others i.tree.children inside held) is.stand comes))
 
-          stands : MayStand in_text i.delimiter (placed i.is_statement i.delimiter (trees_left held))
-              → Leads setting in_text limit (levels_of old) known (first_becomes i.first_span i.last_span (placed i.is_statement i.delimiter (trees_left held))) nexts inside
-          stands may =
-              subst (λ s. Leads setting in_text limit (levels_of old) known (first_becomes s i.last_span (placed i.is_statement i.delimiter (trees_left held))) nexts inside) (sym is.first)
-              (subst (λ s. Leads setting in_text limit (levels_of old) known (first_becomes begin s (placed i.is_statement i.delimiter (trees_left held))) nexts inside) (sym is.last)
-              (subst (λ f. Leads setting in_text limit (levels_of old) known (first_becomes begin (end_in old.level.position it trees) f) nexts inside) (sym (put held))
-              (subst (λ n. Leads setting in_text n (levels_of old) known (first_becomes begin (end_in old.level.position it trees) (placed_at old.level.position it trees (trees_left held))) nexts inside) (sym from.fits)
-              (leads_call setting from.left (level_of old.level) (map level_of (reverse old.outer.items)) known there.first there.goes_on it from.macro from.arms tree there.item
-              from.called from.expands from.free from.makes inside held came in_text (subst (λ d. MayStand in_text d (placed_at old.level.position it trees (trees_left held))) is.delimiter (subst (MayStand in_text i.delimiter) (put held) may))))))
+          stands : (put : Forest) → StandAs (stand_of i) (trees_left held) (Some put) → MayStand in_text i.delimiter put
+              → Leads setting in_text limit (levels_of old) known (first_becomes (stand_of i).attributes i.first_span i.last_span put) nexts inside
+          stands put so may =
+              subst (λ s. Leads setting in_text limit (levels_of old) known (first_becomes s.attributes i.first_span i.last_span put) nexts inside) (sym is.stand)
+              (subst (λ s. Leads setting in_text limit (levels_of old) known (first_becomes stand.attributes s i.last_span put) nexts inside) (sym is.first)
+              (subst (λ s. Leads setting in_text limit (levels_of old) known (first_becomes stand.attributes begin s put) nexts inside) (sym is.last)
+              (subst (λ n. Leads setting in_text n (levels_of old) known (first_becomes stand.attributes begin end put) nexts inside) (sym from.fits)
+              (leads_call setting in_text from.left (level_of old.level) (map level_of (reverse old.outer.items)) known there.first there.goes_on it from.macro from.arms tree there.item
+              from.called from.expands from.makes inside held came put
+              (subst (λ s. StandAs s (trees_left held) (Some put)) is.stand so) (subst (λ s. MayStand in_text s.delimiter put) is.stand may)))))
 
-          stays : in_text ≡ true → (at : ℕ) (fault : MacroFault) → IsUnwritten i.delimiter (placed i.is_statement i.delimiter (trees_left held)) (start_of i.first_span.range) at fault
-              → (stay : Forest) × Leads setting in_text limit (levels_of old) known (first_stay stay) nexts (with_finding (found_by i at fault) inside)
-          stays text at fault unwritten = (
-            front_trees (len_in old.level.position it trees) (rest_of old.level.rest),
-            subst (λ b. Leads setting b limit (levels_of old) known (first_stay (front_trees (len_in old.level.position it trees) (rest_of old.level.rest))) nexts (with_finding (found_by i at fault) inside)) (sym text)
-                (subst (λ n. Leads setting true n (levels_of old) known (first_stay (front_trees (len_in old.level.position it trees) (rest_of old.level.rest))) nexts (with_finding (found_by i at fault) inside)) (sym from.fits)
-                (subst (λ f. Leads setting true (suc from.left) (levels_of old) known (first_stay (front_trees (len_in old.level.position it trees) (rest_of old.level.rest))) nexts (with_finding f inside)) (sym (found at fault))
-                (leads_unwritten setting from.left (level_of old.level) (map level_of (reverse old.outer.items)) known there.first there.goes_on it from.macro from.arms tree there.item
-                from.called from.expands from.free from.makes inside held came at fault
-                (subst (λ s. IsUnwritten it.delimiter (placed_at old.level.position it trees (trees_left held)) (start_of s.range) at fault) is.first
-                (subst (λ d. IsUnwritten d (placed_at old.level.position it trees (trees_left held)) (start_of i.first_span.range) at fault) is.delimiter
-                (subst (λ f. IsUnwritten i.delimiter f (start_of i.first_span.range) at fault) (put held) unwritten)))))),
-          )
+          stays : (at : ℕ) (fault : MacroFault) → IsKept in_text (stand_of i) (trees_left held) (start_of i.first_span.range) at fault
+              → Leads setting in_text limit (levels_of old) known (first_stay (trees_of i.whole)) nexts (with_finding (found_by i at fault) inside)
+          stays at fault kept =
+              subst (λ f. Leads setting in_text limit (levels_of old) known (first_stay f) nexts (with_finding (found_by i at fault) inside)) (sym is.whole)
+              (subst (λ n. Leads setting in_text n (levels_of old) known (first_stay (whole_in old.level.position it trees)) nexts (with_finding (found_by i at fault) inside)) (sym from.fits)
+              (subst (λ f. Leads setting in_text (suc from.left) (levels_of old) known (first_stay (whole_in old.level.position it trees)) nexts (with_finding f inside)) (sym (found at fault))
+              (leads_kept setting in_text from.left (level_of old.level) (map level_of (reverse old.outer.items)) known there.first there.goes_on it from.macro from.arms tree there.item
+              from.called from.expands from.makes inside held came at fault
+              (subst (λ s. IsKept in_text stand (trees_left held) (start_of s.range) at fault) is.first
+              (subst (λ s. IsKept in_text s (trees_left held) (start_of i.first_span.range) at fault) is.stand kept)))))
 
 module _ (root : List ℕ) (old : Walk) (it : Call) (there : IsFirst (calls it) root old) where
   -- Less is left to do behind it.
@@ -130,7 +133,7 @@ module _ (root : List ℕ) (old : Walk) (it : Call) (there : IsFirst (calls it) 
       → (closes_of (it_level ∷ outer) ≡ closes_of (levels_of old)) × (work_in (it_level ∷ outer) < work_in (levels_of old))
   stepped it_level level now close less outer same = (
     ap₂ (λ l ls. closes_of (l ∷ ls)) now same ∙ ap (λ s. s ∷ closes_of (map level_of (reverse old.outer.items))) close,
-    omega (arith, less, call_less root (rest_of old.level.rest) it there, ap₂ (λ l ls. work_in (l ∷ ls)) now same),
+    omega (arith, less, call_at_less root old.level.position (rest_of old.level.rest) it there, ap₂ (λ l ls. work_in (l ∷ ls)) now same),
   )
 
   pub stays_step : (event : Event) (new : Walk) → IsStay it old event new → Steps (levels_of old) event (levels_of new)

@@ -1,8 +1,12 @@
 -- Macros that are made ready.
 use Rattle.std.proofs.Common.{◌≡◌, ◌++◌, ℕ, zero, suc, List, [], ◌∷◌, length, take, Bool, true, false, Option, Some, None, refl, ap, sym, cond}
-use Rattle.std.specs.Prelude.{bytes_eq}
+use Rattle.std.proofs.lemmas.Bool.{false≢true}
+use Rattle.std.specs.Prelude.{bytes_eq, is_some}
 use Rattle.tt_expand.specs.declared.scope.Macro as rust
-use Rattle.tt_expand.specs.Scopes.{Macro, or_else, last_by, last_named, kept_of, IsReady, AreReady, IsReadyIf}
+use Rattle.tt_expand.specs.Macros.{arms_of}
+use Rattle.tt_expand.specs.Scopes.{Macro, or_else, last_by, last_named, kept_of, AreRules, IsReady, AreReady, IsReadyIf}
+use Rattle.tt_macro_rules.specs.Arms.{Arm}
+use Rattle.tt_macro_rules.specs.declared.macro_rules.MacroRules.{MacroRules}
 
 -- The last of a name is made ready of the last of it.
 pub ready_last : (name : List ℕ) (macros : List Macro) (its : List rust.Macro) → AreReady macros its
@@ -51,3 +55,23 @@ ready_front (suc n) (macro ∷ macros) (it ∷ its) are = (are.0, ready_front n 
 pub ready_kept : (kept : Option ℕ) (macros : List Macro) (its : List rust.Macro) → AreReady macros its → AreReady (kept_of kept macros) (kept_of kept its)
 ready_kept None macros its are = are
 ready_kept (Some n) macros its are = ready_front n macros its are
+
+-- Where rules are made of a macro, it has arms, and only then.
+pub arms_ready : (found : Option Macro) (it : rust.Macro) → IsReadyIf found (Some it) → is_some it.rules ≡ is_some (arms_of found)
+arms_ready None it is = absurd is
+arms_ready (Some macro) it is = by macro.arms it.rules is.rules
+  where
+    by : (arms : Option (List Arm)) (rules : Option MacroRules) → AreRules arms rules → is_some rules ≡ is_some arms
+    by None None are = refl
+    by None (Some rules) are = absurd are
+    by (Some arms) None are = absurd are
+    by (Some arms) (Some rules) are = refl
+
+pub arms_none : (found : Option Macro) → IsReadyIf found None → false ≡ is_some (arms_of found)
+arms_none None is = refl
+arms_none (Some macro) is = absurd is
+
+-- Where there are none, it is told.
+pub no_arms : {A : Type 0} (found : Option A) → is_some found ≡ false → found ≡ None
+no_arms None none = refl
+no_arms (Some it) none = absurd (false≢true (sym none))

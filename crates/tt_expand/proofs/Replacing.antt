@@ -11,11 +11,11 @@ use Rattle.tt_expand.specs.declared.walk.Event.TheVariants as event
 use Rattle.tt_expand.specs.Coming.{Comes}
 use Rattle.tt_expand.specs.Expansion.{replacement, replacements, IsSame, IsPut, IsEventWritten, GoesOn}
 use Rattle.tt_expand.specs.Knowing.{Setting, Known, with_finding}
-use Rattle.tt_expand.specs.Outcomes.{Outcome, nothing, trees_left, placed}
+use Rattle.tt_expand.specs.Outcomes.{Outcome, nothing, trees_left}
 use Rattle.tt_items.specs.Positions.{begun as begun_among}
 use Rattle.tt_items.specs.declared.position.Siblings.TheVariants.{Items}
 use Rattle.tt_edit.specs.Texts.{Replacement, Writing, finished, with_all, FitAll, IsReplaced, AreReplaced}
-use Rattle.tt_expand.specs.Walks.{Level, begun, Ends, Leads, first_leaf, first_subtree, first_stay, first_becomes, GoesPast, found_by, work_in, IsNext, Steps}
+use Rattle.tt_expand.specs.Walks.{Level, begun, Ends, Leads, first_leaf, first_subtree, first_stay, first_becomes, GoesPast, found_by, stand_of, work_in, IsNext, Steps}
 
 -- all that gives way in what comes of levels
 abbrev pub all_replacements : List Outcome → List Replacement
@@ -80,12 +80,12 @@ module _ (setting : Setting) (limit : ℕ) (trees : Forest) (before now others :
       subst (IsReading setting limit trees before nexts others) (append-nil done) (reads_on (λ outcomes. nothing ∷ outcomes) [] leads (λ after outcomes e. refl))
 
   -- Past a call it is.
-  pub reads_call : (first last : Span) (put : Forest) → Leads setting true limit (level ∷ outer) now (first_becomes first last put) nexts others
+  pub reads_call : (attributes : Forest) (first last : Span) (put : Forest) → Leads setting true limit (level ∷ outer) now (first_becomes attributes first last put) nexts others
       → IsReading setting limit trees before nexts others (done ++ replacement first last put ∷ [])
-  reads_call first last put leads = reads_on (first_becomes first last put) (replacement first last put ∷ []) leads same
+  reads_call attributes first last put leads = reads_on (first_becomes attributes first last put) (replacement first last put ∷ []) leads same
     where
-      same : (after : Known) (outcomes : List Outcome) → Ends setting true limit (level ∷ outer) now after (first_becomes first last put outcomes)
-          → all_replacements (first_becomes first last put outcomes) ≡ replacement first last put ∷ all_replacements outcomes
+      same : (after : Known) (outcomes : List Outcome) → Ends setting true limit (level ∷ outer) now after (first_becomes attributes first last put outcomes)
+          → all_replacements (first_becomes attributes first last put outcomes) ≡ replacement first last put ∷ all_replacements outcomes
       same after [] e = absurd e
       same after (it ∷ more) e = refl
 
@@ -132,21 +132,18 @@ module _ (setting : Setting) (limit : ℕ) (trees : Forest) (before now others t
       subst (λ n. Comes setting false n (begun_among it.siblings) 0 others it.tree.children is.inside is.outcome) back is.comes in
       by (goes_past is.inside is.outcome comes) is.put
     where
-      put : Forest
-      put = placed it.is_statement it.delimiter (trees_left is.outcome)
-
-      by : GoesPast setting true limit (level ∷ outer) now it put nexts is.inside → IsPut it put is.inside then old new → IsRead
-      by past (inl (may, known, replaced)) = (
+      by : GoesPast setting true limit (level ∷ outer) now it (trees_left is.outcome) nexts is.inside → IsPut it (trees_left is.outcome) is.inside then old new → IsRead
+      by past (inl (put, so, may, known, replaced)) = (
         done ++ replacement it.first_span it.last_span put ∷ [],
-        reads_call setting limit trees before now then level outer nexts done reading it.first_span it.last_span put
-            (subst (Leads setting true limit (level ∷ outer) now (first_becomes it.first_span it.last_span put) nexts) (sym known) (past.stands may)),
+        reads_call setting limit trees before now then level outer nexts done reading (stand_of it).attributes it.first_span it.last_span put
+            (subst (Leads setting true limit (level ∷ outer) now (first_becomes (stand_of it).attributes it.first_span it.last_span put) nexts) (sym known) (past.stands put so may)),
         replaced_more done source old new (replacement it.first_span it.last_span put) are replaced,
       )
-      by past (inr (at, fault, unwritten, known, written)) =
-          let (stay, leads) = past.stays refl at fault unwritten in
+      by past (inr (at, fault, kept, known, written)) =
           let found = with_finding (found_by it at fault) is.inside in (
             done,
-            subst (λ k. IsReading setting limit trees before nexts k done) (sym known) (reads_stay setting limit trees before now found level outer nexts done reading stay leads),
+            subst (λ k. IsReading setting limit trees before nexts k done) (sym known)
+                (reads_stay setting limit trees before now found level outer nexts done reading (trees_of it.whole) (past.stays at fault kept)),
             subst (AreReplaced done source) (sym written) are,
           )
 

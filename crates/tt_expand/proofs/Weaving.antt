@@ -1,11 +1,10 @@
 -- What takes the place of calls is woven into what a text is spelled by.
-use Rattle.std.proofs.Common.{◌≡◌, ◌<◌, ◌-◌, ◌++◌, ℕ, suc, Bool, true, false, List, [], ◌∷◌, max, Some, None, cond, codes, refl, ap, ap₂, sym, subst, ◌∙◌, arith, append_assoc, append-nil}
+use Rattle.std.proofs.Common.{◌≡◌, ◌<◌, ◌-◌, ◌++◌, ℕ, suc, Bool, true, false, List, [], ◌∷◌, inl, inr, ◌⊎◌, max, Some, None, cond, codes, refl, ap, ap₂, sym, subst, ◌∙◌, arith, append_assoc, append-nil}
 use Rattle.std.proofs.Math.Nat.{le-max_left, le-max_right}
 use Rattle.std.proofs.lemmas.Bool.{eqb-true, false≢true}
 use Rattle.std.specs.Prelude.{◌==◌, ◌||◌, ◌&&◌, not}
 use Rattle.tt.specs.Forest.{Forest, end, leaf, node, join}
 use Rattle.tt.specs.Gluing.{after_trees}
-use Rattle.tt.specs.Moves.{after_tree}
 use Rattle.tt.specs.Span.{start_of, end_of}
 use Rattle.tt.specs.Types.Delimiter.{Delimiter}
 use Rattle.tt.specs.Types.DelimiterKind.{DelimiterKind}
@@ -14,13 +13,15 @@ use Rattle.tt.specs.Types.Leaf.TheVariants as leaf_of
 use Rattle.tt.specs.Types.Spacing.{Spacing}
 use Rattle.tt_edit.specs.Places.{begin_at}
 use Rattle.tt_expand.proofs.CallPlaces.{last_of}
-use Rattle.tt_expand.proofs.ManyTrees.{after_more}
+use Rattle.tt_expand.proofs.CallParts.{alone, attributes_alone, begin_alone, call_alone, closed_join, end_alone, ends_alone, split_in}
+use Rattle.tt_items.proofs.Conditions.{StandsBehind, attributes_closed, definition_at}
+use Rattle.tt_items.specs.Attributes.{item_at}
 use Rattle.tt_items.proofs.Shapes.{EndsClosed, by_subtree, by_semicolon, BeginsWithName, call_begins, call_ends, call_closed, definition_closed, punct_first, ends_by_punct}
-use Rattle.tt_expand.specs.Coming.{Comes, ends, on_leaf, on_node, on_definition, on_other_call, into_other_call, on_faulty_call, on_call, on_unwritten_call, end_in, len_in, named_behind, placed_at, plain_behind, rest_in, takes_in}
+use Rattle.tt_expand.specs.Coming.{Comes, ends, on_leaf, on_node, on_definition, on_other_call, into_other_call, into_attributes, on_faulty_call, on_call, on_kept_call, attributes_in, begin_in, end_in, len_in, named_behind, plain_behind, rest_in, takes_in, whole_in}
 use Rattle.tt_expand.specs.Expansion.{replacement, replacements}
 use Rattle.tt_expand.specs.Knowing.{Setting, Known, asks_for}
 use Rattle.tt_expand.specs.Macros.{arms_of, called_by}
-use Rattle.tt_expand.specs.Outcomes.{Outcome, nothing, passes, enters, stays, becomes, trees_left}
+use Rattle.tt_expand.specs.Outcomes.{Outcome, nothing, passes, enters, stays, becomes}
 use Rattle.tt_expand.specs.Reading.{splices, sorts_left}
 use Rattle.tt_expand.specs.Scopes.{Macro, last_named}
 use Rattle.tt_items.specs.Items.{Call, calls, item_in}
@@ -141,23 +142,15 @@ moved : {before : List Sort} {pieces pieces_too : List Piece} {others others_too
 moved {before} {pieces} {pieces_too} {others} {others_too} {woven} {woven_too} ps os ws is =
     subst (λ x. IsWoven before x others_too woven_too) ps (subst (λ x. IsWoven before pieces x woven_too) os (subst (λ x. IsWoven before pieces others x) ws is))
 
--- How many trees a call is, with its `;`, and what stands behind it.
-split_in : (position : Position) (it : Call) (trees : Forest) → trees ≡ join (front_trees (len_in position it trees) trees) (rest_in position it trees)
-split_in position it trees = by (takes_in position it trees)
-  where
-    by : (takes : Bool) → trees ≡ join (front_trees (cond takes (suc it.len) it.len) trees) (cond takes (after_tree (after_trees it.len trees)) (after_trees it.len trees))
-    by false = front_joined it.len trees
-    by true = front_joined (suc it.len) trees ∙ ap (join (front_trees (suc it.len) trees)) (after_more it.len trees)
-
 -- the pieces of trees before others
 spelled_front : (trees front rest : Forest) (more : List Piece) → trees ≡ join front rest → spelled front ++ (spelled rest ++ more) ≡ spelled trees ++ more
 spelled_front trees front rest more is = sym (append_assoc (spelled front) (spelled rest) more) ∙ ap (λ ps. ps ++ more) (sym (spelled-join front rest) ∙ ap spelled (sym is))
 
--- A call that is expanded ends with its subtree, or with its `;`.
+-- A call without attributes ends with its subtree, or with its `;`.
 module _ (root : List ℕ) (trees : Forest) (position : Position) (it : Call) (is : item_in root trees ≡ calls it) where
   -- where it ends, and how
-  pub call_end : EndsClosed (front_trees (len_in position it trees) trees) × EndsCall (end_of (end_in position it trees).range) (spelled (front_trees (len_in position it trees) trees))
-  call_end = by (takes_in position it trees) refl
+  bare_end : EndsClosed (front_trees (len_in position it trees) trees) × EndsCall (end_of (end_in position it trees).range) (spelled (front_trees (len_in position it trees) trees))
+  bare_end = by (takes_in position it trees) refl
     where
       rest : Forest
       rest = after_trees it.len trees
@@ -180,8 +173,8 @@ module _ (root : List ℕ) (trees : Forest) (position : Position) (it : Call) (i
           )
 
   -- Its pieces are taken.
-  pub call_taken : it.is_elsewhere ≡ false → IsTaken (spelled (front_trees (len_in position it trees) trees)) (start_of (begin_at trees it.name.span).range) (end_of (end_in position it trees).range)
-  call_taken here = record { trees = front_trees (len_in position it trees) trees; spelled = refl; begins = begun; ends = call_end.1 }
+  bare_taken : it.is_elsewhere ≡ false → IsTaken (spelled (front_trees (len_in position it trees) trees)) (start_of (begin_at trees it.name.span).range) (end_of (end_in position it trees).range)
+  bare_taken here = record { trees = front_trees (len_in position it trees) trees; spelled = refl; begins = begun; ends = bare_end.1 }
     where
       begun : BeginsCall (start_of (begin_at trees it.name.span).range) (spelled (front_trees (len_in position it trees) trees))
       begun =
@@ -200,6 +193,50 @@ module _ (root : List ℕ) (trees : Forest) (position : Position) (it : Call) (i
           by name =
               subst (λ f. BeginsCall (start_of (begin_at f it.name.span).range) (spelled (front_trees (suc (suc (len_in position it trees - 2))) f))) (sym name.stands)
               (refl, refl, name.sign)
+
+-- So does a call behind its attributes.
+module _ (root : List ℕ) (trees : Forest) (position : Position) (it : Call) (is : item_at root position trees ≡ calls it) where
+  -- the call alone, and what stands behind the attributes
+  abbrev at : StandsBehind root trees it
+  at = alone root position trees it is
+
+  abbrev behind : Forest
+  behind = after_trees it.attributes trees
+
+  -- Its pieces behind the attributes are taken.
+  call_taken : it.is_elsewhere ≡ false
+      → IsTaken (spelled (after_trees it.attributes (whole_in position it trees))) (start_of (begin_in it trees).range) (end_of (end_in position it trees).range)
+  call_taken here =
+      let named : at.bare.is_elsewhere ≡ false = ap (λ c. c.is_elsewhere) (sym at.same) ∙ here in
+      subst (λ f. IsTaken (spelled f) (start_of (begin_in it trees).range) (end_of (end_in position it trees).range)) (sym (call_alone root position trees it is))
+      (subst (λ s. IsTaken (spelled (whole_in position at.bare behind)) (start_of s.range) (end_of (end_in position it trees).range)) (sym (begin_alone root position trees it is))
+      (subst (λ s. IsTaken (spelled (whole_in position at.bare behind)) (start_of (begin_at behind at.bare.name.span).range) (end_of s.range)) (sym (end_alone root position trees it is))
+      (bare_taken root behind position at.bare at.stands named)))
+
+  -- All of it ends so.
+  whole_closed : EndsClosed (whole_in position it trees)
+  whole_closed =
+      subst EndsClosed (sym (front_joined it.attributes (whole_in position it trees)))
+      (closed_join (attributes_in position it trees) (after_trees it.attributes (whole_in position it trees))
+      (subst EndsClosed (sym (call_alone root position trees it is)) (bare_end root behind position at.bare at.stands).0))
+
+  -- Behind its attributes a call may begin, where one may before them.
+  held_attributes : (before : List Sort) → IsHeld before trees 0 → may_begin (behind_pieces (spelled (attributes_in position it trees)) before) ≡ true
+  held_attributes before held = by (attributes_closed root position trees it is)
+    where
+      by : (it.attributes ≡ 0) ⊎ ((front : Forest) × (delimiter : Delimiter) × (children : Forest) × (front_trees it.attributes trees ≡ join front (node delimiter children end)))
+          → may_begin (behind_pieces (spelled (attributes_in position it trees)) before) ≡ true
+      by (inl none) = ap (λ n. may_begin (behind_pieces (spelled (front_trees n (whole_in position it trees))) before)) none ∙ held.begins refl
+      by (inr (front, delimiter, children, same)) =
+          (held_closed (attributes_in position it trees) (by_subtree front delimiter children (attributes_alone root position trees it is ∙ same)) before behind 0).begins refl
+
+  -- The trees are its attributes, the rest of it, and what stands behind it.
+  spelled_parts : (more : List Piece)
+      → spelled (attributes_in position it trees) ++ (spelled (after_trees it.attributes (whole_in position it trees)) ++ (spelled (rest_in position it trees) ++ more)) ≡ spelled trees ++ more
+  spelled_parts more =
+      spelled_front (whole_in position it trees) (attributes_in position it trees) (after_trees it.attributes (whole_in position it trees)) (spelled (rest_in position it trees) ++ more)
+      (front_joined it.attributes (whole_in position it trees))
+      ∙ spelled_front trees (whole_in position it trees) (rest_in position it trees) more (split_in position it trees)
 
 -- A macro is called by its own name, and not looked for elsewhere.
 called_here : (setting : Setting) (macros : List Macro) (it : Call) (arms : List Arm) → arms_of (called_by setting macros it) ≡ Some arms → it.is_elsewhere ≡ false
@@ -234,30 +271,37 @@ module _ (setting : Setting) where
       (ap (λ ws. opens ∷ ws) (sym (append_assoc (sorts_left inside) (close ∷ sorts_left behind) woven)))
       (keeps (comes_woven comes (opens ∷ before) (held_opening delimiter.kind before children 0) (shut ∷ (spelled rest ++ more)) (splices behind ++ others) (close ∷ (sorts_left behind ++ woven))
       (λ b. keeps (comes_woven past (close ∷ b) (held_closing delimiter.kind b rest (plain - 1)) more others woven then))))
-  comes_woven (on_definition {it = it} {trees = trees} {others = behind} inside goes_on is read comes) before held more others woven then =
+  comes_woven (on_definition {position = position} {it = it} {trees = trees} {others = behind} inside goes_on is read comes) before held more others woven then =
       moved refl refl (sym (append_assoc (sorts (spelled (front_trees it.len trees))) (sorts_left behind) woven))
-      (stays_woven trees (front_trees it.len trees) (after_trees it.len trees) (front_joined it.len trees) (definition_closed setting.root trees it is) before more (splices behind ++ others) (sorts_left behind ++ woven)
+      (stays_woven trees (front_trees it.len trees) (after_trees it.len trees) (front_joined it.len trees)
+      (definition_closed setting.root trees it (definition_at setting.root position trees it is)) before more (splices behind ++ others) (sorts_left behind ++ woven)
       (λ b h. comes_woven comes b h more others woven then))
-  comes_woven (on_other_call {it = it} {trees = trees} {others = behind} goes_on is none out comes) before held more others woven then =
-      let (front, same) = call_closed setting.root trees it is in
+  comes_woven (on_other_call {position = position} {it = it} {trees = trees} {others = behind} goes_on is bare none out comes) before held more others woven then =
       moved refl refl (sym (append_assoc (sorts (spelled (front_trees it.len trees))) (sorts_left behind) woven))
-      (stays_woven trees (front_trees it.len trees) (after_trees it.len trees) (front_joined it.len trees) (by_subtree front it.delimiter it.input same) before more (splices behind ++ others) (sorts_left behind ++ woven)
+      (stays_woven trees (front_trees it.len trees) (after_trees it.len trees) (front_joined it.len trees) (ends_alone setting.root position trees it is) before more (splices behind ++ others) (sorts_left behind ++ woven)
       (λ b h. comes_woven comes b h more others woven then))
-  comes_woven (into_other_call {it = it} {trees = trees} goes_on is none into comes) before held more others woven then =
+  comes_woven (into_other_call goes_on is bare none into comes) before held more others woven then =
       comes_woven comes before (record { begins = λ long. held.begins refl; point = λ follows at. omega (arith, held.point follows at) }) more others woven then
-  comes_woven (on_faulty_call {it = it} {trees = trees} {others = behind} at fault goes_on is called some wrong comes) before held more others woven then =
-      let (front, same) = call_closed setting.root trees it is in
+  comes_woven (into_attributes goes_on is some none comes) before held more others woven then =
+      comes_woven comes before (record { begins = λ long. held.begins refl; point = λ follows at. omega (arith, held.point follows at) }) more others woven then
+  comes_woven (on_faulty_call {position = position} {it = it} {trees = trees} {others = behind} at fault goes_on is called some wrong comes) before held more others woven then =
       moved refl refl (sym (append_assoc (sorts (spelled (front_trees it.len trees))) (sorts_left behind) woven))
-      (stays_woven trees (front_trees it.len trees) (after_trees it.len trees) (front_joined it.len trees) (by_subtree front it.delimiter it.input same) before more (splices behind ++ others) (sorts_left behind ++ woven)
+      (stays_woven trees (front_trees it.len trees) (after_trees it.len trees) (front_joined it.len trees) (ends_alone setting.root position trees it is) before more (splices behind ++ others) (sorts_left behind ++ woven)
       (λ b h. comes_woven comes b h more others woven then))
-  comes_woven (on_call {position = position} {known = known} {it = it} {arms = arms} {trees = trees} {held = inside} {others = behind} tree goes_on is called free makes comes may past) before held more others woven then =
-      moved (spelled_front trees (front_trees (len_in position it trees) trees) (rest_in position it trees) more (split_in position it trees)) refl
-      (sym (append_assoc (settled (marks 0 (placed_at position it trees (trees_left inside)))) (sorts_left behind) woven))
-      (gives_way (held.begins refl) (call_taken setting.root trees position it is (called_here setting known.macros it arms called)) may.1
-      (comes_woven past [] (held_none (rest_in position it trees) 0) more others woven then))
-  comes_woven (on_unwritten_call {position = position} {it = it} {trees = trees} {others = behind} tree at fault goes_on is called some free makes comes unwritten past) before held more others woven then =
-      moved refl refl (sym (append_assoc (sorts (spelled (front_trees (len_in position it trees) trees))) (sorts_left behind) woven))
-      (stays_woven trees (front_trees (len_in position it trees) trees) (rest_in position it trees) (split_in position it trees) (call_end setting.root trees position it is).0 before more (splices behind ++ others) (sorts_left behind ++ woven)
+  comes_woven (on_call {position = position} {known = known} {it = it} {arms = arms} {trees = trees} {others = behind} tree put goes_on is called makes comes so may past) before held more others woven then =
+      let attributes = attributes_in position it trees in
+      let call = after_trees it.attributes (whole_in position it trees) in
+      let rest = rest_in position it trees in
+      moved (spelled_parts setting.root trees position it is more) refl
+      (ap (λ ws. sorts (spelled attributes) ++ ws) (sym (append_assoc (settled (marks 0 put)) (sorts_left behind) woven))
+      ∙ sym (append_assoc (sorts (spelled attributes)) (settled (marks 0 put) ++ sorts_left behind) woven))
+      (keeps_all (spelled attributes) before (spelled call ++ (spelled rest ++ more)) (splices (becomes (begin_in it trees) (end_in position it trees) put behind) ++ others)
+      (settled (marks 0 put) ++ (sorts_left behind ++ woven))
+      (gives_way (held_attributes setting.root trees position it is before held) (call_taken setting.root trees position it is (called_here setting known.macros it arms called)) may.1
+      (comes_woven past [] (held_none rest 0) more others woven then)))
+  comes_woven (on_kept_call {position = position} {it = it} {trees = trees} {others = behind} tree at fault goes_on is called some makes comes kept past) before held more others woven then =
+      moved refl refl (sym (append_assoc (sorts (spelled (whole_in position it trees))) (sorts_left behind) woven))
+      (stays_woven trees (whole_in position it trees) (rest_in position it trees) (split_in position it trees) (whole_closed setting.root trees position it is) before more (splices behind ++ others) (sorts_left behind ++ woven)
       (λ b h. comes_woven past b h more others woven then))
 
   -- What comes of a whole text is woven into its pieces.

@@ -1,5 +1,5 @@
 -- What comes of a call.
-use Rattle.std.specs.Prelude.{◌≡◌, ◌<◌, ℕ, suc, Bool, false, List, None, Some}
+use Rattle.std.specs.Prelude.{◌≡◌, ◌<◌, ℕ, suc, List, None, Some}
 use Rattle.tt.specs.Forest.{Root}
 use Rattle.tt_expand.specs.declared.calling.Called.{Called}
 use Rattle.tt_expand.specs.declared.calling.Called.TheVariants as called
@@ -17,7 +17,7 @@ use Rattle.tt_macro_rules.specs.declared.macro_rules.Expansion.TheVariants as ex
 -- what arms make of a call, in which so many expansions may stand one inside the other: a tree, or what is wrong with it and where
 abbrev pub IsMade : (limit : ℕ) → List Arm → Call → Made → Type 0
 IsMade limit arms it (made.Tree tree) = (left : ℕ) × (limit ≡ suc left) × IsExpansion arms 0 0 it.input (expansion.Tree tree)
-IsMade limit arms it (made.Faulty at fault) = IsCallFault false limit arms it at fault
+IsMade limit arms it (made.Faulty at fault) = IsCallFault limit arms it at fault
 
 -- a tree is made only where an expansion may stand inside
 abbrev pub IsMadeWithin : (limit : ℕ) → Made → Type 0
@@ -30,22 +30,21 @@ IsCalledWithin limit called.Faulty = Unit {0}
 IsCalledWithin limit (called.Tree tree defined_at) = 0 < limit
 
 -- a call is wrong in some way, and that is found
-pub record IsFaulty (setting : Setting) (limit : ℕ) (is_conditional : Bool) (it : Call) (before after : Known) : Type 0 where
+pub record IsFaulty (setting : Setting) (limit : ℕ) (it : Call) (before after : Known) : Type 0 where
   pub macro : Macro
   pub arms : List Arm
   pub at : ℕ
   pub fault : MacroFault
   pub called : called_by setting before.macros it ≡ Some macro
   pub expands : macro.arms ≡ Some arms
-  pub wrong : IsCallFault is_conditional limit arms it at fault
+  pub wrong : IsCallFault limit arms it at fault
   pub found : after ≡ with_finding (found_of it macro at fault) before
 
 -- a call of a macro whose name stands at that byte in its definition becomes a tree
-pub record IsExpanded (setting : Setting) (limit : ℕ) (is_conditional : Bool) (it : Call) (tree : Root) (defined_at : ℕ) (before after : Known) : Type 0 where
+pub record IsExpanded (setting : Setting) (limit : ℕ) (it : Call) (tree : Root) (defined_at : ℕ) (before after : Known) : Type 0 where
   pub left : ℕ
   pub macro : Macro
   pub arms : List Arm
-  pub free : is_conditional ≡ false
   pub fits : limit ≡ suc left
   pub called : called_by setting before.macros it ≡ Some macro
   pub defined : macro.defined_at ≡ defined_at
@@ -54,8 +53,8 @@ pub record IsExpanded (setting : Setting) (limit : ℕ) (is_conditional : Bool) 
   pub known : after ≡ before
 
 -- what comes of a call, and what is known then: nothing where no arms expand it, something that is wrong, or a tree
-abbrev pub IsCalled : Setting → (limit : ℕ) → (is_conditional : Bool) → Call → Called → (before after : Known) → Type 0
-IsCalled setting limit is_conditional it called.Other before after =
+abbrev pub IsCalled : Setting → (limit : ℕ) → Call → Called → (before after : Known) → Type 0
+IsCalled setting limit it called.Other before after =
     (arms_of (called_by setting before.macros it) ≡ None) × (after ≡ known_behind it (called_by setting before.macros it) before)
-IsCalled setting limit is_conditional it called.Faulty before after = IsFaulty setting limit is_conditional it before after
-IsCalled setting limit is_conditional it (called.Tree tree defined_at) before after = IsExpanded setting limit is_conditional it tree defined_at before after
+IsCalled setting limit it called.Faulty before after = IsFaulty setting limit it before after
+IsCalled setting limit it (called.Tree tree defined_at) before after = IsExpanded setting limit it tree defined_at before after

@@ -20,13 +20,14 @@ use Rattle.tt_expand.specs.Coming.{Comes}
 use Rattle.tt_expand.specs.Findings.{is_warning}
 use Rattle.tt_expand.specs.Knowing.{Setting, Known, knows_nothing, with_finding}
 use Rattle.tt_expand.specs.Macros.{MayStand, IsUnwritten}
-use Rattle.tt_expand.specs.Outcomes.{Outcome, nothing, passes, enters, stays, becomes, trees_left, placed}
+use Rattle.tt_expand.specs.Outcomes.{Outcome, nothing, passes, enters, stays, becomes, trees_left}
 use Rattle.tt_items.specs.Positions.{begun as begun_among}
 use Rattle.tt_items.specs.declared.position.Siblings.TheVariants.{Items}
 use Rattle.tt_edit.specs.Places.{text_part}
 use Rattle.tt_edit.specs.Texts.{Replacement, Writing, begun, finished, with_all, IsReplaced, AreReplaced, FitAll}
 use Rattle.tt_expand.specs.Reading.{sorts_left}
-use Rattle.tt_expand.specs.Walks.{found_by}
+use Rattle.tt_expand.specs.Standing.{Stand, StandAs, IsKept}
+use Rattle.tt_expand.specs.Walks.{found_by, stand_of}
 use Rattle.tt_text.specs.Parsed.{IsParse}
 use Rattle.tt_text.specs.Refusal.{IsFaultOf, IsRefusal}
 use Rattle.tt_text.specs.Spelled.{Sort, spelled}
@@ -46,29 +47,36 @@ replacements (enters delimiter inside behind) = replacements inside ++ replaceme
 replacements (stays trees behind) = replacements behind
 replacements (becomes first last trees behind) = replacement first last trees ∷ replacements behind
 
--- the Rust text of trees that come of a call which begins at a byte, or why they have none
-abbrev pub IsTextOf : (call : Delimiter) → Forest → (begin : ℕ) → Written → Type 0
-IsTextOf call trees begin (made.Text text) = MayStand true call trees × (string_bytes text ≡ text_of trees)
-IsTextOf call trees begin (made.Faulty at fault) = IsUnwritten call trees begin at fault
+-- the Rust text of trees that stand in the place of a call which begins at a byte, or why they have none
+abbrev pub IsTextOf : (call : Delimiter) → (put : Forest) → (begin : ℕ) → Written → Type 0
+IsTextOf call put begin (made.Text text) = MayStand true call put × (string_bytes text ≡ text_of put)
+IsTextOf call put begin (made.Faulty at fault) = IsUnwritten call put begin at fault
+
+-- the Rust text of trees that come of a call, as they stand in its place, or why it stays
+abbrev pub IsCallText : Stand → (trees : Forest) → (begin : ℕ) → Written → Type 0
+IsCallText it trees begin (made.Text text) = (put : Forest) × StandAs it trees (Some put) × MayStand true it.delimiter put × (string_bytes text ≡ text_of put)
+IsCallText it trees begin (made.Faulty at fault) = IsKept true it trees begin at fault
 
 -- what comes of a call is written as Rust, or cannot be
 pub record IsInvocationText (setting : Setting) (limit : ℕ) (it : Invocation) (result : Written) (before after : Known) : Type 0 where
   pub outcome : Outcome
   pub comes : Comes setting false limit (begun_among it.siblings) 0 before it.tree.children after outcome
-  pub text : IsTextOf it.delimiter (placed it.is_statement it.delimiter (trees_left outcome)) (start_of it.first_span.range) result
+  pub text : IsCallText (stand_of it) (trees_left outcome) (start_of it.first_span.range) result
 
--- trees that come of a call take its place, where that is left of the source; or they are not written, that is found, and it stays
-abbrev pub IsPut : Invocation → Forest → (inside after : Known) → (old new : Writing) → Type 0
+-- trees that come of a call take its place, where that is left of the source; or it stays, and that is found
+abbrev pub IsPut : Invocation → (trees : Forest) → (inside after : Known) → (old new : Writing) → Type 0
 IsPut it trees inside after old new =
-    (MayStand true it.delimiter trees × (after ≡ inside) × IsReplaced (replacement it.first_span it.last_span trees) old new)
-    ⊎ ((at : ℕ) × (fault : MacroFault) × IsUnwritten it.delimiter trees (start_of it.first_span.range) at fault × (after ≡ with_finding (found_by it at fault) inside) × (new ≡ old))
+    ((put : Forest) × StandAs (stand_of it) trees (Some put) × MayStand true it.delimiter put × (after ≡ inside)
+    × IsReplaced (replacement it.first_span it.last_span put) old new)
+    ⊎ ((at : ℕ) × (fault : MacroFault) × IsKept true (stand_of it) trees (start_of it.first_span.range) at fault
+    × (after ≡ with_finding (found_by it at fault) inside) × (new ≡ old))
 
 -- what comes of a call does
 pub record IsInvocationWritten (setting : Setting) (limit : ℕ) (it : Invocation) (old new : Writing) (before after : Known) : Type 0 where
   pub inside : Known
   pub outcome : Outcome
   pub comes : Comes setting false limit (begun_among it.siblings) 0 before it.tree.children inside outcome
-  pub put : IsPut it (placed it.is_statement it.delimiter (trees_left outcome)) inside after old new
+  pub put : IsPut it (trees_left outcome) inside after old new
 
 -- nothing is written, and nothing more is known
 abbrev pub IsSame : (before after : Known) (old new : Writing) → Type 0

@@ -14,4 +14,5 @@ pub mod Places
 pub mod Reading
 pub mod Roots
 pub mod Scopes
+pub mod Standing
 pub mod Walks

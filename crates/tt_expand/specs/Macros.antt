@@ -97,11 +97,10 @@ IsInputFault arms it at wrong.NotWritable = ⊥
 IsInputFault arms it at wrong.TooLong = ⊥
 IsInputFault arms it at (wrong.TooLarge why) = ⊥
 
--- what is wrong with a call that arms expand, in which so many expansions may stand one inside the other; under a condition it is left
-abbrev pub IsCallFault : (is_conditional : Bool) → (limit : ℕ) → List Arm → Call → (at : ℕ) → MacroFault → Type 0
-IsCallFault true limit arms it at fault = (fault ≡ wrong.Conditional) × (at ≡ start_of it.name.span.range)
-IsCallFault false zero arms it at fault = (fault ≡ wrong.TooDeep) × (at ≡ start_of it.name.span.range)
-IsCallFault false (suc limit) arms it at fault = IsInputFault arms it at fault
+-- what is wrong with a call that arms expand, in which so many expansions may stand one inside the other
+abbrev pub IsCallFault : (limit : ℕ) → List Arm → Call → (at : ℕ) → MacroFault → Type 0
+IsCallFault zero arms it at fault = (fault ≡ wrong.TooDeep) × (at ≡ start_of it.name.span.range)
+IsCallFault (suc limit) arms it at fault = IsInputFault arms it at fault
 
 -- what is known behind a call that nothing expands: one of a macro that is left as it is, is found to be left
 abbrev pub known_behind : Call → Option Macro → Known → Known

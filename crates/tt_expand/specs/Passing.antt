@@ -1,7 +1,6 @@
 -- A call that stands first is passed.
 use Rattle.std.specs.Prelude.{◌≡◌, ℕ}
 use Rattle.tt.specs.Forest.{Forest, Root}
-use Rattle.tt.specs.Gluing.{after_trees}
 use Rattle.tt.specs.Iters.{rest_of}
 use Rattle.tt.specs.Views.{trees_of}
 use Rattle.tt_items.specs.declared.position.Position.{Position}
@@ -9,10 +8,9 @@ use Rattle.tt_expand.specs.declared.walk.Event.{Event}
 use Rattle.tt_expand.specs.declared.walk.Event.TheVariants as event
 use Rattle.tt_expand.specs.declared.walk.Invocation.{Invocation}
 use Rattle.tt_expand.specs.declared.walk.Walk.{Walk}
-use Rattle.tt_expand.specs.Coming.{begin_in, end_in}
+use Rattle.tt_expand.specs.Coming.{begin_in, end_in, stand_in, whole_in}
 use Rattle.tt_items.specs.Items.{Call}
-use Rattle.tt_items.specs.Positions.{is_statement, siblings_of_call}
-use Rattle.tt_expand.specs.Walks.{level_of, past, past_call}
+use Rattle.tt_expand.specs.Walks.{level_of, past, past_call, stand_of}
 use Rattle.tt_matcher.specs.Fragments.{front_trees, is_brace}
 
 -- a call that stands first stays as it is, and is passed
@@ -28,9 +26,8 @@ pub record IsInvocation (it : Call) (trees : Forest) (position : Position) (tree
   pub defined : invocation.defined_at ≡ defined_at
   pub first : invocation.first_span ≡ begin_in it trees
   pub last : invocation.last_span ≡ end_in position it trees
-  pub delimiter : invocation.delimiter ≡ it.delimiter
-  pub siblings : invocation.siblings ≡ siblings_of_call it.delimiter.kind (after_trees it.len trees) position
-  pub is_statement : invocation.is_statement ≡ is_statement it.delimiter.kind (after_trees it.len trees) position
+  pub whole : trees_of invocation.whole ≡ whole_in position it trees
+  pub stand : stand_of invocation ≡ stand_in position it trees
   pub makes : invocation.tree ≡ tree
 
 -- a call that stands first becomes that tree, and is passed

@@ -15,17 +15,19 @@ use Rattle.tt_expand.specs.declared.fault.MacroFault.{MacroFault}
 use Rattle.tt_expand.specs.declared.known.Known as known_in_code
 use Rattle.tt_items.specs.declared.position.Position.{Position}
 use Rattle.tt_items.specs.declared.position.Siblings.{Siblings}
-use Rattle.tt_matcher.specs.Fragments.{is_brace}
+use Rattle.tt_matcher.specs.Fragments.{front_trees, is_brace}
 use Rattle.tt_expand.specs.declared.walk.Event.{Event}
 use Rattle.tt_expand.specs.declared.walk.Event.TheVariants as event
 use Rattle.tt_expand.specs.declared.walk.Invocation.{Invocation}
 use Rattle.tt_expand.specs.declared.walk.Level as rust
 use Rattle.tt_expand.specs.declared.walk.Walk.{Walk}
 use Rattle.tt_expand.specs.Coming.{Comes, plain_behind, takes_in}
-use Rattle.tt_items.specs.Items.{Item, Call, item_in}
+use Rattle.tt_items.specs.Attributes.{item_at}
+use Rattle.tt_items.specs.Items.{Item, Call}
 use Rattle.tt_expand.specs.Knowing.{Setting, Known, IsKnown, with_finding, left_in_scope}
-use Rattle.tt_expand.specs.Macros.{MayStand, IsUnwritten}
-use Rattle.tt_expand.specs.Outcomes.{Outcome, nothing, passes, enters, stays, becomes, trees_left, placed}
+use Rattle.tt_expand.specs.Macros.{MayStand}
+use Rattle.tt_expand.specs.Outcomes.{Outcome, nothing, passes, enters, stays, becomes, trees_left}
+use Rattle.tt_expand.specs.Standing.{Stand, StandAs, IsKept}
 use Rattle.tt_items.specs.Positions.{begun as begun_among, first_in, behind, behind_leaf, behind_subtree, keeps_macros}
 
 -- what is left of the trees of a subtree, what stands before them, how many of them are taken as they are, where it closes, and how many
@@ -95,9 +97,9 @@ abbrev pub first_stay : Forest → List Outcome → List Outcome
 first_stay trees [] = []
 first_stay trees (others ∷ outer) = stays trees others ∷ outer
 
-abbrev pub first_becomes : (first last : Span) → Forest → List Outcome → List Outcome
-first_becomes first last trees [] = []
-first_becomes first last trees (others ∷ outer) = becomes first last trees others ∷ outer
+abbrev pub first_becomes : (attributes : Forest) → (first last : Span) → (put : Forest) → List Outcome → List Outcome
+first_becomes attributes first last put [] = []
+first_becomes attributes first last put (others ∷ outer) = stays attributes (becomes first last put others) ∷ outer
 
 -- the levels and what is known become others, and what comes of those, so grown, comes of these
 abbrev pub Leads : Setting → (in_text : Bool) → (limit : ℕ) → List Level → Known → (grown : List Outcome → List Outcome) → List Level → Known → Type 0
@@ -136,17 +138,29 @@ abbrev pub IsLeft : Walk → Option Span → Walk → Type 0
 IsLeft old None new = map level_of (reverse old.outer.items) ≡ []
 IsLeft old (Some close) new = (close ≡ old.level.close) × (map level_of (reverse old.outer.items) ≡ levels_of new)
 
+-- how a call stands that is expanded
+abbrev pub stand_of : Invocation → Stand
+stand_of it =
+    record {
+      attributes = front_trees it.attributes (trees_of it.whole);
+      len = it.attributes;
+      is_statement = it.is_statement;
+      siblings = it.siblings;
+      delimiter = it.delimiter;
+    }
+
 -- what is found in a call
 abbrev pub found_by : Invocation → (at : ℕ) → MacroFault → Finding
 found_by it at fault = record { name = it.name; at = at; fault = fault; defined_at = Some it.defined_at }
 
--- what comes then past a call of which those trees come: they stand in its place, where they may; and trees of the text stay, where they
--- are not written, which is found
+-- what comes then past a call of which those trees come: they stand in its place, where they can and may; or it stays, which is found
 pub record GoesPast (setting : Setting) (in_text : Bool) (limit : ℕ) (levels : List Level) (known : Known) (it : Invocation) (trees : Forest) (nexts : List Level) (inside : Known) : Type 0 where
-  pub stands : MayStand in_text it.delimiter trees → Leads setting in_text limit levels known (first_becomes it.first_span it.last_span trees) nexts inside
+  pub stands :
+      (put : Forest) → StandAs (stand_of it) trees (Some put) → MayStand in_text it.delimiter put
+      → Leads setting in_text limit levels known (first_becomes (stand_of it).attributes it.first_span it.last_span put) nexts inside
   pub stays :
-      in_text ≡ true → (at : ℕ) (fault : MacroFault) → IsUnwritten it.delimiter trees (start_of it.first_span.range) at fault
-      → (stay : Forest) × Leads setting in_text limit levels known (first_stay stay) nexts (with_finding (found_by it at fault) inside)
+      (at : ℕ) (fault : MacroFault) → IsKept in_text (stand_of it) trees (start_of it.first_span.range) at fault
+      → Leads setting in_text limit levels known (first_stay (trees_of it.whole)) nexts (with_finding (found_by it at fault) inside)
 
 -- what comes next in a walk, and what comes then
 abbrev pub IsNext : Setting → (in_text : Bool) → (limit : ℕ) → List Level → Known → Event → List Level → Known → Type 0
@@ -158,7 +172,7 @@ IsNext setting in_text limit levels known (event.Stays trees) nexts others = Lea
 IsNext setting in_text limit levels known (event.Invocation it) nexts others =
     (left : ℕ) × (limit ≡ suc left)
     × ((inside : Known) (held : Outcome) → Comes setting false left (begun_among it.siblings) 0 others it.tree.children inside held
-    → GoesPast setting in_text limit levels known it (placed it.is_statement it.delimiter (trees_left held)) nexts inside)
+    → GoesPast setting in_text limit levels known it (trees_left held) nexts inside)
 
 -- how levels become others: which are entered and left, and that less is left to do
 abbrev pub Steps : List Level → Event → List Level → Type 0
@@ -182,7 +196,7 @@ Goes may setting limit old before it new after =
 
 -- that stands first
 abbrev pub IsFirst : Item → (root : List ℕ) → Walk → Type 0
-IsFirst it root walk = item_in root (rest_of walk.level.rest) ≡ it
+IsFirst it root walk = item_at root walk.level.position (rest_of walk.level.rest) ≡ it
 
 -- that stands first, no tree is to be taken as it is, and calls are expanded still
 pub record IsAtItem (it : Item) (setting : Setting) (walk : Walk) (known : Known) : Type 0 where

@@ -1,10 +1,10 @@
 //! What comes of a call.
-ghost use Rattle.std.specs.Prelude.{◌≡◌, List, IfOk, OnOk, option_copied};
+ghost use Rattle.std.specs.Prelude.{◌≡◌, List, IfOk, OnOk, is_some, option_copied};
 ghost use Rattle.tt.specs.Iters.{rest_of};
 ghost use Rattle.tt_expand.specs.Calling.{IsMade, IsMadeWithin, IsCalled, IsCalledWithin};
 ghost use Rattle.tt_items.specs.Items.{call_of};
 ghost use Rattle.tt_expand.specs.Knowing.{Learns, setting_of};
-ghost use Rattle.tt_expand.specs.Macros.{called_by};
+ghost use Rattle.tt_expand.specs.Macros.{arms_of, called_by};
 ghost use Rattle.tt_expand.specs.Scopes.{Macro as MacroOf, AreReady, IsReadyIf};
 ghost use Rattle.tt_macro_rules.specs.Arms.{Arm};
 ghost use Rattle.tt_macro_rules.specs.Expansions.{AreMade};
@@ -80,17 +80,25 @@ fn called_by<'k>(setting: &Setting, scope: &'k Scope, call: &Call<'_>) -> Option
     }
 }
 
-/// What comes of a call, with so many expansions one inside the other, which may stand under a condition. What is wrong with it, or that it
-/// is left as it is, is found.
+/// Whether arms expand a call.
+pub(crate) fn is_expanded(setting: &Setting, scope: &Scope, call: &Call<'_>) -> bool
+    ensures { (macros : List MacroOf) → AreReady macros scope.now.macros.items → result ≡ is_some (arms_of (called_by (setting_of setting.now) macros (call_of call.now))) }
+{
+    match called_by(setting, scope, call) {
+        Some(it) => it.rules.is_some(),
+        None => false,
+    }
+}
+
+/// What comes of a call, with so many expansions one inside the other. What is wrong with it, or that it is left as it is, is found.
 pub(crate) fn expand_call(
     setting: &Setting,
     known: &mut Known,
     limit: usize,
-    is_conditional: bool,
     call: &Call<'_>,
 ) -> Result<Called, OutOfMemory>
     ensures limit { IfOk result (IsCalledWithin limit) }
-    ensures called { IfOk result (λ called. Learns known.old known.new (IsCalled (setting_of setting.now) limit is_conditional (call_of call.now) called)) }
+    ensures called { IfOk result (λ called. Learns known.old known.new (IsCalled (setting_of setting.now) limit (call_of call.now) called)) }
 {
     let name = &call.name.sym;
     let at = start_of(call.name.span);
@@ -102,10 +110,6 @@ pub(crate) fn expand_call(
         known.find(name, at, MacroFault::Left, Some(defined_at))?;
         return Ok(Called::Other);
     };
-    if is_conditional {
-        known.find(name, at, MacroFault::Conditional, Some(defined_at))?;
-        return Ok(Called::Faulty);
-    }
     match make(setting.alloc, limit, rules, call)? {
         Made::Tree(tree) => Ok(Called::Tree(tree, defined_at)),
         Made::Faulty(place, fault) => {

@@ -18,8 +18,9 @@ pub enum MacroFault {
     /// A call of a macro whose definition is no macro is left as it is.
     #[error("its definition is left as it is")]
     Left,
-    /// A call under `#[cfg(..)]` is left as it is, since all that comes of it would have to stand under that.
-    #[error("a condition stands before it")]
+    /// A call under `#[cfg(..)]` is left as it is, since what comes of it is no run of items or statements, before each of which that could
+    /// stand, or is nothing. It shows where the call begins.
+    #[error("a condition stands before it, and not before all that this becomes")]
     Conditional,
     /// No arm takes the input. Where that shows, the arm that comes farthest stops.
     #[error("no arm takes this")]

@@ -53,7 +53,7 @@ fn invocation_text(
     setting: &Setting,
     known: &mut Known,
     limit: usize,
-    invocation: &Invocation,
+    invocation: &Invocation<'_>,
 ) -> Result<Written, OutOfMemory>
     ensures { IfOk result (λ written. Learns known.old known.new (IsInvocationText (setting_of setting.now) limit invocation.now written)) }
 {
@@ -62,10 +62,13 @@ fn invocation_text(
         ..invocation.delimiter
     };
     let mut builder = TopSubtreeBuilder::new(setting.alloc, top)?;
-    place(setting, known, limit, invocation, &mut builder)?;
     let begin = start_of(invocation.first_span);
+    match place(setting, known, limit, invocation, &mut builder)? {
+        Some(fault) => return Ok(Written::Faulty(begin, fault)),
+        None => {}
+    }
     match builder.build() {
-        Ok(tree) => write_tree(setting.alloc, begin, invocation.delimiter, &tree),
+        Ok(tree) => Ok(write_tree(setting.alloc, begin, invocation.delimiter, &tree)?),
         Err(
             Refused {
                 fault: TtFault::Memory,
@@ -81,7 +84,7 @@ fn write_invocation(
     setting: &Setting,
     known: &mut Known,
     limit: usize,
-    invocation: &Invocation,
+    invocation: &Invocation<'_>,
     output: &mut Output<'_>,
 ) -> Result<(), OutOfMemory>
     ensures { OnOk result (Learns known.old known.new (IsInvocationWritten (setting_of setting.now) limit invocation.now (writing_of output.old) (writing_of output.new))) }

@@ -2,15 +2,16 @@
 ghost use Rattle.std.specs.Prelude.{◌≡◌, ◌∷◌, [], ℕ, IfOk, OnOk, if◌then◌else◌};
 ghost use Rattle.tt.specs.Iters.{rest_of};
 ghost use Rattle.tt.specs.Views.{trees_of};
-ghost use Rattle.tt_expand.specs.Coming.{is_conditional_in, named_behind, IsPlain};
+ghost use Rattle.tt_expand.specs.Coming.{begin_in, named_behind, IsPlain};
 ghost use Rattle.tt_edit.specs.Places.{begin_at};
 ghost use Rattle.tt_items.specs.Items.{defines, calls, definition_of, call_of};
 ghost use Rattle.tt_expand.specs.Knowing.{Setting as SettingOf, setting_of};
 ghost use Rattle.tt_expand.specs.Passing.{IsStay, IsInvoked};
-ghost use Rattle.tt_expand.specs.Walks.{level_of, levels_of, past_leaf, past_subtree, past, past_semicolon, begun, entered, IsLeft, IsAtItem, IsFirst, IsWithin, Steps, Goes};
+ghost use Rattle.tt.specs.Gluing.{after_trees};
+ghost use Rattle.tt_expand.specs.Walks.{stand_of, level_of, levels_of, past_leaf, past_subtree, past, past_semicolon, begun, entered, IsLeft, IsAtItem, IsFirst, IsWithin, Steps, Goes};
 ghost use Rattle.tt_matcher.specs.Fragments.{front_trees};
 
-use crate::calling::{Called, expand_call};
+use crate::calling::{Called, expand_call, is_expanded};
 use crate::defining::read;
 use crate::known::Known;
 use crate::memory::OutOfMemory;
@@ -21,7 +22,7 @@ use tt::{
     TtIter,
 };
 use tt_edit::begin_at;
-use tt_items::{Call, Definition, Item, Position, Siblings, is_at_punct, item_in};
+use tt_items::{Call, Definition, Item, Position, Siblings, is_at_punct, item_at};
 use tt_pattern::pass;
 
 /// What is left of the trees of a subtree.
@@ -39,9 +40,14 @@ pub(crate) struct Level<'a> {
 /// A call that is expanded: the name of its macro and the byte where that stands in its definition, where the call begins and ends, where
 /// its subtree stands, whether it is a statement or an item, and what comes of it and is among such siblings.
 #[derive(Drop)]
-pub(crate) struct Invocation {
+pub(crate) struct Invocation<'a> {
     pub(crate) name: Symbol,
     pub(crate) defined_at: u32,
+    /// All of its trees, with the attributes before it if it stands under a condition, and with the `;` that is a part of it.
+    pub(crate) whole: TokenTreesView<'a>,
+    /// How many of them are attributes.
+    pub(crate) attributes: usize,
+    /// Where it begins, behind those.
     pub(crate) first_span: Span,
     pub(crate) last_span: Span,
     pub(crate) delimiter: Delimiter,
@@ -60,7 +66,7 @@ pub(crate) enum Event<'a> {
     Closes(Span),
     /// Trees that stay with all that they hold.
     Stays(TokenTreesView<'a>),
-    Invocation(Invocation),
+    Invocation(Invocation<'a>),
 }
 
 /// A walk through trees.
@@ -135,14 +141,34 @@ impl<'a> Level<'a> {
         last
     }
 
-    // Whether a call that stands first stands under a condition.
-    fn is_conditional(&self, call: &Call<'_>) -> bool
-        ensures { result ≡ is_conditional_in self.now.position (call_of call.now) (rest_of self.now.rest) }
+    // Where a call that stands first begins, behind its attributes.
+    fn begin_of(&self, call: &Call<'_>) -> Span
+        ensures { result ≡ begin_in (call_of call.now) (rest_of self.now.rest) }
     {
         let mut behind = self.rest.remaining().iter();
-        pass(&mut behind, call.len);
-        self.position
-            .is_conditional(call.header.delimiter.kind, behind)
+        pass(&mut behind, call.attributes);
+        begin_at(&behind, call.name.span)
+    }
+}
+
+impl<'a> Invocation<'a> {
+    /// The attributes before it.
+    pub(crate) fn attributes(&self) -> TokenTreesView<'a>
+        ensures { trees_of result ≡ (stand_of self.now).attributes }
+    {
+        let mut trees = self.whole.iter();
+        let start = trees.savepoint();
+        pass(&mut trees, self.attributes);
+        trees.from_savepoint(start)
+    }
+
+    /// Its trees behind those.
+    pub(crate) fn call(&self) -> TokenTreesView<'a>
+        ensures { trees_of result ≡ after_trees self.now.attributes (trees_of self.now.whole) }
+    {
+        let mut trees = self.whole.iter();
+        pass(&mut trees, self.attributes);
+        trees.remaining()
     }
 }
 
@@ -204,7 +230,7 @@ impl<'a> Walk<'a> {
 fn next_tree<'a>(walk: &mut Walk<'a>, known: &mut Known) -> Result<Event<'a>, AllocError>
     ensures limit { IfOk result (λ event. (limit : ℕ) → IsWithin limit event) }
     ensures steps { IfOk result (λ event. Steps (levels_of walk.old) event (levels_of walk.new)) }
-    ensures next { IfOk result (λ event. (setting : SettingOf) (limit : ℕ) → Goes (λ before. IsPlain setting before walk.old.level.plain (rest_of walk.old.level.rest)) setting limit walk.old known.old event walk.new known.new) }
+    ensures next { IfOk result (λ event. (setting : SettingOf) (limit : ℕ) → Goes (λ before. IsPlain setting before walk.old.level.position walk.old.level.plain (rest_of walk.old.level.rest)) setting limit walk.old known.old event walk.new known.new) }
 {
     match walk.level.rest.peek() {
         None => {
@@ -261,15 +287,19 @@ fn invoke<'a>(
     let delimiter = call.header.delimiter;
     let kind = delimiter.kind;
     let position = walk.level.position;
-    let first_span = begin_at(&walk.level.rest, call.name.span);
+    let start = walk.level.rest.savepoint();
+    let first_span = walk.level.begin_of(call);
     walk.level.pass_all(call.len, kind == DelimiterKind::Brace);
     let behind = walk.level.rest.remaining();
     let takes = position.takes_semicolon(kind, behind.iter());
+    let last_span = walk.level.pass_semicolon(takes, delimiter.close);
     Ok(Event::Invocation(Invocation {
         name,
         defined_at,
+        whole: walk.level.rest.from_savepoint(start),
+        attributes: call.attributes,
         first_span,
-        last_span: walk.level.pass_semicolon(takes, delimiter.close),
+        last_span,
         delimiter,
         is_statement: position.is_statement(kind, behind.iter()),
         siblings: position.siblings_of_call(kind, behind.iter()),
@@ -277,7 +307,7 @@ fn invoke<'a>(
     }))
 }
 
-// Past a call that stands first, or into it.
+// Past a call that stands first, or into it, or into the attributes before it.
 fn next_call<'a>(
     walk: &mut Walk<'a>,
     setting: &Setting,
@@ -289,8 +319,11 @@ fn next_call<'a>(
     ensures steps { IfOk result (λ event. IsFirst (calls (call_of call.now)) setting.now.root walk.old → Steps (levels_of walk.old) event (levels_of walk.new)) }
     ensures next { IfOk result (λ event. Goes (IsAtItem (calls (call_of call.now)) (setting_of setting.now) walk.old) (setting_of setting.now) limit walk.old known.old event walk.new known.new) }
 {
-    let is_conditional = walk.level.is_conditional(call);
-    match expand_call(setting, known, limit, is_conditional, call)? {
+    if call.attributes > 0 && !is_expanded(setting, &known.scope, call) {
+        walk.level.plain = call.attributes;
+        return Ok(next_tree(walk, known)?);
+    }
+    match expand_call(setting, known, limit, call)? {
         Called::Tree(tree, defined_at) => Ok(invoke(walk, call, tree, defined_at)?),
         Called::Faulty => Ok(stay(walk, call)),
         Called::Other => {
@@ -318,7 +351,8 @@ pub(crate) fn next<'a>(
     if walk.level.plain > 0 || known.is_over {
         return Ok(next_tree(walk, known)?);
     }
-    match item_in(walk.level.rest.remaining().iter(), setting.root.as_str()) {
+    let trees = walk.level.rest.remaining().iter();
+    match item_at(walk.level.position, trees, setting.root.as_str()) {
         Item::Definition(definition) => next_definition(walk, setting, known, &definition),
         Item::Call(call) => next_call(walk, setting, known, limit, &call),
         Item::Other => Ok(next_tree(walk, known)?),

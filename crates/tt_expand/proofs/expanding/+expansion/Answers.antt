@@ -1,15 +1,29 @@
-use Rattle.std.proofs.Common.{[], ◌≡◌, ◌∙◌, ◌<◌, ◌+◌, ◌-◌, ℕ, false, suc, ◌∷◌, List, length, map, reverse, refl, ap, sym, subst, arith}
-use Rattle.tt.specs.Building.{Stack, append, depth, pushed, opened, closed, extended}
+use Rattle.std.proofs.Common.{rules, inr, ap₂, ◌≢◌, [], ◌≡◌, ◌∙◌, ◌<◌, ◌+◌, ◌-◌, ℕ, false, suc, ◌∷◌, List, length, map, reverse, refl, ap, sym, subst, arith}
+use Rattle.tt.specs.Building.{Stack, append, built, depth, pushed, opened, closed, extended}
 use Rattle.tt.specs.Forest.{Forest, end, leaf}
+use Rattle.tt.specs.Gluing.{after_trees}
 use Rattle.tt.specs.Iters.{rest_of}
+use Rattle.tt.specs.Span.{start_of}
+use Rattle.tt.specs.Stored.{IsWithinLimits}
+use Rattle.tt.specs.TreeFault.{IsTreeFault}
+use Rattle.tt.specs.Types.DelimiterKind.TheVariants.{Invisible}
+use Rattle.tt.specs.Types.TtFault.TheVariants as limit
 use Rattle.tt.specs.Views.{trees_of}
 use Rattle.tt_expand.specs.declared.walk.Event.TheVariants as event
 use Rattle.tt_expand.specs.Coming.{Comes}
-use Rattle.tt_expand.specs.Knowing.{Setting, setting_of}
-use Rattle.tt_expand.specs.Outcomes.{nothing, placed, trees_left}
+use Rattle.tt_conditions.specs.Spreads.{IsPutUnder}
+use Rattle.tt_expand.specs.Expanding.{IsAdded}
+use Rattle.tt_expand.specs.Knowing.{Setting, IsKnown, setting_of, with_finding}
+use Rattle.tt_expand.specs.Macros.{tree_of}
+use Rattle.tt_items.specs.Attributes.{conditions_of}
+use Rattle.tt_matcher.proofs.FrontTrees.{front_joined}
+use Rattle.tt_matcher.specs.Fragments.{front_trees}
+use Rattle.tt_template.proofs.Writes.{append-join}
+use Rattle.tt_expand.proofs.Placing.{added_under, built_alone, is_too_large, kept_under}
+use Rattle.tt_expand.specs.Outcomes.{nothing, trees_left}
 use Rattle.tt_items.specs.Positions.{begun as begun_among}
-use Rattle.tt_expand.specs.Walks.{Level, level_of, levels_of, closes_of, first_leaf, first_subtree, first_stay, first_becomes, Ends, Leads, IsNext, IsWithin, Steps}
-use Rattle.tt_expand.proofs.Finishing.{IsGoing, begins, ends_so, goes_on, goes_into, goes_out, finished_leaf, finished_stay, finished_becomes}
+use Rattle.tt_expand.specs.Walks.{Level, level_of, levels_of, stand_of, found_by, closes_of, first_leaf, first_subtree, first_stay, Ends, Leads, IsNext, IsWithin, Steps}
+use Rattle.tt_expand.proofs.Finishing.{IsGoing, begins, ends_so, goes_on, goes_into, goes_out, goes_past, finished_leaf, finished_stay}
 use Rattle.tt_expand.proofs.Rooting.{depth_append, is_above, depth_close}
 use Rattle.tt_expand.proofs.expanding.+expansion.Goals as goal
 
@@ -189,8 +203,8 @@ expand_trees-trees-preserved-in-Continue-branch-6 t c =
       top = ap (λ s. s.top) grown ∙ c.trees.invariant.top;
     }
 
-pub expand_trees-place-requires : goal.expand_trees-place-requires
-expand_trees-place-requires t c =
+pub expand_trees-pass_call-requires : goal.expand_trees-pass_call-requires
+expand_trees-pass_call-requires t c =
     let some : 0 < c.args.limit = subst (IsWithin c.args.limit) c.in-Invocation.is c.in_ok-next.ensures.limit in
     (omega (arith, some, c.decreases), tt)
 
@@ -219,19 +233,17 @@ expand_trees-trees-preserved t c =
           let (now, known, going) = c.trees.invariant.going before is in
           let (others, then, comes_next) = c.in_ok-next.ensures.next now known tt in
           let (left, fits, goes) = subst (λ e. IsNext setting false limit (level ∷ outer) now e (next ∷ nexts) others) c.in-Invocation.is (comes_next false) in
-          let (inside, ready, put) = c.in_ok-place-in-Invocation.ensures.placed others then in
+          let (after, ready, passed) = c.in_ok-pass_call-in-Invocation.ensures.passed others then in
           let back : limit - 1 ≡ left = omega (arith, fits) in
-          let comes : Comes setting false left (begun_among it.siblings) 0 others it.tree.children inside put.outcome =
-          subst (λ n. Comes setting false n (begun_among it.siblings) 0 others it.tree.children inside put.outcome) back put.comes in
-          let held : Forest = placed it.is_statement it.delimiter (trees_left put.outcome) in (
-            inside,
+          let comes : Comes setting false left (begun_among it.siblings) 0 others it.tree.children passed.inside passed.outcome =
+          subst (λ n. Comes setting false n (begun_among it.siblings) 0 others it.tree.children passed.inside passed.outcome) back passed.comes in (
+            after,
             ready,
-            subst (IsGoing setting limit c.args.siblings trees before old (next ∷ nexts) inside) (sym put.added)
-                (goes_on setting limit c.args.siblings trees before now inside old stack level next outer nexts going (first_becomes it.first_span it.last_span held) (append held stack)
-                ((goes inside put.outcome comes).stands tt) steps.0 (λ first more. finished_becomes level.close (closes_of outer) first more stack it.first_span it.last_span held)),
+            goes_past setting limit c.args.siblings trees before now after old stack level next outer nexts going it (trees_left passed.outcome) passed.inside c.pass_call.new.builder.stack
+                (goes passed.inside passed.outcome comes) passed.passed steps.0,
           );
-      entered = omega (arith, c.in_ok-place-in-Invocation.ensures.open, c.trees.invariant.entered, ap length steps.0);
-      top = c.in_ok-place-in-Invocation.ensures.top ∙ c.trees.invariant.top;
+      entered = omega (arith, c.in_ok-pass_call-in-Invocation.ensures.open, c.trees.invariant.entered, ap length steps.0);
+      top = c.in_ok-pass_call-in-Invocation.ensures.top ∙ c.trees.invariant.top;
     }
 
 pub place-expand_trees-requires : goal.place-expand_trees-requires
@@ -242,12 +254,97 @@ place-expand_trees-requires-2 t c = (omega (arith, c.decreases), tt)
 
 pub place-close-requires : goal.place-close-requires
 place-close-requires t c =
-    is_above c.expand_trees-2.new.builder.stack (depth c.args.builder.now.stack) (c.in_ok-expand_trees.ensures.open ∙ ap (λ s. depth s.stack) c.in_ok-open.ensures.ok)
+    is_above c.expand_trees-2.new.builder.stack (depth c.args.builder.now.stack) (c.in_ok-expand_trees-2.ensures.open ∙ ap (λ s. depth s.stack) c.in_ok-open.ensures.ok)
 
 pub place-returns-clause-open : goal.place-returns-clause-open
 place-returns-clause-open t c =
     let old = depth c.args.builder.now.stack in
     let span = c.args.invocation.now.delimiter.close in
     let inside = c.expand_trees-2.new.builder in
-    let deep : depth inside.stack ≡ suc old = c.in_ok-expand_trees.ensures.open ∙ ap (λ s. depth s.stack) c.in_ok-open.ensures.ok in
+    let deep : depth inside.stack ≡ suc old = c.in_ok-expand_trees-2.ensures.open ∙ ap (λ s. depth s.stack) c.in_ok-open.ensures.ok in
     ap (λ s. depth s.stack) c.in_ok-close.ensures.ok ∙ depth_close span inside.stack old deep
+
+pub pass_call-returns-in_ok-extend_with_tt-2-clause-open : goal.pass_call-returns-in_ok-extend_with_tt-2-clause-open
+pass_call-returns-in_ok-extend_with_tt-2-clause-open t c =
+    ap (λ s. depth s.stack) c.in_ok-extend_with_tt-2.ensures.ok ∙ depth_append (trees_of c.call.result) c.place.new.builder.stack ∙ c.in_ok-fault.ensures.open
+    ∙ ap (λ s. depth s.stack) c.in_ok-extend_with_tt.ensures.ok ∙ depth_append (trees_of c.attributes.result) c.args.builder.now.stack
+
+pub pass_call-returns-in_ok-extend_with_tt-2-clause-passed : goal.pass_call-returns-in_ok-extend_with_tt-2-clause-passed
+pass_call-returns-in_ok-extend_with_tt-2-clause-passed t c before is =
+    let it = c.args.invocation.now in
+    let fault = c.in-Some.fault in
+    let old : Stack = c.args.builder.now.stack in
+    let opened : Stack = c.extend_with_tt.new.self.stack in
+    let placed : Stack = c.place.new.builder.stack in
+    let whole : Forest = trees_of it.whole in
+    let (now, known, put) = c.in_ok-fault.ensures.placed before is in
+    let (misplaced, same) = subst (λ m. IsAdded (stand_of it) (trees_left put.outcome) m opened placed) c.in-Some.is put.added in
+    let front : opened ≡ append (front_trees it.attributes whole) old = ap (λ s. s.stack) c.in_ok-extend_with_tt.ensures.ok ∙ ap (λ f. append f old) c.attributes.ensures in
+    let added : c.extend_with_tt-in-Some.new.self.stack ≡ append whole old =
+    ap (λ s. s.stack) c.in_ok-extend_with_tt-2.ensures.ok ∙ ap₂ (λ f s. append f s) c.call.ensures (same ∙ front)
+    ∙ sym (append-join (front_trees it.attributes whole) (after_trees it.attributes whole) old) ∙ ap (λ f. append f old) (sym (front_joined it.attributes whole)) in (
+      with_finding (found_by it (start_of it.first_span.range) fault) now,
+      subst (λ n. IsKnown (with_finding (found_by it n fault) now) c.find.new.self) c.start_of-begin.ensures (c.in_ok-find.ensures now known),
+      record { inside = now; outcome = put.outcome; comes = put.comes; passed = inr (fault, misplaced, refl, added) },
+    )
+
+pub place_under-returns-in-Err : goal.place_under-returns-in-Err
+place_under-returns-in-Err t c = record {
+  top = refl;
+  «open» = refl;
+  placed = λ before is.
+      let it = c.args.invocation.now in
+      let why = c.in-Err.refused.fault in
+      let (after, ready, all) = c.in_ok-expand_trees.ensures.expanded before is in
+      let held : Forest = trees_left all.outcome in
+      let comes : Comes (setting_of c.args.setting.now) false c.args.limit (begun_among it.siblings) 0 before it.tree.children after all.outcome =
+      subst (λ f. Comes (setting_of c.args.setting.now) false c.args.limit (begun_among it.siblings) 0 before f after all.outcome) c.iter-trees.ensures all.comes in
+      let whole : built c.expand_trees.new.builder ≡ tree_of it.delimiter held =
+      built_alone (record it.delimiter { kind = Invisible }) c.in_ok-inner.inner c.expand_trees.new.builder held c.in_ok-inner.ensures.ok c.in_ok-expand_trees.ensures.top all.added in
+      let past : IsTreeFault (built c.expand_trees.new.builder) why = search rules in
+      let no_memory : why ≢ limit.Memory = search rules in (
+        after,
+        ready,
+        record {
+          outcome = all.outcome;
+          comes = comes;
+          added = (inr (is_too_large (stand_of it) held c.requires why (subst (λ r. IsTreeFault r why) whole past, no_memory)), refl);
+        },
+      );
+}
+
+pub place_under-returns-then-branch-clause-placed : goal.place_under-returns-then-branch-clause-placed
+place_under-returns-then-branch-clause-placed t c before is =
+    let it = c.args.invocation.now in
+    let (after, ready, all) = c.in_ok-expand_trees.ensures.expanded before is in
+    let held : Forest = trees_left all.outcome in
+    let comes : Comes (setting_of c.args.setting.now) false c.args.limit (begun_among it.siblings) 0 before it.tree.children after all.outcome =
+    subst (λ f. Comes (setting_of c.args.setting.now) false c.args.limit (begun_among it.siblings) 0 before f after all.outcome) c.iter-trees.ensures all.comes in
+    let whole : built c.expand_trees.new.builder ≡ tree_of it.delimiter held =
+    built_alone (record it.delimiter { kind = Invisible }) c.in_ok-inner.inner c.expand_trees.new.builder held c.in_ok-inner.ensures.ok c.in_ok-expand_trees.ensures.top all.added in
+    let tree : c.in-Ok.tree ≡ tree_of it.delimiter held = c.in-Ok.ensures.ok ∙ whole in
+    let trees : trees_of c.token_trees-trees.result ≡ held = c.token_trees-trees.ensures ∙ ap (λ r. r.children) tree in
+    let within : IsWithinLimits (tree_of it.delimiter held) = subst IsWithinLimits tree c.in-Ok.ensures.limits in
+    let under : IsPutUnder it.siblings it.delimiter (conditions_of (stand_of it).attributes) held c.in_ok-put_under.field-0 c.args.builder.now.stack c.put_under.new.builder.stack =
+    subst (λ f. IsPutUnder it.siblings it.delimiter (conditions_of (stand_of it).attributes) f c.in_ok-put_under.field-0 c.args.builder.now.stack c.put_under.new.builder.stack) trees
+    (subst (λ f. IsPutUnder it.siblings it.delimiter (conditions_of f) (trees_of c.token_trees-trees.result) c.in_ok-put_under.field-0 c.args.builder.now.stack c.put_under.new.builder.stack) c.attributes-attributes.ensures
+    c.in_ok-put_under.ensures.put) in
+    (after, ready, record { outcome = all.outcome; comes = comes; added = added_under (stand_of it) held c.requires within c.in_ok-put_under.field-0 c.args.builder.now.stack c.put_under.new.builder.stack under c.if-branch.true })
+
+pub place_under-returns-clause-placed : goal.place_under-returns-clause-placed
+place_under-returns-clause-placed t c before is =
+    let it = c.args.invocation.now in
+    let (after, ready, all) = c.in_ok-expand_trees.ensures.expanded before is in
+    let held : Forest = trees_left all.outcome in
+    let comes : Comes (setting_of c.args.setting.now) false c.args.limit (begun_among it.siblings) 0 before it.tree.children after all.outcome =
+    subst (λ f. Comes (setting_of c.args.setting.now) false c.args.limit (begun_among it.siblings) 0 before f after all.outcome) c.iter-trees.ensures all.comes in
+    let whole : built c.expand_trees.new.builder ≡ tree_of it.delimiter held =
+    built_alone (record it.delimiter { kind = Invisible }) c.in_ok-inner.inner c.expand_trees.new.builder held c.in_ok-inner.ensures.ok c.in_ok-expand_trees.ensures.top all.added in
+    let tree : c.in-Ok.tree ≡ tree_of it.delimiter held = c.in-Ok.ensures.ok ∙ whole in
+    let trees : trees_of c.token_trees-trees.result ≡ held = c.token_trees-trees.ensures ∙ ap (λ r. r.children) tree in
+    let within : IsWithinLimits (tree_of it.delimiter held) = subst IsWithinLimits tree c.in-Ok.ensures.limits in
+    let under : IsPutUnder it.siblings it.delimiter (conditions_of (stand_of it).attributes) held c.in_ok-put_under.field-0 c.args.builder.now.stack c.put_under.new.builder.stack =
+    subst (λ f. IsPutUnder it.siblings it.delimiter (conditions_of (stand_of it).attributes) f c.in_ok-put_under.field-0 c.args.builder.now.stack c.put_under.new.builder.stack) trees
+    (subst (λ f. IsPutUnder it.siblings it.delimiter (conditions_of f) (trees_of c.token_trees-trees.result) c.in_ok-put_under.field-0 c.args.builder.now.stack c.put_under.new.builder.stack) c.attributes-attributes.ensures
+    c.in_ok-put_under.ensures.put) in
+    (after, ready, record { outcome = all.outcome; comes = comes; added = kept_under (stand_of it) held c.requires within c.in_ok-put_under.field-0 c.args.builder.now.stack c.put_under.new.builder.stack under c.if-branch.false })

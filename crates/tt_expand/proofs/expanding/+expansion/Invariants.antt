@@ -8,10 +8,16 @@ use Rattle.tt_expand.proofs.Finishing.{IsGoing}
 use Rattle.tt_expand.proofs.expanding.+expansion.Given as goal
 
 abbrev pub decreases-expand_trees : goal.decreases-expand_trees
-decreases-expand_trees l = l.limit * 2
+decreases-expand_trees l = l.limit * 4
+
+abbrev pub decreases-place_under : goal.decreases-place_under
+decreases-place_under l = l.limit * 4 + 1
 
 abbrev pub decreases-place : goal.decreases-place
-decreases-place l = l.limit * 2 + 1
+decreases-place l = l.limit * 4 + 2
+
+abbrev pub decreases-pass_call : goal.decreases-pass_call
+decreases-pass_call l = l.limit * 4 + 3
 
 abbrev pub invariant-expand_trees-trees : goal.invariant-expand_trees-trees
 invariant-expand_trees-trees l =

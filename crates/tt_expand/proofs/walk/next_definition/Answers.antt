@@ -6,7 +6,7 @@ use Rattle.tt_expand.specs.Knowing.{setting_of}
 use Rattle.tt_expand.specs.Walks.{Level, level_of, past, first_stay, IsNext, Leads, Steps}
 use Rattle.tt_matcher.specs.Fragments.{front_trees}
 use Rattle.tt_expand.proofs.Leading.{leads_definition}
-use Rattle.tt_items.proofs.Lengths.{definition_less}
+use Rattle.tt_items.proofs.Conditions.{definition_at_less}
 use Rattle.tt_expand.proofs.walk.next_definition.Goals as goal
 
 pub returns-clause-next : goal.returns-clause-next
@@ -31,4 +31,4 @@ returns-clause-steps c there =
     let outer = map level_of (reverse c.args.walk.now.outer.items) in
     let it : Definition = definition_of c.args.definition.now in
     let now : level_of c.take_all.new.self ≡ past it.len true level = c.take_all.ensures.level in
-    subst (λ l. Steps (level ∷ outer) (event.Stays c.take_all.result) (l ∷ outer)) (sym now) (refl, omega (arith, definition_less c.args.setting.now.root level.rest it there))
+    subst (λ l. Steps (level ∷ outer) (event.Stays c.take_all.result) (l ∷ outer)) (sym now) (refl, omega (arith, definition_at_less c.args.setting.now.root level.position level.rest it there))
