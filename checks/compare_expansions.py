@@ -89,6 +89,11 @@ def without_parentheses(tokens):
     return [re.sub("[()]", "", it) for it in tokens if it not in ("(", ")")]
 
 
+def without_braces(tokens):
+    """The tokens that are none: under a condition an expression among statements stands in braces."""
+    return without_second([it for it in tokens if it not in ("{", "}")])
+
+
 def class_of(program, ours, theirs):
     """How two texts compare."""
     ours, theirs = tokens_of(program, ours), tokens_of(program, theirs)
@@ -100,6 +105,8 @@ def class_of(program, ours, theirs):
     ours, theirs = without_parentheses(ours), without_parentheses(theirs)
     if ours == theirs:
         return "agree but for parentheses"
+    if without_braces(ours) == without_braces(theirs):
+        return "agree but for braces"
     at = next((n for n, (a, b) in enumerate(zip(ours, theirs)) if a != b), min(len(ours), len(theirs)))
     return f"DIFFER: {' '.join(ours[max(0, at - 8) : at + 6])} | {' '.join(theirs[max(0, at - 8) : at + 6])}"
 

@@ -2,11 +2,14 @@
 
 A program prints the values that its macros write. Its macros write expressions, statements, items and macros; they have
 repetitions, several rules, and call themselves and each other; they are defined at the top, in modules and in functions.
+Some of their calls stand under conditions.
 """
 import random
 
 OPERATORS = ("+", "-", "*", "|", "&", "^")
 SEPARATORS = (",", ";", "=>", "")
+HOLD = ("all()", "not(any())", "any(all(), unix)")
+FAIL = ("any()", "not(all())", "all(any(), unix)")
 
 
 class Maker:
@@ -142,13 +145,36 @@ class Maker:
         self.lines.append(f"const {third}: i64 = 2 * {name}!();")
         self.values += [first, f"{module}::{second}", third]
 
+    def condition(self, holds):
+        """Attributes of which a condition is one."""
+        first = f"#[cfg({self.chance.choice(HOLD if holds else FAIL)})]"
+        return first + self.chance.choice(("", " ", f" #[cfg({self.chance.choice(HOLD)})]"))
+
+    def conditions(self, calls):
+        """Items and statements that macros write under conditions, of which some hold."""
+        items, steps, function = self.name("items"), self.name("steps"), self.name("f")
+        first, second = self.name("A"), self.name("A")
+        bump = f"{self.name('bump')}"
+        self.lines.append(f"macro_rules! {items} {{ ($a:ident $b:ident $v:literal) => {{ pub const $a: i64 = $v; pub const $b: i64 = $a {self.operator()} 1; }}; }}")
+        for holds in self.chance.sample((True, False), 2):
+            self.lines.append(f"{self.condition(holds)} {items}! {{ {first} {second} {self.number()} }}")
+        self.values += [first, second]
+        last = self.chance.choice(("", ";"))
+        self.lines.append(f"macro_rules! {bump} {{ ($x:ident) => {{ $x = $x {self.operator()} 1 }}; }}")
+        self.lines.append(
+            f"macro_rules! {steps} {{ ($x:ident $v:literal) => {{ let y = $v; {self.condition(True)} {bump}!($x); if y > 4 {{ $x += y }} $x = $x {self.operator()} y{last} }}; }}"
+        )
+        body = " ".join(f"{self.condition(holds)} {steps}!(x {self.number()});" for holds in self.chance.sample((True, True, False), 3))
+        self.lines.append(f"fn {function}() -> i64 {{ let mut x = {self.operand(calls)}; {body} x }}")
+        self.values.append(f"{function}()")
+
 
 def made(seed):
     """The program of a number."""
     maker = Maker(seed)
     calls = [make() for make in maker.chance.sample((maker.folding, maker.counting, maker.choosing), maker.chance.randint(1, 3))]
     for _ in range(maker.chance.randint(2, 6)):
-        what = maker.chance.choice(("statements", "constants", "defining", "modules"))
-        getattr(maker, what)(*([calls] if what in ("statements", "constants") else []))
+        what = maker.chance.choice(("statements", "constants", "conditions", "defining", "modules"))
+        getattr(maker, what)(*([calls] if what in ("statements", "constants", "conditions") else []))
     printed = "".join(f'    println!("{{}}", {it});\n' for it in maker.values)
     return "\n".join(maker.lines) + f"\n\nfn main() {{\n{printed}}}\n"
