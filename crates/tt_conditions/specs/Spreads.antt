@@ -1,11 +1,13 @@
 -- Parts under conditions.
-use Rattle.std.specs.Prelude.{◌≡◌, ℕ, zero, suc, Bool, true, false, List, [], ◌∷◌, Option, None, Some, is_some}
+use Rattle.std.specs.Prelude.{◌≡◌, ◌⊎◌, ℕ, zero, suc, Bool, true, false, List, [], ◌∷◌, Option, None, Some, is_some}
 use Rattle.tt.specs.Building.{Stack, append}
 use Rattle.tt.specs.Forest.{Forest, end, node, join}
 use Rattle.tt.specs.Gluing.{after_trees}
 use Rattle.tt.specs.Token.{delimiter}
 use Rattle.tt.specs.Types.Delimiter.{Delimiter}
 use Rattle.tt.specs.Types.DelimiterKind.TheVariants.{Brace}
+use Rattle.tt.specs.Types.TtFault.{TtFault}
+use Rattle.tt.specs.Types.TtFault.TheVariants as limit
 use Rattle.tt_conditions.specs.declared.part.Part.{Part}
 use Rattle.tt_conditions.specs.Parts.{AreParts}
 use Rattle.tt_items.specs.declared.position.Siblings.{Siblings}
@@ -42,6 +44,10 @@ AreUnder its braces conditions trees put = (parts : Option (List Part)) × ArePa
 abbrev pub append_if : Option Forest → Stack → Stack
 append_if None stack = stack
 append_if (Some trees) stack = append trees stack
+
+-- memory is wanting, or room for tokens
+abbrev pub IsWanting : TtFault → Type 0
+IsWanting fault = (fault ≡ limit.Memory) ⊎ (fault ≡ limit.TooManyTokens)
 
 -- they are added so, or nothing is
 pub record IsPutUnder (its : Siblings) (braces : Delimiter) (conditions trees : Forest) (is_put : Bool) (old new : Stack) : Type 0 where
