@@ -1,7 +1,7 @@
 #!/usr/bin/env python3
 """Times the packed form on one tree or on many in turn, alone or beside another program: compare.py [OPTION]..
 
-For each tree of items.py and each mode it runs `tt_bench MODE ROUNDS`, and prints the least time of all turns, in
+For each tree of items.py and each mode it runs `bench_store MODE ROUNDS`, and prints the least time of all turns, in
 nanoseconds for a token (for a child of the top where the mode is skip). With --together the lists of all the files stand
 one after another, so that each round works on the next tree, and what is printed is for a token of all of them. With
 --other the two programs take turns on the same trees, so that what disturbs one disturbs the other, and the ratio of
@@ -9,7 +9,7 @@ their times is printed too.
 
 The other program is given as a command, in which the words MODE, ROUNDS, SIZE and PROFILE stand for what is asked for:
 --other 'one MODE ROUNDS SIZE PROFILE'. Its standard input has the lines of the tree, which it need not read. It prints
-what tt_bench prints: nanoseconds, sum, bytes, parts and symbols.
+what bench_store prints: nanoseconds, sum, bytes, parts and symbols.
 """
 import argparse
 import re
@@ -27,8 +27,8 @@ MODES = "pack build rewrite flat flat_whole skip siblings siblings_whole walk sh
 SUMS_AGREE = {"flat", "skip", "siblings", "siblings_whole", "walk", "show", "equal"}
 # Instructions are counted over so many tokens at least.
 FEW_TOKENS = 2_000
-CRATE = Path(__file__).resolve().parent.parent / "crates" / "tt_bench"
-OURS = CRATE / "out" / "tt_bench"
+CRATE = Path(__file__).resolve().parent.parent / "crates" / "bench_store"
+OURS = CRATE / "out" / "bench_store"
 
 
 class Trees(NamedTuple):
@@ -145,7 +145,7 @@ def sizes_line(name, answer, on):
 def report(programs, on, options):
     """Prints the table of one tree, or of many in turn."""
     print(f"{on.profile}, {on.size} tokens" + f" of {on.count} trees" * (on.count > 1))
-    for name, program in zip(("tt_bench", "other"), programs):
+    for name, program in zip(("bench_store", "other"), programs):
         answer = program.answer("clone", 2, on)
         if answer is not None:
             print(sizes_line(name, answer, on))
@@ -179,7 +179,7 @@ def parsed():
     options.add_argument("--sizes", default="1000 100000", help="numbers of tokens")
     options.add_argument("--items", type=Path, nargs="+", help="files of item lines, in place of made trees")
     options.add_argument("--together", type=Path, nargs="+", help="files of item lines, whose trees take turns")
-    options.add_argument("--modes", default=MODES, help="modes of tt_bench")
+    options.add_argument("--modes", default=MODES, help="modes of bench_store")
     options.add_argument("--turns", type=int, default=3, help="how often each program is run")
     options.add_argument("--work", type=int, default=5_000_000, help="tokens of all rounds of a run")
     options.add_argument("--apart", action="store_true", help="each text of ours has a block of its own")

@@ -1,5 +1,5 @@
 #!/usr/bin/env python3
-"""The arms of a macro and an input for tt_macro_bench: macros.py KIND N
+"""The arms of a macro and an input for bench_texts: macros.py KIND N
 
 KIND is `pairs` (N pairs between commas, in one repetition), `tail` (a word, and N trees that a last repetition takes), `nested`
 (N words, in lists of five in lists of four in a list), or `many` (1,000 words, in N repetitions of any trees one behind the

@@ -1,7 +1,7 @@
 #!/usr/bin/env python3
 """Calls of macros in real source, one by one, beside rustc: compare_calls.py PROGRAM CRATE.. [--most N] [--rustc RUSTC] [--show WORD]
 
-PROGRAM is `tt_run`, and a CRATE is a folder with its source, or a file. Each call of a macro that the same file defines before it, or that one
+PROGRAM is `app_console`, and a CRATE is a folder with its source, or a file. Each call of a macro that the same file defines before it, or that one
 file of the crate alone defines, is given to `arms`, and to rustc with `stringify!` round the template of each rule; the number of the
 rule stands in front of each template. So what is compared is which rule answers, and the tokens that it writes. Of each definition so
 many calls as `--most` says are taken. It prints how many definitions are read, how many calls are of each class, and a line for each

@@ -4,7 +4,7 @@
 Short texts are made by chance from the table of docs/GRAMMAR.md, and half of them changed by a unit that is removed, doubled, put in
 place of another or swapped with the next; behind most stands `=>`, which no fragment takes. For each, rustc is given a macro
 `($f:FRAGMENT) => {}`: where the fragment ends before the end of the text, the compiler tells an error at the token behind it. Any other
-error is one of its own for the text. PROGRAM, `tt_run`, tells how many trees it takes; for the first N texts plain_grammar.py is asked
+error is one of its own for the text. PROGRAM, `app_console`, tells how many trees it takes; for the first N texts plain_grammar.py is asked
 too, and must tell the same. Where the numbers differ and rustc tells no error of its own, words are taken out of the text as long as
 that stays so. It prints how many texts are of each class, with the shortest of each, and the texts that such cuts lead to, with how
 many lead there. No part of the gate: it needs rustc (--rustc).

@@ -1,7 +1,7 @@
 #!/usr/bin/env python3
 """Macros made by chance, expanded by rustc too: compare_macros.py PROGRAM [--first SEED] [--macros N] [--rustc RUSTC]
 
-PROGRAM is `tt_macro_bench`. Each macro is given to rustc with `stringify!` round the templates of its arms, and what that prints is
+PROGRAM is `bench_texts`. Each macro is given to rustc with `stringify!` round the templates of its arms, and what that prints is
 compared with what `show` does, spaces put aside. It prints how many agree by what came of them, how many rustc refuses as a local
 ambiguity where the program goes on, and each macro that is answered otherwise, or told to stop at another token. Fragments that rustc parses (`block`) and those behind
 which it lets only some tokens stand (`vis`) are left out. No part of the gate: it needs rustc.

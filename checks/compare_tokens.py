@@ -1,12 +1,12 @@
 #!/usr/bin/env python3
-"""Compares the tokens of tt_lex with those that rustc's own lexer tells, field by field, and times both.
+"""Compares the tokens of syntax_lex with those that rustc's own lexer tells, field by field, and times both.
 
     compare_tokens.py PROGRAM files PATH..          each file `*.rs` under the paths, judged where it lies
     compare_tokens.py PROGRAM chance COUNT [SEED]   texts made by chance of the characters that matter
     compare_tokens.py PROGRAM characters            each character alone, and behind a letter
     compare_tokens.py PROGRAM time PATH..           processor time a byte of both, over all files under the paths in one text
 
-PROGRAM is the built tt_lex_bench (crates/tt_lex_bench/out/tt_lex_bench). rustc of 1.95 or later is to be on PATH: the step
+PROGRAM is the built bench_texts (crates/bench_texts/out/bench_texts). rustc of 1.95 or later is to be on PATH: the step
 of its lexer is exported by the compiler's own library, and a small program that calls it is compiled in a temporary folder.
 It is no stable interface, so a rustc whose tokens have other fields does not link, or tells nonsense. This script is no part
 of ./test. The last line tells how many texts and tokens agree; the status is 1 where any text differs.
@@ -276,9 +276,9 @@ def time_both(ours, theirs, paths):
     text = "\n".join(text for _, text in files(paths))
     size = len(text.encode())
     print(f"{size} bytes")
-    least = {"tt_lex": float("inf"), "rustc": float("inf")}
+    least = {"syntax_lex": float("inf"), "rustc": float("inf")}
     for _ in range(7):
-        for name, program in (("tt_lex", ours), ("rustc", theirs)):
+        for name, program in (("syntax_lex", ours), ("rustc", theirs)):
             seconds = (user_seconds(program, text, 6) - user_seconds(program, text, 1)) / 5
             least[name] = min(least[name], seconds)
     for name, seconds in least.items():

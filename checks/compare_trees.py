@@ -1,11 +1,11 @@
 #!/usr/bin/env python3
-"""Compares the trees of tt_text with the token trees that rustc makes of the same texts.
+"""Compares the trees of syntax_parse with the token trees that rustc makes of the same texts.
 
     compare_trees.py PROGRAM files PATH..           each file `*.rs` under the paths, judged where it lies
     compare_trees.py PROGRAM chance COUNT [SEED]    texts made by chance of the characters that matter
     compare_trees.py PROGRAM lines FILE             each line of a file
 
-PROGRAM is the built tt_text_bench (crates/tt_text_bench/out/tt_text_bench). rustc of 1.95 or later is to be on PATH: a
+PROGRAM is the built bench_texts (crates/bench_texts/out/bench_texts). rustc of 1.95 or later is to be on PATH: a
 procedural macro that is compiled in a temporary folder parses each text, and prints leaves, groups and spacing; a text is
 refused where that fails or tells an error. Texts that both take are then given to it once more as its input, for the bytes
 of each token. This script is no part of ./test. The last line tells how many texts and tokens agree; the status is 1 where

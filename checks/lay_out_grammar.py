@@ -1,5 +1,5 @@
 #!/usr/bin/env python3
-"""Makes the constant of tt_grammar, and what it is proved to be, from the lines of docs/GRAMMAR.md.
+"""Makes the constant of mbe_grammar, and what it is proved to be, from the lines of docs/GRAMMAR.md.
 
 usage: checks/lay_out_grammar.py, and then `rt fmt` in the crate
 
@@ -11,7 +11,7 @@ import pathlib
 import re
 
 TOP = pathlib.Path(__file__).resolve().parent.parent
-CRATE = TOP / "crates/tt_grammar"
+CRATE = TOP / "crates/mbe_grammar"
 WIDTH = 126
 
 WORDS = {"self": "SelfValue", "Self": "SelfType", "_": "Underscore", "macro_rules": "MacroRules"}
@@ -375,11 +375,11 @@ def definition(names):
     lines = ["-- Rust's grammar: what each name stands for, as docs/GRAMMAR.md has it. Made by checks/lay_out_grammar.py.",
              "use Rattle.std.specs.Prelude.{[], ◌∷◌, codes}",
              "use Rattle.tt.specs.Types.DelimiterKind.TheVariants.{Parenthesis, Brace, Bracket}",
-             "use Rattle.tt_grammar.specs.declared.test.Test.TheVariants as test",
-             "use Rattle.tt_grammar.specs.declared.words.Word.TheVariants as it",
-             "use Rattle.tt_grammar.specs.Expressions.{Expression, nothing, unit, name, many, never, maybe, ahead, all_of, one_of, word, "
+             "use Rattle.mbe_grammar.specs.declared.test.Test.TheVariants as test",
+             "use Rattle.mbe_grammar.specs.declared.words.Word.TheVariants as it",
+             "use Rattle.mbe_grammar.specs.Expressions.{Expression, nothing, unit, name, many, never, maybe, ahead, all_of, one_of, word, "
              "lifetime, subtree, sign, front}",
-             "use Rattle.tt_grammar.specs.Names.{Name, " + ", ".join(names) + "}", "",
+             "use Rattle.mbe_grammar.specs.Names.{Name, " + ", ".join(names) + "}", "",
              "-- what a name stands for", "abbrev pub stands : Name → Expression"]
     for name, (_, part) in names.items():
         lines += equation(f"stands {name}", expression_text(part))
@@ -389,10 +389,10 @@ def definition(names):
 def proof(names, places):
     lines = ["-- What each name of Rust's grammar stands for is laid out as the table has it. Made by checks/lay_out_grammar.py.",
              "use Rattle.std.proofs.Common.{ℕ, refl}",
-             "use Rattle.tt_grammar.specs.declared.rust.TheConstants.{RULES}",
-             "use Rattle.tt_grammar.specs.Layout.{AreLaid}",
-             "use Rattle.tt_grammar.specs.Names.{start, " + ", ".join(names) + "}",
-             "use Rattle.tt_grammar.specs.Rust.{stands}", "",
+             "use Rattle.mbe_grammar.specs.declared.rust.TheConstants.{RULES}",
+             "use Rattle.mbe_grammar.specs.Layout.{AreLaid}",
+             "use Rattle.mbe_grammar.specs.Names.{start, " + ", ".join(names) + "}",
+             "use Rattle.mbe_grammar.specs.Rust.{stands}", "",
              "-- Two parts at their places.",
              "both : {R : ℕ → ℕ → Type 0} {A B : ℕ → Type 0} (n m : ℕ) → R n m → A n → B m → (k : ℕ) × (l : ℕ) × R k l × A k × B l",
              "both n m e a b = (n, m, e, a, b)", "",

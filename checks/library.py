@@ -116,7 +116,7 @@ def try_tables(_room):
     """The tables of faults have the same names and numbers everywhere."""
     import cuvolemin
 
-    wanted = table("crates/tt_c/src/fault.rt", r"^    (\w+) = (\d+),")
+    wanted = table("crates/app_c/src/fault.rt", r"^    (\w+) = (\d+),")
     if len(wanted) < 60:
         raise Wrong("fault.rt has no table")
     for file, pattern in {

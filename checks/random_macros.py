@@ -1,7 +1,7 @@
 #!/usr/bin/env python3
 """Macros and inputs made by chance, expanded by brute force too: random_macros.py PROGRAM [--first SEED] [--macros N]
 
-PROGRAM is `tt_macro_bench`, whose `show` has to answer as plain_macros.py does, which lists all readings and shares no code with it.
+PROGRAM is `bench_texts`, whose `show` has to answer as plain_macros.py does, which lists all readings and shares no code with it.
 A line is printed for each 250 macros, `ok NAME`, and one for each that was answered otherwise, `FAILED NAME: WHY`; the status is 1
 where there was one. The same seeds make the same macros.
 """

@@ -1,7 +1,7 @@
 #!/usr/bin/env python3
 """Each request for memory of each call refused in turn: sweep.py PROGRAM LIBRARY
 
-PROGRAM is `tt_sweep_trees` or `tt_sweep_changes`, which make one call a run, and LIBRARY is checks/refuse.c. The first,
+PROGRAM is `test_sweep_trees` or `test_sweep_changes`, which make one call a run, and LIBRARY is checks/refuse.c. The first,
 second, .. request of the call is refused, until it makes no more of them. Behind each run as many blocks of memory live as
 in front of it. A line is printed for each call, `ok NAME` or `FAILED NAME: WHY`; the status is 1 where one failed. Calls that
 are wrong are made too, and it has to be noticed.
@@ -14,7 +14,7 @@ import tempfile
 
 # The calls of each program that take memory, by groups.
 TAKE_MEMORY = {
-    "tt_sweep_trees": {
+    "test_sweep_trees": {
         "made": (
             # of tokens
             "Symbol::new Ident::new Literal::new Literal::new_no_suffix token_to_literal",
@@ -29,7 +29,7 @@ TAKE_MEMORY = {
         "texts": ("parse_to_token_tree rust_text",),
         "levels": ("take",),
     },
-    "tt_sweep_changes": {
+    "test_sweep_changes": {
         # of a tree
         "edits": ("set_token change_every_ast_id change_every_ast_id_joined transform_tt",),
         # of a cursor
@@ -48,12 +48,12 @@ TAKE_MEMORY = {
 
 # Those that take none, some at a time.
 TAKE_NONE = {
-    "tt_sweep_trees": {
+    "test_sweep_trees": {
         "quiet": (
             "ranges tokens literals numbers stored setters trees texts views siblings expectations cursors",
         ),
     },
-    "tt_sweep_changes": {"quiet": ("builders",)},
+    "test_sweep_changes": {"quiet": ("builders",)},
 }
 
 # The lines that are written before the call ends: one before anything is made for it, and one on each side of the call.
@@ -130,7 +130,7 @@ class Sweep:
 
 # Calls that are wrong: whether each request is refused or all are, and what has to be said of it.
 FLAWS = {
-    "tt_sweep_trees": (
+    "test_sweep_trees": (
         ("faulty forgets_to_undo", "refuse_each", "what was left behind a refusal"),
         ("faulty always_refused", "refuse_each", "refused again"),
         ("faulty another_fault", "refuse_each", "another fault than Memory"),
@@ -143,7 +143,7 @@ FLAWS = {
         ("made no_such_call", "refuse_all", "what was given"),
         ("no_such_group", "refuse_all", "status 1"),
     ),
-    "tt_sweep_changes": (
+    "test_sweep_changes": (
         ("builders no_such_call", "refuse_all", "what was given"),
         ("no_such_group", "refuse_all", "status 1"),
     ),

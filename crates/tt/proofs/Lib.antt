@@ -17,3 +17,6 @@ pub mod Taking
 pub mod TextsLeft
 pub mod WorkStands
 pub mod Working
+pub mod FlatGrowing
+pub mod FlatClosing
+pub mod FlatBuilt

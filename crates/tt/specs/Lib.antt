@@ -48,3 +48,6 @@ pub mod Points
 pub mod Rewrites
 pub mod Types
 pub mod Work
+pub mod FlatFields
+pub mod FlatHeld
+pub mod OneFlatHeld

@@ -5,11 +5,13 @@
 
 pub mod buffer;
 mod builder;
+mod flat_builder;
 pub mod iter;
 mod printer;
 mod transform;
 
 pub use builder::{ExpectedDelimiters, SubtreeBuilderRestorePoint, TopSubtreeBuilder};
+pub use flat_builder::FlatBuilder;
 pub use printer::{debug_text, display_text, pretty};
 pub use transform::{TransformTtAction, transform_tt};
 pub use tt_base::{

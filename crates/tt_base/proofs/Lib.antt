@@ -1,3 +1,4 @@
+pub mod Appending
 mod BuildingRows
 pub mod CutLists
 mod DebugRows

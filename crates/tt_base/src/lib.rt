@@ -17,6 +17,7 @@ mod span;
 mod symbol;
 mod text;
 mod text_range;
+mod texts;
 mod token_tree;
 mod whole;
 
@@ -32,5 +33,6 @@ pub use scan::{LiteralScan, token_to_literal};
 pub use span::{ErasedFileAstId, FileId, Span, SpanAnchor, SpanPart, SyntaxContext};
 pub use symbol::Symbol;
 pub use text_range::{TextRange, TextSize};
+pub use texts::{Texts, new_symbol};
 pub use token_tree::TokenTree;
 pub use whole::is_one_subtree;

@@ -8,13 +8,13 @@ use Rattle.std.specs.Option.{unwrap_or}
 use Rattle.tt_base.specs.contracts.span.SpanPartEq.TheImpl.Laws as part_eq
 use Rattle.tt_base.specs.contracts.symbol.SymbolEq.TheImpl.Laws as symbol_eq
 use Rattle.tt_base.specs.declared.span.SpanPart.{SpanPart}
-use Rattle.tt_interner.proofs.UseCounts.{entry_at, number_at}
+use Rattle.tt_interned.proofs.UseCounts.{entry_at, number_at}
 use Rattle.tt_tables.proofs.Used.{uses-append, member_used}
 use Rattle.tt_interned.proofs.Naming.{KeepAll, keeps_front, all_stay, keep_all, named-push, named-set, named-take}
 use Rattle.tt_interned.proofs.Ordering.{keys_with, keys_cut, in_order_cut}
 use Rattle.tt_interned.proofs.Using.{uses_pushed, uses_cut, uses_set, same_uses_set, uses_removed, same_uses_removed}
 use Rattle.tt_interned.specs.declared.token.InternedToken.{InternedToken}
-use Rattle.tt_interner.specs.Entries.{with_entry, IsCut}
+use Rattle.tt_interned.specs.Entries.{with_entry, IsCut}
 use Rattle.tt_interned.specs.Held.{HeldToken, counted_parts, counted_symbols, parts_in, symbols_in}
 use Rattle.tt_interned.specs.Interned.{AreHeld, tables_of}
 use Rattle.tt_interned.specs.Names.{Names, AllName}

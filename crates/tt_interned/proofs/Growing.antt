@@ -35,8 +35,8 @@ use Rattle.tt_interned.specs.Held.{HeldToken, whole, opened, counted_parts, coun
 use Rattle.tt_interned.specs.Interned.{AreHeld, HasHeld, tables_of}
 use Rattle.tt_interned.specs.Missing.{NoWholeAt}
 use Rattle.tt_interned.specs.Names.{Names}
-use Rattle.tt_interner.specs.Entries.{with_entry}
-use Rattle.tt_interner.proofs.UseCounts.{uses-le}
+use Rattle.tt_interned.specs.Entries.{with_entry}
+use Rattle.tt_interned.proofs.UseCounts.{uses-le}
 use Rattle.tt_tables.proofs.Used.{uses-cons, uses-one}
 use Rattle.tt_tables.proofs.TokenTables.{part_sound, text_sound}
 use Rattle.tt_tables.specs.Counts.{number_in, CountsMore}

@@ -10,3 +10,7 @@ pub mod Packing
 pub mod Standing
 pub mod Taking
 pub mod Using
+-- Laws of numbers of uses, and of values at places.
+pub mod Interned
+pub mod Places
+pub mod UseCounts

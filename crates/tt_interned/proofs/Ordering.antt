@@ -5,9 +5,9 @@ use Rattle.std.proofs.lemmas.Option.{slice_get_within}
 use Rattle.std.specs.Cmp.{IsEquivalence}
 use Rattle.std.specs.List.{AllByRecursion, IsDistinct, list_any}
 use Rattle.std.specs.Map.{keys_of, values_of}
-use Rattle.tt_interner.proofs.UseCounts.{entry_at, number_at}
+use Rattle.tt_interned.proofs.UseCounts.{entry_at, number_at}
 use Rattle.tt_tables.proofs.Used.{uses-append}
-use Rattle.tt_interner.specs.Entries.{with_entry, IsCut}
+use Rattle.tt_interned.specs.Entries.{with_entry, IsCut}
 use Rattle.tt_tables.proofs.Different.{different-snoc, any-different, not_used, is_used}
 use Rattle.tt_tables.specs.Counts.{CountsUses}
 use Rattle.tt_tables.specs.TableOrder.{different, uses_of}

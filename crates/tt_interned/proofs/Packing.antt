@@ -8,7 +8,7 @@ use Rattle.tt_base.specs.contracts.span.SpanPartEq.TheImpl.Laws as part_eq
 use Rattle.tt_base.specs.contracts.symbol.SymbolEq.TheImpl.Laws as symbol_eq
 use Rattle.tt_base.specs.declared.span.SpanPart.{SpanPart}
 use Rattle.tt_base.specs.declared.token_tree.TokenTree.{TokenTree}
-use Rattle.tt_interner.proofs.UseCounts.{number_at}
+use Rattle.tt_interned.proofs.UseCounts.{number_at}
 use Rattle.tt_interned.specs.declared.token.InternedToken.{InternedToken}
 use Rattle.tt_interned.specs.declared.counted.CountedTokens.{CountedTokens}
 use Rattle.tt_interned.specs.Counted.{AreOf}

@@ -9,3 +9,6 @@ pub mod Missing
 pub mod Names
 pub mod OneNode
 pub mod OneList
+-- Different values at places, and how often each is used.
+pub mod Entries
+pub mod Interner

@@ -4,6 +4,7 @@
 #![tactic(auto)]
 
 mod counted;
+mod interner;
 mod node;
 mod numbers;
 mod token;
@@ -11,5 +12,6 @@ mod tokens;
 mod uncount;
 
 pub use counted::CountedTokens;
+pub use interner::Interner;
 pub use token::InternedToken;
 pub use tokens::InternedTokens;

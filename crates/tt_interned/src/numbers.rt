@@ -4,14 +4,14 @@ ghost use Rattle.std.specs.Map.{keys_of};
 ghost use Rattle.tt_base.specs.Fits.{SpanInRange};
 ghost use Rattle.tt_base.specs.Span.{part_of};
 ghost use Rattle.tt_codec.specs.SpanNumbers.{span_numbers};
-ghost use Rattle.tt_interner.specs.Entries.{with_entry};
-ghost use Rattle.tt_interner.specs.Interner.{entries_of};
+ghost use Rattle.tt_interned.specs.Entries.{with_entry};
+ghost use Rattle.tt_interned.specs.Interner.{entries_of};
 ghost use Rattle.tt_tables.specs.Uses.{same_part};
 
+use crate::interner::Interner;
 use std::alloc::AllocError;
 use tt_base::{Span, SpanPart, Symbol};
 use tt_codec::SpanNumbers;
-use tt_interner::Interner;
 
 /// A span in numbers. A part that is new gets a place, and no uses.
 #[inline(always)]

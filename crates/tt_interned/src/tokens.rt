@@ -14,11 +14,12 @@ ghost use Rattle.tt_interned.specs.Interned.{HasHeld, AreNamed};
 ghost use Rattle.tt_interned.specs.ListOf.{list_of};
 ghost use Rattle.tt_interned.specs.Missing.{NoOpenAt, NoHeaderAt, NoWholeAt};
 ghost use Rattle.tt_interned.specs.OneList.{HasHeld-prop};
-ghost use Rattle.tt_interner.specs.Interner.{entries_of};
+ghost use Rattle.tt_interned.specs.Interner.{entries_of};
 ghost use Rattle.tt_tables.specs.TableOrder.{different, uses_of};
 ghost use Rattle.tt_tables.specs.Uses.{same_part};
 
 use crate::counted::CountedTokens;
+use crate::interner::Interner;
 use crate::numbers::{span_numbers, symbol_place};
 use crate::token::InternedToken;
 use crate::uncount::uncount_all;
@@ -28,7 +29,6 @@ use tt_base::{
     DelimiterKind, Ident, Leaf, Literal, Punct, Span, SpanPart, Subtree, Symbol, TokenTree,
 };
 use tt_codec::{HeaderEntry, LeafEntry};
-use tt_interner::Interner;
 
 /// A list of tokens, of which headers may be open, with how often each part and each symbol is used. A contract sees
 /// what is held (`specs/Held`).

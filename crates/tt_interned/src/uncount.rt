@@ -5,14 +5,14 @@ ghost use Rattle.tt_base.specs.declared.span.SpanPart.{SpanPart as Part};
 ghost use Rattle.tt_interned.specs.Held.{HeldToken, counted_parts, counted_symbols, parts_in, symbols_in};
 ghost use Rattle.tt_interned.specs.Interned.{tables_of, CanTake, CanTakeAll};
 ghost use Rattle.tt_interned.specs.Names.{Names, AllName};
-ghost use Rattle.tt_interner.specs.Interner.{entries_of};
+ghost use Rattle.tt_interned.specs.Interner.{entries_of};
 ghost use Rattle.tt_tables.specs.Counts.{CountsMore};
 ghost use Rattle.tt_tables.specs.Uses.{same_part};
 
+use crate::interner::Interner;
 use crate::token::InternedToken;
 use tt_base::{SpanPart, Symbol};
 use tt_codec::LeafEntry;
-use tt_interner::Interner;
 
 // One use less of what a token uses, which has some.
 #[inline(always)]

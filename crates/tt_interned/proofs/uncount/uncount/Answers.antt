@@ -7,7 +7,7 @@ use Rattle.tt_interned.specs.declared.token.InternedToken.TheVariants as interne
 use Rattle.tt_interned.specs.Interned.{tables_of}
 use Rattle.tt_interned.specs.Names.{Names}
 use Rattle.tt_interned.proofs.Taking.{punct_uses, ident_uses, literal_uses, open_uses, header_uses, has_one, has_first, has_second, both_gone, one_gone}
-use Rattle.tt_interner.specs.Interner.{entries_of}
+use Rattle.tt_interned.specs.Interner.{entries_of}
 use Rattle.tt_tables.specs.Uses.{same_part}
 use Rattle.tt_interned.proofs.uncount.uncount.Goals as goal
 

@@ -1,7 +1,7 @@
 use Rattle.std.proofs.Common.{◌∙◌, bytes_eq, subst, arith, rules}
 use Rattle.tt_interned.specs.Held.{parts_in, symbols_in}
 use Rattle.tt_interned.proofs.Taking.{can_take_next, next_parts_gone, next_symbols_gone, all_taken}
-use Rattle.tt_interner.specs.Interner.{entries_of}
+use Rattle.tt_interned.specs.Interner.{entries_of}
 use Rattle.tt_tables.specs.Counts.{CountsMore}
 use Rattle.tt_tables.specs.Uses.{same_part}
 use Rattle.tt_interned.proofs.uncount.uncount_all.Goals as goal

@@ -5,7 +5,7 @@ use Rattle.tt_interned.specs.Held.{opened}
 use Rattle.tt_interned.specs.OneList.{held_is}
 use Rattle.tt_interned.proofs.Growing.{IsPlaced, IsUsed, seen, same_held, part_room, closed_held}
 use Rattle.tt_interned.proofs.Standing.{IsOpenAt, open_at, not_open_at, past_end, token_there}
-use Rattle.tt_interner.specs.Interner.{entries_of}
+use Rattle.tt_interned.specs.Interner.{entries_of}
 use Rattle.tt_tables.specs.Uses.{same_part}
 use Rattle.tt_interned.proofs.tokens.InternedTokens.close.Goals as goal
 

@@ -4,7 +4,7 @@ use Rattle.tt_interned.specs.OneList.{list_is}
 use Rattle.tt_interned.proofs.Growing.{seen}
 use Rattle.tt_interned.proofs.Opening.{all_whole}
 use Rattle.tt_interned.proofs.Packing.{counted_of, counted_from}
-use Rattle.tt_interner.proofs.Interned.{entries_distinct}
+use Rattle.tt_interned.proofs.Interned.{entries_distinct}
 use Rattle.tt_interned.proofs.tokens.InternedTokens.counted.Goals as goal
 
 pub invariant_of-result : goal.invariant_of-result

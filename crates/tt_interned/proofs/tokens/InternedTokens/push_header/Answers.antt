@@ -6,8 +6,8 @@ use Rattle.tt_codec.specs.declared.entry.HeaderEntry.{HeaderEntry}
 use Rattle.tt_interned.specs.Held.{whole}
 use Rattle.tt_interned.specs.OneList.{held_is}
 use Rattle.tt_interned.proofs.Growing.{IsPlaced, seen, same_held, part_noted, part_room_twice, place_later, header_held}
-use Rattle.tt_interner.proofs.UseCounts.{uses-le}
-use Rattle.tt_interner.specs.Interner.{entries_of}
+use Rattle.tt_interned.proofs.UseCounts.{uses-le}
+use Rattle.tt_interned.specs.Interner.{entries_of}
 use Rattle.tt_tables.specs.Uses.{same_part}
 use Rattle.tt_interned.proofs.tokens.InternedTokens.push_header.Goals as goal
 

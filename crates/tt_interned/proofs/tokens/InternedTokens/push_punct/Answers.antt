@@ -8,7 +8,7 @@ use Rattle.tt_interned.specs.declared.token.InternedToken.TheVariants as interne
 use Rattle.tt_interned.specs.Held.{whole}
 use Rattle.tt_interned.specs.OneList.{held_is}
 use Rattle.tt_interned.proofs.Growing.{IsPlaced, IsUsed, seen, same_held, part_room, punct_held}
-use Rattle.tt_interner.specs.Interner.{entries_of}
+use Rattle.tt_interned.specs.Interner.{entries_of}
 use Rattle.tt_tables.specs.Uses.{same_part}
 use Rattle.tt_interned.proofs.tokens.InternedTokens.push_punct.Goals as goal
 

@@ -8,7 +8,7 @@ use Rattle.tt_interned.proofs.Changing.{held_removed}
 use Rattle.tt_interned.proofs.Growing.{seen}
 use Rattle.tt_interned.proofs.Standing.{HeaderThere, closed_at, past_end, token_there, header_at, header_there}
 use Rattle.tt_interned.proofs.Taking.{has_first, has_second, both_gone}
-use Rattle.tt_interner.specs.Interner.{entries_of}
+use Rattle.tt_interned.specs.Interner.{entries_of}
 use Rattle.tt_tables.specs.Uses.{same_part}
 use Rattle.tt_interned.proofs.tokens.InternedTokens.remove_header.Goals as goal
 

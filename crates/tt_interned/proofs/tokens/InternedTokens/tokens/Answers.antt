@@ -1,7 +1,7 @@
 use Rattle.std.proofs.Common.{sym, subst}
 use Rattle.tt_interned.specs.Interned.{tables_of}
 use Rattle.tt_interned.specs.Names.{AllName}
-use Rattle.tt_interner.specs.Interner.{entries_of}
+use Rattle.tt_interned.specs.Interner.{entries_of}
 use Rattle.tt_interned.proofs.Growing.{seen}
 use Rattle.tt_interned.proofs.tokens.InternedTokens.tokens.Goals as goal
 

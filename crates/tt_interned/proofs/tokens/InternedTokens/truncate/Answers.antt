@@ -4,8 +4,8 @@ use Rattle.tt_interned.specs.OneList.{held_is}
 use Rattle.tt_interned.proofs.Changing.{held_cut}
 use Rattle.tt_interned.proofs.Growing.{seen}
 use Rattle.tt_interned.proofs.Standing.{rest_named, can_take_rest, first_of_all}
-use Rattle.tt_interner.proofs.Interned.{entries_distinct}
-use Rattle.tt_interner.specs.Interner.{entries_of}
+use Rattle.tt_interned.proofs.Interned.{entries_distinct}
+use Rattle.tt_interned.specs.Interner.{entries_of}
 use Rattle.tt_interned.proofs.tokens.InternedTokens.truncate.Goals as goal
 
 pub uncount_all-requires : goal.uncount_all-requires

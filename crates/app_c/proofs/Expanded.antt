@@ -1,0 +1,13 @@
+-- What comes of a text is told of the bytes that spell it.
+use Rattle.std.proofs.Common.{◌≡◌, ℕ, List, None, refl, subst}
+use Rattle.std.specs.Prelude.{IsUtf8, string_bytes}
+use Rattle.app_c.specs.ExpandedTexts.{IsExpandedText, IsUsual}
+use Rattle.expand_text.specs.Expansion.{IsExpanded, first_fault}
+use Rattle.expand_text.specs.declared.options.ExpandOptions.{ExpandOptions}
+use Rattle.expand_text.specs.declared.text.Expanded.{Expanded}
+
+-- A text is expanded in the usual way.
+pub is_expanded : (options : ExpandOptions) (source text : List ℕ) (expanded : Expanded) → IsUsual options → text ≡ source → IsUtf8 source
+    → IsExpanded options text expanded → first_fault expanded.findings.items ≡ None → IsExpandedText source (string_bytes expanded.text)
+is_expanded options source text expanded usual same utf8 is fine =
+    (utf8, (options, usual, record { expanded = expanded; is = subst (λ t. IsExpanded options t expanded) same is; fine = fine; made = refl }))

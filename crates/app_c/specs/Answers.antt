@@ -1,0 +1,33 @@
+-- What a caller finds behind a call: the output, how many bytes were or would be written, the place of a fault, and the answer.
+use Rattle.std.specs.Prelude.{◌≡◌, ◌⊎◌, ◌<◌, ◌≤◌, ◌++◌, ℕ, List, drop, length}
+use Rattle.app_c.specs.declared.failure.Failure.{Failure}
+use Rattle.app_c.specs.declared.fault.Fault.TheVariants.{NoRoom}
+use Rattle.app_c.specs.Faults.{number_of}
+
+-- the output holds these bytes, and behind them what stood there before
+pub record IsWritten (made before after : List ℕ) : Type 0 where
+  pub fits : length made ≤ length before
+  pub front : after ≡ made ++ drop (length made) before
+
+-- there is no room for these bytes, and the output is as it was
+pub record HasNoRoom (made before after : List ℕ) : Type 0 where
+  pub short : length before < length made
+  pub same : after ≡ before
+
+-- the caller is given these bytes and their number; or their number alone, where there is no room for them all
+pub record Gives (made before after : List ℕ) (written at result : ℕ) : Type 0 where
+  pub number : written ≡ length made
+  pub place : at ≡ 0
+  pub answer : ((result ≡ 0) × IsWritten made before after) ⊎ ((result ≡ number_of NoRoom) × HasNoRoom made before after)
+
+-- the caller is told of a fault and its place
+pub record Tells (failure : Failure) (written at result : ℕ) : Type 0 where
+  pub number : written ≡ 0
+  pub place : at ≡ failure.at
+  pub answer : result ≡ number_of failure.fault
+
+-- the caller is given bytes that are right; or told of a fault that is, and then the output is as it was
+abbrev pub Answers : (IsMade : List ℕ → Type 0) → (IsFailure : Failure → Type 0) → (before after : List ℕ) → (written at result : ℕ) → Type 0
+Answers IsMade IsFailure before after written at result =
+    ((made : List ℕ) × IsMade made × Gives made before after written at result)
+    ⊎ ((failure : Failure) × IsFailure failure × Tells failure written at result × (after ≡ before))

@@ -1,0 +1,32 @@
+//! Texts whose macros are expanded.
+ghost use Rattle.std.specs.Prelude.{IfOk, IfErr, string_bytes};
+ghost use Rattle.app_c.specs.ExpandedTexts.{IsExpandedText, IsNotExpanded, IsUsual};
+
+use crate::failure::{Failure, expand_text_failure};
+use crate::text::text_in;
+use expand_text::{ExpandOptions, USUAL_LIMIT, expand_text};
+use std::alloc::Global;
+
+// How a text is expanded.
+fn usual() -> ExpandOptions<'static>
+    ensures { IsUsual result }
+{
+    ExpandOptions {
+        limit: USUAL_LIMIT,
+        root: "crate",
+        everywhere: false,
+        only: None,
+    }
+}
+
+/// The text in which each call of a macro that is in scope is replaced by what comes of it.
+pub(crate) fn expanded_text(alloc: Global, text: &[u8]) -> Result<String, Failure>
+    ensures ok { IfOk result (λ made. IsExpandedText text.now (string_bytes made)) }
+    ensures err { IfErr result (IsNotExpanded text.now) }
+{
+    let text = text_in(text)?;
+    match expand_text(alloc, text, usual()) {
+        Ok(expanded) => Ok(expanded.text),
+        Err(error) => Err(expand_text_failure(error)),
+    }
+}

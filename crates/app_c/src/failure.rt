@@ -1,0 +1,254 @@
+//! Why a call gave no bytes, and where: what each fault of the libraries below is told as.
+ghost use Rattle.std.specs.Prelude.{◌≡◌};
+ghost use Rattle.app_c.specs.Failures.{arm_fault, bad_token, bytes_failure, expand_failure, expand_text_failure, fill_fault, input_failure, limit_fault, macro_fault, pattern_fault, placeless, rules_failure, syntax_failure, template_fault, text_failure, write_failure};
+
+use crate::fault::Fault;
+use expand_text::{ExpandTextError, MacroFault};
+use mbe_pattern::PatternError;
+use mbe_rules::{ArmFault, ExpandError, RulesError};
+use mbe_rules::{FillError, TemplateError};
+use syntax_parse::{BadToken, SyntaxFault, TextFault};
+use syntax_unparse::WriteFault;
+use tt::TtFault;
+use tt_bytes::BytesFault;
+
+/// Why a call gave no bytes, and the place where that shows.
+#[derive(Clone, Copy)]
+pub(crate) struct Failure {
+    pub(crate) fault: Fault,
+    pub(crate) at: usize,
+}
+
+// A fault that has no place.
+fn placeless(fault: Fault) -> Failure
+    ensures { result ≡ placeless fault }
+{
+    Failure { fault, at: 0 }
+}
+
+// What limit of trees is passed, or that memory is.
+fn limit_fault(fault: TtFault) -> Fault
+    ensures { result ≡ limit_fault fault }
+{
+    match fault {
+        TtFault::Memory => Fault::Memory,
+        TtFault::TooManyTokens => Fault::TooManyTokens,
+        TtFault::TooManySpanParts => Fault::TooManySpanParts,
+        TtFault::TooManySymbols => Fault::TooManySymbols,
+        TtFault::TooManyBytes => Fault::TooManyBytes,
+        _ => Fault::OtherLimit,
+    }
+}
+
+/// Of trees that are past a limit.
+pub(crate) fn limit_failure(fault: TtFault) -> Failure
+    ensures { result ≡ placeless (limit_fault fault) }
+{
+    placeless(limit_fault(fault))
+}
+
+// What is wrong with a token.
+fn bad_token(why: BadToken) -> Fault
+    ensures { result ≡ bad_token why }
+{
+    match why {
+        BadToken::UnterminatedComment => Fault::UnterminatedComment,
+        BadToken::UnterminatedLiteral => Fault::UnterminatedLiteral,
+        BadToken::RawWithoutQuote => Fault::RawWithoutQuote,
+        BadToken::TooManyHashes => Fault::TooManyHashes,
+        BadToken::SuffixTooLong => Fault::SuffixTooLong,
+        BadToken::NeverRaw => Fault::NeverRaw,
+        BadToken::UnknownCharacter => Fault::UnknownCharacter,
+        BadToken::UnknownPrefix => Fault::UnknownPrefix,
+        BadToken::InvalidIdent => Fault::InvalidIdent,
+        BadToken::GuardedPrefix => Fault::GuardedPrefix,
+        BadToken::NoDigits => Fault::NoDigits,
+        BadToken::EmptyExponent => Fault::EmptyExponent,
+        BadToken::FloatOfAnotherBase => Fault::FloatOfAnotherBase,
+        BadToken::ForeignDigit => Fault::ForeignDigit,
+        BadToken::BeyondAscii => Fault::BeyondAscii,
+        BadToken::BareReturn => Fault::BareReturn,
+        BadToken::UnknownEscape => Fault::UnknownEscape,
+        BadToken::BadHexEscape => Fault::BadHexEscape,
+        BadToken::HexEscapeTooLarge => Fault::HexEscapeTooLarge,
+        BadToken::BadUnicodeEscape => Fault::BadUnicodeEscape,
+        BadToken::WantsEscape => Fault::WantsEscape,
+        BadToken::EmptyChar => Fault::EmptyChar,
+        BadToken::SeveralChars => Fault::SeveralChars,
+        BadToken::NullInCStr => Fault::NullInCStr,
+        BadToken::LifetimeBeginsWithDigit => Fault::LifetimeBeginsWithDigit,
+    }
+}
+
+// Of tokens that are no trees.
+fn syntax_failure(fault: SyntaxFault) -> Failure
+    ensures { result ≡ syntax_failure fault }
+{
+    let (fault, at) = match fault {
+        SyntaxFault::BadToken { why, at } => (bad_token(why), at),
+        SyntaxFault::Unopened { at, .. } => (Fault::Unopened, at),
+        SyntaxFault::Mismatched { at, .. } => (Fault::Mismatched, at),
+        SyntaxFault::Unclosed { at, .. } => (Fault::Unclosed, at),
+    };
+    Failure {
+        fault,
+        at: at as usize,
+    }
+}
+
+/// Of a text that is refused.
+pub(crate) fn text_failure(fault: TextFault) -> Failure
+    ensures { result ≡ text_failure fault }
+{
+    match fault {
+        TextFault::Syntax(fault) => syntax_failure(fault),
+        TextFault::TooLong => placeless(Fault::TextTooLong),
+        TextFault::Limit(fault) => limit_failure(fault),
+    }
+}
+
+/// Of trees that are not written.
+pub(crate) fn write_failure(fault: WriteFault) -> Failure
+    ensures { result ≡ write_failure fault }
+{
+    match fault {
+        WriteFault::NotWritable { at } => Failure {
+            fault: Fault::NotWritable,
+            at,
+        },
+        WriteFault::TooLong => placeless(Fault::MadeTooLong),
+        WriteFault::Memory => placeless(Fault::Memory),
+    }
+}
+
+/// Of bytes that are those of no tree.
+pub(crate) fn bytes_failure(fault: BytesFault) -> Failure
+    ensures { result ≡ bytes_failure fault }
+{
+    let (fault, at) = match fault {
+        BytesFault::Memory => (Fault::Memory, 0),
+        BytesFault::TooShort(at) => (Fault::BytesTooShort, at),
+        BytesFault::OtherFormat(at) => (Fault::BytesOfOtherFormat, at),
+        BytesFault::NoText(at) => (Fault::BytesWithoutText, at),
+        BytesFault::NoTree(at) => (Fault::BytesWithoutTree, at),
+        BytesFault::StoredOtherwise(at) => (Fault::BytesStoredOtherwise, at),
+    };
+    Failure { fault, at }
+}
+
+/// Of the bytes of an input that are those of no tree.
+pub(crate) fn input_failure(fault: BytesFault) -> Failure
+    ensures { result ≡ input_failure fault }
+{
+    let (fault, at) = match fault {
+        BytesFault::Memory => (Fault::Memory, 0),
+        BytesFault::TooShort(at) => (Fault::InputTooShort, at),
+        BytesFault::OtherFormat(at) => (Fault::InputOfOtherFormat, at),
+        BytesFault::NoText(at) => (Fault::InputWithoutText, at),
+        BytesFault::NoTree(at) => (Fault::InputWithoutTree, at),
+        BytesFault::StoredOtherwise(at) => (Fault::InputStoredOtherwise, at),
+    };
+    Failure { fault, at }
+}
+
+// What is wrong with a pattern.
+fn pattern_fault(error: PatternError) -> Fault
+    ensures { result ≡ pattern_fault error }
+{
+    match error {
+        PatternError::BeginsNothing(_) => Fault::BeginsNothing,
+        PatternError::UnknownFragment(_) => Fault::UnknownFragment,
+        PatternError::NameTwice(_) => Fault::NameTwice,
+        PatternError::NeedlessSeparator(_) => Fault::NeedlessSeparator,
+        PatternError::EmptyRepetition(_) => Fault::EmptyRepetition,
+        PatternError::Memory => Fault::Memory,
+    }
+}
+
+// What is wrong with a template.
+fn template_fault(error: TemplateError) -> Fault
+    ensures { result ≡ template_fault error }
+{
+    match error {
+        TemplateError::StillRepeats(_) => Fault::StillRepeats,
+        TemplateError::NothingRepeats(_) => Fault::NothingRepeats,
+        TemplateError::Memory => Fault::Memory,
+    }
+}
+
+// What is wrong with an arm.
+fn arm_fault(fault: ArmFault) -> Fault
+    ensures { result ≡ arm_fault fault }
+{
+    match fault {
+        ArmFault::NoPattern(_) => Fault::NoPattern,
+        ArmFault::Pattern(error) => pattern_fault(error),
+        ArmFault::NoArrow(_) => Fault::NoArrow,
+        ArmFault::NoTemplate(_) => Fault::NoTemplate,
+        ArmFault::Template(error) => template_fault(error),
+        ArmFault::NoSemicolon(_) => Fault::NoSemicolon,
+        ArmFault::Memory => Fault::Memory,
+    }
+}
+
+/// Of trees that are no macro: with the number of the arm.
+pub(crate) fn rules_failure(error: RulesError) -> Failure
+    ensures { result ≡ rules_failure error }
+{
+    Failure {
+        fault: arm_fault(error.fault),
+        at: error.arm,
+    }
+}
+
+// Why a template is not filled.
+fn fill_fault(fault: FillError) -> Fault
+    ensures { result ≡ fill_fault fault }
+{
+    match fault {
+        FillError::LengthsDiffer(_) => Fault::LengthsDiffer,
+        FillError::NoRound(_) => Fault::NoRound,
+        FillError::Tree(fault) => limit_fault(fault),
+    }
+}
+
+/// Of a macro that does not expand an input: with the number of the arm.
+pub(crate) fn expand_failure(error: ExpandError) -> Failure
+    ensures { result ≡ expand_failure error }
+{
+    Failure {
+        fault: fill_fault(error.fault),
+        at: error.arm,
+    }
+}
+
+// What is wrong with a macro of a text, or with a call of one.
+fn macro_fault(fault: MacroFault) -> Fault
+    ensures { result ≡ macro_fault fault }
+{
+    match fault {
+        MacroFault::Definition(error) => arm_fault(error.fault),
+        MacroFault::Left | MacroFault::Conditional => Fault::Left,
+        MacroFault::NoMatch => Fault::NoMatch,
+        MacroFault::Ambiguous(_) => Fault::Ambiguous,
+        MacroFault::Expansion(error) => fill_fault(error.fault),
+        MacroFault::TooDeep => Fault::TooDeep,
+        MacroFault::NotWritable => Fault::NotWritable,
+        MacroFault::TooLong => Fault::MadeTooLong,
+        MacroFault::TooLarge(fault) => limit_fault(fault),
+    }
+}
+
+/// Of a text whose macros are not expanded.
+pub(crate) fn expand_text_failure(error: ExpandTextError) -> Failure
+    ensures { result ≡ expand_text_failure error }
+{
+    match error {
+        ExpandTextError::Text(fault) => text_failure(fault),
+        ExpandTextError::Macro(finding) => Failure {
+            fault: macro_fault(finding.fault),
+            at: finding.at as usize,
+        },
+        ExpandTextError::Memory => placeless(Fault::Memory),
+    }
+}

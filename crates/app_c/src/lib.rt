@@ -1,0 +1,114 @@
+//! Texts, trees in bytes and macros, for callers in other languages.
+//!
+//! Each function takes its input as slices, and writes into a slice of the caller. It answers 0, or the number of a `Fault`; `written` gets how
+//! many bytes are written, or would be where there is no room for them all, and `at` the place of the fault. Nothing is kept between calls.
+//! What contracts speak of stands in `specs/` of this crate.
+#![tactic(auto)]
+
+ghost use Rattle.app_c.specs.Answers.{Answers};
+ghost use Rattle.app_c.specs.Bytes.{IsChecked};
+ghost use Rattle.app_c.specs.ExpandedTexts.{IsExpandedText, IsNotExpanded};
+ghost use Rattle.app_c.specs.Expanding.{AreBytesOfExpansion, HasNoBytesOf};
+ghost use Rattle.app_c.specs.Texts.{AreBytesOfText, HasNone, HaveNoText, IsTextOfBytes};
+
+mod answer;
+mod bytes;
+mod expanding;
+mod failure;
+mod fault;
+mod macros;
+mod text;
+
+use crate::answer::{give, tell};
+use crate::bytes::tree_of_bytes;
+use crate::expanding::expanded_text;
+use crate::macros::expanded_bytes;
+use crate::text::{bytes_of_text, text_of_bytes};
+use std::alloc::Global;
+
+/// The bytes of the tree of a Rust text.
+#[unsafe(no_mangle)]
+pub extern "C" fn tt_text_to_bytes(
+    alloc: Global,
+    text: &[u8],
+    out: &mut [u8],
+    written: &mut usize,
+    at: &mut usize,
+) -> u32
+    ensures { Answers (AreBytesOfText text.now) (HasNone text.now) out.old out.new written.new at.new result }
+{
+    match bytes_of_text(alloc, text) {
+        Ok(bytes) => give(bytes.as_slice(), out, written, at),
+        Err(failure) => tell(failure, written, at),
+    }
+}
+
+/// The Rust text of the tree that has these bytes.
+#[unsafe(no_mangle)]
+pub extern "C" fn tt_bytes_to_text(
+    alloc: Global,
+    bytes: &[u8],
+    out: &mut [u8],
+    written: &mut usize,
+    at: &mut usize,
+) -> u32
+    ensures { Answers (IsTextOfBytes bytes.now) (HaveNoText bytes.now) out.old out.new written.new at.new result }
+{
+    match text_of_bytes(alloc, bytes) {
+        Ok(text) => give(text.as_bytes(), out, written, at),
+        Err(failure) => tell(failure, written, at),
+    }
+}
+
+/// The text in which each call of a macro that is in scope is replaced by what comes of it, in the usual way.
+#[unsafe(no_mangle)]
+pub extern "C" fn tt_expand_text(
+    alloc: Global,
+    text: &[u8],
+    out: &mut [u8],
+    written: &mut usize,
+    at: &mut usize,
+) -> u32
+    ensures { Answers (IsExpandedText text.now) (IsNotExpanded text.now) out.old out.new written.new at.new result }
+{
+    match expanded_text(alloc, text) {
+        Ok(text) => give(text.as_bytes(), out, written, at),
+        Err(failure) => tell(failure, written, at),
+    }
+}
+
+/// The bytes of what a macro makes of an input. Its arms and the input are trees in bytes.
+#[unsafe(no_mangle)]
+pub extern "C" fn tt_expand_bytes(
+    alloc: Global,
+    arms: &[u8],
+    input: &[u8],
+    out: &mut [u8],
+    written: &mut usize,
+    at: &mut usize,
+) -> u32
+    ensures { Answers (AreBytesOfExpansion arms.now input.now) (HasNoBytesOf arms.now input.now) out.old out.new written.new at.new result }
+{
+    match expanded_bytes(alloc, arms, input) {
+        Ok(bytes) => give(bytes.as_slice(), out, written, at),
+        Err(failure) => tell(failure, written, at),
+    }
+}
+
+/// Whether bytes are those of a tree.
+#[unsafe(no_mangle)]
+pub extern "C" fn tt_check_bytes(alloc: Global, bytes: &[u8], at: &mut usize) -> u32
+    ensures { IsChecked bytes.now at.new result }
+{
+    match tree_of_bytes(alloc, bytes) {
+        Ok(tree) => {
+            drop(tree);
+            *at = 0;
+            0
+        }
+        Err(failure) => {
+            *at = failure.at;
+            failure.fault.number()
+        }
+    }
+}

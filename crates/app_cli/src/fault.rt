@@ -1,0 +1,99 @@
+//! What is told of a text that has no tree.
+use crate::failure::Failure;
+use crate::style::style_of;
+use std::alloc::{AllocError, Global};
+use syntax_diagnostic::{Diagnostic, Level, SourceFile, Style, diagnostic_text};
+use syntax_parse::{SyntaxFault, TextFault};
+
+/// What is told of why the text of that name is refused.
+pub fn told(rt: &HostRuntime, name: &str, text: &str, fault: TextFault) -> Failure {
+    let alloc = rt.alloc();
+    match fault {
+        TextFault::Syntax(fault) => {
+            Failure::told(syntax_text(alloc, style_of(rt), name, text, fault))
+        }
+        _ => match format!(in alloc; "{name}: {fault}") {
+            Ok(message) => Failure::plain(rt, message.as_str()),
+            Err(_refused) => Failure::Memory,
+        },
+    }
+}
+
+// What is to be known beside it: where the bracket is opened that another one does not close.
+fn notes_of(
+    alloc: Global,
+    source: &SourceFile<'_>,
+    fault: SyntaxFault,
+) -> Result<Vec<String>, AllocError> {
+    let mut notes = Vec::new(alloc);
+    if let SyntaxFault::Mismatched { open, .. } = fault {
+        let spot = source.spot(open.at as usize);
+        let file = spot.file;
+        let place = spot.place;
+        let bracket = open.bracket.opening();
+        notes.push(format!(in alloc; "'{bracket}' is opened at {file}:{place}")?)?;
+    }
+    Ok(notes)
+}
+
+// What is told of a fault of the text of that name, by a message.
+fn fault_text<'x>(
+    alloc: Global,
+    style: Style,
+    name: &'x str,
+    text: &'x str,
+    message: &'x str,
+    fault: SyntaxFault,
+) -> Result<String, AllocError> {
+    let source = SourceFile::new(alloc, name, text)?;
+    let diagnostic = Diagnostic {
+        level: Level::Error,
+        message,
+        spot: Some(source.spot(byte_of(fault) as usize)),
+        notes: notes_of(alloc, &source, fault)?,
+        placed_note: None,
+    };
+    diagnostic_text(alloc, style, &diagnostic)
+}
+
+// What is told of a fault of the text of that name.
+fn syntax_text(
+    alloc: Global,
+    style: Style,
+    name: &str,
+    text: &str,
+    fault: SyntaxFault,
+) -> Result<String, AllocError> {
+    let message = message(alloc, fault)?;
+    fault_text(alloc, style, name, text, message.as_str(), fault)
+}
+
+// What is wrong.
+fn message(alloc: Global, fault: SyntaxFault) -> Result<String, AllocError> {
+    match fault {
+        SyntaxFault::BadToken { why, .. } => why.to_string(alloc),
+        SyntaxFault::Unopened { bracket, .. } => {
+            let bracket = bracket.closing();
+            format!(in alloc; "unopened '{bracket}'")
+        }
+        SyntaxFault::Mismatched { bracket, open, .. } => {
+            let closing = bracket.closing();
+            let opening = open.bracket.opening();
+            format!(in alloc; "'{closing}' does not close '{opening}'")
+        }
+        SyntaxFault::Unclosed { bracket, .. } => {
+            let bracket = bracket.opening();
+            format!(in alloc; "unclosed '{bracket}'")
+        }
+    }
+}
+
+// The byte where a fault is.
+fn byte_of(fault: SyntaxFault) -> u32 {
+    match fault {
+        SyntaxFault::BadToken { at, .. }
+        | SyntaxFault::Unopened { at, .. }
+        | SyntaxFault::Mismatched { at, .. }
+        | SyntaxFault::Unclosed { at, .. } => at,
+    }
+}

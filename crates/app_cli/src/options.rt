@@ -1,0 +1,43 @@
+//! How macros are to be expanded.
+use crate::arguments::{is_everywhere, limit_of, only_of, root_of};
+use crate::failure::Failure;
+use clap::ArgMatches;
+use expand_text::ExpandOptions;
+use syntax_lex::{MOST_TEXT_BYTES, TokenKind, first_token};
+
+// Whether a text is one name of Rust, and not raw.
+fn is_name(text: &str) -> bool {
+    if text.is_empty() || text.len() > MOST_TEXT_BYTES {
+        return false;
+    }
+    let token = first_token(text);
+    token.kind == TokenKind::Ident && token.len as usize == text.len()
+}
+
+// Refuses a value of an option that is no name.
+fn wants_name(rt: &HostRuntime, option: &str, value: &str) -> Result<(), Failure> {
+    if is_name(value) {
+        return Ok(());
+    }
+    let message = format!(in rt.alloc(); "{value:?} is no name, as {option} wants one")?;
+    Err(Failure::mistake(rt, message.as_str()))
+}
+
+/// How macros are to be expanded, or what is told where an option has no name that wants one.
+pub fn options_of<'a>(
+    rt: &HostRuntime,
+    matches: &ArgMatches<'a>,
+) -> Result<ExpandOptions<'a>, Failure> {
+    let root = root_of(matches);
+    wants_name(rt, "--crate", root)?;
+    let only = only_of(matches);
+    if let Some(name) = only {
+        wants_name(rt, "--only", name)?;
+    }
+    Ok(ExpandOptions {
+        limit: limit_of(matches),
+        root,
+        everywhere: is_everywhere(matches),
+        only,
+    })
+}

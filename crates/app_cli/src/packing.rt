@@ -1,0 +1,55 @@
+//! Trees as pieces of bytes, in files.
+use crate::failure::Failure;
+use crate::input::Input;
+use crate::tree_lines::tree_of;
+use std::fmt::Display;
+use std::fs;
+use std::io::Write;
+use syntax_unparse::rust_text;
+use tt_bytes::{from_bytes, to_bytes};
+
+// What is told of a file, in one line.
+fn of_file(rt: &HostRuntime, name: &str, what: impl Display + Drop) -> Failure {
+    match format!(in rt.alloc(); "{name}: {what}") {
+        Ok(message) => Failure::plain(rt, message.as_str()),
+        Err(_refused) => Failure::Memory,
+    }
+}
+
+/// Writes the tree of a text as one piece of bytes into a file. Where the text has no tree, the file is not touched.
+pub fn pack(rt: &HostRuntime, input: Input<'_>, out: &str) -> Result<(), Failure> {
+    let alloc = rt.alloc();
+    let bytes = input.bytes(rt)?;
+    let text = input.text(rt, bytes.as_slice())?;
+    let tree = tree_of(rt, input.name(), text)?;
+    let piece = match to_bytes(alloc, &tree) {
+        Ok(piece) => piece,
+        Err(fault) => return Err(of_file(rt, input.name(), fault)),
+    };
+    match fs::write(rt, out, piece.as_slice()) {
+        Ok(()) => Ok(()),
+        Err(error) => {
+            let message = format!(in alloc; "couldn't write {out}: {error}")?;
+            Err(Failure::plain(rt, message.as_str()))
+        }
+    }
+}
+
+/// Writes the tree of a piece of bytes as Rust text, and a line feed behind it where it is not empty.
+pub fn unpack(rt: &HostRuntime, input: Input<'_>) -> Result<(), Failure> {
+    let alloc = rt.alloc();
+    let bytes = input.bytes(rt)?;
+    let tree = match from_bytes(alloc, bytes.as_slice()) {
+        Ok(tree) => tree,
+        Err(fault) => return Err(of_file(rt, input.name(), fault)),
+    };
+    let mut text = match rust_text(alloc, tree.token_trees()) {
+        Ok(text) => text,
+        Err(fault) => return Err(of_file(rt, input.name(), fault)),
+    };
+    if !text.is_empty() {
+        text.push_str("\n")?;
+    }
+    rt.stdout().write_all(text.as_bytes())?;
+    Ok(())
+}

@@ -1,0 +1,86 @@
+//! What the program does.
+use crate::arguments::{drops_rules, file_of, files_of, out_of, parse};
+use crate::expanding::{check, expand};
+use crate::failure::Failure;
+use crate::fault::told;
+use crate::input::Input;
+use crate::options::options_of;
+use crate::packing::{pack, unpack};
+use crate::token_lines::write_tokens;
+use crate::tree_lines::{tree_of, write_tree};
+use clap::ArgMatches;
+use std::env;
+use std::io::{BufWriter, Write};
+use std::process::ExitCode;
+use syntax_lex::MOST_TEXT_BYTES;
+use syntax_parse::TextFault;
+
+/// Does what the arguments ask for, and gives the exit status.
+pub fn run(rt: &HostRuntime) -> Result<ExitCode, Failure> {
+    let words: Vec<String> = env::args(rt)?.collect(rt.alloc())?;
+    match parse(rt.alloc(), words.as_slice()) {
+        Ok(matches) => run_command(rt, &matches),
+        Err(error) => {
+            error.print(rt)?;
+            let mistake = error.use_stderr();
+            Ok(ExitCode::from(if mistake { 2 } else { 0 }))
+        }
+    }
+}
+
+// Does what a command asks for, and gives the exit status.
+fn run_command(rt: &HostRuntime, matches: &ArgMatches<'_>) -> Result<ExitCode, Failure> {
+    let Some((name, given)) = matches.subcommand() else {
+        return Ok(ExitCode::SUCCESS);
+    };
+    match name {
+        "expand" => {
+            let input = Input::new(file_of(given));
+            expand(rt, input, options_of(rt, given)?, drops_rules(given))
+        }
+        "check" => match files_of(given) {
+            Some(names) => check(rt, names, options_of(rt, given)?),
+            None => Ok(ExitCode::SUCCESS),
+        },
+        _ => {
+            run_on_file(rt, name, given)?;
+            Ok(ExitCode::SUCCESS)
+        }
+    }
+}
+
+// Does what a command of that name does with a file and no macros.
+fn run_on_file(rt: &HostRuntime, name: &str, given: &ArgMatches<'_>) -> Result<(), Failure> {
+    let input = Input::new(file_of(given));
+    match name {
+        "tokens" => tokens(rt, input),
+        "tree" => tree(rt, input),
+        "pack" => pack(rt, input, out_of(given)),
+        "unpack" => unpack(rt, input),
+        _ => Ok(()),
+    }
+}
+
+// Writes the tokens of a text.
+fn tokens(rt: &HostRuntime, input: Input<'_>) -> Result<(), Failure> {
+    let bytes = input.bytes(rt)?;
+    let text = input.text(rt, bytes.as_slice())?;
+    if text.len() > MOST_TEXT_BYTES {
+        return Err(told(rt, input.name(), text, TextFault::TooLong));
+    }
+    let mut out = BufWriter::new(rt.alloc(), rt.stdout())?;
+    write_tokens(&mut out, text)?;
+    out.flush()?;
+    Ok(())
+}
+
+// Writes the tree of a text.
+fn tree(rt: &HostRuntime, input: Input<'_>) -> Result<(), Failure> {
+    let bytes = input.bytes(rt)?;
+    let text = input.text(rt, bytes.as_slice())?;
+    let tree = tree_of(rt, input.name(), text)?;
+    let mut out = BufWriter::new(rt.alloc(), rt.stdout())?;
+    write_tree(&mut out, rt.alloc(), text, &tree)?;
+    out.flush()?;
+    Ok(())
+}

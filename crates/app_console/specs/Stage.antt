@@ -1,0 +1,25 @@
+-- Where a session and its writer are.
+use Rattle.std.specs.Prelude.{ℕ, Bool, List, Option}
+use Rattle.app_console.specs.declared.noted.Noted.{Noted}
+use Rattle.app_console.specs.Noted.{noted_failed}
+use Rattle.app_console.specs.Output.{text_told}
+use Rattle.app_console.specs.Progress.{Progress}
+use Rattle.app_console.specs.State.{State}
+
+-- the machine, the line that has begun, how many lines were answered, all that was told, and whether the writer has failed
+pub record Stage : Type 0 where
+  pub machine : State
+  pub begun : List ℕ
+  pub count : ℕ
+  pub told : Option (List ℕ)
+  pub failed : Bool
+
+-- the stage of a session and its writer
+abbrev pub stage_of : {W : Type 0} → (W → Option (List ℕ)) → Progress → Noted W → Stage
+stage_of contents session writer = record {
+  machine = session.machine;
+  begun = session.begun;
+  count = session.count;
+  told = text_told contents writer session.pending;
+  failed = noted_failed writer;
+}

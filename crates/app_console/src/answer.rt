@@ -1,0 +1,305 @@
+//! What the machine answers, in bytes.
+ghost use Rattle.std.specs.Prelude.{◌≡◌, ◌≤◌, ◌++◌, ◌∷◌, [], length, codes, decimal, Some, MatchResult, string_bytes, if◌then◌else◌};
+ghost use Rattle.tt_base.specs.declared.fault.TtFault.TheVariants.{Memory};
+
+use crate::arm_number::arm_fault_number;
+use arrayvec::ArrayString;
+use itoa::Buffer;
+use mbe_rule::RuleFault;
+use mbe_rules::FillError;
+use mbe_rules::RulesError;
+use std::alloc::AllocError;
+use std::marker::Model;
+use syntax_unparse::WriteFault;
+use tt_base::TtFault;
+use tt_bytes::BytesFault;
+
+// The most bytes of a line that is made without memory: a word, and two numbers of at most 20 digits.
+const MOST_SHORT_BYTES: usize = 49;
+
+#[derive(Drop)]
+enum Held {
+    Fixed(&'static [u8]),
+    Short(ArrayString<MOST_SHORT_BYTES>),
+    Built(String),
+}
+
+/// What the machine answers to one command: a line or several, each with its line feed.
+/// A contract sees its bytes.
+#[derive(Drop)]
+pub struct Answer {
+    held: Held,
+}
+
+impl Model for Answer {
+    ghost use Rattle.std.specs.Prelude.{ℕ, List};
+    ghost use Rattle.app_console.specs.Held.{held_bytes};
+
+    ghost Value = { List ℕ };
+
+    ghost view = { λ answer. held_bytes answer.held };
+}
+
+impl Answer {
+    ghost use Rattle.app_console.specs.Answer.{line, ok_line, empty_line, same_line, no_builder_line, none_open_line, still_open_line, yes_line, no_line, fault_line, no_match_line, rule_line, bytes_line};
+    ghost use Rattle.app_console.specs.Arms.{arm_line, rules_line, ambiguous_line, unfilled_line};
+    ghost use Rattle.app_console.specs.Building.{point_line, counts_line};
+    ghost use Rattle.app_console.specs.Writing.{unwritten_line};
+
+    /// The text of the answer, with the line feed at its end.
+    pub fn as_bytes(&self) -> &[u8]
+        ensures { result.now ≡ self.now }
+    {
+        match &self.held {
+            Held::Fixed(bytes) => *bytes,
+            Held::Short(text) => text.as_str().as_bytes(),
+            Held::Built(text) => text.as_bytes(),
+        }
+    }
+
+    fn fixed(bytes: &'static [u8]) -> Answer
+        ensures { result ≡ bytes.entry.now }
+    {
+        Answer {
+            held: Held::Fixed(bytes),
+        }
+    }
+
+    /// The lines of a text, which ends in a line feed; `fault 1` where memory for it was refused.
+    pub(crate) fn of_text(text: Result<String, AllocError>) -> Answer
+        ensures { MatchResult text (λ built. result ≡ string_bytes built) (λ _. result ≡ fault_line Memory) }
+    {
+        match text {
+            Ok(text) => Answer {
+                held: Held::Built(text),
+            },
+            Err(_) => Answer::fault(TtFault::Memory),
+        }
+    }
+
+    /// `point` and the number, made without memory.
+    pub(crate) fn point(number: u64) -> Answer
+        ensures { result ≡ point_line number }
+    {
+        let mut text = ArrayString::new();
+        text.push_str("point ");
+        text.push_str(Buffer::new().format(number));
+        text.push_str("\n");
+        Answer {
+            held: Held::Short(text),
+        }
+    }
+
+    /// `counts` and the two numbers, made without memory.
+    pub(crate) fn counts(parts: usize, symbols: usize) -> Answer
+        ensures { result ≡ counts_line parts symbols }
+    {
+        let mut text = ArrayString::new();
+        text.push_str("counts ");
+        text.push_str(Buffer::new().format(parts));
+        text.push_str(" ");
+        text.push_str(Buffer::new().format(symbols));
+        text.push_str("\n");
+        Answer {
+            held: Held::Short(text),
+        }
+    }
+
+    /// `ok`.
+    pub(crate) fn ok() -> Answer
+        ensures { result ≡ ok_line }
+    {
+        Answer::fixed(b"ok\n")
+    }
+
+    /// `empty`: a slot that was to be read holds no tree.
+    pub(crate) fn empty() -> Answer
+        ensures { result ≡ empty_line }
+    {
+        Answer::fixed(b"empty\n")
+    }
+
+    /// `same`: a slot's own tree was to be put into it.
+    pub(crate) fn same() -> Answer
+        ensures { result ≡ same_line }
+    {
+        Answer::fixed(b"same\n")
+    }
+
+    /// `no builder`: a command needs one.
+    pub(crate) fn no_builder() -> Answer
+        ensures { result ≡ no_builder_line }
+    {
+        Answer::fixed(b"no builder\n")
+    }
+
+    /// `none open`: no subtree can be closed.
+    pub(crate) fn none_open() -> Answer
+        ensures { result ≡ none_open_line }
+    {
+        Answer::fixed(b"none open\n")
+    }
+
+    /// `still open`: no tree can be built.
+    pub(crate) fn still_open() -> Answer
+        ensures { result ≡ still_open_line }
+    {
+        Answer::fixed(b"still open\n")
+    }
+
+    /// `yes` or `no`.
+    pub(crate) fn yes_or_no(yes: bool) -> Answer
+        ensures { result ≡ (if yes then yes_line else no_line) }
+    {
+        if yes {
+            Answer::fixed(b"yes\n")
+        } else {
+            Answer::fixed(b"no\n")
+        }
+    }
+
+    /// `ok`, or the fault.
+    pub(crate) fn ok_or_fault(done: Result<(), TtFault>) -> Answer
+        ensures { MatchResult done (λ _. result ≡ ok_line) (λ fault. result ≡ fault_line fault) }
+    {
+        match done {
+            Ok(()) => Answer::ok(),
+            Err(fault) => Answer::fault(fault),
+        }
+    }
+
+    /// `fault N`, made without memory.
+    pub(crate) fn fault(fault: TtFault) -> Answer
+        ensures { result ≡ fault_line fault }
+    {
+        Answer::fixed(match fault {
+            TtFault::Memory => b"fault 1\n",
+            TtFault::NotOneSubtree => b"fault 2\n",
+            TtFault::NoSuchPlace => b"fault 3\n",
+            TtFault::NotALeaf => b"fault 4\n",
+            TtFault::SuffixTooLong => b"fault 5\n",
+            TtFault::BadScan => b"fault 6\n",
+            TtFault::TooManyTokens => b"fault 7\n",
+            TtFault::TooManySpanParts => b"fault 8\n",
+            TtFault::TooManySymbols => b"fault 9\n",
+            TtFault::TooManyBytes => b"fault 10\n",
+            TtFault::PointsSpent => b"fault 11\n",
+        })
+    }
+
+    /// `no match`: the input is no instance of the pattern.
+    pub(crate) fn no_match() -> Answer
+        ensures { result ≡ no_match_line }
+    {
+        Answer::fixed(b"no match\n")
+    }
+
+    /// `rule N` for a fault of a rule, and `fault 1` where that is that memory was refused. Made without memory.
+    pub(crate) fn rule(fault: RuleFault) -> Answer
+        ensures { result ≡ rule_line fault }
+    {
+        Answer::fixed(match fault {
+            RuleFault::BadPattern => b"rule 1\n",
+            RuleFault::BadTemplate => b"rule 2\n",
+            RuleFault::DuplicateName => b"rule 3\n",
+            RuleFault::UnknownName => b"rule 4\n",
+            RuleFault::Memory => b"fault 1\n",
+        })
+    }
+
+    /// `ambiguous`: the input is an instance of a pattern by different readings.
+    pub(crate) fn ambiguous() -> Answer
+        ensures { result ≡ ambiguous_line }
+    {
+        Answer::fixed(b"ambiguous\n")
+    }
+
+    /// `rule`, the number of the arm and that of its fault, for trees that are no macro; `fault 1` where memory was refused. Made
+    /// without memory.
+    pub(crate) fn no_macro(error: RulesError) -> Answer
+        ensures { result ≡ rules_line error }
+    {
+        match arm_fault_number(error.fault) {
+            Some(number) => Answer::arm(error.arm, number),
+            None => Answer::fault(TtFault::Memory),
+        }
+    }
+
+    /// Why a template is not filled: `lengths`, or the fault.
+    pub(crate) fn unfilled(error: FillError) -> Answer
+        ensures { result ≡ unfilled_line error }
+    {
+        match error {
+            FillError::LengthsDiffer(_) | FillError::NoRound(_) => Answer::fixed(b"lengths\n"),
+            FillError::Tree(fault) => Answer::fault(fault),
+        }
+    }
+
+    /// Why bytes are those of no tree, and at which of them that is seen; `fault 1` where memory was refused. Made without
+    /// memory.
+    pub(crate) fn wrong_bytes(fault: BytesFault) -> Answer
+        ensures { result ≡ bytes_line fault }
+    {
+        match fault {
+            BytesFault::Memory => Answer::fault(TtFault::Memory),
+            BytesFault::TooShort(at) => Answer::bytes(at, " too short\n"),
+            BytesFault::OtherFormat(at) => Answer::bytes(at, " another format\n"),
+            BytesFault::NoText(at) => Answer::bytes(at, " no text\n"),
+            BytesFault::NoTree(at) => Answer::bytes(at, " no tree\n"),
+            BytesFault::StoredOtherwise(at) => Answer::bytes(at, " stored otherwise\n"),
+        }
+    }
+
+    /// Why a tree is not written as Rust text; `fault 1` where memory was refused. Made without memory.
+    pub(crate) fn unwritten(fault: WriteFault) -> Answer
+        ensures { result ≡ unwritten_line fault }
+    {
+        match fault {
+            WriteFault::NotWritable { at } => Answer::not_writable(at),
+            WriteFault::TooLong => Answer::fault(TtFault::TooManyBytes),
+            WriteFault::Memory => Answer::fault(TtFault::Memory),
+        }
+    }
+
+    // `not writable` and the flat place of the leaf.
+    fn not_writable(at: usize) -> Answer
+        ensures { result ≡ line (codes "not writable " ++ decimal at) }
+    {
+        let mut text = ArrayString::new();
+        text.push_str("not writable ");
+        text.push_str(Buffer::new().format(at));
+        text.push_str("\n");
+        Answer {
+            held: Held::Short(text),
+        }
+    }
+
+    // `rule` and the two numbers.
+    fn arm(arm: usize, number: usize) -> Answer
+        ensures { result ≡ arm_line arm (Some number) }
+    {
+        let mut text = ArrayString::new();
+        text.push_str("rule ");
+        text.push_str(Buffer::new().format(arm));
+        text.push_str(" ");
+        text.push_str(Buffer::new().format(number));
+        text.push_str("\n");
+        Answer {
+            held: Held::Short(text),
+        }
+    }
+
+    // `bytes`, the number, and what follows it, which is short.
+    fn bytes(at: usize, what: &str) -> Answer
+        requires { length what.now ≤ 18 }
+        ensures { result ≡ codes "bytes " ++ decimal at ++ what.now }
+    {
+        let mut text = ArrayString::new();
+        text.push_str("bytes ");
+        text.push_str(Buffer::new().format(at));
+        text.push_str(what);
+        Answer {
+            held: Held::Short(text),
+        }
+    }
+}

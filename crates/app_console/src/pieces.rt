@@ -1,0 +1,34 @@
+//! How many tokens stand between puncts of one character.
+ghost use Rattle.std.specs.Prelude.{◌≡◌, IfOk, string_bytes};
+ghost use Rattle.tt.specs.Iters.{tree_of};
+ghost use Rattle.app_console.specs.Pieces.{is_punct};
+ghost use Rattle.app_console.specs.ViewText.{split_text};
+
+use std::alloc::{AllocError, Global};
+use tt::{Leaf, TopSubtree, TtElement};
+
+/// How many tokens each piece has that is cut out between puncts of that character, below the top.
+pub(crate) fn piece_sizes(
+    alloc: Global,
+    tree: &TopSubtree,
+    char: char,
+) -> Result<String, AllocError>
+    ensures { IfOk result (λ text. string_bytes text ≡ split_text char tree.now) }
+{
+    let mut text = String::from_str(alloc, "split")?;
+    let pieces = tree.token_trees().split(
+        move |element|
+            ensures { result ≡ is_punct char (tree_of element.entry) }
+        {
+            match element {
+                TtElement::Leaf(Leaf::Punct(punct)) => punct.char == char,
+                _ => false,
+            }
+        },
+    );
+    for piece in pieces {
+        write!(text, " {}", piece.len())?;
+    }
+    text.push_str("\n")?;
+    Ok(text)
+}

@@ -1,0 +1,53 @@
+//! The forms in which a tree is shown, each one word.
+use crate::command::word::{Word, is, named};
+
+/// In which form a slot's tree is shown.
+#[derive(Debug, Clone, Copy, PartialEq, Eq)]
+pub enum View {
+    /// Its Display text.
+    Show,
+    /// Its `pretty` text.
+    Pretty,
+    /// Its Debug text.
+    Debug,
+    /// All its tokens.
+    Flat,
+    /// The tokens below the top, sibling by sibling.
+    Siblings,
+    /// The places of a walk through all of it.
+    Walk,
+    /// How many puncts below the top stand together as one, one after another.
+    Glue,
+    /// The bytes that are stored.
+    Bytes,
+    /// The span parts that are stored.
+    Parts,
+    /// The symbols that are stored.
+    Symbols,
+}
+
+impl Word for View {
+    ghost use Rattle.app_language.specs.Verb.{view_word};
+    ghost use Rattle.app_language.specs.WordLaws.{spaceless_view};
+
+    ghost spelling = { view_word };
+
+    ghost fits = { λ _. Unit {0} };
+
+    fn read(word: &[u8]) -> Option<View> {
+        named!(word;
+            b"show" => View::Show,
+            b"pretty" => View::Pretty,
+            b"debug" => View::Debug,
+            b"flat" => View::Flat,
+            b"siblings" => View::Siblings,
+            b"walk" => View::Walk,
+            b"glue" => View::Glue,
+            b"bytes" => View::Bytes,
+            b"parts" => View::Parts,
+            b"symbols" => View::Symbols
+        )
+    }
+
+    ghost has_no_space = { λ view _. spaceless_view view };
+}

@@ -1,0 +1,180 @@
+-- What stands first at a position: a call may be behind attributes that are a part of it, and a definition is not.
+use Rattle.std.proofs.Common.{◌≡◌, ◌<◌, ◌+◌, ℕ, Bool, true, false, List, Option, None, Some, inl, inr, ◌⊎◌, refl, ap, sym, subst, ◌∙◌, arith, cond, codes}
+use Rattle.std.specs.Prelude.{◌&&◌}
+use Rattle.tt.specs.Forest.{Forest, end, leaf, node, join, size}
+use Rattle.tt.specs.Gluing.{after_trees}
+use Rattle.tt.specs.Moves.{after_tree}
+use Rattle.tt.specs.Types.Delimiter.{Delimiter}
+use Rattle.tt.specs.Types.Ident.{Ident}
+use Rattle.expand_items.specs.Attributes.{attributes_len, begins_condition, item_at, standing, with_attributes}
+use Rattle.expand_items.specs.Items.{Definition, Call, Item, defines, calls, other, call_behind, call_from, call_in, definition_in, is_at_colons, is_at_root, item_from, item_in, name_in}
+use Rattle.expand_items.specs.Positions.{is_statement}
+use Rattle.expand_items.specs.declared.position.Position.{Position}
+use Rattle.expand_items.proofs.Attributes.{EndsWithNode, attributes_end}
+use Rattle.expand_items.proofs.Lengths.{call_long, definition_less, less_behind}
+use Rattle.mbe_matcher.specs.Fragments.{front_trees}
+use Rattle.mbe_pattern.proofs.Passing.{after_end}
+use Rattle.mbe_pattern.specs.Units.{is_at_punct}
+
+-- it is behind no attributes, if it is there
+abbrev IsBare : Option Call → Type 0
+IsBare None = Unit {0}
+IsBare (Some it) = it.attributes ≡ 0
+
+bare_behind : (before : ℕ) (elsewhere : Bool) (trees : Forest) → IsBare (call_behind before elsewhere trees)
+bare_behind before elsewhere trees = by (name_in trees) (is_at_punct (codes "!") (after_tree trees)) (after_trees 2 trees)
+  where
+    by : (name : Option Ident) (there : Bool) (behind : Forest) → IsBare (call_from before elsewhere name there behind)
+    by None there behind = tt
+    by (Some name) false behind = tt
+    by (Some name) true end = tt
+    by (Some name) true (leaf it rest) = tt
+    by (Some name) true (node delimiter children rest) = refl
+
+bare_in : (root : List ℕ) (trees : Forest) → IsBare (call_in root trees)
+bare_in root trees = by (is_at_colons trees) (is_at_root root trees && is_at_colons (after_tree trees))
+  where
+    by : (a b : Bool)
+        → IsBare (cond a (call_behind 2 true (after_trees 2 trees)) (cond b (call_behind 3 false (after_trees 3 trees)) (call_behind 0 false trees)))
+    by true b = bare_behind 2 true (after_trees 2 trees)
+    by false true = bare_behind 3 false (after_trees 3 trees)
+    by false false = bare_behind 0 false trees
+
+-- A call that stands first by itself has no attributes.
+pub bare_call : (root : List ℕ) (trees : Forest) (it : Call) → item_in root trees ≡ calls it → it.attributes ≡ 0
+bare_call root trees it is = by (definition_in trees) (call_in root trees) (bare_in root trees) is
+  where
+    by : (found : Option Definition) (call : Option Call) → IsBare call → item_from found call ≡ calls it → it.attributes ≡ 0
+    by None None bare e = absurd (cc e)
+    by None (Some c) bare e = subst (λ x. x.attributes ≡ 0) (same e) bare
+      where
+        same : calls c ≡ calls it → c ≡ it
+        same e = cc
+    by (Some d) call bare e = absurd (cc e)
+
+-- a call at a position is one behind its attributes
+pub record StandsBehind (root : List ℕ) (trees : Forest) (it : Call) : Type 0 where
+  pub bare : Call
+  pub stands : item_in root (after_trees it.attributes trees) ≡ calls bare
+  pub same : it ≡ with_attributes it.attributes bare
+
+-- the same, and these are none or all that stand first
+record Stands (root : List ℕ) (trees : Forest) (it : Call) : Type 0 where
+  behind : StandsBehind root trees it
+  attributes : (it.attributes ≡ 0) ⊎ (it.attributes ≡ attributes_len trees)
+
+-- A call by itself is behind no attributes.
+by_itself : (root : List ℕ) (trees : Forest) (it : Call) → item_in root trees ≡ calls it → Stands root trees it
+by_itself root trees it is =
+    let none : it.attributes ≡ 0 = bare_call root trees it is in
+    let len : it.len ≡ it.attributes + it.len = omega (arith, none) in
+    record {
+      behind =
+          record {
+            bare = it;
+            stands = subst (λ n. item_in root (after_trees n trees) ≡ calls it) (sym none) is;
+            same = ap (λ n. record it { len = n }) len;
+          };
+      attributes = inl none;
+    }
+
+-- A call behind all attributes that stand first has them as a part.
+behind_all : (root : List ℕ) (trees : Forest) (it bare : Call) → item_in root (after_trees (attributes_len trees) trees) ≡ calls bare
+    → with_attributes (attributes_len trees) bare ≡ it → Stands root trees it
+behind_all root trees it bare stands same =
+    let all : attributes_len trees ≡ it.attributes = ap (λ c. c.attributes) same in
+    record {
+      behind =
+          record {
+            bare = bare;
+            stands = subst (λ n. item_in root (after_trees n trees) ≡ calls bare) all stands;
+            same = sym same ∙ ap (λ n. with_attributes n bare) all;
+          };
+      attributes = inr (sym all);
+    }
+
+module _ (root : List ℕ) (position : Position) (trees : Forest) where
+  -- what stands behind all attributes
+  abbrev behind : Forest
+  behind = after_trees (attributes_len trees) trees
+
+  stands_there : (it : Call) → item_at root position trees ≡ calls it → Stands root trees it
+  stands_there it is = by (begins_condition position trees) is
+    where
+      judged : (bare : Call) (statement : Bool) → item_in root behind ≡ calls bare
+          → cond statement (calls (with_attributes (attributes_len trees) bare)) other ≡ calls it → Stands root trees it
+      judged bare true stands e = behind_all root trees it bare stands (same e)
+        where
+          same : calls (with_attributes (attributes_len trees) bare) ≡ calls it → with_attributes (attributes_len trees) bare ≡ it
+          same e = cc
+      judged bare false stands e = absurd (cc e)
+
+      found : (item : Item) → item_in root behind ≡ item → standing position (attributes_len trees) behind item ≡ calls it → Stands root trees it
+      found (defines d) stands e = absurd (cc e)
+      found (calls bare) stands e = judged bare (is_statement bare.delimiter.kind (after_trees bare.len behind) position) stands e
+      found other stands e = absurd (cc e)
+
+      by : (begins : Bool) → cond begins (standing position (attributes_len trees) behind (item_in root behind)) (item_in root trees) ≡ calls it
+          → Stands root trees it
+      by true e = found (item_in root behind) refl e
+      by false e = by_itself root trees it e
+
+  -- A call at a position is one behind its attributes.
+  pub call_at : (it : Call) → item_at root position trees ≡ calls it → StandsBehind root trees it
+  call_at it is = (stands_there it is).behind
+
+  -- A definition at a position is behind none.
+  pub definition_at : (it : Definition) → item_at root position trees ≡ defines it → item_in root trees ≡ defines it
+  definition_at it is = by (begins_condition position trees) is
+    where
+      judged : (bare : Call) (statement : Bool) → cond statement (calls (with_attributes (attributes_len trees) bare)) other ≡ defines it → ⊥
+      judged bare true e = cc e
+      judged bare false e = cc e
+
+      none : (item : Item) → standing position (attributes_len trees) behind item ≡ defines it → ⊥
+      none (defines d) e = cc e
+      none (calls bare) e = judged bare (is_statement bare.delimiter.kind (after_trees bare.len behind) position) e
+      none other e = cc e
+
+      by : (begins : Bool) → cond begins (standing position (attributes_len trees) behind (item_in root behind)) (item_in root trees) ≡ defines it
+          → item_in root trees ≡ defines it
+      by true e = absurd (none (item_in root behind) e)
+      by false e = e
+
+  -- Attributes before a call end with a subtree, if there are any.
+  pub attributes_closed : (it : Call) → item_at root position trees ≡ calls it
+      → (it.attributes ≡ 0) ⊎ ((front : Forest) × (delimiter : Delimiter) × (children : Forest) × (front_trees it.attributes trees ≡ join front (node delimiter children end)))
+  attributes_closed it is = by (stands_there it is).attributes
+    where
+      all : it.attributes ≡ attributes_len trees → (attributes_len trees ≡ 0) ⊎ EndsWithNode (front_trees (attributes_len trees) trees)
+          → (it.attributes ≡ 0) ⊎ EndsWithNode (front_trees it.attributes trees)
+      all same (inl none) = inl (same ∙ none)
+      all same (inr ends) = inr (subst (λ n. EndsWithNode (front_trees n trees)) (sym same) ends)
+
+      by : (it.attributes ≡ 0) ⊎ (it.attributes ≡ attributes_len trees) → (it.attributes ≡ 0) ⊎ EndsWithNode (front_trees it.attributes trees)
+      by (inl none) = inl none
+      by (inr same) = all same (attributes_end trees)
+
+  -- A call is some trees more than its attributes.
+  pub call_at_long : (it : Call) → item_at root position trees ≡ calls it → it.attributes < it.len
+  call_at_long it is =
+      let call = call_at it is in
+      omega (arith, ap (λ c. c.len) call.same, call_long root (after_trees it.attributes trees) call.bare call.stands)
+
+  -- Behind a call at a position fewer tokens are left.
+  pub call_at_less : (it : Call) → item_at root position trees ≡ calls it → size (after_trees it.len trees) < size trees
+  call_at_less it is = less_behind it.len trees (omega (arith, call_at_long it is)) there
+    where
+      call : StandsBehind root trees it
+      call = call_at it is
+
+      none : item_in root end ≡ calls call.bare → ⊥
+      none e = cc
+
+      there : trees ≡ end → ⊥
+      there e =
+          none (ap (item_in root) (sym (after_end it.attributes) ∙ ap (after_trees it.attributes) (sym e)) ∙ call.stands)
+
+  -- Behind a definition at a position fewer are left.
+  pub definition_at_less : (it : Definition) → item_at root position trees ≡ defines it → size (after_trees it.len trees) < size trees
+  definition_at_less it is = definition_less root trees it (definition_at it is)

@@ -1,0 +1,9 @@
+pub mod Adding
+pub mod PartRows
+pub mod Telling
+pub mod Lengths
+pub mod Rows
+pub mod Shapes
+pub mod Beginnings
+pub mod Attributes
+pub mod Conditions

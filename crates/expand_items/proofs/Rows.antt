@@ -1,0 +1,264 @@
+-- Worked items and positions. Each holds by computation.
+use Rattle.std.proofs.Common.{◌≡◌, ℕ, List, Bool, true, false, codes, refl}
+use Rattle.tt.specs.Forest.{Forest, end, join}
+use Rattle.tt.specs.Token.{delimiter}
+use Rattle.tt.specs.Types.DelimiterKind.{DelimiterKind}
+use Rattle.tt.specs.Types.DelimiterKind.TheVariants.{Parenthesis, Brace, Bracket}
+use Rattle.tt.specs.Types.Ident.{Ident}
+use Rattle.tt.specs.Types.IdentIsRaw.TheVariants.{No, Yes}
+use Rattle.tt.specs.Types.Leaf.{Leaf}
+use Rattle.tt.specs.Types.Leaf.TheVariants as leaf_of
+use Rattle.tt.specs.Types.Spacing.TheVariants.{Alone}
+use Rattle.tt_base.proofs.Samples.{span, punct, ident, subtree}
+use Rattle.expand_items.specs.Attributes.{attributes_len, conditions_of, item_at}
+use Rattle.expand_items.specs.Items.{Item, calls, defines, other, item_in}
+use Rattle.expand_items.specs.Positions.{begun, first_in, behind_leaf, behind_subtree, keeps_macros, is_statement, takes_semicolon, siblings_of_call}
+use Rattle.expand_items.specs.declared.position.Position.{Position}
+use Rattle.expand_items.specs.declared.position.Siblings.{Siblings}
+use Rattle.expand_items.specs.declared.position.Siblings.TheVariants.{Items, Statements, Others}
+use Rattle.mbe_pattern.proofs.Rows.{word, raw_word, alone, joint}
+
+-- `!`, `::`, and brackets with nothing in them, before others
+abbrev pub bang : Forest → Forest
+bang rest = alone 33 rest
+
+abbrev pub colons : Forest → Forest
+colons rest = joint 58 (alone 58 rest)
+
+abbrev pub brackets : DelimiterKind → Forest → Forest
+brackets kind rest = join (subtree kind end) rest
+
+-- `#` and a word in brackets, before others
+abbrev pub attribute : List ℕ → Forest → Forest
+attribute text rest = alone 35 (join (subtree Bracket (word text end)) rest)
+
+-- the name `m`, and a call of it with nothing in its parentheses, behind so many trees of attributes
+abbrev pub m_name : Ident
+m_name = record { sym = codes "m"; span = span 0 1; is_raw = No }
+
+abbrev pub m_call_behind : (attributes : ℕ) → (is_elsewhere : Bool) → (len : ℕ) → Item
+m_call_behind attributes is_elsewhere len =
+    calls (record {
+      attributes = attributes;
+      name = m_name;
+      is_elsewhere = is_elsewhere;
+      delimiter = delimiter Parenthesis (span 0 1) (span 1 1);
+      input = end;
+      len = len;
+    })
+
+abbrev pub m_call : (is_elsewhere : Bool) → (len : ℕ) → Item
+m_call is_elsewhere len = m_call_behind 0 is_elsewhere len
+
+-- a definition of it with no arms
+abbrev pub m_definition : DelimiterKind → (len : ℕ) → Item
+m_definition kind len = defines (record { name = m_name; delimiter = delimiter kind (span 0 1) (span 1 1); arms = end; len = len })
+
+-- `m!()`, `crate::m!()`, `k::m!()` where `k` stands for the root, and `::m!()`.
+call_first : item_in (codes "crate") (word (codes "m") (bang (brackets Parenthesis end))) ≡ m_call false 3
+call_first = refl
+
+call_rooted : item_in (codes "k") (word (codes "crate") (colons (word (codes "m") (bang (brackets Parenthesis end))))) ≡ m_call false 6
+call_rooted = refl
+
+call_root_word : item_in (codes "k") (word (codes "k") (colons (word (codes "m") (bang (brackets Parenthesis end))))) ≡ m_call false 6
+call_root_word = refl
+
+call_elsewhere : item_in (codes "crate") (colons (word (codes "m") (bang (brackets Parenthesis end)))) ≡ m_call true 5
+call_elsewhere = refl
+
+-- `if !()`, `m!`, `m != ()` and `a::m!()` are no calls.
+keyword_calls_nothing : item_in (codes "crate") (word (codes "if") (bang (brackets Parenthesis end))) ≡ other
+keyword_calls_nothing = refl
+
+bang_calls_nothing : item_in (codes "crate") (word (codes "m") (bang end)) ≡ other
+bang_calls_nothing = refl
+
+unequal_calls_nothing : item_in (codes "crate") (word (codes "m") (joint 33 (alone 61 (brackets Parenthesis end)))) ≡ other
+unequal_calls_nothing = refl
+
+path_begins_nothing : item_in (codes "crate") (word (codes "a") (colons (word (codes "m") (bang (brackets Parenthesis end))))) ≡ other
+path_begins_nothing = refl
+
+-- `macro_rules! m();` and `macro_rules! m {};`: the `;` is one of its trees behind parentheses alone.
+definition_parentheses : item_in (codes "crate") (word (codes "macro_rules") (bang (word (codes "m") (brackets Parenthesis (alone 59 end))))) ≡ m_definition Parenthesis 5
+definition_parentheses = refl
+
+definition_braces : item_in (codes "crate") (word (codes "macro_rules") (bang (word (codes "m") (brackets Brace (alone 59 end))))) ≡ m_definition Brace 4
+definition_braces = refl
+
+raw_defines_nothing : item_in (codes "crate") (raw_word (codes "macro_rules") (bang (word (codes "m") (brackets Brace end)))) ≡ other
+raw_defines_nothing = refl
+
+-- Among statements `m!();` and `m!{} a` are statements; `m!() + ..` is none, nor is one in parentheses.
+statement_ends : is_statement Parenthesis (alone 59 end) (begun Statements) ≡ true
+statement_ends = refl
+
+statement_in_braces : is_statement Brace (word (codes "a") end) (begun Statements) ≡ true
+statement_in_braces = refl
+
+operand_is_none : is_statement Parenthesis (alone 43 end) (begun Statements) ≡ false
+operand_is_none = refl
+
+argument_is_none : is_statement Parenthesis end (begun Others) ≡ false
+argument_is_none = refl
+
+-- What is defined in `{}` behind `#[macro_use] mod n` stays in scope, and what is behind `mod n` does not.
+used : keeps_macros Brace
+    (behind_leaf (ident (codes "n")) end
+    (behind_leaf (ident (codes "mod")) end
+    (behind_subtree Bracket (behind_leaf (punct 35 Alone) (subtree Bracket (word (codes "macro_use") end)) (begun Statements)))))
+    ≡ true
+used = refl
+
+not_used : keeps_macros Brace (behind_leaf (ident (codes "n")) end (behind_leaf (ident (codes "mod")) end (begun Statements))) ≡ false
+not_used = refl
+
+-- behind a word
+abbrev behind_word : List ℕ → Position → Position
+behind_word text it = behind_leaf (ident text) end it
+
+-- what the braces behind it hold
+abbrev held_behind : Position → Siblings
+held_behind it = (first_in Brace it).siblings
+
+-- Items stand in the braces of `mod m`, `unsafe impl A for fn`, `trait T` and `extern`,
+module_items : held_behind (behind_word (codes "m") (behind_word (codes "mod") (begun Items))) ≡ Items
+module_items = refl
+
+implementation_items : held_behind (behind_word (codes "fn") (behind_word (codes "for") (behind_word (codes "A") (behind_word (codes "impl") (behind_word (codes "unsafe") (begun Items)))))) ≡ Items
+implementation_items = refl
+
+trait_items : held_behind (behind_word (codes "T") (behind_word (codes "trait") (begun Items))) ≡ Items
+trait_items = refl
+
+foreign_items : held_behind (behind_word (codes "extern") (begun Items)) ≡ Items
+foreign_items = refl
+
+-- statements in those of `extern fn f`, `fn f -> impl T`, of `r#mod` and of nothing that was begun, also behind `mod m;`,
+foreign_function : held_behind (behind_word (codes "f") (behind_word (codes "fn") (behind_word (codes "extern") (begun Items)))) ≡ Statements
+foreign_function = refl
+
+function_statements : held_behind (behind_word (codes "T") (behind_word (codes "impl") (behind_word (codes "f") (behind_word (codes "fn") (begun Items))))) ≡ Statements
+function_statements = refl
+
+-- `r#mod`
+abbrev raw_mod : Leaf
+raw_mod = leaf_of.Ident (record { sym = codes "mod"; span = span 0 1; is_raw = Yes })
+
+raw_statements : held_behind (behind_leaf raw_mod end (begun Statements)) ≡ Statements
+raw_statements = refl
+
+ended_statements : held_behind (behind_leaf (punct 59 Alone) end (behind_word (codes "m") (behind_word (codes "mod") (begun Items)))) ≡ Statements
+ended_statements = refl
+
+-- and neither in parentheses.
+in_parentheses : (first_in Parenthesis (behind_word (codes "mod") (begun Items))).siblings ≡ Others
+in_parentheses = refl
+
+-- Among items the `;` of `m!();` is a part of it, and that of `m!{};` is none; among statements it is none.
+item_semicolon : takes_semicolon Parenthesis (alone 59 end) (begun Items) ≡ true
+item_semicolon = refl
+
+braces_semicolon : takes_semicolon Brace (alone 59 end) (begun Items) ≡ false
+braces_semicolon = refl
+
+statement_semicolon : takes_semicolon Parenthesis (alone 59 end) (begun Statements) ≡ false
+statement_semicolon = refl
+
+later_semicolon : takes_semicolon Parenthesis (alone 59 end) (behind_word (codes "a") (begun Items)) ≡ false
+later_semicolon = refl
+
+-- What comes of `m!();` among items are items, and of `m!() + ..` among statements is neither.
+items_come : siblings_of_call Parenthesis (alone 59 end) (begun Items) ≡ Items
+items_come = refl
+
+operands_come : siblings_of_call Parenthesis (alone 43 end) (begun Statements) ≡ Others
+operands_come = refl
+
+-- behind `#`, a word in brackets, before the trees in them
+abbrev behind_attribute : List ℕ → Position → Position
+behind_attribute text it = behind_subtree Bracket (behind_leaf (punct 35 Alone) (subtree Bracket (word text end)) it)
+
+-- A condition stands before what is behind `#[cfg] #[inline]`; none does behind `#[inline]`, and behind what follows `#[cfg]`.
+conditional : (behind_attribute (codes "inline") (behind_attribute (codes "cfg") (begun Items))).is_conditional ≡ true
+conditional = refl
+
+unconditional : (behind_attribute (codes "inline") (begun Items)).is_conditional ≡ false
+unconditional = refl
+
+condition_ends : (behind_word (codes "a") (behind_attribute (codes "cfg") (begun Items))).is_conditional ≡ false
+condition_ends = refl
+
+-- Behind `#![a]` a statement begins still.
+inner_attribute : is_statement Parenthesis (alone 59 end)
+    (behind_subtree Bracket (behind_leaf (punct 33 Alone) end (behind_leaf (punct 35 Alone) (alone 33 end) (begun Statements))))
+    ≡ true
+inner_attribute = refl
+
+-- The trees of no attribute, of one and of two; `# m`, `#![a]` and what stands behind another tree are none.
+no_attribute : attributes_len end ≡ 0
+no_attribute = refl
+
+one_attribute : attributes_len (attribute (codes "cfg") end) ≡ 2
+one_attribute = refl
+
+two_attributes : attributes_len (attribute (codes "inline") (attribute (codes "cfg") (word (codes "m") end))) ≡ 4
+two_attributes = refl
+
+sign_alone : attributes_len (alone 35 (word (codes "m") end)) ≡ 0
+sign_alone = refl
+
+inner_is_none : attributes_len (alone 35 (bang (brackets Bracket end))) ≡ 0
+inner_is_none = refl
+
+parentheses_are_none : attributes_len (alone 35 (brackets Parenthesis end)) ≡ 0
+parentheses_are_none = refl
+
+behind_another : attributes_len (attribute (codes "cfg") (word (codes "m") (attribute (codes "cfg") end))) ≡ 2
+behind_another = refl
+
+-- Of `#[cfg]` the condition is that, and of `#[cfg] #[inline] #[cfg]` the first and the last.
+one_condition : conditions_of (attribute (codes "cfg") end) ≡ attribute (codes "cfg") end
+one_condition = refl
+
+two_conditions : conditions_of (attribute (codes "cfg") (attribute (codes "inline") (attribute (codes "cfg") end))) ≡ attribute (codes "cfg") (attribute (codes "cfg") end)
+two_conditions = refl
+
+-- `m!();`
+abbrev m_item : Forest
+m_item = word (codes "m") (bang (brackets Parenthesis (alone 59 end)))
+
+-- `#[cfg] m!();` is one item, as `#[cfg] #[inline] m!();` is, and `#[cfg] m!()` where nothing follows.
+under_condition : item_at (codes "crate") (begun Items) (attribute (codes "cfg") m_item) ≡ m_call_behind 2 false 5
+under_condition = refl
+
+behind_two : item_at (codes "crate") (begun Items) (attribute (codes "cfg") (attribute (codes "inline") m_item)) ≡ m_call_behind 4 false 7
+behind_two = refl
+
+last_statement : item_at (codes "crate") (begun Statements) (attribute (codes "cfg") (word (codes "m") (bang (brackets Parenthesis end)))) ≡ m_call_behind 2 false 5
+last_statement = refl
+
+-- `#[cfg] m!() + ..` is none, nor is a call behind `#[inline]`, or behind the second of two conditions,
+operand_under_condition : item_at (codes "crate") (begun Statements) (attribute (codes "cfg") (word (codes "m") (bang (brackets Parenthesis (alone 43 end))))) ≡ other
+operand_under_condition = refl
+
+other_attribute : item_at (codes "crate") (begun Items) (attribute (codes "inline") m_item) ≡ other
+other_attribute = refl
+
+second_condition : item_at (codes "crate") (behind_attribute (codes "cfg") (begun Items)) (attribute (codes "cfg") m_item) ≡ other
+second_condition = refl
+
+-- nor one where no statement begins, or a definition.
+later_condition : item_at (codes "crate") (behind_word (codes "a") (begun Items)) (attribute (codes "cfg") m_item) ≡ other
+later_condition = refl
+
+definition_under_condition : item_at (codes "crate") (begun Items) (attribute (codes "cfg") (word (codes "macro_rules") (bang (word (codes "m") (brackets Brace end))))) ≡ other
+definition_under_condition = refl
+
+-- Without a condition what stands first is that, also behind one.
+without_condition : item_at (codes "crate") (begun Items) m_item ≡ m_call false 3
+without_condition = refl
+
+behind_condition : item_at (codes "crate") (behind_attribute (codes "cfg") (begun Items)) m_item ≡ m_call false 3
+behind_condition = refl

@@ -1,0 +1,96 @@
+-- Parts of trees, one behind the other.
+use Rattle.std.proofs.Common.{◌≡◌, ◌<◌, ◌++◌, ℕ, suc, zero, Bool, true, false, List, [], ◌∷◌, Option, None, Some, refl, ap, sym, subst, ◌∙◌, arith, cond, append_assoc, append-nil, codes}
+use Rattle.std.proofs.lemmas.Bool.{false≢true}
+use Rattle.std.specs.Prelude.{option_map}
+use Rattle.tt.specs.Forest.{Forest, end, leaf, node, size}
+use Rattle.tt.specs.Gluing.{after_trees}
+use Rattle.tt.specs.Siblings.{is_end}
+use Rattle.expand_items.specs.declared.part.Part.{Part}
+use Rattle.expand_items.specs.Parts.{AreParts, ends, stops, goes_on, IsPart, item, no_item, statement, no_statement, Takes, item_part, statement_part}
+use Rattle.expand_items.proofs.Lengths.{fewer_behind}
+use Rattle.expand_items.specs.Positions.{is_items}
+use Rattle.expand_items.specs.declared.position.Siblings.{Siblings}
+use Rattle.mbe_pattern.specs.Units.{is_at_punct}
+use Rattle.mbe_pattern.specs.declared.pattern.GrammarFragment.TheVariants as fragment
+
+-- parts that were told already, and those of what is left, if it is a run of parts
+abbrev pub behind : List Part → Option (List Part) → Option (List Part)
+behind told left = option_map (λ parts. told ++ parts) left
+
+-- whatever parts what is left is, all of the trees are those that were told and these
+abbrev pub AreTold : Siblings → (all left : Forest) → (told : List Part) → Type 0
+AreTold its all left told = (found : Option (List Part)) → AreParts its left found → AreParts its all (behind told found)
+
+-- Nothing is told yet.
+pub told_none : (its : Siblings) (all : Forest) → AreTold its all all []
+told_none its all None are = are
+told_none its all (Some parts) are = are
+
+-- One part more is told.
+pub told_more : (its : Siblings) (all left : Forest) (told now : List Part) (part : Part) → AreTold its all left told → is_end left ≡ false → IsPart its left (Some part)
+    → now ≡ told ++ part ∷ [] → AreTold its all (after_trees part.len left) now
+told_more its all left told now part so some is more found are =
+    subst (AreParts its all) (same found ∙ ap (λ ps. behind ps found) (sym more)) (so (option_map (λ parts. part ∷ parts) found) (goes_on some is are))
+  where
+    same : (found : Option (List Part)) → behind told (option_map (λ parts. part ∷ parts) found) ≡ behind (told ++ part ∷ []) found
+    same None = refl
+    same (Some parts) = ap Some (sym (append_assoc told (part ∷ []) parts))
+
+-- What is left is no run of parts, so all are none.
+pub told_stop : (its : Siblings) (all left : Forest) (told : List Part) → AreTold its all left told → is_end left ≡ false → IsPart its left None → AreParts its all None
+told_stop its all left told so some is = so None (stops some is)
+
+-- All are told.
+pub told_all : (its : Siblings) (all left : Forest) (told : List Part) → AreTold its all left told → is_end left ≡ true → AreParts its all (Some told)
+told_all its all left told so none = subst (AreParts its all) (ap Some (append-nil told)) (so (Some []) (by left none))
+  where
+    by : (left : Forest) → is_end left ≡ true → AreParts its left (Some [])
+    by end none = ends
+    by (leaf it rest) none = absurd (false≢true none)
+    by (node delimiter children rest) none = absurd (false≢true none)
+
+-- whether a part that may be there is some trees
+abbrev IsLong : Option Part → Type 0
+IsLong None = Unit {0}
+IsLong (Some part) = 0 < part.len
+
+long : {its : Siblings} {trees : Forest} {found : Option Part} → IsPart its trees found → IsLong found
+long (item {more = more} is) = omega arith
+long (no_item items is) = tt
+long (statement {trees = trees} {more = more} no_items none is) = by (is_at_punct (codes ";") (after_trees (suc more) trees))
+  where
+    by : (b : Bool) → 0 < cond b (suc (suc more)) (suc more)
+    by true = omega arith
+    by false = omega arith
+long (no_statement no_items none is) = tt
+
+-- A part is some trees.
+pub part_long : (its : Siblings) (trees : Forest) (part : Part) → IsPart its trees (Some part) → 0 < part.len
+part_long its trees part is = long is
+
+-- Behind some trees fewer tokens are left.
+pub less_left : (n : ℕ) (trees : Forest) → 0 < n → is_end trees ≡ false → size (after_trees n trees) < size trees
+less_left n end some there = absurd (false≢true (sym there))
+less_left (suc n) (leaf it rest) some there = omega (arith, fewer_behind n rest)
+less_left (suc n) (node delimiter children rest) some there = omega (arith, fewer_behind n rest)
+less_left zero trees some there = absurd (omega (arith, some))
+
+-- A `;` behind so many trees is one of more.
+pub semicolon_there : (n : ℕ) (trees : Forest) → is_at_punct (codes ";") (after_trees n trees) ≡ true → n < size trees
+semicolon_there zero end there = absurd (false≢true there)
+semicolon_there zero (leaf it rest) there = omega arith
+semicolon_there zero (node delimiter children rest) there = omega arith
+semicolon_there (suc n) end there = absurd (omega (arith, semicolon_there n end there))
+semicolon_there (suc n) (leaf it rest) there = omega (arith, semicolon_there n rest there)
+semicolon_there (suc n) (node delimiter children rest) there = omega (arith, semicolon_there n rest there)
+
+module _ (its : Siblings) (trees : Forest) where
+  -- An item stands first,
+  pub item_first : (n : ℕ) → Takes fragment.Item trees n → 0 < n → IsPart its trees (Some (item_part n))
+  item_first zero is some = absurd (omega (arith, some))
+  item_first (suc n) is some = item is
+
+  -- or a statement,
+  pub statement_first : (n : ℕ) → is_items its ≡ false → Takes fragment.Item trees 0 → Takes fragment.Stmt trees n → 0 < n → IsPart its trees (Some (statement_part n trees))
+  statement_first zero no_items none is some = absurd (omega (arith, some))
+  statement_first (suc n) no_items none is some = statement no_items none is

@@ -1,0 +1,100 @@
+//! Attributes, and calls under conditions.
+ghost use Rattle.std.specs.Prelude.{◌≡◌, ◌+◌, ◌<◌, ◌^◌};
+ghost use Rattle.tt.specs.Forest.{size};
+ghost use Rattle.tt.specs.Iters.{rest_of};
+ghost use Rattle.expand_items.specs.Attributes.{attributes_len, is_at_attribute, is_at_brackets, is_at_condition, item_at, standing, with_attributes};
+ghost use Rattle.expand_items.specs.Items.{call_of, item_in, item_meant};
+
+use crate::item::{Call, Item, item_in};
+use crate::position::{Position, is_at_attribute_of};
+use mbe_pattern::pass;
+use tt::{DelimiterKind, Leaf, TtElement, TtIter};
+
+/// How many trees an attribute is: `#` and brackets.
+const ATTRIBUTE_LEN: usize = 2;
+
+// Whether brackets stand first.
+fn is_at_brackets(mut trees: TtIter<'_>) -> bool
+    ensures { result ≡ is_at_brackets (rest_of trees.entry) }
+{
+    match trees.next() {
+        Some(TtElement::Subtree(header, _)) => header.delimiter.kind == DelimiterKind::Bracket,
+        _ => false,
+    }
+}
+
+/// Whether an attribute stands first.
+pub fn is_attribute(mut trees: TtIter<'_>) -> bool
+    ensures { result ≡ is_at_attribute (rest_of trees.entry) }
+{
+    match trees.next() {
+        Some(TtElement::Leaf(Leaf::Punct(punct))) => punct.char == '#' && is_at_brackets(trees),
+        _ => false,
+    }
+}
+
+/// How many trees the attributes are that stand first.
+pub fn attributes_len(mut trees: TtIter<'_>) -> usize
+    ensures { result ≡ attributes_len (rest_of trees.entry) }
+{
+    let mut len = 0;
+    while is_attribute(trees.remaining().iter()) {
+        pass(&mut trees, ATTRIBUTE_LEN);
+        len += ATTRIBUTE_LEN;
+    }
+    len
+}
+
+/// Whether a condition, `#[cfg(..)]`, stands first.
+pub fn is_condition(mut attribute: TtIter<'_>) -> bool
+    ensures { result ≡ is_at_condition (rest_of attribute.entry) }
+{
+    attribute.expect_char('#').is_ok() && is_at_attribute_of("cfg", attribute)
+}
+
+// The call behind so many trees of attributes, with those as a part.
+fn with_attributes<'a>(attributes: usize, call: Call<'a>) -> Call<'a>
+    requires { attributes + call.len < 2 ^ 64 }
+    ensures { call_of result ≡ with_attributes attributes (call_of call.entry) }
+{
+    Call {
+        attributes,
+        len: attributes + call.len,
+        ..call
+    }
+}
+
+// What stands behind so many trees of attributes, before these trees: a call, if it is a statement or an item.
+fn standing<'a>(
+    position: Position,
+    attributes: usize,
+    mut trees: TtIter<'a>,
+    root: &str,
+) -> Item<'a>
+    requires { attributes + size (rest_of trees) < 2 ^ 64 }
+    ensures { item_meant result ≡ standing position attributes (rest_of trees.entry) (item_in root.now (rest_of trees.entry)) }
+{
+    match item_in(trees.remaining().iter(), root) {
+        Item::Call(call) => {
+            pass(&mut trees, call.len);
+            if position.is_statement(call.header.delimiter.kind, trees) {
+                Item::Call(with_attributes(attributes, call))
+            } else {
+                Item::Other
+            }
+        }
+        Item::Definition(_) | Item::Other => Item::Other,
+    }
+}
+
+/// What stands first at a position: the attributes from the first condition on are a part of the call under it.
+pub fn item_at<'a>(position: Position, mut trees: TtIter<'a>, root: &str) -> Item<'a>
+    ensures { item_meant result ≡ item_at root.now position (rest_of trees.entry) }
+{
+    if !position.begins_condition(trees.remaining().iter()) {
+        return item_in(trees, root);
+    }
+    let attributes = attributes_len(trees.remaining().iter());
+    pass(&mut trees, attributes);
+    standing(position, attributes, trees, root)
+}

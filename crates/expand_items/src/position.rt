@@ -1,0 +1,268 @@
+//! What stands before a tree among its siblings, as far as it matters to it.
+ghost use Rattle.std.specs.Prelude.{◌≡◌, true};
+ghost use Rattle.tt.specs.Iters.{rest_of};
+ghost use Rattle.expand_items.specs.Positions.{is_block, head_behind, held_by, is_attribute_of, is_at_attribute_of, begun, siblings_in, first_in, behind, behind_attribute_sign, behind_punct, behind_ident, behind_leaf, behind_subtree, keeps_macros, is_statement, takes_semicolon, siblings_of_call};
+ghost use Rattle.expand_items.specs.Attributes.{begins_condition};
+
+use crate::attribute::is_condition;
+use crate::item::{is_at_punct, is_at_word};
+use tt::{DelimiterKind, Ident, IdentIsRaw, Leaf, TtElement, TtIter};
+
+/// What trees are that stand side by side.
+#[derive(Debug, Clone, Copy, PartialEq, Eq)]
+pub enum Siblings {
+    /// Items, as those of a file or a module are.
+    Items,
+    /// Statements, as those of a function's body are.
+    Statements,
+    /// Neither.
+    Others,
+}
+
+// What the words of an item that is begun tell of the braces behind them.
+#[derive(Clone, Copy)]
+enum Head {
+    /// Nothing.
+    Unknown,
+    /// `extern` was read: they hold items, unless it is a function.
+    Foreign,
+    /// `mod`, `impl` or `trait` was read first: they hold items.
+    Items,
+    /// `fn` was read first: they hold statements.
+    Function,
+}
+
+/// What stands before a tree among its siblings, as far as it matters to it.
+#[derive(Clone, Copy)]
+pub struct Position {
+    siblings: Siblings,
+    /// Whether a statement or an item may begin here.
+    is_start: bool,
+    /// What the words since the beginning of the item tell.
+    head: Head,
+    /// Whether `#[macro_use]` stands before, with nothing between but attributes, idents and parentheses.
+    is_used: bool,
+    /// Whether a condition, `#[cfg(..)]`, stands before, with nothing between but attributes.
+    is_conditional: bool,
+    /// Whether `#` or `#!` stands right before.
+    is_attribute: bool,
+}
+
+impl Siblings {
+    // Whether they are statements or items.
+    fn is_block(self) -> bool
+        ensures { result ≡ is_block self }
+    {
+        match self {
+            Siblings::Items | Siblings::Statements => true,
+            Siblings::Others => false,
+        }
+    }
+}
+
+impl Head {
+    // Behind a word more.
+    fn behind(self, word: &str) -> Head
+        ensures { result ≡ head_behind word.now self }
+    {
+        match self {
+            Head::Items | Head::Function => self,
+            Head::Unknown | Head::Foreign => match word {
+                "mod" | "impl" | "trait" => Head::Items,
+                "fn" => Head::Function,
+                "extern" => Head::Foreign,
+                _ => self,
+            },
+        }
+    }
+
+    // What the braces behind it hold.
+    fn held(self) -> Siblings
+        ensures { result ≡ held_by self }
+    {
+        match self {
+            Head::Items | Head::Foreign => Siblings::Items,
+            Head::Unknown | Head::Function => Siblings::Statements,
+        }
+    }
+}
+
+// Whether those are brackets that begin with a word.
+fn is_attribute_of(word: &str, kind: DelimiterKind, inside: TtIter<'_>) -> bool
+    ensures { result ≡ is_attribute_of word.now kind (rest_of inside.entry) }
+{
+    kind == DelimiterKind::Bracket && is_at_word(inside, word)
+}
+
+/// Whether such brackets stand first.
+pub(crate) fn is_at_attribute_of(word: &str, mut trees: TtIter<'_>) -> bool
+    ensures { result ≡ is_at_attribute_of word.now (rest_of trees.entry) }
+{
+    match trees.next() {
+        Some(TtElement::Subtree(header, inside)) => {
+            is_attribute_of(word, header.delimiter.kind, inside)
+        }
+        _ => false,
+    }
+}
+
+impl Position {
+    /// Before the first of trees that are such siblings.
+    pub fn begun(siblings: Siblings) -> Position
+        ensures { result ≡ begun siblings }
+    {
+        Position {
+            siblings,
+            is_start: siblings.is_block(),
+            head: Head::Unknown,
+            is_used: false,
+            is_conditional: false,
+            is_attribute: false,
+        }
+    }
+
+    // What the trees in brackets of a kind are.
+    fn siblings_in(self, kind: DelimiterKind) -> Siblings
+        ensures { result ≡ siblings_in kind self }
+    {
+        if kind == DelimiterKind::Brace {
+            self.head.held()
+        } else {
+            Siblings::Others
+        }
+    }
+
+    /// Before the first of the trees in brackets of a kind that stand here.
+    pub fn first_in(self, kind: DelimiterKind) -> Position
+        ensures { result ≡ first_in kind self }
+    {
+        Position::begun(self.siblings_in(kind))
+    }
+
+    /// Behind what ends a statement or an item, or does not.
+    pub fn behind(self, ends: bool) -> Position
+        ensures { result ≡ behind ends self }
+    {
+        Position {
+            siblings: self.siblings,
+            is_start: self.siblings.is_block() && ends,
+            head: if ends { Head::Unknown } else { self.head },
+            is_used: false,
+            is_conditional: false,
+            is_attribute: false,
+        }
+    }
+
+    // Behind `#`, before these trees.
+    fn behind_attribute_sign(self, trees: TtIter<'_>) -> Position
+        ensures { result ≡ behind_attribute_sign (rest_of trees.entry) self }
+    {
+        let behind = trees.remaining();
+        Position {
+            is_used: self.is_used || is_at_attribute_of("macro_use", trees),
+            is_conditional: self.is_conditional || is_at_attribute_of("cfg", behind.iter()),
+            is_attribute: true,
+            ..self
+        }
+    }
+
+    // Behind a punct, before these trees.
+    fn behind_punct(self, char: char, trees: TtIter<'_>) -> Position
+        ensures { result ≡ behind_punct char (rest_of trees.entry) self }
+    {
+        if char == '#' {
+            self.behind_attribute_sign(trees)
+        } else if char == '!' && self.is_attribute {
+            self
+        } else {
+            self.behind(char == ';')
+        }
+    }
+
+    // Behind an ident.
+    fn behind_ident(self, ident: &Ident) -> Position
+        ensures { result ≡ behind_ident ident.now self }
+    {
+        let head = match ident.is_raw {
+            IdentIsRaw::No => self.head.behind(ident.sym.as_str()),
+            IdentIsRaw::Yes => self.head,
+        };
+        Position {
+            is_start: false,
+            head,
+            is_conditional: false,
+            is_attribute: false,
+            ..self
+        }
+    }
+
+    /// Behind a leaf, before these trees.
+    pub fn behind_leaf(self, leaf: &Leaf, trees: TtIter<'_>) -> Position
+        ensures { result ≡ behind_leaf leaf.now (rest_of trees.entry) self }
+    {
+        match leaf {
+            Leaf::Literal(_) => self.behind(false),
+            Leaf::Punct(punct) => self.behind_punct(punct.char, trees),
+            Leaf::Ident(ident) => self.behind_ident(ident),
+        }
+    }
+
+    /// Behind a subtree of a kind.
+    pub fn behind_subtree(self, kind: DelimiterKind) -> Position
+        ensures { result ≡ behind_subtree kind self }
+    {
+        if self.is_attribute {
+            return Position {
+                is_attribute: false,
+                ..self
+            };
+        }
+        Position {
+            is_used: self.is_used && kind == DelimiterKind::Parenthesis,
+            ..self.behind(kind == DelimiterKind::Brace)
+        }
+    }
+
+    /// Whether what is defined in a subtree of a kind stays in scope behind it.
+    pub fn keeps_macros(self, kind: DelimiterKind) -> bool
+        ensures { result ≡ keeps_macros kind self }
+    {
+        self.is_used && !self.is_attribute && kind == DelimiterKind::Brace
+    }
+
+    /// Whether a call whose subtree is of a kind is a statement or an item, where these trees stand behind it.
+    pub fn is_statement(self, kind: DelimiterKind, behind: TtIter<'_>) -> bool
+        ensures { result ≡ is_statement kind (rest_of behind.entry) self }
+    {
+        self.is_start
+            && (kind == DelimiterKind::Brace || behind.is_empty() || is_at_punct(behind, ';'))
+    }
+
+    /// Whether the `;` behind such a call is a part of it: among items it is, and none may stand alone there.
+    pub fn takes_semicolon(self, kind: DelimiterKind, behind: TtIter<'_>) -> bool
+        ensures { result ≡ takes_semicolon kind (rest_of behind.entry) self }
+    {
+        self.siblings == Siblings::Items
+            && self.is_start
+            && kind != DelimiterKind::Brace
+            && is_at_punct(behind, ';')
+    }
+
+    /// What the trees that come of such a call are among.
+    pub fn siblings_of_call(self, kind: DelimiterKind, behind: TtIter<'_>) -> Siblings
+        ensures { result ≡ siblings_of_call kind (rest_of behind.entry) self }
+    {
+        if self.is_statement(kind, behind) {
+            self.siblings
+        } else {
+            Siblings::Others
+        }
+    }
+
+    /// Whether the first condition of a statement or an item stands first.
+    pub(crate) fn begins_condition(self, trees: TtIter<'_>) -> bool
+        ensures { result ≡ begins_condition self (rest_of trees.entry) }
+    {
+        self.is_start && !self.is_conditional && is_condition(trees)
+    }
+}

@@ -1,0 +1,134 @@
+-- Where a call lies in a text.
+use Rattle.std.proofs.Common.{◌≡◌, ◌≤◌, ℕ, suc, Bool, true, false, List, refl, ap, sym, subst, ◌∙◌, arith, cond, codes}
+use Rattle.std.specs.Prelude.{◌&&◌, ◌||◌, ◌==◌, not}
+use Rattle.std.specs.Str.{IsCharBoundary}
+use Rattle.tt.specs.Forest.{Forest, end, leaf, node}
+use Rattle.tt.specs.Gluing.{after_trees}
+use Rattle.tt.specs.Moves.{after_tree}
+use Rattle.tt.specs.Span.{start_of, end_of}
+use Rattle.tt.specs.Types.Delimiter.{Delimiter}
+use Rattle.tt.specs.Types.Leaf.TheVariants as leaf_of
+use Rattle.tt.specs.Types.Span.{Span}
+use Rattle.expand_text.specs.Coming.{begin_in, takes_in, end_in, rest_in}
+use Rattle.syntax_edit.specs.Places.{begin_at}
+use Rattle.expand_items.specs.Items.{Call, calls, item_in}
+use Rattle.syntax_edit.specs.Laid.{Lies, Laid, lies_end, lies_leaf, lies_node}
+use Rattle.expand_items.proofs.Shapes.{call_ends}
+use Rattle.syntax_edit.proofs.LaidFacts.{laid_behind, laid_order, laid_past, starts_before}
+use Rattle.expand_text.proofs.CallParts.{alone, begin_alone, end_alone, rest_alone}
+use Rattle.expand_text.proofs.ManyTrees.{after_more}
+use Rattle.expand_items.proofs.Conditions.{StandsBehind}
+use Rattle.expand_items.specs.Attributes.{item_at}
+use Rattle.mbe_pattern.proofs.Passing.{after_end}
+use Rattle.expand_items.specs.Positions.{is_items}
+use Rattle.expand_items.specs.declared.position.Position.{Position}
+use Rattle.mbe_matcher.specs.Fragments.{is_brace}
+use Rattle.mbe_pattern.specs.Units.{is_at_punct}
+
+-- A subtree that lies in a text behind a byte closes behind it, and the trees behind the subtree lie there.
+past_subtree : {text : List ℕ} {place to : ℕ} {delimiter : Delimiter} {children rest trees : Forest} → trees ≡ node delimiter children rest → Laid text place trees to
+    → (place ≤ end_of delimiter.close.range) × IsCharBoundary text (end_of delimiter.close.range) × Laid text (end_of delimiter.close.range) rest to
+past_subtree {text} {place} {to} {delimiter} {children} {rest} is laid = by (subst (λ f. Laid text place f to) is laid)
+  where
+    by : Laid text place (node delimiter children rest) to
+        → (place ≤ end_of delimiter.close.range) × IsCharBoundary text (end_of delimiter.close.range) × Laid text (end_of delimiter.close.range) rest to
+    by (lies_node opens inside closes behind) = (omega (arith, opens.after, laid_order inside, closes.order), closes.ends, behind)
+
+-- Trees of which a subtree stands behind the first: from where they begin to where that closes is a range, and the others lie behind it.
+to_subtree : {text : List ℕ} {from to : ℕ} (n : ℕ) (other : Span) {delimiter : Delimiter} {children rest trees : Forest} → Laid text from trees to
+    → after_trees (suc n) trees ≡ node delimiter children rest
+    → Lies text from (start_of (begin_at trees other).range) (end_of delimiter.close.range) × Laid text (end_of delimiter.close.range) rest to
+to_subtree n other {delimiter} {children} {rest} (lies_end order) stands = absurd (no (sym (after_end n) ∙ stands))
+  where
+    no : end ≡ node delimiter children rest → ⊥
+    no e = cc
+to_subtree n other (lies_leaf {it = it} lies behind) stands =
+    let (order, closes, others) = past_subtree stands (laid_behind n behind) in
+    (record { after = lies.after; range = record { order = omega (arith, order, starts_before it lies.range.order); begins = lies.range.begins; ends = closes } }, others)
+to_subtree n other (lies_node opens inside shuts behind) stands =
+    let (order, closes, others) = past_subtree stands (laid_behind n (laid_past inside shuts behind)) in
+    (record { after = opens.after; range = record { order = order; begins = opens.range.begins; ends = closes } }, others)
+
+-- A call without its `;` is a range of the text, from where its first token begins to where its subtree closes, and what stands behind it
+-- lies behind that.
+subtree_laid : {text : List ℕ} {from to : ℕ} (root : List ℕ) (trees : Forest) (it : Call) → item_in root trees ≡ calls it → Laid text from trees to
+    → Lies text from (start_of (begin_at trees it.name.span).range) (end_of it.delimiter.close.range)
+    × Laid text (end_of it.delimiter.close.range) (after_trees it.len trees) to
+subtree_laid {text} {to = to} root trees it is laid =
+    let call = call_ends root trees it is in
+    let (lies, behind) = to_subtree call.before it.name.span laid call.stands in
+    let left : after_trees it.len trees ≡ call.rest = ap (λ n. after_trees n trees) call.len ∙ after_more (suc call.before) trees ∙ ap after_tree call.stands in
+    (lies, subst (λ f. Laid text (end_of it.delimiter.close.range) f to) (sym left) behind)
+
+-- A range up to a byte, and a `;` behind that, are one, and what stands behind them lies behind the `;`.
+with_semicolon : {text : List ℕ} {from start close to : ℕ} (other : Span) (rest : Forest) → is_at_punct (codes ";") rest ≡ true → Lies text from start close
+    → Laid text close rest to
+    → Lies text from start (end_of (begin_at rest other).range) × Laid text (end_of (begin_at rest other).range) (after_tree rest) to
+with_semicolon other end is lies behind = absurd (cc is)
+with_semicolon other (node delimiter children rest) is lies behind = absurd (cc is)
+with_semicolon other (leaf (leaf_of.Literal it) rest) is lies behind = absurd (cc is)
+with_semicolon other (leaf (leaf_of.Ident it) rest) is lies behind = absurd (cc is)
+with_semicolon {text} {to = to} other (leaf (leaf_of.Punct it) rest) is lies (lies_leaf semicolon behind) = (
+  record {
+    after = lies.after;
+    range = record {
+      order = omega (arith, lies.range.order, semicolon.after, semicolon.range.order);
+      begins = lies.range.begins;
+      ends = semicolon.range.ends;
+    };
+  },
+  subst (λ n. Laid text n rest to) (ap (λ b. cond b (end_of it.span.range) (start_of it.span.range)) there) behind,
+)
+  where
+    there : (it.char == 59) ≡ true
+    there = by (it.char == 59) is
+      where
+        by : (b : Bool) → (b || false) ≡ true → b ≡ true
+        by true is = refl
+        by false is = is
+
+-- Where four things are, the last is.
+pub last_of : (a b c d : Bool) → (a && (b && (c && d))) ≡ true → d ≡ true
+last_of true true true d is = is
+last_of true true false d is = absurd (cc is)
+last_of true false c d is = absurd (cc is)
+last_of false b c d is = absurd (cc is)
+
+-- A call without attributes is a range of the text, from where its first token begins to where it ends, and what stands behind it lies
+-- behind that.
+bare_laid : {text : List ℕ} {from to : ℕ} (root : List ℕ) (trees : Forest) (it : Call) (position : Position) → item_in root trees ≡ calls it
+    → Laid text from trees to
+    → Lies text from (start_of (begin_at trees it.name.span).range) (end_of (end_in position it trees).range)
+    × Laid text (end_of (end_in position it trees).range) (rest_in position it trees) to
+bare_laid {text} {from} {to} root trees it position is laid = by (takes_in position it trees) refl
+  where
+    rest : Forest
+    rest = after_trees it.len trees
+
+    close : Span
+    close = it.delimiter.close
+
+    here : Lies text from (start_of (begin_at trees it.name.span).range) (end_of close.range) × Laid text (end_of close.range) rest to
+    here = subtree_laid root trees it is laid
+
+    by : (takes : Bool) → takes_in position it trees ≡ takes
+        → Lies text from (start_of (begin_at trees it.name.span).range) (end_of (cond takes (begin_at rest close) close).range)
+        × Laid text (end_of (cond takes (begin_at rest close) close).range) (cond takes (after_tree rest) rest) to
+    by true takes =
+        with_semicolon close rest (last_of (is_items position.siblings) position.is_start (not (is_brace it.delimiter.kind)) (is_at_punct (codes ";") rest) takes) here.0 here.1
+    by false takes = here
+
+-- So is a call behind its attributes.
+pub call_laid : {text : List ℕ} {from to : ℕ} (root : List ℕ) (trees : Forest) (it : Call) (position : Position) → item_at root position trees ≡ calls it
+    → Laid text from trees to
+    → Lies text from (start_of (begin_in it trees).range) (end_of (end_in position it trees).range)
+    × Laid text (end_of (end_in position it trees).range) (rest_in position it trees) to
+call_laid {text} {from} {to} root trees it position is laid =
+    let at : StandsBehind root trees it = alone root position trees it is in
+    let behind : Forest = after_trees it.attributes trees in
+    let (lies, rest) = bare_laid root behind at.bare position at.stands (laid_behind it.attributes laid) in (
+      subst (λ s. Lies text from (start_of s.range) (end_of (end_in position it trees).range)) (sym (begin_alone root position trees it is))
+          (subst (λ s. Lies text from (start_of (begin_at behind at.bare.name.span).range) (end_of s.range)) (sym (end_alone root position trees it is)) lies),
+      subst (λ f. Laid text (end_of (end_in position it trees).range) f to) (sym (rest_alone root position trees it is))
+          (subst (λ s. Laid text (end_of s.range) (rest_in position at.bare behind) to) (sym (end_alone root position trees it is)) rest),
+    )

@@ -1,0 +1,148 @@
+-- What is built once what comes of the levels that are left is.
+use Rattle.std.proofs.Common.{◌≡◌, ℕ, false, List, [], ◌∷◌, inl, inr, refl, ap, sym, subst, ◌∙◌}
+use Rattle.tt.specs.Building.{Stack, above, append, close_innermost}
+use Rattle.tt.specs.Forest.{Forest, end, leaf, node, join}
+use Rattle.tt.specs.Span.{start_of}
+use Rattle.tt.specs.Types.Delimiter.{Delimiter}
+use Rattle.tt.specs.Types.Leaf.{Leaf}
+use Rattle.tt.specs.Types.Span.{Span}
+use Rattle.tt.specs.Views.{trees_of}
+use Rattle.tt_base.proofs.Appending.{append-end, append-join}
+use Rattle.expand_text.specs.Coming.{Comes}
+use Rattle.expand_text.specs.Expanding.{IsPutOrKept}
+use Rattle.expand_text.specs.Knowing.{Setting, Known}
+use Rattle.expand_text.specs.Outcomes.{Outcome, nothing, passes, enters, stays, becomes, trees_left}
+use Rattle.expand_items.specs.Positions.{begun as begun_among}
+use Rattle.expand_items.specs.declared.position.Siblings.{Siblings}
+use Rattle.expand_text.specs.declared.walk.Invocation.{Invocation}
+use Rattle.expand_text.specs.Walks.{Level, begun, Ends, Leads, GoesPast, stand_of, first_leaf, first_subtree, first_stay, first_becomes, closes_of}
+
+-- what is built once these are, of which the innermost comes first, in levels that close there
+abbrev pub finished : List Span → List Outcome → Stack → Stack
+finished [] outcomes stack = stack
+finished (close ∷ closes) [] stack = stack
+finished (close ∷ []) (it ∷ others) stack = append (trees_left it) stack
+finished (close ∷ next ∷ closes) (it ∷ others) stack = finished (next ∷ closes) others (close_innermost close (append (trees_left it) stack))
+
+-- Some trees of the innermost level are built.
+finished_more : (closes : List Span) (close : Span) (it others : Outcome) (outer : List Outcome) (built : Forest) (stack : Stack)
+    → trees_left it ≡ join built (trees_left others) → finished (close ∷ closes) (it ∷ outer) stack ≡ finished (close ∷ closes) (others ∷ outer) (append built stack)
+finished_more [] close it others outer built stack is = ap (λ f. append f stack) is ∙ append-join built (trees_left others) stack
+finished_more (next ∷ closes) close it others outer built stack is =
+    ap (λ s. finished (next ∷ closes) outer (close_innermost close s)) (ap (λ f. append f stack) is ∙ append-join built (trees_left others) stack)
+
+module _ (close : Span) (closes : List Span) (others : Outcome) (outer : List Outcome) (stack : Stack) where
+  -- A leaf is.
+  pub finished_leaf : (it : Leaf) → finished (close ∷ closes) (first_leaf it (others ∷ outer)) stack ≡ finished (close ∷ closes) (others ∷ outer) (append (leaf it end) stack)
+  finished_leaf it = finished_more closes close (passes it others) others outer (leaf it end) stack refl
+
+  -- Trees that stay are.
+  pub finished_stay : (trees : Forest) → finished (close ∷ closes) (first_stay trees (others ∷ outer)) stack ≡ finished (close ∷ closes) (others ∷ outer) (append trees stack)
+  finished_stay trees = finished_more closes close (stays trees others) others outer trees stack refl
+
+  -- What comes of a call is.
+  pub finished_becomes : (attributes : Forest) (first last : Span) (put : Forest)
+      → finished (close ∷ closes) (first_becomes attributes first last put (others ∷ outer)) stack ≡ finished (close ∷ closes) (others ∷ outer) (append put (append attributes stack))
+  finished_becomes attributes first last put =
+      finished_more closes close (stays attributes (becomes first last put others)) (becomes first last put others) outer attributes stack refl
+      ∙ finished_more closes close (becomes first last put others) others outer put (append attributes stack) refl
+
+  -- A subtree is entered.
+  pub finished_subtree : (it : Delimiter) (held : Outcome)
+      → finished (close ∷ closes) (first_subtree it (held ∷ others ∷ outer)) stack
+      ≡ finished (it.close ∷ close ∷ closes) (held ∷ others ∷ outer) (above stack it.kind it.open_span end)
+  finished_subtree it held = finished_more closes close (enters it held others) others outer (node it (trees_left held) end) stack refl
+
+  -- One is left.
+  pub finished_close : (inner : Span) → finished (inner ∷ close ∷ closes) (nothing ∷ others ∷ outer) stack ≡ finished (close ∷ closes) (others ∷ outer) (close_innermost inner stack)
+  finished_close inner = ap (λ s. finished (close ∷ closes) (others ∷ outer) (close_innermost inner s)) (append-end stack)
+
+-- Whatever comes of what is left, what comes of the trees is built once that is: what is known, the levels, and what is built, at first and now.
+pub record IsGoing (setting : Setting) (limit : ℕ) (siblings : Siblings) (trees : Forest) (before : Known) (old : Stack) (levels : List Level) (now : Known) (stack : Stack) : Type 0 where
+  pub finishes : (after : Known) (outcomes : List Outcome) → Ends setting false limit levels now after outcomes
+      → (outcome : Outcome) × Comes setting false limit (begun_among siblings) 0 before trees after outcome × (finished (closes_of levels) outcomes stack ≡ append (trees_left outcome) old)
+
+module _ (setting : Setting) (limit : ℕ) (siblings : Siblings) (trees : Forest) (before now others : Known) (old stack : Stack) (level next : Level) (outer nexts : List Level)
+    (going : IsGoing setting limit siblings trees before old (level ∷ outer) now stack) where
+  -- It goes on where something more is built in the innermost level.
+  pub goes_on : (grown : List Outcome → List Outcome) (built : Stack) → Leads setting false limit (level ∷ outer) now grown (next ∷ nexts) others
+      → closes_of (next ∷ nexts) ≡ closes_of (level ∷ outer)
+      → ((first : Outcome) (more : List Outcome) → finished (closes_of (level ∷ outer)) (grown (first ∷ more)) stack ≡ finished (closes_of (level ∷ outer)) (first ∷ more) built)
+      → IsGoing setting limit siblings trees before old (next ∷ nexts) others built
+  goes_on grown built leads closes same = record { finishes = by }
+    where
+      by : (after : Known) (outcomes : List Outcome) → Ends setting false limit (next ∷ nexts) others after outcomes
+          → (outcome : Outcome) × Comes setting false limit (begun_among siblings) 0 before trees after outcome × (finished (closes_of (next ∷ nexts)) outcomes built ≡ append (trees_left outcome) old)
+      by after [] e = absurd e
+      by after (first ∷ more) e =
+          let (outcome, comes, is) = going.finishes after (grown (first ∷ more)) (leads after (first ∷ more) e) in
+          (outcome, comes, ap (λ cs. finished cs (first ∷ more) built) closes ∙ sym (same first more) ∙ is)
+
+  -- It goes on where what comes of a call stands in its place, or the call stays.
+  pub goes_past : (it : Invocation) (held : Forest) (inside : Known) (built : Stack) → GoesPast setting false limit (level ∷ outer) now it held (next ∷ nexts) inside
+      → IsPutOrKept it held inside others stack built → closes_of (next ∷ nexts) ≡ closes_of (level ∷ outer) → IsGoing setting limit siblings trees before old (next ∷ nexts) others built
+  goes_past it held inside built past (inl (put, so, known, is)) closes = subst (IsGoing setting limit siblings trees before old (next ∷ nexts) others) (sym is)
+      (goes_on (first_becomes (stand_of it).attributes it.first_span it.last_span put) (append put (append (stand_of it).attributes stack))
+      (subst (Leads setting false limit (level ∷ outer) now (first_becomes (stand_of it).attributes it.first_span it.last_span put) (next ∷ nexts)) (sym known) (past.stands put so tt)) closes
+      (λ first more. finished_becomes level.close (closes_of outer) first more stack (stand_of it).attributes it.first_span it.last_span put))
+  goes_past it held inside built past (inr (fault, misplaced, known, is)) closes = subst (IsGoing setting limit siblings trees before old (next ∷ nexts) others) (sym is)
+      (goes_on (first_stay (trees_of it.whole)) (append (trees_of it.whole) stack)
+      (subst (Leads setting false limit (level ∷ outer) now (first_stay (trees_of it.whole)) (next ∷ nexts)) (sym known) (past.stays (start_of it.first_span.range) fault (inl (misplaced, refl)))) closes
+      (λ first more. finished_stay level.close (closes_of outer) first more stack (trees_of it.whole)))
+
+  -- It goes on in a subtree.
+  pub goes_into : (it : Delimiter) → Leads setting false limit (level ∷ outer) now (first_subtree it) (next ∷ nexts) others → closes_of (next ∷ nexts) ≡ it.close ∷ closes_of (level ∷ outer)
+      → IsGoing setting limit siblings trees before old (next ∷ nexts) others (above stack it.kind it.open_span end)
+  goes_into it leads closes = record { finishes = by }
+    where
+      by : (after : Known) (outcomes : List Outcome) → Ends setting false limit (next ∷ nexts) others after outcomes
+          → (outcome : Outcome) × Comes setting false limit (begun_among siblings) 0 before trees after outcome
+          × (finished (closes_of (next ∷ nexts)) outcomes (above stack it.kind it.open_span end) ≡ append (trees_left outcome) old)
+      by after [] e = absurd e
+      by after (held ∷ []) e = absurd (none after held (leads after (held ∷ []) e))
+        where
+          none : (after : Known) (held : Outcome) → Ends setting false limit (level ∷ outer) now after [] → ⊥
+          none after held e = e
+      by after (held ∷ first ∷ more) e =
+          let (outcome, comes, is) = going.finishes after (first_subtree it (held ∷ first ∷ more)) (leads after (held ∷ first ∷ more) e) in (
+            outcome,
+            comes,
+            ap (λ cs. finished cs (held ∷ first ∷ more) (above stack it.kind it.open_span end)) closes
+                ∙ sym (finished_subtree level.close (closes_of outer) first more stack it held) ∙ is,
+          )
+
+  -- It goes on behind one.
+  pub goes_out : (close : Span) → Leads setting false limit (level ∷ outer) now (λ outcomes. nothing ∷ outcomes) (next ∷ nexts) others → close ∷ closes_of (next ∷ nexts) ≡ closes_of (level ∷ outer)
+      → IsGoing setting limit siblings trees before old (next ∷ nexts) others (close_innermost close stack)
+  goes_out close leads closes = record { finishes = by }
+    where
+      by : (after : Known) (outcomes : List Outcome) → Ends setting false limit (next ∷ nexts) others after outcomes
+          → (outcome : Outcome) × Comes setting false limit (begun_among siblings) 0 before trees after outcome
+          × (finished (closes_of (next ∷ nexts)) outcomes (close_innermost close stack) ≡ append (trees_left outcome) old)
+      by after [] e = absurd e
+      by after (first ∷ more) e =
+          let (outcome, comes, is) = going.finishes after (nothing ∷ first ∷ more) (leads after (first ∷ more) e) in (
+            outcome,
+            comes,
+            sym (finished_close next.close (closes_of nexts) first more stack close) ∙ ap (λ cs. finished cs (nothing ∷ first ∷ more) stack) closes ∙ is,
+          )
+
+-- Nothing is built yet.
+pub begins : (setting : Setting) (limit : ℕ) (siblings : Siblings) (trees : Forest) (before : Known) (old : Stack) (close : Span)
+    → IsGoing setting limit siblings trees before old (begun siblings trees close ∷ []) before old
+begins setting limit siblings trees before old close = record { finishes = by }
+  where
+    by : (after : Known) (outcomes : List Outcome) → Ends setting false limit (begun siblings trees close ∷ []) before after outcomes
+        → (outcome : Outcome) × Comes setting false limit (begun_among siblings) 0 before trees after outcome × (finished (close ∷ []) outcomes old ≡ append (trees_left outcome) old)
+    by after [] e = absurd e
+    by after (it ∷ []) (inside, comes, e) = (it, subst (λ k. Comes setting false limit (begun_among siblings) 0 before trees k it) e comes, refl)
+    by after (it ∷ other ∷ more) (inside, comes, e) = absurd e
+
+-- All is built.
+pub ends_so : (setting : Setting) (limit : ℕ) (siblings : Siblings) (trees : Forest) (before now after : Known) (old stack : Stack) (level : Level) (outer : List Level)
+    → IsGoing setting limit siblings trees before old (level ∷ outer) now stack → Ends setting false limit (level ∷ outer) now after (nothing ∷ [])
+    → (outcome : Outcome) × Comes setting false limit (begun_among siblings) 0 before trees after outcome × (stack ≡ append (trees_left outcome) old)
+ends_so setting limit siblings trees before now after old stack level [] going e =
+    let (outcome, comes, is) = going.finishes after (nothing ∷ []) e in
+    (outcome, comes, sym (append-end stack) ∙ is)
+ends_so setting limit siblings trees before now after old stack level (next ∷ outer) going (inside, comes, e) = absurd e

@@ -1,0 +1,174 @@
+-- How levels lead to others.
+use Rattle.std.proofs.Common.{◌≡◌, ◌<◌, ◌-◌, ℕ, suc, Bool, true, false, List, [], ◌∷◌, length, None, Some, refl, ap, sym, subst, ◌∙◌}
+use Rattle.tt.specs.Forest.{Forest, Root, end, leaf, node}
+use Rattle.tt.specs.Gluing.{after_trees}
+use Rattle.tt.specs.Moves.{after_tree}
+use Rattle.tt.specs.Span.{start_of}
+use Rattle.tt.specs.Types.Delimiter.{Delimiter}
+use Rattle.tt.specs.Types.Leaf.{Leaf}
+use Rattle.tt.specs.Views.{trees_of}
+use Rattle.expand_text.specs.declared.fault.MacroFault.{MacroFault}
+use Rattle.expand_text.specs.Scopes.{Macro}
+use Rattle.expand_text.specs.declared.walk.Event.{Event}
+use Rattle.expand_text.specs.declared.walk.Event.TheVariants as event
+use Rattle.expand_text.specs.Calling.{IsFaulty}
+use Rattle.expand_text.specs.Coming.{IsPlain, Comes, ends, on_leaf, on_node, on_definition, on_other_call, into_other_call, into_attributes, on_faulty_call, on_call, on_kept_call, attributes_in, begin_in, begun_by, behind_in, end_in, rest_in, stand_in, whole_in, known_after}
+use Rattle.expand_items.specs.Attributes.{item_at}
+use Rattle.expand_items.specs.Items.{Definition, Call, defines, calls}
+use Rattle.expand_text.specs.Knowing.{Setting, Known, with_finding, left_in_scope}
+use Rattle.expand_text.specs.Macros.{IsRead, MayStand, called_by, arms_of, found_of, known_behind}
+use Rattle.expand_text.specs.Outcomes.{Outcome, nothing, passes, enters, stays, becomes, trees_left}
+use Rattle.expand_text.specs.Standing.{StandAs, IsKept}
+use Rattle.expand_items.specs.Positions.{behind as past_end, behind_subtree, keeps_macros}
+use Rattle.expand_text.specs.Walks.{Level, stand_of, past_leaf, past_subtree, past, past_call, kept_behind, inside, Leads, first_leaf, first_subtree, first_stay, first_becomes, IsNext}
+use Rattle.mbe_rules.specs.Arms.{Arm}
+use Rattle.mbe_rules.specs.Expansions.{IsExpansion}
+use Rattle.mbe_rules.specs.declared.macro_rules.Expansion.TheVariants as expansion
+use Rattle.mbe_matcher.specs.Fragments.{front_trees, is_brace}
+
+module _ (setting : Setting) (in_text : Bool) (limit : ℕ) (level : Level) (outer : List Level) (known : Known) where
+  -- Past a leaf.
+  pub leads_leaf : (it : Leaf) → level.rest ≡ leaf it (after_tree level.rest) → IsPlain setting known level.position level.plain level.rest
+      → Leads setting in_text limit (level ∷ outer) known (first_leaf it) (past_leaf it level ∷ outer) known
+  leads_leaf it begins plain after [] e = absurd e
+  leads_leaf it begins plain after (others ∷ more) (within, comes, behind) = (
+    within,
+    subst (λ f. Comes setting in_text limit level.position level.plain known f within (passes it others)) (sym begins)
+        (on_leaf (subst (IsPlain setting known level.position level.plain) begins plain) comes),
+    behind,
+  )
+
+  -- Into a subtree.
+  pub leads_subtree : (delimiter : Delimiter) (children : Forest) → level.rest ≡ node delimiter children (after_tree level.rest) → IsPlain setting known level.position level.plain level.rest
+      → Leads setting in_text limit (level ∷ outer) known (first_subtree delimiter)
+      (inside delimiter children level.position (kept_behind (keeps_macros delimiter.kind level.position) (length known.macros)) ∷ past_subtree delimiter.kind level ∷ outer) known
+  leads_subtree delimiter children begins plain after [] e = absurd e
+  leads_subtree delimiter children begins plain after (held ∷ []) (within, comes, e) = absurd e
+  leads_subtree delimiter children begins plain after (held ∷ others ∷ more) (within, comes, (behind, then, rest)) = (
+    behind,
+    subst (λ f. Comes setting in_text limit level.position level.plain known f behind (enters delimiter held others)) (sym begins)
+        (on_node (subst (IsPlain setting known level.position level.plain) begins plain) comes
+        (subst (λ k. Comes setting in_text limit (behind_subtree delimiter.kind level.position) (level.plain - 1) k (after_tree level.rest) behind others) (same (keeps_macros delimiter.kind level.position)) then)),
+    rest,
+  )
+    where
+      same : (are_kept : Bool) → left_in_scope (kept_behind are_kept (length known.macros)) within ≡ known_after are_kept known within
+      same true = refl
+      same false = refl
+
+  -- Out of a level.
+  pub leads_end : level.rest ≡ end → Leads setting in_text limit (level ∷ outer) known (λ outcomes. nothing ∷ outcomes) outer (left_in_scope level.kept known)
+  leads_end none after outcomes e = (
+    known,
+    subst (λ f. Comes setting in_text limit level.position level.plain known f known nothing) (sym none) ends,
+    e,
+  )
+
+  module _ (first : level.plain ≡ 0) (goes_on : known.is_over ≡ false) where
+    -- Past a definition.
+    pub leads_definition : (it : Definition) (others : Known) → item_at setting.root level.position level.rest ≡ defines it → IsRead setting it known others
+        → Leads setting in_text limit (level ∷ outer) known (first_stay (front_trees it.len level.rest)) (past it.len true level ∷ outer) others
+    leads_definition it others there is after [] e = absurd e
+    leads_definition it others there is after (left ∷ more) (within, comes, behind) = (
+      within,
+      subst (λ n. Comes setting in_text limit level.position n known level.rest within (stays (front_trees it.len level.rest) left)) (sym first)
+          (on_definition others goes_on there is (subst (λ n. Comes setting in_text limit (past_end true level.position) n others (after_trees it.len level.rest) within left) first comes)),
+      behind,
+    )
+
+    module _ (it : Call) (there : item_at setting.root level.position level.rest ≡ calls it) where
+      -- Past a call that is not expanded.
+      pub leads_other : it.attributes ≡ 0 → arms_of (called_by setting known.macros it) ≡ None → setting.everywhere ≡ false
+          → Leads setting in_text limit (level ∷ outer) known (first_stay (front_trees it.len level.rest)) (past it.len (is_brace it.delimiter.kind) level ∷ outer)
+          (known_behind it (called_by setting known.macros it) known)
+      leads_other bare none not_into after [] e = absurd e
+      leads_other bare none not_into after (others ∷ more) (within, comes, behind) = (
+        within,
+        subst (λ n. Comes setting in_text limit level.position n known level.rest within (stays (front_trees it.len level.rest) others)) (sym first)
+            (on_other_call goes_on there bare none not_into
+            (subst (λ n. Comes setting in_text limit (past_end (is_brace it.delimiter.kind) level.position) n (known_behind it (called_by setting known.macros it) known) (after_trees it.len level.rest) within others) first comes)),
+        behind,
+      )
+
+      -- Into one.
+      pub leads_into : it.attributes ≡ 0 → arms_of (called_by setting known.macros it) ≡ None → setting.everywhere ≡ true
+          → Leads setting in_text limit (level ∷ outer) known (λ outcomes. outcomes) (record level { plain = it.len } ∷ outer) (known_behind it (called_by setting known.macros it) known)
+      leads_into bare none into after [] e = absurd e
+      leads_into bare none into after (others ∷ more) (within, comes, behind) = (
+        within,
+        subst (λ n. Comes setting in_text limit level.position n known level.rest within others) (sym first) (into_other_call goes_on there bare none into comes),
+        behind,
+      )
+
+      -- Into the attributes before one.
+      pub leads_attributes : 0 < it.attributes → arms_of (called_by setting known.macros it) ≡ None
+          → Leads setting in_text limit (level ∷ outer) known (λ outcomes. outcomes) (record level { plain = it.attributes } ∷ outer) known
+      leads_attributes some none after [] e = absurd e
+      leads_attributes some none after (others ∷ more) (within, comes, behind) = (
+        within,
+        subst (λ n. Comes setting in_text limit level.position n known level.rest within others) (sym first) (into_attributes goes_on there some none comes),
+        behind,
+      )
+
+      -- Past one that is wrong.
+      pub leads_faulty : (then : Known) → IsFaulty setting limit it known then
+          → Leads setting in_text limit (level ∷ outer) known (first_stay (front_trees it.len level.rest)) (past it.len (is_brace it.delimiter.kind) level ∷ outer) then
+      leads_faulty then is after [] e = absurd e
+      leads_faulty then is after (others ∷ more) (within, comes, behind) = (
+        within,
+        subst (λ n. Comes setting in_text limit level.position n known level.rest within (stays (front_trees it.len level.rest) others)) (sym first)
+            (on_faulty_call is.at is.fault goes_on there is.called is.expands is.wrong
+            (subst (λ k. Comes setting in_text limit (past_end (is_brace it.delimiter.kind) level.position) 0 k (after_trees it.len level.rest) within others) is.found
+            (subst (λ n. Comes setting in_text limit (past_end (is_brace it.delimiter.kind) level.position) n then (after_trees it.len level.rest) within others) first comes))),
+        behind,
+      )
+
+-- Past one of which a tree comes, and of that something in turn.
+module _ (setting : Setting) (in_text : Bool) (left : ℕ) (level : Level) (outer : List Level) (known : Known) (first : level.plain ≡ 0) (goes_on : known.is_over ≡ false) (it : Call)
+    (macro : Macro) (arms : List Arm) (tree : Root) (there : item_at setting.root level.position level.rest ≡ calls it) (called : called_by setting known.macros it ≡ Some macro)
+    (expands : macro.arms ≡ Some arms) (makes : IsExpansion arms 0 0 it.input (expansion.Tree tree)) (within : Known) (held : Outcome)
+    (comes : Comes setting false left (begun_by level.position it level.rest) 0 known tree.children within held) where
+  -- That stands in its place.
+  pub leads_call : (put : Forest) → StandAs (stand_in level.position it level.rest) (trees_left held) (Some put) → MayStand in_text it.delimiter put
+      → Leads setting in_text (suc left) (level ∷ outer) known
+      (first_becomes (attributes_in level.position it level.rest) (begin_in it level.rest) (end_in level.position it level.rest) put) (past_call it level ∷ outer) within
+  leads_call put so may after [] e = absurd e
+  leads_call put so may after (others ∷ more) (beyond, then, behind) = (
+    beyond,
+    subst (λ n. Comes setting in_text (suc left) level.position n known level.rest beyond
+        (stays (attributes_in level.position it level.rest) (becomes (begin_in it level.rest) (end_in level.position it level.rest) put others))) (sym first)
+        (on_call tree put goes_on there (ap arms_of called ∙ expands) makes comes so may
+        (subst (λ n. Comes setting in_text (suc left) (behind_in level.position it level.rest) n within (rest_in level.position it level.rest) beyond others) first then)),
+    behind,
+  )
+
+  -- It stays, where that does not stand there, or is not written.
+  pub leads_kept : (at : ℕ) (fault : MacroFault) → IsKept in_text (stand_in level.position it level.rest) (trees_left held) (start_of (begin_in it level.rest).range) at fault
+      → Leads setting in_text (suc left) (level ∷ outer) known (first_stay (whole_in level.position it level.rest)) (past_call it level ∷ outer) (with_finding (found_of it macro at fault) within)
+  leads_kept at fault kept after [] e = absurd e
+  leads_kept at fault kept after (others ∷ more) (beyond, then, behind) = (
+    beyond,
+    subst (λ n. Comes setting in_text (suc left) level.position n known level.rest beyond (stays (whole_in level.position it level.rest) others)) (sym first)
+        (on_kept_call tree at fault goes_on there called expands makes comes kept
+        (subst (λ n. Comes setting in_text (suc left) (behind_in level.position it level.rest) n (with_finding (found_of it macro at fault) within) (rest_in level.position it level.rest) beyond others) first then)),
+    behind,
+  )
+
+-- What comes next in other levels to which these lead comes next in these.
+module _ (setting : Setting) (in_text : Bool) (limit : ℕ) (levels others : List Level) (known then : Known) (leads : Leads setting in_text limit levels known (λ outcomes. outcomes) others then) where
+  pub next_by : (it : Event) (nexts : List Level) (behind : Known) → IsNext setting in_text limit others then it nexts behind → IsNext setting in_text limit levels known it nexts behind
+  next_by event.End nexts behind is = leads behind (nothing ∷ []) is
+  next_by (event.Leaf it) nexts behind is = λ after outcomes e. leads after (first_leaf it outcomes) (is after outcomes e)
+  next_by (event.Opens header) nexts behind is = λ after outcomes e. leads after (first_subtree header.delimiter outcomes) (is after outcomes e)
+  next_by (event.Closes close) nexts behind is = λ after outcomes e. leads after (nothing ∷ outcomes) (is after outcomes e)
+  next_by (event.Stays trees) nexts behind is = λ after outcomes e. leads after (first_stay (_) outcomes) (is after outcomes e)
+  next_by (event.Invocation it) nexts behind (left, fits, is) = (
+    left,
+    fits,
+    λ within held comes.
+        let past = is within held comes in
+        record {
+          stands = λ put so may after outcomes e. leads after (first_becomes (stand_of it).attributes it.first_span it.last_span put outcomes) (past.stands put so may after outcomes e);
+          stays = λ at fault kept after outcomes e. leads after (first_stay (trees_of it.whole) outcomes) (past.stays at fault kept after outcomes e);
+        },
+  )

@@ -1,0 +1,70 @@
+-- Trees that stand in the place of a call.
+use Rattle.std.proofs.Common.{◌≡◌, ◌<◌, ℕ, zero, suc, Bool, true, false, Some, None, Option, inl, inr, refl, ap, ap₂, sym, subst, ◌∙◌, arith}
+use Rattle.std.proofs.lemmas.Bool.{false≢true}
+use Rattle.std.specs.Prelude.{is_some}
+use Rattle.tt.specs.Building.{BuilderState, Stack, append, bottom, built, empty_builder}
+use Rattle.tt.specs.Forest.{Forest}
+use Rattle.tt.specs.Stored.{IsWithinLimits}
+use Rattle.tt.specs.Types.Delimiter.{Delimiter}
+use Rattle.tt.specs.Types.TtFault.{TtFault}
+use Rattle.expand_items.specs.Spreads.{AreUnder, IsPutUnder, append_if}
+use Rattle.expand_text.specs.declared.fault.MacroFault.TheVariants as wrong
+use Rattle.expand_text.specs.declared.source.Written.{Written}
+use Rattle.expand_text.specs.declared.source.Written.TheVariants as made
+use Rattle.expand_text.specs.Expanding.{IsAdded}
+use Rattle.expand_text.specs.Expansion.{IsTextOf, IsCallText}
+use Rattle.expand_text.specs.Macros.{IsPastLimit, tree_of}
+use Rattle.expand_text.specs.Outcomes.{placed}
+use Rattle.expand_text.specs.Standing.{Stand, StandAs, StandUnder, IsTooLarge}
+use Rattle.expand_items.specs.Attributes.{conditions_of}
+
+-- Without attributes they stand as they are placed.
+pub stands_free : (it : Stand) (trees : Forest) → it.len ≡ 0 → StandAs it trees (Some (placed it.is_statement it.delimiter trees))
+stands_free it trees none = subst (λ n. StandUnder n it trees (Some (placed it.is_statement it.delimiter trees))) (sym none) refl
+
+module _ (it : Stand) (trees : Forest) (some : 0 < it.len) where
+  -- With attributes they stand as they are under conditions.
+  pub stands_under : (put : Option Forest) → IsWithinLimits (tree_of it.delimiter trees) → AreUnder it.siblings it.delimiter (conditions_of it.attributes) trees put → StandAs it trees put
+  stands_under put within under = by it.len some
+    where
+      by : (n : ℕ) → 0 < n → StandUnder n it trees put
+      by zero some = absurd (omega (arith, some))
+      by (suc n) some = (within, under)
+
+  -- Then they may be past a limit.
+  pub is_too_large : (why : TtFault) → IsPastLimit (tree_of it.delimiter trees) why → IsTooLarge it.len it trees (wrong.TooLarge why)
+  is_too_large why past = by it.len some
+    where
+      by : (n : ℕ) → 0 < n → IsTooLarge n it trees (wrong.TooLarge why)
+      by zero some = absurd (omega (arith, some))
+      by (suc n) some = past
+
+  -- Where they are put under the conditions, they stand so,
+  pub added_under : IsWithinLimits (tree_of it.delimiter trees) → (is_put : Bool) (old new : Stack)
+      → IsPutUnder it.siblings it.delimiter (conditions_of it.attributes) trees is_put old new → is_put ≡ true → IsAdded it trees None old new
+  added_under within is_put old new is does = by is.put is.under (sym is.told ∙ does) is.added
+    where
+      by : (put : Option Forest) → AreUnder it.siblings it.delimiter (conditions_of it.attributes) trees put → is_some put ≡ true → new ≡ append_if put old → IsAdded it trees None old new
+      by None under told added = absurd (false≢true told)
+      by (Some put) under told added = (put, stands_under (Some put) within under, added)
+
+  -- and where they are not, they cannot.
+  pub kept_under : IsWithinLimits (tree_of it.delimiter trees) → (is_put : Bool) (old new : Stack)
+      → IsPutUnder it.siblings it.delimiter (conditions_of it.attributes) trees is_put old new → is_put ≡ false → IsAdded it trees (Some wrong.Conditional) old new
+  kept_under within is_put old new is does_not = by is.put is.under (sym is.told ∙ does_not) is.added
+    where
+      by : (put : Option Forest) → AreUnder it.siblings it.delimiter (conditions_of it.attributes) trees put → is_some put ≡ false → new ≡ append_if put old
+          → IsAdded it trees (Some wrong.Conditional) old new
+      by None under told added = (inl (refl, stands_under None within under), added)
+      by (Some put) under told added = absurd (false≢true (sym told))
+
+-- A builder that held nothing is a tree of what was added.
+pub built_alone : (top : Delimiter) (first last : BuilderState) (trees : Forest) → first ≡ empty_builder top → last.top ≡ first.top → last.stack ≡ append trees first.stack
+    → built last ≡ record { delimiter = top; children = trees }
+built_alone top first last trees begun same added =
+    ap₂ (λ d s. record { delimiter = d; children = bottom s }) (same ∙ ap (λ b. b.top) begun) (added ∙ ap (λ b. append trees b.stack) begun)
+
+-- The text of trees as they stand is that of a call.
+pub call_text : (it : Stand) (trees put : Forest) (begin : ℕ) (text : Written) → StandAs it trees (Some put) → IsTextOf it.delimiter put begin text → IsCallText it trees begin text
+call_text it trees put begin (made.Text text) so (may, same) = (put, so, may, same)
+call_text it trees put begin (made.Faulty at fault) so unwritten = inr (refl, put, so, unwritten)

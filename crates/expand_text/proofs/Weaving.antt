@@ -1,0 +1,311 @@
+-- What takes the place of calls is woven into what a text is spelled by.
+use Rattle.std.proofs.Common.{◌≡◌, ◌<◌, ◌-◌, ◌++◌, ℕ, suc, Bool, true, false, List, [], ◌∷◌, inl, inr, ◌⊎◌, max, Some, None, cond, codes, refl, ap, ap₂, sym, subst, ◌∙◌, arith, append_assoc, append-nil}
+use Rattle.std.proofs.Math.Nat.{le-max_left, le-max_right}
+use Rattle.std.proofs.lemmas.Bool.{eqb-true, false≢true}
+use Rattle.std.specs.Prelude.{◌==◌, ◌||◌, ◌&&◌, not}
+use Rattle.tt.specs.Forest.{Forest, end, leaf, node, join}
+use Rattle.tt.specs.Gluing.{after_trees}
+use Rattle.tt.specs.Span.{start_of, end_of}
+use Rattle.tt.specs.Types.Delimiter.{Delimiter}
+use Rattle.tt.specs.Types.DelimiterKind.{DelimiterKind}
+use Rattle.tt.specs.Types.Leaf.{Leaf}
+use Rattle.tt.specs.Types.Leaf.TheVariants as leaf_of
+use Rattle.tt.specs.Types.Spacing.{Spacing}
+use Rattle.syntax_edit.specs.Places.{begin_at}
+use Rattle.expand_text.proofs.CallPlaces.{last_of}
+use Rattle.expand_text.proofs.CallParts.{alone, attributes_alone, begin_alone, call_alone, closed_join, end_alone, ends_alone, split_in}
+use Rattle.expand_items.proofs.Conditions.{StandsBehind, attributes_closed, definition_at}
+use Rattle.expand_items.specs.Attributes.{item_at}
+use Rattle.expand_items.proofs.Shapes.{EndsClosed, by_subtree, by_semicolon, BeginsWithName, call_begins, call_ends, call_closed, definition_closed, punct_first, ends_by_punct}
+use Rattle.expand_text.specs.Coming.{Comes, ends, on_leaf, on_node, on_definition, on_other_call, into_other_call, into_attributes, on_faulty_call, on_call, on_kept_call, attributes_in, begin_in, end_in, len_in, named_behind, plain_behind, rest_in, takes_in, whole_in}
+use Rattle.expand_text.specs.Expansion.{replacement, replacements}
+use Rattle.expand_text.specs.Knowing.{Setting, Known, asks_for}
+use Rattle.expand_text.specs.Macros.{arms_of, called_by}
+use Rattle.expand_text.specs.Outcomes.{Outcome, nothing, passes, enters, stays, becomes}
+use Rattle.expand_text.specs.Reading.{splices, sorts_left}
+use Rattle.expand_text.specs.Scopes.{Macro, last_named}
+use Rattle.expand_items.specs.Items.{Call, calls, item_in}
+use Rattle.expand_items.specs.Positions.{is_items}
+use Rattle.expand_items.specs.declared.position.Position.{Position}
+use Rattle.mbe_rules.specs.Arms.{Arm}
+use Rattle.mbe_matcher.proofs.FrontTrees.{front_joined}
+use Rattle.mbe_matcher.specs.Fragments.{front_trees, is_brace}
+use Rattle.mbe_pattern.specs.Units.{is_at_punct}
+use Rattle.laws_round_trip.proofs.CallCuts.{behind_pieces}
+use Rattle.laws_round_trip.specs.Calls.{BeginsCall, EndsCall, IsTaken, IsWoven, ends as woven_end, keeps, gives_way, follows_value, may_begin}
+use Rattle.laws_round_trip.specs.Splices.{Splice, replacement_of, replacements_of}
+use Rattle.syntax_parse.proofs.StackFacts.{spelled-join}
+use Rattle.syntax_parse.specs.Spelled.{Piece, Sort, sign, opening, closing, at_span, piece_of, sort_of, spelled}
+use Rattle.syntax_unparse.specs.Marks.{marks}
+use Rattle.syntax_unparse.specs.Settled.{settled, sorts}
+
+-- what takes the place of calls, as texts
+replacements_append : (a b : List Splice) → replacements_of (a ++ b) ≡ replacements_of a ++ replacements_of b
+replacements_append [] b = refl
+replacements_append (it ∷ a) b = ap (λ rs. replacement_of it ∷ rs) (replacements_append a b)
+
+-- All that takes the place of calls is so as a text.
+pub as_texts : (it : Outcome) → replacements_of (splices it) ≡ replacements it
+as_texts nothing = refl
+as_texts (passes it behind) = as_texts behind
+as_texts (enters delimiter inside behind) = replacements_append (splices inside) (splices behind) ∙ ap₂ (λ a b. a ++ b) (as_texts inside) (as_texts behind)
+as_texts (stays trees behind) = as_texts behind
+as_texts (becomes first last trees behind) = ap (λ rs. replacement first last trees ∷ rs) (as_texts behind)
+
+-- before a `.` behind a literal two trees are taken as they are
+abbrev pub BeforePoint : (before : List Sort) → Forest → (plain : ℕ) → Type 0
+BeforePoint before trees plain = follows_value before ≡ true → is_at_punct (codes ".") trees ≡ true → 1 < plain
+
+-- behind these leaves and brackets, the latest first, no call begins where none may, since so many trees are taken as they are
+pub record IsHeld (before : List Sort) (trees : Forest) (plain : ℕ) : Type 0 where
+  pub begins : plain ≡ 0 → may_begin before ≡ true
+  pub point : BeforePoint before trees plain
+
+-- Behind a punct none begins where none may.
+held_punct : (char : ℕ) (spacing : Spacing) (before : List Sort) (plain behind : ℕ) → ((char == 46) ≡ true → follows_value before ≡ true → 1 < plain) → ((char == 39) ≡ true → 0 < behind)
+    → max (plain - 1) behind ≡ 0 → may_begin (sign char spacing ∷ before) ≡ true
+held_punct char spacing before plain behind point quote none = by (char == 39) refl (char == 46) refl (follows_value before) refl
+  where
+    by : (q : Bool) → (char == 39) ≡ q → (p : Bool) → (char == 46) ≡ p → (v : Bool) → follows_value before ≡ v → not (q || (p && v)) ≡ true
+    by true e p f v g = absurd (omega (arith, quote e, le-max_right (plain - 1) behind, none))
+    by false e false f v g = refl
+    by false e true f false g = refl
+    by false e true f true g = absurd (omega (arith, point f g, le-max_left (plain - 1) behind, none))
+
+-- Nor behind a leaf, since what stands behind that is taken as it is.
+held_leaf : (it : Leaf) (before : List Sort) (rest : Forest) (plain : ℕ) → IsHeld before (leaf it rest) plain → IsHeld (sort_of it ∷ before) rest (plain_behind it rest plain)
+held_leaf (leaf_of.Ident it) before rest plain held = record { begins = λ none. refl; point = λ follows at. absurd (false≢true follows) }
+held_leaf (leaf_of.Literal it) before rest plain held = record {
+  begins = λ none. refl;
+  point = λ follows at.
+      let two : named_behind (leaf_of.Literal it) rest ≡ 2 = ap (λ b. cond b 2 0) at in
+      omega (arith, two, le-max_right (plain - 1) (named_behind (leaf_of.Literal it) rest));
+}
+held_leaf (leaf_of.Punct it) before rest plain held = record {
+  begins = λ none.
+      held_punct it.char it.spacing before plain (named_behind (leaf_of.Punct it) rest)
+      (λ at follows. held.point follows (ap (λ b. b || false) at))
+      (λ quote. let one : named_behind (leaf_of.Punct it) rest ≡ 1 = ap (λ b. cond b 1 0) quote in omega (arith, one))
+      none;
+  point = λ follows at. absurd (false≢true follows);
+}
+
+-- Behind nothing, and behind a bracket, any call may begin.
+held_none : (trees : Forest) (plain : ℕ) → IsHeld [] trees plain
+held_none trees plain = record { begins = λ none. refl; point = λ follows at. absurd (false≢true follows) }
+
+held_opening : (kind : DelimiterKind) (before : List Sort) (trees : Forest) (plain : ℕ) → IsHeld (opening kind ∷ before) trees plain
+held_opening kind before trees plain = record { begins = λ none. refl; point = λ follows at. absurd (false≢true follows) }
+
+held_closing : (kind : DelimiterKind) (before : List Sort) (trees : Forest) (plain : ℕ) → IsHeld (closing kind ∷ before) trees plain
+held_closing kind before trees plain = record { begins = λ none. refl; point = λ follows at. absurd (false≢true follows) }
+
+-- So it may behind a `;`.
+held_semicolon : (char : ℕ) (spacing : Spacing) (before : List Sort) (trees : Forest) (plain : ℕ) → (char == 59) ≡ true → IsHeld (sign char spacing ∷ before) trees plain
+held_semicolon char spacing before trees plain is =
+    subst (λ c. IsHeld (sign c spacing ∷ before) trees plain) (sym (eqb-true char 59 is)) (record { begins = λ none. refl; point = λ follows at. absurd (false≢true follows) })
+
+behind_last : (pieces : List Piece) (last : Piece) (before : List Sort) → behind_pieces (pieces ++ last ∷ []) before ≡ last.sort ∷ behind_pieces pieces before
+behind_last [] last before = refl
+behind_last (piece ∷ pieces) last before = behind_last pieces last (piece.sort ∷ before)
+
+-- Pieces stay, all of them.
+keeps_all : (pieces : List Piece) (before : List Sort) (more : List Piece) (others : List Splice) (woven : List Sort) → IsWoven (behind_pieces pieces before) more others woven
+    → IsWoven before (pieces ++ more) others (sorts pieces ++ woven)
+keeps_all [] before more others woven is = is
+keeps_all (piece ∷ pieces) before more others woven is = keeps (keeps_all pieces (piece.sort ∷ before) more others woven is)
+
+-- Behind trees that end with a subtree or a `;` any call may begin.
+spelled_subtree : (front : Forest) (delimiter : Delimiter) (children : Forest)
+    → spelled (join front (node delimiter children end))
+    ≡ (spelled front ++ at_span (opening delimiter.kind) delimiter.open_span ∷ spelled children) ++ at_span (closing delimiter.kind) delimiter.close ∷ []
+spelled_subtree front delimiter children =
+    spelled-join front (node delimiter children end)
+    ∙ sym (append_assoc (spelled front) (at_span (opening delimiter.kind) delimiter.open_span ∷ spelled children) (at_span (closing delimiter.kind) delimiter.close ∷ []))
+
+held_closed : (closed : Forest) → EndsClosed closed → (before : List Sort) (trees : Forest) (plain : ℕ) → IsHeld (behind_pieces (spelled closed) before) trees plain
+held_closed closed (by_subtree front delimiter children is) before trees plain =
+    let pieces = spelled front ++ at_span (opening delimiter.kind) delimiter.open_span ∷ spelled children in
+    let last = at_span (closing delimiter.kind) delimiter.close in
+    let same : behind_pieces (spelled closed) before ≡ closing delimiter.kind ∷ behind_pieces pieces before =
+    ap (λ ps. behind_pieces ps before) (ap spelled is ∙ spelled_subtree front delimiter children) ∙ behind_last pieces last before in
+    subst (λ b. IsHeld b trees plain) (sym same) (held_closing delimiter.kind (behind_pieces pieces before) trees plain)
+held_closed closed (by_semicolon front punct semicolon is) before trees plain =
+    let last = piece_of (leaf_of.Punct punct) in
+    let same : behind_pieces (spelled closed) before ≡ sign punct.char punct.spacing ∷ behind_pieces (spelled front) before =
+    ap (λ ps. behind_pieces ps before) (ap spelled is ∙ spelled-join front (leaf (leaf_of.Punct punct) end)) ∙ behind_last (spelled front) last before in
+    subst (λ b. IsHeld b trees plain) (sym same) (held_semicolon punct.char punct.spacing (behind_pieces (spelled front) before) trees plain semicolon)
+
+-- the same pieces, splices and leaves
+moved : {before : List Sort} {pieces pieces_too : List Piece} {others others_too : List Splice} {woven woven_too : List Sort}
+    → pieces ≡ pieces_too → others ≡ others_too → woven ≡ woven_too → IsWoven before pieces others woven → IsWoven before pieces_too others_too woven_too
+moved {before} {pieces} {pieces_too} {others} {others_too} {woven} {woven_too} ps os ws is =
+    subst (λ x. IsWoven before x others_too woven_too) ps (subst (λ x. IsWoven before pieces x woven_too) os (subst (λ x. IsWoven before pieces others x) ws is))
+
+-- the pieces of trees before others
+spelled_front : (trees front rest : Forest) (more : List Piece) → trees ≡ join front rest → spelled front ++ (spelled rest ++ more) ≡ spelled trees ++ more
+spelled_front trees front rest more is = sym (append_assoc (spelled front) (spelled rest) more) ∙ ap (λ ps. ps ++ more) (sym (spelled-join front rest) ∙ ap spelled (sym is))
+
+-- A call without attributes ends with its subtree, or with its `;`.
+module _ (root : List ℕ) (trees : Forest) (position : Position) (it : Call) (is : item_in root trees ≡ calls it) where
+  -- where it ends, and how
+  bare_end : EndsClosed (front_trees (len_in position it trees) trees) × EndsCall (end_of (end_in position it trees).range) (spelled (front_trees (len_in position it trees) trees))
+  bare_end = by (takes_in position it trees) refl
+    where
+      rest : Forest
+      rest = after_trees it.len trees
+
+      by : (takes : Bool) → takes_in position it trees ≡ takes
+          → EndsClosed (front_trees (cond takes (suc it.len) it.len) trees)
+          × EndsCall (end_of (cond takes (begin_at rest it.delimiter.close) it.delimiter.close).range) (spelled (front_trees (cond takes (suc it.len) it.len) trees))
+      by false e =
+          let (front, same) = call_closed root trees it is in (
+            by_subtree front it.delimiter it.input same,
+            (spelled front ++ at_span (opening it.delimiter.kind) it.delimiter.open_span ∷ spelled it.input, at_span (closing it.delimiter.kind) it.delimiter.close, ap spelled same ∙ spelled_subtree front it.delimiter it.input, refl, refl),
+          )
+      by true e =
+          let semicolon = last_of (is_items position.siblings) position.is_start (not (is_brace it.delimiter.kind)) (is_at_punct (codes ";") rest) e in
+          let (punct, others, stands, same) = punct_first 59 rest semicolon in
+          let front = front_trees it.len trees in
+          let all = ends_by_punct it.len trees punct others stands in (
+            by_semicolon front punct same all,
+            (spelled front, piece_of (leaf_of.Punct punct), ap spelled all ∙ spelled-join front (leaf (leaf_of.Punct punct) end), ap (λ f. end_of (begin_at f it.delimiter.close).range) (sym stands), same),
+          )
+
+  -- Its pieces are taken.
+  bare_taken : it.is_elsewhere ≡ false → IsTaken (spelled (front_trees (len_in position it trees) trees)) (start_of (begin_at trees it.name.span).range) (end_of (end_in position it trees).range)
+  bare_taken here = record { trees = front_trees (len_in position it trees) trees; spelled = refl; begins = begun; ends = bare_end.1 }
+    where
+      begun : BeginsCall (start_of (begin_at trees it.name.span).range) (spelled (front_trees (len_in position it trees) trees))
+      begun =
+          let call = call_ends root trees it is in
+          let name = call_begins root trees it is here in
+          subst (λ n. BeginsCall (start_of (begin_at trees it.name.span).range) (spelled (front_trees n trees))) (long call.len) (by name)
+        where
+          long : {n : ℕ} → it.len ≡ suc (suc n) → suc (suc (len_in position it trees - 2)) ≡ len_in position it trees
+          long {n} e = more (takes_in position it trees)
+            where
+              more : (takes : Bool) → suc (suc (cond takes (suc it.len) it.len - 2)) ≡ cond takes (suc it.len) it.len
+              more true = omega (arith, e)
+              more false = omega (arith, e)
+
+          by : BeginsWithName trees → BeginsCall (start_of (begin_at trees it.name.span).range) (spelled (front_trees (suc (suc (len_in position it trees - 2))) trees))
+          by name =
+              subst (λ f. BeginsCall (start_of (begin_at f it.name.span).range) (spelled (front_trees (suc (suc (len_in position it trees - 2))) f))) (sym name.stands)
+              (refl, refl, name.sign)
+
+-- So does a call behind its attributes.
+module _ (root : List ℕ) (trees : Forest) (position : Position) (it : Call) (is : item_at root position trees ≡ calls it) where
+  -- the call alone, and what stands behind the attributes
+  abbrev at : StandsBehind root trees it
+  at = alone root position trees it is
+
+  abbrev behind : Forest
+  behind = after_trees it.attributes trees
+
+  -- Its pieces behind the attributes are taken.
+  call_taken : it.is_elsewhere ≡ false
+      → IsTaken (spelled (after_trees it.attributes (whole_in position it trees))) (start_of (begin_in it trees).range) (end_of (end_in position it trees).range)
+  call_taken here =
+      let named : at.bare.is_elsewhere ≡ false = ap (λ c. c.is_elsewhere) (sym at.same) ∙ here in
+      subst (λ f. IsTaken (spelled f) (start_of (begin_in it trees).range) (end_of (end_in position it trees).range)) (sym (call_alone root position trees it is))
+      (subst (λ s. IsTaken (spelled (whole_in position at.bare behind)) (start_of s.range) (end_of (end_in position it trees).range)) (sym (begin_alone root position trees it is))
+      (subst (λ s. IsTaken (spelled (whole_in position at.bare behind)) (start_of (begin_at behind at.bare.name.span).range) (end_of s.range)) (sym (end_alone root position trees it is))
+      (bare_taken root behind position at.bare at.stands named)))
+
+  -- All of it ends so.
+  whole_closed : EndsClosed (whole_in position it trees)
+  whole_closed =
+      subst EndsClosed (sym (front_joined it.attributes (whole_in position it trees)))
+      (closed_join (attributes_in position it trees) (after_trees it.attributes (whole_in position it trees))
+      (subst EndsClosed (sym (call_alone root position trees it is)) (bare_end root behind position at.bare at.stands).0))
+
+  -- Behind its attributes a call may begin, where one may before them.
+  held_attributes : (before : List Sort) → IsHeld before trees 0 → may_begin (behind_pieces (spelled (attributes_in position it trees)) before) ≡ true
+  held_attributes before held = by (attributes_closed root position trees it is)
+    where
+      by : (it.attributes ≡ 0) ⊎ ((front : Forest) × (delimiter : Delimiter) × (children : Forest) × (front_trees it.attributes trees ≡ join front (node delimiter children end)))
+          → may_begin (behind_pieces (spelled (attributes_in position it trees)) before) ≡ true
+      by (inl none) = ap (λ n. may_begin (behind_pieces (spelled (front_trees n (whole_in position it trees))) before)) none ∙ held.begins refl
+      by (inr (front, delimiter, children, same)) =
+          (held_closed (attributes_in position it trees) (by_subtree front delimiter children (attributes_alone root position trees it is ∙ same)) before behind 0).begins refl
+
+  -- The trees are its attributes, the rest of it, and what stands behind it.
+  spelled_parts : (more : List Piece)
+      → spelled (attributes_in position it trees) ++ (spelled (after_trees it.attributes (whole_in position it trees)) ++ (spelled (rest_in position it trees) ++ more)) ≡ spelled trees ++ more
+  spelled_parts more =
+      spelled_front (whole_in position it trees) (attributes_in position it trees) (after_trees it.attributes (whole_in position it trees)) (spelled (rest_in position it trees) ++ more)
+      (front_joined it.attributes (whole_in position it trees))
+      ∙ spelled_front trees (whole_in position it trees) (rest_in position it trees) more (split_in position it trees)
+
+-- A macro is called by its own name, and not looked for elsewhere.
+called_here : (setting : Setting) (macros : List Macro) (it : Call) (arms : List Arm) → arms_of (called_by setting macros it) ≡ Some arms → it.is_elsewhere ≡ false
+called_here setting macros it arms is = by it.is_elsewhere refl is
+  where
+    by : (elsewhere : Bool) → it.is_elsewhere ≡ elsewhere → arms_of (cond elsewhere None (cond (asks_for setting.only it.name.sym) (last_named it.name.sym macros) None)) ≡ Some arms → elsewhere ≡ false
+    by true e f = absurd (cc f)
+    by false e f = refl
+
+module _ (setting : Setting) where
+  -- Trees that stay with all that they hold, and end with a subtree or a `;`, and then others.
+  stays_woven : (trees front rest : Forest) → trees ≡ join front rest → EndsClosed front → (before : List Sort) (more : List Piece) (others : List Splice) (woven : List Sort)
+      → ((behind : List Sort) → IsHeld behind rest 0 → IsWoven behind (spelled rest ++ more) others woven)
+      → IsWoven before (spelled trees ++ more) others (sorts (spelled front) ++ woven)
+  stays_woven trees front rest is closed before more others woven then =
+      moved (spelled_front trees front rest more is) refl refl
+      (keeps_all (spelled front) before (spelled rest ++ more) others woven (then (behind_pieces (spelled front) before) (held_closed front closed before rest 0)))
+
+  -- What comes of trees is woven into their pieces.
+  pub comes_woven : {limit : ℕ} {position : Position} {plain : ℕ} {known after : Known} {trees : Forest} {outcome : Outcome} → Comes setting true limit position plain known trees after outcome
+      → (before : List Sort) → IsHeld before trees plain → (more : List Piece) (others : List Splice) (woven : List Sort) → ((behind : List Sort) → IsWoven behind more others woven)
+      → IsWoven before (spelled trees ++ more) (splices outcome ++ others) (sorts_left outcome ++ woven)
+  comes_woven ends before held more others woven then = then before
+  comes_woven (on_leaf {plain = plain} {it = it} {rest = rest} is comes) before held more others woven then =
+      keeps (comes_woven comes (sort_of it ∷ before) (held_leaf it before rest plain held) more others woven then)
+  comes_woven (on_node {plain = plain} {delimiter = delimiter} {children = children} {rest = rest} {held = inside} {others = behind} is comes past) before held more others woven then =
+      let opens = opening delimiter.kind in
+      let close = closing delimiter.kind in
+      let shut = at_span close delimiter.close in
+      moved (ap (λ ps. at_span opens delimiter.open_span ∷ ps) (sym (append_assoc (spelled children) (shut ∷ spelled rest) more)))
+      (sym (append_assoc (splices inside) (splices behind) others))
+      (ap (λ ws. opens ∷ ws) (sym (append_assoc (sorts_left inside) (close ∷ sorts_left behind) woven)))
+      (keeps (comes_woven comes (opens ∷ before) (held_opening delimiter.kind before children 0) (shut ∷ (spelled rest ++ more)) (splices behind ++ others) (close ∷ (sorts_left behind ++ woven))
+      (λ b. keeps (comes_woven past (close ∷ b) (held_closing delimiter.kind b rest (plain - 1)) more others woven then))))
+  comes_woven (on_definition {position = position} {it = it} {trees = trees} {others = behind} inside goes_on is read comes) before held more others woven then =
+      moved refl refl (sym (append_assoc (sorts (spelled (front_trees it.len trees))) (sorts_left behind) woven))
+      (stays_woven trees (front_trees it.len trees) (after_trees it.len trees) (front_joined it.len trees)
+      (definition_closed setting.root trees it (definition_at setting.root position trees it is)) before more (splices behind ++ others) (sorts_left behind ++ woven)
+      (λ b h. comes_woven comes b h more others woven then))
+  comes_woven (on_other_call {position = position} {it = it} {trees = trees} {others = behind} goes_on is bare none out comes) before held more others woven then =
+      moved refl refl (sym (append_assoc (sorts (spelled (front_trees it.len trees))) (sorts_left behind) woven))
+      (stays_woven trees (front_trees it.len trees) (after_trees it.len trees) (front_joined it.len trees) (ends_alone setting.root position trees it is) before more (splices behind ++ others) (sorts_left behind ++ woven)
+      (λ b h. comes_woven comes b h more others woven then))
+  comes_woven (into_other_call goes_on is bare none into comes) before held more others woven then =
+      comes_woven comes before (record { begins = λ long. held.begins refl; point = λ follows at. omega (arith, held.point follows at) }) more others woven then
+  comes_woven (into_attributes goes_on is some none comes) before held more others woven then =
+      comes_woven comes before (record { begins = λ long. held.begins refl; point = λ follows at. omega (arith, held.point follows at) }) more others woven then
+  comes_woven (on_faulty_call {position = position} {it = it} {trees = trees} {others = behind} at fault goes_on is called some wrong comes) before held more others woven then =
+      moved refl refl (sym (append_assoc (sorts (spelled (front_trees it.len trees))) (sorts_left behind) woven))
+      (stays_woven trees (front_trees it.len trees) (after_trees it.len trees) (front_joined it.len trees) (ends_alone setting.root position trees it is) before more (splices behind ++ others) (sorts_left behind ++ woven)
+      (λ b h. comes_woven comes b h more others woven then))
+  comes_woven (on_call {position = position} {known = known} {it = it} {arms = arms} {trees = trees} {others = behind} tree put goes_on is called makes comes so may past) before held more others woven then =
+      let attributes = attributes_in position it trees in
+      let call = after_trees it.attributes (whole_in position it trees) in
+      let rest = rest_in position it trees in
+      moved (spelled_parts setting.root trees position it is more) refl
+      (ap (λ ws. sorts (spelled attributes) ++ ws) (sym (append_assoc (settled (marks 0 put)) (sorts_left behind) woven))
+      ∙ sym (append_assoc (sorts (spelled attributes)) (settled (marks 0 put) ++ sorts_left behind) woven))
+      (keeps_all (spelled attributes) before (spelled call ++ (spelled rest ++ more)) (splices (becomes (begin_in it trees) (end_in position it trees) put behind) ++ others)
+      (settled (marks 0 put) ++ (sorts_left behind ++ woven))
+      (gives_way (held_attributes setting.root trees position it is before held) (call_taken setting.root trees position it is (called_here setting known.macros it arms called)) may.1
+      (comes_woven past [] (held_none rest 0) more others woven then)))
+  comes_woven (on_kept_call {position = position} {it = it} {trees = trees} {others = behind} tree at fault goes_on is called some makes comes kept past) before held more others woven then =
+      moved refl refl (sym (append_assoc (sorts (spelled (whole_in position it trees))) (sorts_left behind) woven))
+      (stays_woven trees (whole_in position it trees) (rest_in position it trees) (split_in position it trees) (whole_closed setting.root trees position it is) before more (splices behind ++ others) (sorts_left behind ++ woven)
+      (λ b h. comes_woven past b h more others woven then))
+
+  -- What comes of a whole text is woven into its pieces.
+  pub text_woven : {limit : ℕ} {position : Position} {known after : Known} (trees : Forest) (outcome : Outcome) → Comes setting true limit position 0 known trees after outcome
+      → IsWoven [] (spelled trees) (splices outcome) (sorts_left outcome)
+  text_woven trees outcome comes =
+      moved (append-nil (spelled trees)) (append-nil (splices outcome)) (append-nil (sorts_left outcome)) (comes_woven comes [] (held_none trees 0) [] [] [] (λ behind. woven_end))

@@ -1,0 +1,34 @@
+-- What is built, with what comes of what is left, is what comes of all; and as many subtrees are open as are entered.
+use Rattle.std.proofs.Common.{◌≡◌, ◌+◌, ◌*◌, suc, length}
+use Rattle.tt.specs.Building.{depth}
+use Rattle.tt.specs.Iters.{rest_of}
+use Rattle.expand_text.specs.Knowing.{Known, IsKnown, setting_of}
+use Rattle.expand_text.specs.Walks.{levels_of, closes_of, work_in}
+use Rattle.expand_text.proofs.Finishing.{IsGoing}
+use Rattle.expand_text.proofs.expanding.+expansion.Given as goal
+
+abbrev pub decreases-expand_trees : goal.decreases-expand_trees
+decreases-expand_trees l = l.limit * 4
+
+abbrev pub decreases-place_under : goal.decreases-place_under
+decreases-place_under l = l.limit * 4 + 1
+
+abbrev pub decreases-place : goal.decreases-place
+decreases-place l = l.limit * 4 + 2
+
+abbrev pub decreases-pass_call : goal.decreases-pass_call
+decreases-pass_call l = l.limit * 4 + 3
+
+abbrev pub invariant-expand_trees-trees : goal.invariant-expand_trees-trees
+invariant-expand_trees-trees l =
+    record {
+      going :
+          (before : Known) → IsKnown before l.fn.known
+          → (now : Known) × IsKnown now l.known
+          × IsGoing (setting_of l.setting) l.limit l.fn.siblings (rest_of l.fn.trees) before l.fn.builder.stack (levels_of l.walk) now l.builder.stack;
+      entered : suc (depth l.builder.stack) ≡ length (closes_of (levels_of l.walk)) + depth l.fn.builder.stack;
+      top : l.builder.top ≡ l.fn.builder.top;
+    }
+
+abbrev pub decreases-expand_trees-trees : goal.decreases-expand_trees-trees
+decreases-expand_trees-trees l = work_in (levels_of l.walk)

@@ -1,0 +1,61 @@
+use Rattle.std.proofs.Common.{rules, ◌≡◌, ◌∙◌, cond, refl, ap, ap₂, sym}
+use Rattle.tt.specs.Forest.{join}
+use Rattle.tt.specs.Gluing.{after_trees}
+use Rattle.tt.specs.Iters.{rest_of, saved_of}
+use Rattle.tt.specs.Views.{trees_of}
+use Rattle.expand_text.specs.Coming.{len_in, rest_in, stand_in, takes_in, whole_in}
+use Rattle.syntax_edit.specs.Places.{begin_at}
+use Rattle.expand_text.specs.Walks.{Level, level_of, past, past_call, past_semicolon}
+use Rattle.expand_items.specs.Items.{Call, call_of}
+use Rattle.expand_items.specs.Positions.{is_statement, siblings_of_call, takes_semicolon}
+use Rattle.mbe_matcher.proofs.FrontTrees.{front_told}
+use Rattle.mbe_matcher.specs.Fragments.{is_brace}
+use Rattle.expand_text.proofs.CallParts.{rest_behind, split_in, stand_same}
+use Rattle.expand_text.proofs.walk.invoke.Goals as goal
+
+pub from_savepoint-requires : goal.from_savepoint-requires
+from_savepoint-requires c =
+    let it : Call = call_of c.args.call.now in
+    let level : Level = level_of c.args.walk.now.level in
+    let kept : saved_of c.savepoint-start.result ≡ level.rest = search rules in
+    let passed : level_of c.pass_all.new.self ≡ past it.len (is_brace it.delimiter.kind) level = search rules in
+    let left : trees_of c.remaining-behind.result ≡ rest_of c.pass_all.new.self.rest = search rules in
+    let behind : trees_of c.remaining-behind.result ≡ after_trees it.len level.rest = left ∙ ap (λ l. l.rest) passed in
+    let takes : c.takes_semicolon-takes.result ≡ takes_in level.position it level.rest =
+    c.takes_semicolon-takes.ensures ∙ ap (λ f. takes_semicolon it.delimiter.kind f level.position) (c.iter.ensures ∙ behind) in
+    let now : level_of c.pass_semicolon-last_span.new.self ≡ past_call it level = c.pass_semicolon-last_span.ensures.level ∙ ap₂ past_semicolon takes passed in
+    let rest : rest_of c.pass_semicolon-last_span.new.self.rest ≡ rest_in level.position it level.rest = ap (λ l. l.rest) now in
+    (whole_in level.position it level.rest, kept ∙ split_in level.position it level.rest ∙ ap (join (whole_in level.position it level.rest)) (sym rest))
+
+pub returns : goal.returns
+returns c =
+    let it : Call = call_of c.args.call.now in
+    let level : Level = level_of c.args.walk.now.level in
+    let close = it.delimiter.close in
+    let start : saved_of c.savepoint-start.result ≡ level.rest = search rules in
+    let passed : level_of c.pass_all.new.self ≡ past it.len (is_brace it.delimiter.kind) level = search rules in
+    let kept : trees_of c.remaining-behind.result ≡ rest_of c.pass_all.new.self.rest = search rules in
+    let behind : trees_of c.remaining-behind.result ≡ after_trees it.len level.rest = kept ∙ ap (λ l. l.rest) passed in
+    let takes : c.takes_semicolon-takes.result ≡ takes_in level.position it level.rest =
+    c.takes_semicolon-takes.ensures ∙ ap (λ f. takes_semicolon it.delimiter.kind f level.position) (c.iter.ensures ∙ behind) in
+    let now : level_of c.pass_semicolon-last_span.new.self ≡ past_call it level = c.pass_semicolon-last_span.ensures.level ∙ ap₂ past_semicolon takes passed in
+    let rest : rest_of c.pass_semicolon-last_span.new.self.rest ≡ after_trees (len_in level.position it level.rest) level.rest =
+    ap (λ l. l.rest) now ∙ rest_behind level.position it level.rest in
+    let taken : join (trees_of c.from_savepoint.result) (rest_of c.pass_semicolon-last_span.new.self.rest) ≡ saved_of c.savepoint-start.result = search rules in
+    let whole : trees_of c.from_savepoint.result ≡ whole_in level.position it level.rest =
+    front_told (len_in level.position it level.rest) level.rest (trees_of c.from_savepoint.result) (ap (join (trees_of c.from_savepoint.result)) (sym rest) ∙ taken ∙ start) in
+    let is_one : c.is_statement.result ≡ (stand_in level.position it level.rest).is_statement = c.is_statement.ensures ∙ ap (λ f. is_statement it.delimiter.kind f level.position) (c.iter-2.ensures ∙ behind) in
+    let among : c.siblings_of_call.result ≡ (stand_in level.position it level.rest).siblings = c.siblings_of_call.ensures ∙ ap (λ f. siblings_of_call it.delimiter.kind f level.position) (c.iter-3.ensures ∙ behind) in (
+      record {
+        name = search rules;
+        defined = refl;
+        first = c.begin_of-first_span.ensures;
+        last = c.pass_semicolon-last_span.ensures.last
+            ∙ ap₂ (λ b f. cond b (begin_at f close) close) takes (ap (λ l. l.rest) passed);
+        whole = whole;
+        stand = stand_same level.position it level.rest (trees_of c.from_savepoint.result) c.is_statement.result c.siblings_of_call.result whole is_one among;
+        makes = refl;
+      },
+      now,
+      refl,
+    )

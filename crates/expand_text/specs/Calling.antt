@@ -1,0 +1,60 @@
+-- What comes of a call.
+use Rattle.std.specs.Prelude.{◌≡◌, ◌<◌, ℕ, suc, List, None, Some}
+use Rattle.tt.specs.Forest.{Root}
+use Rattle.expand_text.specs.declared.calling.Called.{Called}
+use Rattle.expand_text.specs.declared.calling.Called.TheVariants as called
+use Rattle.expand_text.specs.declared.calling.Made.{Made}
+use Rattle.expand_text.specs.declared.calling.Made.TheVariants as made
+use Rattle.expand_text.specs.declared.fault.MacroFault.{MacroFault}
+use Rattle.expand_items.specs.Items.{Call}
+use Rattle.expand_text.specs.Knowing.{Setting, Known, with_finding}
+use Rattle.expand_text.specs.Macros.{IsCallFault, called_by, arms_of, found_of, known_behind}
+use Rattle.expand_text.specs.Scopes.{Macro}
+use Rattle.mbe_rules.specs.Arms.{Arm}
+use Rattle.mbe_rules.specs.Expansions.{IsExpansion}
+use Rattle.mbe_rules.specs.declared.macro_rules.Expansion.TheVariants as expansion
+
+-- what arms make of a call, in which so many expansions may stand one inside the other: a tree, or what is wrong with it and where
+abbrev pub IsMade : (limit : ℕ) → List Arm → Call → Made → Type 0
+IsMade limit arms it (made.Tree tree) = (left : ℕ) × (limit ≡ suc left) × IsExpansion arms 0 0 it.input (expansion.Tree tree)
+IsMade limit arms it (made.Faulty at fault) = IsCallFault limit arms it at fault
+
+-- a tree is made only where an expansion may stand inside
+abbrev pub IsMadeWithin : (limit : ℕ) → Made → Type 0
+IsMadeWithin limit (made.Tree tree) = 0 < limit
+IsMadeWithin limit (made.Faulty at fault) = Unit {0}
+
+abbrev pub IsCalledWithin : (limit : ℕ) → Called → Type 0
+IsCalledWithin limit called.Other = Unit {0}
+IsCalledWithin limit called.Faulty = Unit {0}
+IsCalledWithin limit (called.Tree tree defined_at) = 0 < limit
+
+-- a call is wrong in some way, and that is found
+pub record IsFaulty (setting : Setting) (limit : ℕ) (it : Call) (before after : Known) : Type 0 where
+  pub macro : Macro
+  pub arms : List Arm
+  pub at : ℕ
+  pub fault : MacroFault
+  pub called : called_by setting before.macros it ≡ Some macro
+  pub expands : macro.arms ≡ Some arms
+  pub wrong : IsCallFault limit arms it at fault
+  pub found : after ≡ with_finding (found_of it macro at fault) before
+
+-- a call of a macro whose name stands at that byte in its definition becomes a tree
+pub record IsExpanded (setting : Setting) (limit : ℕ) (it : Call) (tree : Root) (defined_at : ℕ) (before after : Known) : Type 0 where
+  pub left : ℕ
+  pub macro : Macro
+  pub arms : List Arm
+  pub fits : limit ≡ suc left
+  pub called : called_by setting before.macros it ≡ Some macro
+  pub defined : macro.defined_at ≡ defined_at
+  pub expands : macro.arms ≡ Some arms
+  pub makes : IsExpansion arms 0 0 it.input (expansion.Tree tree)
+  pub known : after ≡ before
+
+-- what comes of a call, and what is known then: nothing where no arms expand it, something that is wrong, or a tree
+abbrev pub IsCalled : Setting → (limit : ℕ) → Call → Called → (before after : Known) → Type 0
+IsCalled setting limit it called.Other before after =
+    (arms_of (called_by setting before.macros it) ≡ None) × (after ≡ known_behind it (called_by setting before.macros it) before)
+IsCalled setting limit it called.Faulty before after = IsFaulty setting limit it before after
+IsCalled setting limit it (called.Tree tree defined_at) before after = IsExpanded setting limit it tree defined_at before after

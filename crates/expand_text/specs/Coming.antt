@@ -1,0 +1,176 @@
+-- What comes of trees in which macros are defined and called.
+use Rattle.std.specs.Prelude.{◌≡◌, ◌⊎◌, ◌<◌, ◌-◌, ℕ, suc, Bool, true, false, List, length, take, None, Some, codes, max, ◌==◌, if◌then◌else◌}
+use Rattle.tt.specs.Forest.{Forest, Root, end, leaf, node}
+use Rattle.tt.specs.Gluing.{after_trees}
+use Rattle.tt.specs.Moves.{after_tree}
+use Rattle.tt.specs.Span.{start_of}
+use Rattle.tt.specs.Types.Delimiter.{Delimiter}
+use Rattle.tt.specs.Types.Leaf.{Leaf}
+use Rattle.tt.specs.Types.Leaf.TheVariants as leaf_of
+use Rattle.tt.specs.Types.Span.{Span}
+use Rattle.expand_text.specs.declared.fault.MacroFault.{MacroFault}
+use Rattle.syntax_edit.specs.Places.{begin_at}
+use Rattle.expand_items.specs.declared.position.Position.{Position}
+use Rattle.expand_items.specs.Attributes.{item_at}
+use Rattle.expand_items.specs.Items.{Definition, Call, defines, calls, other}
+use Rattle.expand_text.specs.Knowing.{Setting, Known, with_finding}
+use Rattle.expand_text.specs.Macros.{IsRead, IsCallFault, MayStand, called_by, arms_of, found_of, known_behind}
+use Rattle.expand_text.specs.Outcomes.{Outcome, nothing, passes, enters, stays, becomes, trees_left}
+use Rattle.expand_items.specs.Positions.{begun, first_in, behind, behind_leaf, behind_subtree, keeps_macros, is_statement, takes_semicolon, siblings_of_call}
+use Rattle.expand_text.specs.Scopes.{Macro}
+use Rattle.expand_text.specs.Standing.{Stand, StandAs, IsKept}
+use Rattle.mbe_rules.specs.Arms.{Arm}
+use Rattle.mbe_rules.specs.Expansions.{IsExpansion}
+use Rattle.mbe_rules.specs.declared.macro_rules.Expansion.TheVariants as expansion
+use Rattle.mbe_matcher.specs.Fragments.{front_trees, is_brace}
+use Rattle.mbe_pattern.specs.Units.{is_at_punct}
+
+-- the first tree is taken as it is: nothing is expanded any more, or it is one of so many that are, or begins neither a definition nor a call
+abbrev pub IsPlain : Setting → Known → Position → (plain : ℕ) → Forest → Type 0
+IsPlain setting known position plain trees = (known.is_over ≡ true) ⊎ ((0 < plain) ⊎ (item_at setting.root position trees ≡ other))
+
+-- how many trees behind a leaf are no call, where these stand there: the name of a lifetime, and behind a literal a `.` and the name of a field
+abbrev pub named_behind : Leaf → (rest : Forest) → ℕ
+named_behind (leaf_of.Punct it) rest = if it.char == 39 then 1 else 0
+named_behind (leaf_of.Literal it) rest = if is_at_punct (codes ".") rest then 2 else 0
+named_behind (leaf_of.Ident it) rest = 0
+
+-- so many, or as many as are left of those that are taken as they are
+abbrev pub plain_behind : Leaf → (rest : Forest) → (plain : ℕ) → ℕ
+plain_behind it rest plain = max (plain - 1) (named_behind it rest)
+
+-- what is known behind a subtree: its macros are in scope there if they are kept
+abbrev pub known_after : (are_kept : Bool) → (before inside : Known) → Known
+known_after true before inside = inside
+known_after false before inside = record inside { macros = take (length before.macros) inside.macros }
+
+-- what stands behind a call that stands first among trees
+abbrev pub behind_call : Call → (trees : Forest) → Forest
+behind_call it trees = after_trees it.len trees
+
+-- the `;` behind it is a part of it
+abbrev pub takes_in : Position → Call → (trees : Forest) → Bool
+takes_in position it trees = takes_semicolon it.delimiter.kind (behind_call it trees) position
+
+-- where it ends then
+abbrev pub end_in : Position → Call → (trees : Forest) → Span
+end_in position it trees = if takes_in position it trees then begin_at (behind_call it trees) it.delimiter.close else it.delimiter.close
+
+-- how many trees it is then
+abbrev pub len_in : Position → Call → (trees : Forest) → ℕ
+len_in position it trees = if takes_in position it trees then suc it.len else it.len
+
+-- what stands behind it then, and what stands before that
+abbrev pub rest_in : Position → Call → (trees : Forest) → Forest
+rest_in position it trees = if takes_in position it trees then after_tree (behind_call it trees) else behind_call it trees
+
+abbrev pub behind_in : Position → Call → (trees : Forest) → Position
+behind_in position it trees =
+    if takes_in position it trees then behind true (behind (is_brace it.delimiter.kind) position) else behind (is_brace it.delimiter.kind) position
+
+-- before the first of the trees that come of it
+abbrev pub begun_by : Position → Call → (trees : Forest) → Position
+begun_by position it trees = begun (siblings_of_call it.delimiter.kind (behind_call it trees) position)
+
+-- all of it then, and the attributes before it
+abbrev pub whole_in : Position → Call → (trees : Forest) → Forest
+whole_in position it trees = front_trees (len_in position it trees) trees
+
+abbrev pub attributes_in : Position → Call → (trees : Forest) → Forest
+attributes_in position it trees = front_trees it.attributes (whole_in position it trees)
+
+-- how it stands
+abbrev pub stand_in : Position → Call → (trees : Forest) → Stand
+stand_in position it trees =
+    record {
+      attributes = attributes_in position it trees;
+      len = it.attributes;
+      is_statement = is_statement it.delimiter.kind (behind_call it trees) position;
+      siblings = siblings_of_call it.delimiter.kind (behind_call it trees) position;
+      delimiter = it.delimiter;
+    }
+
+-- where it begins, behind its attributes
+abbrev pub begin_in : Call → (trees : Forest) → Span
+begin_in it trees = begin_at (after_trees it.attributes trees) it.name.span
+
+-- its attributes stay, and these trees take its place
+abbrev pub becomes_in : Position → Call → (trees put : Forest) → Outcome → Outcome
+becomes_in position it trees put others = stays (attributes_in position it trees) (becomes (begin_in it trees) (end_in position it trees) put others)
+
+-- it stays, with its attributes and the `;` that is a part of it
+abbrev pub stays_in : Position → Call → (trees : Forest) → Outcome → Outcome
+stays_in position it trees others = stays (whole_in position it trees) others
+
+-- what comes of trees of the text itself, or else of an expansion, with so many expansions one inside the other, behind what stands before
+-- them, where so many are taken as they are and that is known; and what is known then. What comes of a call stands in its place, and is
+-- written there in the text. Where it does not stand there, or cannot be written, the call stays, with its attributes and the `;` that is a
+-- part of it, and that is found; what was found and defined in what comes of it is known behind it all the same
+pub data Comes (setting : Setting) : (in_text : Bool) → (limit : ℕ) → Position → (plain : ℕ) → Known → Forest → Known → Outcome → Type 0 where
+  ends : {in_text : Bool} {limit plain : ℕ} {position : Position} {known : Known} → Comes setting in_text limit position plain known end known nothing
+  on_leaf : {in_text : Bool} {limit plain : ℕ} {position : Position} {known after : Known} {it : Leaf} {rest : Forest} {others : Outcome}
+      → IsPlain setting known position plain (leaf it rest)
+      → Comes setting in_text limit (behind_leaf it rest position) (plain_behind it rest plain) known rest after others
+      → Comes setting in_text limit position plain known (leaf it rest) after (passes it others)
+  on_node : {in_text : Bool} {limit plain : ℕ} {position : Position} {known inside after : Known} {delimiter : Delimiter} {children rest : Forest} {held others : Outcome}
+      → IsPlain setting known position plain (node delimiter children rest)
+      → Comes setting in_text limit (first_in delimiter.kind position) 0 known children inside held
+      → Comes setting in_text limit (behind_subtree delimiter.kind position) (plain - 1) (known_after (keeps_macros delimiter.kind position) known inside) rest after others
+      → Comes setting in_text limit position plain known (node delimiter children rest) after (enters delimiter held others)
+  on_definition : {in_text : Bool} {limit : ℕ} {position : Position} {known after : Known} {it : Definition} {trees : Forest} {others : Outcome} (inside : Known)
+      → known.is_over ≡ false
+      → item_at setting.root position trees ≡ defines it
+      → IsRead setting it known inside
+      → Comes setting in_text limit (behind true position) 0 inside (after_trees it.len trees) after others
+      → Comes setting in_text limit position 0 known trees after (stays (front_trees it.len trees) others)
+  on_other_call : {in_text : Bool} {limit : ℕ} {position : Position} {known after : Known} {it : Call} {trees : Forest} {others : Outcome}
+      → known.is_over ≡ false
+      → item_at setting.root position trees ≡ calls it
+      → it.attributes ≡ 0
+      → arms_of (called_by setting known.macros it) ≡ None
+      → setting.everywhere ≡ false
+      → Comes setting in_text limit (behind (is_brace it.delimiter.kind) position) 0 (known_behind it (called_by setting known.macros it) known) (behind_call it trees) after others
+      → Comes setting in_text limit position 0 known trees after (stays (front_trees it.len trees) others)
+  into_other_call : {in_text : Bool} {limit : ℕ} {position : Position} {known after : Known} {it : Call} {trees : Forest} {others : Outcome}
+      → known.is_over ≡ false
+      → item_at setting.root position trees ≡ calls it
+      → it.attributes ≡ 0
+      → arms_of (called_by setting known.macros it) ≡ None
+      → setting.everywhere ≡ true
+      → Comes setting in_text limit position it.len (known_behind it (called_by setting known.macros it) known) trees after others
+      → Comes setting in_text limit position 0 known trees after others
+  into_attributes : {in_text : Bool} {limit : ℕ} {position : Position} {known after : Known} {it : Call} {trees : Forest} {others : Outcome}
+      → known.is_over ≡ false
+      → item_at setting.root position trees ≡ calls it
+      → 0 < it.attributes
+      → arms_of (called_by setting known.macros it) ≡ None
+      → Comes setting in_text limit position it.attributes known trees after others
+      → Comes setting in_text limit position 0 known trees after others
+  on_faulty_call : {in_text : Bool} {limit : ℕ} {position : Position} {known after : Known} {it : Call} {macro : Macro} {arms : List Arm} {trees : Forest} {others : Outcome} (at : ℕ) (fault : MacroFault)
+      → known.is_over ≡ false
+      → item_at setting.root position trees ≡ calls it
+      → called_by setting known.macros it ≡ Some macro
+      → macro.arms ≡ Some arms
+      → IsCallFault limit arms it at fault
+      → Comes setting in_text limit (behind (is_brace it.delimiter.kind) position) 0 (with_finding (found_of it macro at fault) known) (behind_call it trees) after others
+      → Comes setting in_text limit position 0 known trees after (stays (front_trees it.len trees) others)
+  on_call : {in_text : Bool} {limit : ℕ} {position : Position} {known inside after : Known} {it : Call} {arms : List Arm} {trees : Forest} {held others : Outcome} (tree : Root) (put : Forest)
+      → known.is_over ≡ false
+      → item_at setting.root position trees ≡ calls it
+      → arms_of (called_by setting known.macros it) ≡ Some arms
+      → IsExpansion arms 0 0 it.input (expansion.Tree tree)
+      → Comes setting false limit (begun_by position it trees) 0 known tree.children inside held
+      → StandAs (stand_in position it trees) (trees_left held) (Some put)
+      → MayStand in_text it.delimiter put
+      → Comes setting in_text (suc limit) (behind_in position it trees) 0 inside (rest_in position it trees) after others
+      → Comes setting in_text (suc limit) position 0 known trees after (becomes_in position it trees put others)
+  on_kept_call : {in_text : Bool} {limit : ℕ} {position : Position} {known inside after : Known} {it : Call} {macro : Macro} {arms : List Arm} {trees : Forest} {held others : Outcome} (tree : Root) (at : ℕ) (fault : MacroFault)
+      → known.is_over ≡ false
+      → item_at setting.root position trees ≡ calls it
+      → called_by setting known.macros it ≡ Some macro
+      → macro.arms ≡ Some arms
+      → IsExpansion arms 0 0 it.input (expansion.Tree tree)
+      → Comes setting false limit (begun_by position it trees) 0 known tree.children inside held
+      → IsKept in_text (stand_in position it trees) (trees_left held) (start_of (begin_in it trees).range) at fault
+      → Comes setting in_text (suc limit) (behind_in position it trees) 0 (with_finding (found_of it macro at fault) inside) (rest_in position it trees) after others
+      → Comes setting in_text (suc limit) position 0 known trees after (stays_in position it trees others)

@@ -1,0 +1,156 @@
+-- What a text becomes whose macros are expanded.
+use Rattle.std.specs.Prelude.{◌≡◌, ◌<◌, ◌-◌, ◌++◌, ◌⊎◌, ℕ, Bool, true, false, List, [], ◌∷◌, Option, None, Some, length, slice_get, option_map, string_bytes}
+use Rattle.tt.specs.Forest.{Forest, Root}
+use Rattle.tt.specs.Span.{start_of, end_of}
+use Rattle.tt.specs.Types.Delimiter.{Delimiter}
+use Rattle.tt.specs.Types.Span.{Span}
+use Rattle.tt_base.specs.declared.span.SpanPart.{SpanPart}
+use Rattle.expand_text.specs.declared.fault.ExpandTextError.{ExpandTextError}
+use Rattle.expand_text.specs.declared.fault.ExpandTextError.TheVariants as error
+use Rattle.expand_text.specs.declared.fault.Finding.{Finding}
+use Rattle.expand_text.specs.declared.fault.MacroFault.{MacroFault}
+use Rattle.expand_text.specs.declared.options.ExpandOptions.{ExpandOptions}
+use Rattle.expand_text.specs.declared.source.Written.{Written}
+use Rattle.expand_text.specs.declared.source.Written.TheVariants as made
+use Rattle.expand_text.specs.declared.text.Expanded.{Expanded}
+use Rattle.expand_text.specs.declared.walk.Event.{Event}
+use Rattle.expand_text.specs.declared.walk.Event.TheVariants as event
+use Rattle.expand_text.specs.declared.walk.Invocation.{Invocation}
+use Rattle.expand_text.specs.Coming.{Comes}
+use Rattle.expand_text.specs.Findings.{is_warning}
+use Rattle.expand_text.specs.Knowing.{Setting, Known, knows_nothing, with_finding}
+use Rattle.expand_text.specs.Macros.{MayStand, IsUnwritten}
+use Rattle.expand_text.specs.Outcomes.{Outcome, nothing, passes, enters, stays, becomes, trees_left}
+use Rattle.expand_items.specs.Positions.{begun as begun_among}
+use Rattle.expand_items.specs.declared.position.Siblings.TheVariants.{Items}
+use Rattle.syntax_edit.specs.Places.{text_part}
+use Rattle.syntax_edit.specs.Texts.{Replacement, Writing, begun, finished, with_all, IsReplaced, AreReplaced, FitAll}
+use Rattle.expand_text.specs.Reading.{sorts_left}
+use Rattle.expand_text.specs.Standing.{Stand, StandAs, IsKept}
+use Rattle.expand_text.specs.Walks.{found_by, stand_of}
+use Rattle.syntax_parse.specs.Parsed.{IsParse}
+use Rattle.syntax_parse.specs.Refusal.{IsFaultOf, IsRefusal}
+use Rattle.syntax_parse.specs.Spelled.{Sort, spelled}
+use Rattle.syntax_parse.specs.declared.fault.SyntaxFault.{SyntaxFault}
+use Rattle.syntax_unparse.specs.Settled.{sorts}
+use Rattle.syntax_unparse.specs.Text.{text_of}
+
+-- what stands from a span to another gives way to the Rust text of trees
+abbrev pub replacement : (first last : Span) → Forest → Replacement
+replacement first last trees = record { start = start_of first.range; end = end_of last.range; text = text_of trees }
+
+-- all that gives way, in order
+abbrev pub replacements : Outcome → List Replacement
+replacements nothing = []
+replacements (passes it behind) = replacements behind
+replacements (enters delimiter inside behind) = replacements inside ++ replacements behind
+replacements (stays trees behind) = replacements behind
+replacements (becomes first last trees behind) = replacement first last trees ∷ replacements behind
+
+-- the Rust text of trees that stand in the place of a call which begins at a byte, or why they have none
+abbrev pub IsTextOf : (call : Delimiter) → (put : Forest) → (begin : ℕ) → Written → Type 0
+IsTextOf call put begin (made.Text text) = MayStand true call put × (string_bytes text ≡ text_of put)
+IsTextOf call put begin (made.Faulty at fault) = IsUnwritten call put begin at fault
+
+-- the Rust text of trees that come of a call, as they stand in its place, or why it stays
+abbrev pub IsCallText : Stand → (trees : Forest) → (begin : ℕ) → Written → Type 0
+IsCallText it trees begin (made.Text text) = (put : Forest) × StandAs it trees (Some put) × MayStand true it.delimiter put × (string_bytes text ≡ text_of put)
+IsCallText it trees begin (made.Faulty at fault) = IsKept true it trees begin at fault
+
+-- what comes of a call is written as Rust, or cannot be
+pub record IsInvocationText (setting : Setting) (limit : ℕ) (it : Invocation) (result : Written) (before after : Known) : Type 0 where
+  pub outcome : Outcome
+  pub comes : Comes setting false limit (begun_among it.siblings) 0 before it.tree.children after outcome
+  pub text : IsCallText (stand_of it) (trees_left outcome) (start_of it.first_span.range) result
+
+-- trees that come of a call take its place, where that is left of the source; or it stays, and that is found
+abbrev pub IsPut : Invocation → (trees : Forest) → (inside after : Known) → (old new : Writing) → Type 0
+IsPut it trees inside after old new =
+    ((put : Forest) × StandAs (stand_of it) trees (Some put) × MayStand true it.delimiter put × (after ≡ inside)
+    × IsReplaced (replacement it.first_span it.last_span put) old new)
+    ⊎ ((at : ℕ) × (fault : MacroFault) × IsKept true (stand_of it) trees (start_of it.first_span.range) at fault
+    × (after ≡ with_finding (found_by it at fault) inside) × (new ≡ old))
+
+-- what comes of a call does
+pub record IsInvocationWritten (setting : Setting) (limit : ℕ) (it : Invocation) (old new : Writing) (before after : Known) : Type 0 where
+  pub inside : Known
+  pub outcome : Outcome
+  pub comes : Comes setting false limit (begun_among it.siblings) 0 before it.tree.children inside outcome
+  pub put : IsPut it (trees_left outcome) inside after old new
+
+-- nothing is written, and nothing more is known
+abbrev pub IsSame : (before after : Known) (old new : Writing) → Type 0
+IsSame before after old new = (after ≡ before) × (new ≡ old)
+
+-- what is written where that comes next in a walk
+abbrev pub IsEventWritten : Setting → (limit : ℕ) → Event → (old new : Writing) → (before after : Known) → Type 0
+IsEventWritten setting limit event.End old new before after = IsSame before after old new
+IsEventWritten setting limit (event.Leaf it) old new before after = IsSame before after old new
+IsEventWritten setting limit (event.Opens header) old new before after = IsSame before after old new
+IsEventWritten setting limit (event.Closes close) old new before after = IsSame before after old new
+IsEventWritten setting limit (event.Stays trees) old new before after = IsSame before after old new
+IsEventWritten setting limit (event.Invocation it) old new before after = IsInvocationWritten setting (limit - 1) it old new before after
+
+-- it goes on, but for the end
+abbrev pub GoesOn : Event → (goes_on : Bool) → Type 0
+GoesOn event.End goes_on = goes_on ≡ false
+GoesOn (event.Leaf it) goes_on = goes_on ≡ true
+GoesOn (event.Opens header) goes_on = goes_on ≡ true
+GoesOn (event.Closes close) goes_on = goes_on ≡ true
+GoesOn (event.Stays trees) goes_on = goes_on ≡ true
+GoesOn (event.Invocation it) goes_on = goes_on ≡ true
+
+-- a source of these trees is written, where in the place of each call what comes of it stands
+pub record IsSourceText (setting : Setting) (limit : ℕ) (source : List ℕ) (trees : Forest) (result : List ℕ) (before after : Known) : Type 0 where
+  pub outcome : Outcome
+  pub comes : Comes setting true limit (begun_among Items) 0 before trees after outcome
+  pub written : Writing
+  pub replaced : AreReplaced (replacements outcome) (begun source) written
+  pub text : result ≡ finished written
+
+-- how a text is gone through
+abbrev pub setting_by : ExpandOptions → Setting
+setting_by it = record { root = it.root.now; everywhere = it.everywhere; only = option_map (λ name. name.now) it.only }
+
+-- a text reads back as what is left: it has no fault of syntax, and whatever trees it is read as are spelled by that
+pub record ReadsAs (text : List ℕ) (left : List Sort) : Type 0 where
+  pub sound : (fault : SyntaxFault) → IsFaultOf text fault → ⊥
+  pub reads : (part : SpanPart) (again : Root) → IsParse part text again → sorts (spelled again.children) ≡ left
+
+-- a text that is read as trees, and what comes of it: where it is called, what comes of that call stands, and all else stays byte for byte;
+-- and that reads back as the trees that are left
+pub record IsExpanded (options : ExpandOptions) (source : List ℕ) (it : Expanded) : Type 0 where
+  pub tree : Root
+  pub read : IsParse text_part source tree
+  pub after : Known
+  pub outcome : Outcome
+  pub comes : Comes (setting_by options) true options.limit (begun_among Items) 0 knows_nothing tree.children after outcome
+  pub fits : FitAll (replacements outcome) (begun source)
+  pub text : string_bytes it.text ≡ with_all (replacements outcome) (begun source)
+  pub back : ReadsAs (string_bytes it.text) (sorts_left outcome)
+  pub findings : it.findings.items ≡ after.findings
+
+-- the first finding that is no warning
+abbrev pub fault_or : (is_warning : Bool) → Finding → Option Finding → Option Finding
+fault_or true it others = others
+fault_or false it others = Some it
+
+abbrev pub first_fault : List Finding → Option Finding
+first_fault [] = None
+first_fault (it ∷ others) = fault_or (is_warning it.fault) it (first_fault others)
+
+-- it stands there
+abbrev pub IsFirstFault : List Finding → (place : ℕ) → Type 0
+IsFirstFault findings place = (place < length findings) × (first_fault findings ≡ slice_get findings place)
+
+-- why nothing comes of a text: it is not read, or memory is wanting
+abbrev pub IsLenientError : (text : List ℕ) → ExpandTextError → Type 0
+IsLenientError text (error.Text fault) = IsRefusal text_part text fault
+IsLenientError text (error.Macro it) = ⊥
+IsLenientError text error.Memory = Unit {0}
+
+-- the same; or something is wrong in a macro or in a call, and this is the first such finding
+abbrev pub IsExpandTextError : ExpandOptions → (text : List ℕ) → ExpandTextError → Type 0
+IsExpandTextError options text (error.Macro it) = (expanded : Expanded) × IsExpanded options text expanded × (first_fault expanded.findings.items ≡ Some it)
+IsExpandTextError options text (error.Text fault) = IsRefusal text_part text fault
+IsExpandTextError options text error.Memory = Unit {0}

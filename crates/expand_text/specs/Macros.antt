@@ -1,0 +1,133 @@
+-- What is defined, and what comes of calls.
+use Rattle.std.specs.Prelude.{◌≡◌, ◌≢◌, ◌⊎◌, ◌<◌, ◌+◌, ◌^◌, ℕ, suc, zero, Bool, true, false, List, length, Option, None, Some, if◌then◌else◌}
+use Rattle.tt.specs.Forest.{Forest, Root}
+use Rattle.tt.specs.Span.{start_of}
+use Rattle.tt.specs.Stored.{IsWithinLimits}
+use Rattle.tt.specs.TreeFault.{under, IsTreeFault}
+use Rattle.tt.specs.Types.Delimiter.{Delimiter}
+use Rattle.tt.specs.Types.DelimiterKind.TheVariants.{Invisible}
+use Rattle.tt.specs.Types.TtFault.{TtFault}
+use Rattle.tt.specs.Types.TtFault.TheVariants as limit
+use Rattle.expand_text.specs.declared.fault.Finding.{Finding}
+use Rattle.expand_text.specs.declared.fault.MacroFault.{MacroFault}
+use Rattle.expand_text.specs.declared.fault.MacroFault.TheVariants as wrong
+use Rattle.expand_items.specs.Items.{Definition, Call}
+use Rattle.expand_text.specs.Knowing.{Setting, Known, asks_for, with_macro, with_finding}
+use Rattle.expand_text.specs.Places.{byte_at, definition_byte}
+use Rattle.expand_text.specs.Roots.{rooted}
+use Rattle.expand_text.specs.Scopes.{Macro, last_named}
+use Rattle.mbe_rules.specs.Arms.{Arm, Spell}
+use Rattle.mbe_rules.specs.Expansions.{IsExpansion, IsExpandError}
+use Rattle.mbe_rules.specs.ArmFaults.{IsRulesError}
+use Rattle.mbe_rules.specs.declared.rules_error.ArmFault.TheVariants as arm_fault
+use Rattle.mbe_rules.specs.declared.macro_rules.Expansion.TheVariants as expansion
+use Rattle.mbe_rules.specs.declared.fill_error.FillError.TheVariants as fill_error
+use Rattle.syntax_unparse.specs.Text.{text_of}
+use Rattle.syntax_unparse.specs.Writable.{IsWritable, IsWriteFault}
+use Rattle.syntax_unparse.specs.declared.fault.WriteFault.TheVariants as unwritten
+
+-- the macro that is defined
+abbrev pub macro_of : Definition → Option (List Arm) → Macro
+macro_of it arms = record { name = it.name.sym; defined_at = start_of it.name.span.range; arms = arms }
+
+-- a tree is refused for that reason, which is no want of memory
+abbrev pub IsPastLimit : Root → TtFault → Type 0
+IsPastLimit root why = IsTreeFault root why × (why ≢ limit.Memory)
+
+-- what is wrong with a definition whose arms are these trees, and the byte where it shows: the arms have a fault; or as a tree they are past
+-- a limit, and that shows where its name stands
+abbrev pub IsDefinitionFault : Definition → (arms : Forest) → (at : ℕ) → MacroFault → Type 0
+IsDefinitionFault it trees at (wrong.Definition why) =
+    IsRulesError trees why × (why.fault ≢ arm_fault.Memory) × (at ≡ definition_byte trees why (start_of it.delimiter.close.range))
+IsDefinitionFault it trees at (wrong.TooLarge why) = IsPastLimit (under it.delimiter trees) why × (at ≡ start_of it.name.span.range)
+IsDefinitionFault it trees at wrong.Left = ⊥
+IsDefinitionFault it trees at wrong.Conditional = ⊥
+IsDefinitionFault it trees at wrong.NoMatch = ⊥
+IsDefinitionFault it trees at (wrong.Ambiguous arm) = ⊥
+IsDefinitionFault it trees at (wrong.Expansion why) = ⊥
+IsDefinitionFault it trees at wrong.TooDeep = ⊥
+IsDefinitionFault it trees at wrong.NotWritable = ⊥
+IsDefinitionFault it trees at wrong.TooLong = ⊥
+
+-- what is found in it
+abbrev pub found_in : Definition → (at : ℕ) → MacroFault → Finding
+found_in it at fault = record { name = it.name.sym; at = at; fault = fault; defined_at = None }
+
+-- what is known behind a definition whose arms are these trees: they spell arms; or something is wrong with it, and it is left as it is
+abbrev pub IsDefined : Definition → (arms : Forest) → (before after : Known) → Type 0
+IsDefined it trees before after =
+    ((arms : List Arm) × IsWithinLimits (under it.delimiter trees) × Spell trees arms × (after ≡ with_macro (macro_of it (Some arms)) before))
+    ⊎ ((at : ℕ) × (fault : MacroFault) × IsDefinitionFault it trees at fault × (after ≡ with_macro (macro_of it None) (with_finding (found_in it at fault) before)))
+
+-- a definition is read, if macros of its name are, where a word stands for the root of the crate
+abbrev pub IsReadIf : (asked : Bool) → (root : List ℕ) → Definition → (before after : Known) → Type 0
+IsReadIf false root it before after = after ≡ before
+IsReadIf true root it before after = IsDefined it (rooted root it.arms) before after
+
+abbrev pub IsRead : Setting → Definition → (before after : Known) → Type 0
+IsRead setting it before after = IsReadIf (asks_for setting.only it.name.sym) setting.root it before after
+
+-- the macro that a call is one of, where these are in scope: the last of its name, if macros of that name are expanded
+abbrev pub called_by : Setting → List Macro → Call → Option Macro
+called_by setting macros it =
+    if it.is_elsewhere then None else (if asks_for setting.only it.name.sym then last_named it.name.sym macros else None)
+
+-- its arms
+abbrev pub arms_of : Option Macro → Option (List Arm)
+arms_of None = None
+arms_of (Some macro) = macro.arms
+
+-- what is found in a call of a macro
+abbrev pub found_of : Call → Macro → (at : ℕ) → MacroFault → Finding
+found_of it macro at fault = record { name = it.name.sym; at = at; fault = fault; defined_at = Some macro.defined_at }
+
+-- what is wrong with an input, and the byte where it shows: no arm takes it, and that shows where the one that comes farthest stops; one
+-- takes it in two ways, or is not filled, and that shows where the call's name stands
+abbrev pub IsInputFault : List Arm → Call → (at : ℕ) → MacroFault → Type 0
+IsInputFault arms it at wrong.NoMatch =
+    (place : ℕ) × IsExpansion arms 0 0 it.input (expansion.NoMatch place) × (at ≡ byte_at it.input place (start_of it.delimiter.close.range))
+IsInputFault arms it at (wrong.Ambiguous arm) = IsExpansion arms 0 0 it.input (expansion.Ambiguous arm) × (at ≡ start_of it.name.span.range)
+IsInputFault arms it at (wrong.Expansion why) =
+    IsExpandError arms 0 it.input why × (why.fault ≢ fill_error.Tree limit.Memory) × (at ≡ start_of it.name.span.range)
+IsInputFault arms it at (wrong.Definition why) = ⊥
+IsInputFault arms it at wrong.Left = ⊥
+IsInputFault arms it at wrong.Conditional = ⊥
+IsInputFault arms it at wrong.TooDeep = ⊥
+IsInputFault arms it at wrong.NotWritable = ⊥
+IsInputFault arms it at wrong.TooLong = ⊥
+IsInputFault arms it at (wrong.TooLarge why) = ⊥
+
+-- what is wrong with a call that arms expand, in which so many expansions may stand one inside the other
+abbrev pub IsCallFault : (limit : ℕ) → List Arm → Call → (at : ℕ) → MacroFault → Type 0
+IsCallFault zero arms it at fault = (fault ≡ wrong.TooDeep) × (at ≡ start_of it.name.span.range)
+IsCallFault (suc limit) arms it at fault = IsInputFault arms it at fault
+
+-- what is known behind a call that nothing expands: one of a macro that is left as it is, is found to be left
+abbrev pub known_behind : Call → Option Macro → Known → Known
+known_behind it None known = known
+known_behind it (Some macro) known = with_finding (found_of it macro (start_of it.name.span.range) wrong.Left) known
+
+-- trees that come of a call as a tree of their own, whose places are those of the call
+abbrev pub tree_of : (call : Delimiter) → Forest → Root
+tree_of call trees = under (record call { kind = Invisible }) trees
+
+-- these trees may come of a call: in the text, where they are written in its place, only what is a tree within the limits and can be written
+-- as Rust, of a length that a text may have
+abbrev pub MayStand : (in_text : Bool) → (call : Delimiter) → Forest → Type 0
+MayStand false call trees = Unit {0}
+MayStand true call trees = IsWithinLimits (tree_of call trees) × IsWritable trees × (1 + length (text_of trees) < 2 ^ 32)
+
+-- why trees that come of a call which begins at a byte are not written, and the byte where it shows: where the token comes from that cannot
+-- be, or where the call begins
+abbrev pub IsUnwritten : (call : Delimiter) → Forest → (begin : ℕ) → (at : ℕ) → MacroFault → Type 0
+IsUnwritten call trees begin at (wrong.TooLarge why) = IsPastLimit (tree_of call trees) why × (at ≡ begin)
+IsUnwritten call trees begin at wrong.NotWritable =
+    (place : ℕ) × IsWriteFault trees (unwritten.NotWritable place) × (at ≡ byte_at trees place begin)
+IsUnwritten call trees begin at wrong.TooLong = IsWriteFault trees unwritten.TooLong × (at ≡ begin)
+IsUnwritten call trees begin at (wrong.Definition why) = ⊥
+IsUnwritten call trees begin at wrong.Left = ⊥
+IsUnwritten call trees begin at wrong.Conditional = ⊥
+IsUnwritten call trees begin at wrong.NoMatch = ⊥
+IsUnwritten call trees begin at (wrong.Ambiguous arm) = ⊥
+IsUnwritten call trees begin at (wrong.Expansion why) = ⊥
+IsUnwritten call trees begin at wrong.TooDeep = ⊥

@@ -1,0 +1,38 @@
+-- A call that stands first is passed.
+use Rattle.std.specs.Prelude.{◌≡◌, ℕ}
+use Rattle.tt.specs.Forest.{Forest, Root}
+use Rattle.tt.specs.Iters.{rest_of}
+use Rattle.tt.specs.Views.{trees_of}
+use Rattle.expand_items.specs.declared.position.Position.{Position}
+use Rattle.expand_text.specs.declared.walk.Event.{Event}
+use Rattle.expand_text.specs.declared.walk.Event.TheVariants as event
+use Rattle.expand_text.specs.declared.walk.Invocation.{Invocation}
+use Rattle.expand_text.specs.declared.walk.Walk.{Walk}
+use Rattle.expand_text.specs.Coming.{begin_in, end_in, stand_in, whole_in}
+use Rattle.expand_items.specs.Items.{Call}
+use Rattle.expand_text.specs.Walks.{level_of, past, past_call, stand_of}
+use Rattle.mbe_matcher.specs.Fragments.{front_trees, is_brace}
+
+-- a call that stands first stays as it is, and is passed
+abbrev pub IsStay : Call → (old : Walk) → Event → (new : Walk) → Type 0
+IsStay it old (event.Stays trees) new =
+    (trees_of trees ≡ front_trees it.len (rest_of old.level.rest)) × (level_of new.level ≡ past it.len (is_brace it.delimiter.kind) (level_of old.level))
+    × (new.outer.items ≡ old.outer.items)
+IsStay it old other new = ⊥
+
+-- what is told of a call that becomes that tree, by a macro whose name stands at that byte, where these trees stand first
+pub record IsInvocation (it : Call) (trees : Forest) (position : Position) (tree : Root) (defined_at : ℕ) (invocation : Invocation) : Type 0 where
+  pub name : invocation.name ≡ it.name.sym
+  pub defined : invocation.defined_at ≡ defined_at
+  pub first : invocation.first_span ≡ begin_in it trees
+  pub last : invocation.last_span ≡ end_in position it trees
+  pub whole : trees_of invocation.whole ≡ whole_in position it trees
+  pub stand : stand_of invocation ≡ stand_in position it trees
+  pub makes : invocation.tree ≡ tree
+
+-- a call that stands first becomes that tree, and is passed
+abbrev pub IsInvoked : Call → (tree : Root) → (defined_at : ℕ) → (old : Walk) → Event → (new : Walk) → Type 0
+IsInvoked it tree defined_at old (event.Invocation invocation) new =
+    IsInvocation it (rest_of old.level.rest) old.level.position tree defined_at invocation
+    × (level_of new.level ≡ past_call it (level_of old.level)) × (new.outer.items ≡ old.outer.items)
+IsInvoked it tree defined_at old other new = ⊥

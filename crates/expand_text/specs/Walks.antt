@@ -1,0 +1,205 @@
+-- A walk through trees in which macros are defined and called.
+use Rattle.std.specs.Prelude.{◌≡◌, ◌<◌, ◌+◌, ◌*◌, ◌-◌, ℕ, Bool, true, false, suc, List, [], ◌∷◌, length, map, reverse, Option, None, Some, if◌then◌else◌}
+use Rattle.tt.specs.Forest.{Forest, size}
+use Rattle.tt.specs.Gluing.{after_trees}
+use Rattle.tt.specs.Iters.{rest_of}
+use Rattle.tt.specs.Moves.{after_tree}
+use Rattle.tt.specs.Span.{start_of}
+use Rattle.tt.specs.Types.Delimiter.{Delimiter}
+use Rattle.tt.specs.Types.DelimiterKind.{DelimiterKind}
+use Rattle.tt.specs.Types.Leaf.{Leaf}
+use Rattle.tt.specs.Types.Span.{Span}
+use Rattle.tt.specs.Views.{trees_of}
+use Rattle.expand_text.specs.declared.fault.Finding.{Finding}
+use Rattle.expand_text.specs.declared.fault.MacroFault.{MacroFault}
+use Rattle.expand_text.specs.declared.known.Known as known_in_code
+use Rattle.expand_items.specs.declared.position.Position.{Position}
+use Rattle.expand_items.specs.declared.position.Siblings.{Siblings}
+use Rattle.mbe_matcher.specs.Fragments.{front_trees, is_brace}
+use Rattle.expand_text.specs.declared.walk.Event.{Event}
+use Rattle.expand_text.specs.declared.walk.Event.TheVariants as event
+use Rattle.expand_text.specs.declared.walk.Invocation.{Invocation}
+use Rattle.expand_text.specs.declared.walk.Level as rust
+use Rattle.expand_text.specs.declared.walk.Walk.{Walk}
+use Rattle.expand_text.specs.Coming.{Comes, plain_behind, takes_in}
+use Rattle.expand_items.specs.Attributes.{item_at}
+use Rattle.expand_items.specs.Items.{Item, Call}
+use Rattle.expand_text.specs.Knowing.{Setting, Known, IsKnown, with_finding, left_in_scope}
+use Rattle.expand_text.specs.Macros.{MayStand}
+use Rattle.expand_text.specs.Outcomes.{Outcome, nothing, passes, enters, stays, becomes, trees_left}
+use Rattle.expand_text.specs.Standing.{Stand, StandAs, IsKept}
+use Rattle.expand_items.specs.Positions.{begun as begun_among, first_in, behind, behind_leaf, behind_subtree, keeps_macros}
+
+-- what is left of the trees of a subtree, what stands before them, how many of them are taken as they are, where it closes, and how many
+-- macros are in scope behind it, if not all
+pub record Level : Type 0 where
+  pub rest : Forest
+  pub position : Position
+  pub plain : ℕ
+  pub close : Span
+  pub kept : Option ℕ
+
+-- what the code's values mean: the innermost level stands first
+abbrev pub level_of : rust.Level → Level
+level_of it = record { rest = rest_of it.rest; position = it.position; plain = it.plain; close = it.close; kept = it.kept }
+
+abbrev pub levels_of : Walk → List Level
+levels_of walk = level_of walk.level ∷ map level_of (reverse walk.outer.items)
+
+-- the first tree is passed: a leaf, or a subtree of a kind
+abbrev pub past_leaf : Leaf → Level → Level
+past_leaf it level =
+    record level {
+      rest = after_tree level.rest;
+      position = behind_leaf it (after_tree level.rest) level.position;
+      plain = plain_behind it (after_tree level.rest) level.plain;
+    }
+
+abbrev pub past_subtree : DelimiterKind → Level → Level
+past_subtree kind level = record level { rest = after_tree level.rest; position = behind_subtree kind level.position; plain = level.plain - 1 }
+
+-- so many trees are passed, which end a statement or an item, or do not
+abbrev pub past : (len : ℕ) → (ends : Bool) → Level → Level
+past len ends level = record level { rest = after_trees len level.rest; position = behind ends level.position }
+
+-- the `;` that stands first is passed, if it is taken
+abbrev pub past_semicolon : (takes : Bool) → Level → Level
+past_semicolon takes level =
+    record level {
+      rest = if takes then after_tree level.rest else level.rest;
+      position = if takes then behind true level.position else level.position;
+    }
+
+-- a call is passed, and the `;` behind it, if that is a part of it
+abbrev pub past_call : Call → Level → Level
+past_call it level =
+    past_semicolon (takes_in level.position it level.rest) (past it.len (is_brace it.delimiter.kind) level)
+
+-- what comes of what is left of each level, the innermost first
+abbrev pub Ends : Setting → (in_text : Bool) → (limit : ℕ) → List Level → (before after : Known) → List Outcome → Type 0
+Ends setting in_text limit [] before after [] = before ≡ after
+Ends setting in_text limit [] before after (it ∷ others) = ⊥
+Ends setting in_text limit (level ∷ outer) before after [] = ⊥
+Ends setting in_text limit (level ∷ outer) before after (it ∷ others) =
+    (inside : Known) × Comes setting in_text limit level.position level.plain before level.rest inside it × Ends setting in_text limit outer (left_in_scope level.kept inside) after others
+
+-- what comes of levels, where something comes first in the innermost
+abbrev pub first_leaf : Leaf → List Outcome → List Outcome
+first_leaf it [] = []
+first_leaf it (others ∷ outer) = passes it others ∷ outer
+
+abbrev pub first_subtree : Delimiter → List Outcome → List Outcome
+first_subtree delimiter [] = []
+first_subtree delimiter (held ∷ []) = []
+first_subtree delimiter (held ∷ others ∷ outer) = enters delimiter held others ∷ outer
+
+abbrev pub first_stay : Forest → List Outcome → List Outcome
+first_stay trees [] = []
+first_stay trees (others ∷ outer) = stays trees others ∷ outer
+
+abbrev pub first_becomes : (attributes : Forest) → (first last : Span) → (put : Forest) → List Outcome → List Outcome
+first_becomes attributes first last put [] = []
+first_becomes attributes first last put (others ∷ outer) = stays attributes (becomes first last put others) ∷ outer
+
+-- the levels and what is known become others, and what comes of those, so grown, comes of these
+abbrev pub Leads : Setting → (in_text : Bool) → (limit : ℕ) → List Level → Known → (grown : List Outcome → List Outcome) → List Level → Known → Type 0
+Leads setting in_text limit levels known grown nexts others =
+    (after : Known) (outcomes : List Outcome) → Ends setting in_text limit nexts others after outcomes → Ends setting in_text limit levels known after (grown outcomes)
+
+-- where levels close
+abbrev pub closes_of : List Level → List Span
+closes_of levels = map (λ level. level.close) levels
+
+-- how much is left to do
+abbrev pub work_in : List Level → ℕ
+work_in [] = 0
+work_in (level ∷ outer) = suc (2 * size level.rest + work_in outer)
+
+-- before trees that are such siblings
+abbrev pub begun : Siblings → Forest → (close : Span) → Level
+begun siblings trees close = record { rest = trees; position = begun_among siblings; plain = 0; close = close; kept = None }
+
+-- a subtree that stands first in the innermost level is entered, behind which so many macros are in scope, if not all
+abbrev pub kept_behind : (are_kept : Bool) → ℕ → Option ℕ
+kept_behind true macros = None
+kept_behind false macros = Some macros
+
+abbrev pub inside : Delimiter → (children : Forest) → Position → Option ℕ → Level
+inside delimiter children position kept =
+    record { rest = children; position = first_in delimiter.kind position; plain = 0; close = delimiter.close; kept = kept }
+
+abbrev pub entered : Delimiter → (children : Forest) → (macros : ℕ) → List Level → List Level
+entered delimiter children macros [] = []
+entered delimiter children macros (level ∷ outer) =
+    inside delimiter children level.position (kept_behind (keeps_macros delimiter.kind level.position) macros) ∷ past_subtree delimiter.kind level ∷ outer
+
+-- the level that is left, and those round it
+abbrev pub IsLeft : Walk → Option Span → Walk → Type 0
+IsLeft old None new = map level_of (reverse old.outer.items) ≡ []
+IsLeft old (Some close) new = (close ≡ old.level.close) × (map level_of (reverse old.outer.items) ≡ levels_of new)
+
+-- how a call stands that is expanded
+abbrev pub stand_of : Invocation → Stand
+stand_of it =
+    record {
+      attributes = front_trees it.attributes (trees_of it.whole);
+      len = it.attributes;
+      is_statement = it.is_statement;
+      siblings = it.siblings;
+      delimiter = it.delimiter;
+    }
+
+-- what is found in a call
+abbrev pub found_by : Invocation → (at : ℕ) → MacroFault → Finding
+found_by it at fault = record { name = it.name; at = at; fault = fault; defined_at = Some it.defined_at }
+
+-- what comes then past a call of which those trees come: they stand in its place, where they can and may; or it stays, which is found
+pub record GoesPast (setting : Setting) (in_text : Bool) (limit : ℕ) (levels : List Level) (known : Known) (it : Invocation) (trees : Forest) (nexts : List Level) (inside : Known) : Type 0 where
+  pub stands :
+      (put : Forest) → StandAs (stand_of it) trees (Some put) → MayStand in_text it.delimiter put
+      → Leads setting in_text limit levels known (first_becomes (stand_of it).attributes it.first_span it.last_span put) nexts inside
+  pub stays :
+      (at : ℕ) (fault : MacroFault) → IsKept in_text (stand_of it) trees (start_of it.first_span.range) at fault
+      → Leads setting in_text limit levels known (first_stay (trees_of it.whole)) nexts (with_finding (found_by it at fault) inside)
+
+-- what comes next in a walk, and what comes then
+abbrev pub IsNext : Setting → (in_text : Bool) → (limit : ℕ) → List Level → Known → Event → List Level → Known → Type 0
+IsNext setting in_text limit levels known event.End nexts others = Ends setting in_text limit levels known others (nothing ∷ [])
+IsNext setting in_text limit levels known (event.Leaf it) nexts others = Leads setting in_text limit levels known (first_leaf it) nexts others
+IsNext setting in_text limit levels known (event.Opens header) nexts others = Leads setting in_text limit levels known (first_subtree header.delimiter) nexts others
+IsNext setting in_text limit levels known (event.Closes close) nexts others = Leads setting in_text limit levels known (λ outcomes. nothing ∷ outcomes) nexts others
+IsNext setting in_text limit levels known (event.Stays trees) nexts others = Leads setting in_text limit levels known (first_stay (trees_of trees)) nexts others
+IsNext setting in_text limit levels known (event.Invocation it) nexts others =
+    (left : ℕ) × (limit ≡ suc left)
+    × ((inside : Known) (held : Outcome) → Comes setting false left (begun_among it.siblings) 0 others it.tree.children inside held
+    → GoesPast setting in_text limit levels known it (trees_left held) nexts inside)
+
+-- how levels become others: which are entered and left, and that less is left to do
+abbrev pub Steps : List Level → Event → List Level → Type 0
+Steps levels event.End nexts = length (closes_of levels) ≡ 1
+Steps levels (event.Opens header) nexts = (closes_of nexts ≡ header.delimiter.close ∷ closes_of levels) × (work_in nexts < work_in levels)
+Steps levels (event.Closes close) nexts = (close ∷ closes_of nexts ≡ closes_of levels) × (work_in nexts < work_in levels)
+Steps levels (event.Leaf it) nexts = (closes_of nexts ≡ closes_of levels) × (work_in nexts < work_in levels)
+Steps levels (event.Stays trees) nexts = (closes_of nexts ≡ closes_of levels) × (work_in nexts < work_in levels)
+Steps levels (event.Invocation it) nexts = (closes_of nexts ≡ closes_of levels) × (work_in nexts < work_in levels)
+
+-- a call is expanded only where an expansion may stand inside
+abbrev pub IsWithin : (limit : ℕ) → Event → Type 0
+IsWithin limit (event.Invocation it) = 0 < limit
+IsWithin limit other = Unit {0}
+
+-- whatever is known, if that may be known there, that comes next, in the text or in an expansion, and something is known then
+abbrev pub Goes : (may : Known → Type 0) → Setting → (limit : ℕ) → (old : Walk) → (before : known_in_code.Known) → Event → (new : Walk) → (after : known_in_code.Known) → Type 0
+Goes may setting limit old before it new after =
+    (known : Known) → IsKnown known before → may known
+    → (others : Known) × IsKnown others after × ((in_text : Bool) → IsNext setting in_text limit (levels_of old) known it (levels_of new) others)
+
+-- that stands first
+abbrev pub IsFirst : Item → (root : List ℕ) → Walk → Type 0
+IsFirst it root walk = item_at root walk.level.position (rest_of walk.level.rest) ≡ it
+
+-- that stands first, no tree is to be taken as it is, and calls are expanded still
+pub record IsAtItem (it : Item) (setting : Setting) (walk : Walk) (known : Known) : Type 0 where
+  pub first : walk.level.plain ≡ 0
+  pub goes_on : known.is_over ≡ false
+  pub item : IsFirst it setting.root walk

@@ -1,0 +1,120 @@
+//! What comes of a call.
+ghost use Rattle.std.specs.Prelude.{◌≡◌, List, IfOk, OnOk, is_some, option_copied};
+ghost use Rattle.tt.specs.Iters.{rest_of};
+ghost use Rattle.expand_text.specs.Calling.{IsMade, IsMadeWithin, IsCalled, IsCalledWithin};
+ghost use Rattle.expand_items.specs.Items.{call_of};
+ghost use Rattle.expand_text.specs.Knowing.{Learns, setting_of};
+ghost use Rattle.expand_text.specs.Macros.{arms_of, called_by};
+ghost use Rattle.expand_text.specs.Scopes.{Macro as MacroOf, AreReady, IsReadyIf};
+ghost use Rattle.mbe_rules.specs.Arms.{Arm};
+ghost use Rattle.mbe_rules.specs.Expansions.{AreMade};
+
+use crate::fault::MacroFault;
+use crate::known::Known;
+use crate::memory::OutOfMemory;
+use crate::places::start_at;
+use crate::scope::{Macro, Scope};
+use crate::setting::Setting;
+use expand_items::Call;
+use mbe_rules::FillError;
+use mbe_rules::{Expansion, MacroRules};
+use std::alloc::Global;
+use syntax_edit::start_of;
+use tt::{TopSubtree, TtFault};
+
+/// What rules make of a call: a tree, or what is wrong with it and the byte where that shows.
+#[derive(Drop)]
+pub(crate) enum Made {
+    Tree(TopSubtree),
+    Faulty(u32, MacroFault),
+}
+
+/// What comes of a call.
+#[derive(Drop)]
+pub(crate) enum Called {
+    /// Nothing expands it.
+    Other,
+    /// Something is wrong with it.
+    Faulty,
+    /// That tree, by a macro whose name stands at that byte in its definition.
+    Tree(TopSubtree, u32),
+}
+
+// What rules make of a call, with so many expansions one inside the other.
+fn make(
+    alloc: Global,
+    limit: usize,
+    rules: &MacroRules,
+    call: &Call<'_>,
+) -> Result<Made, OutOfMemory>
+    ensures limit { IfOk result (IsMadeWithin limit) }
+    ensures made { IfOk result (λ made. (arms : List Arm) → AreMade arms rules.now.arms.items → IsMade limit arms (call_of call.now) made) }
+{
+    let at = start_of(call.name.span);
+    if limit == 0 {
+        return Ok(Made::Faulty(at, MacroFault::TooDeep));
+    }
+    match rules.expand(alloc, call.input.remaining().iter()) {
+        Ok(Expansion::Tree(tree)) => Ok(Made::Tree(tree)),
+        Ok(Expansion::NoMatch(place)) => {
+            let behind = start_of(call.header.delimiter.close);
+            let stop = start_at(call.input.remaining(), place, behind);
+            Ok(Made::Faulty(stop, MacroFault::NoMatch))
+        }
+        Ok(Expansion::Ambiguous(arm)) => Ok(Made::Faulty(at, MacroFault::Ambiguous(arm))),
+        Err(error) => match error.fault {
+            FillError::Tree(TtFault::Memory) => Err(OutOfMemory),
+            _ => Ok(Made::Faulty(at, MacroFault::Expansion(error))),
+        },
+    }
+}
+
+// The macro that a call is one of, if there is one.
+fn called_by<'k>(setting: &Setting, scope: &'k Scope, call: &Call<'_>) -> Option<&'k Macro>
+    ensures { (macros : List MacroOf) → AreReady macros scope.now.macros.items → IsReadyIf (called_by (setting_of setting.now) macros (call_of call.now)) (option_copied result) }
+{
+    if call.is_elsewhere || !setting.asks_for(&call.name.sym) {
+        None
+    } else {
+        scope.last(&call.name.sym)
+    }
+}
+
+/// Whether arms expand a call.
+pub(crate) fn is_expanded(setting: &Setting, scope: &Scope, call: &Call<'_>) -> bool
+    ensures { (macros : List MacroOf) → AreReady macros scope.now.macros.items → result ≡ is_some (arms_of (called_by (setting_of setting.now) macros (call_of call.now))) }
+{
+    match called_by(setting, scope, call) {
+        Some(it) => it.rules.is_some(),
+        None => false,
+    }
+}
+
+/// What comes of a call, with so many expansions one inside the other. What is wrong with it, or that it is left as it is, is found.
+pub(crate) fn expand_call(
+    setting: &Setting,
+    known: &mut Known,
+    limit: usize,
+    call: &Call<'_>,
+) -> Result<Called, OutOfMemory>
+    ensures limit { IfOk result (IsCalledWithin limit) }
+    ensures called { IfOk result (λ called. Learns known.old known.new (IsCalled (setting_of setting.now) limit (call_of call.now) called)) }
+{
+    let name = &call.name.sym;
+    let at = start_of(call.name.span);
+    let Some(it) = called_by(setting, &known.scope, call) else {
+        return Ok(Called::Other);
+    };
+    let defined_at = it.defined_at;
+    let Some(rules) = &it.rules else {
+        known.find(name, at, MacroFault::Left, Some(defined_at))?;
+        return Ok(Called::Other);
+    };
+    match make(setting.alloc, limit, rules, call)? {
+        Made::Tree(tree) => Ok(Called::Tree(tree, defined_at)),
+        Made::Faulty(place, fault) => {
+            known.find(name, place, fault, Some(defined_at))?;
+            Ok(Called::Faulty)
+        }
+    }
+}

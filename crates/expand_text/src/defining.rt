@@ -1,0 +1,92 @@
+//! Reading the definition of a macro.
+ghost use Rattle.std.specs.Prelude.{◌≡◌, List, IfOk, OnOk};
+ghost use Rattle.tt.specs.Iters.{rest_of};
+ghost use Rattle.expand_text.specs.Defining.{IsRules};
+ghost use Rattle.expand_items.specs.Items.{definition_of};
+ghost use Rattle.expand_text.specs.Knowing.{Learns, setting_of};
+ghost use Rattle.expand_text.specs.Macros.{IsDefined, IsRead};
+ghost use Rattle.expand_text.specs.Roots.{rooted};
+
+use crate::fault::MacroFault;
+use crate::known::Known;
+use crate::memory::OutOfMemory;
+use crate::places::definition_place;
+use crate::root::rooted;
+use crate::scope::Macro;
+use crate::setting::Setting;
+use expand_items::Definition;
+use mbe_rules::{ArmFault, MacroRules};
+use syntax_edit::start_of;
+use tt::TtFault;
+
+/// The rules of a definition, or what is wrong with it, and the byte where that shows.
+#[derive(Drop)]
+pub(crate) enum Rules {
+    Known(MacroRules),
+    Faulty(u32, MacroFault),
+}
+
+// The rules of a definition, where a word stands for the root of the crate.
+fn rules_of(setting: &Setting, definition: &Definition<'_>) -> Result<Rules, OutOfMemory>
+    ensures { IfOk result (IsRules (definition_of definition.now) (rooted setting.now.root (rest_of definition.now.arms))) }
+{
+    let delimiter = definition.header.delimiter;
+    let trees = definition.arms.remaining();
+    let arms = match rooted(setting.alloc, delimiter, trees, &setting.root) {
+        Ok(arms) => arms,
+        Err(TtFault::Memory) => return Err(OutOfMemory),
+        Err(fault) => {
+            let at = start_of(definition.name.span);
+            return Ok(Rules::Faulty(at, MacroFault::TooLarge(fault)));
+        }
+    };
+    match MacroRules::new(setting.alloc, arms.iter()) {
+        Ok(rules) => Ok(Rules::Known(rules)),
+        Err(error) => match error.fault {
+            ArmFault::Memory => Err(OutOfMemory),
+            _ => {
+                let behind = start_of(delimiter.close);
+                let at = definition_place(arms.iter(), error, behind);
+                Ok(Rules::Faulty(at, MacroFault::Definition(error)))
+            }
+        },
+    }
+}
+
+// The macro is in scope from then on. Where something is wrong with it, that is found, and the macro is left as it is.
+fn define(
+    setting: &Setting,
+    known: &mut Known,
+    definition: &Definition<'_>,
+) -> Result<(), OutOfMemory>
+    ensures { OnOk result (Learns known.old known.new (IsDefined (definition_of definition.now) (rooted setting.now.root (rest_of definition.now.arms)))) }
+{
+    let name = definition.name.sym.clone()?;
+    let rules = match rules_of(setting, definition)? {
+        Rules::Known(rules) => Some(rules),
+        Rules::Faulty(at, fault) => {
+            known.find(&name, at, fault, None)?;
+            None
+        }
+    };
+    known.scope.define(Macro {
+        name,
+        defined_at: start_of(definition.name.span),
+        rules,
+    })?;
+    Ok(())
+}
+
+/// The macro is in scope from then on, if macros of its name are read.
+pub(crate) fn read(
+    setting: &Setting,
+    known: &mut Known,
+    definition: &Definition<'_>,
+) -> Result<(), OutOfMemory>
+    ensures { OnOk result (Learns known.old known.new (IsRead (setting_of setting.now) (definition_of definition.now))) }
+{
+    if setting.asks_for(&definition.name.sym) {
+        define(setting, known, definition)?;
+    }
+    Ok(())
+}

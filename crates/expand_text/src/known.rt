@@ -1,0 +1,64 @@
+//! What is known while trees are gone through: the macros in scope, and what is found.
+ghost use Rattle.std.specs.Prelude.{◌≡◌, IfOk, OnOk};
+ghost use Rattle.tt.specs.Iters.{rest_of};
+ghost use Rattle.expand_text.specs.Knowing.{Known as KnownOf, IsKnown, knows_nothing, with_finding, left_in_scope, setting_of};
+
+use crate::fault::{Finding, MacroFault};
+use crate::scope::Scope;
+use std::alloc::{AllocError, Global};
+use tt::Symbol;
+
+/// What is known while trees are gone through.
+#[derive(Drop)]
+pub(crate) struct Known {
+    pub(crate) scope: Scope,
+    /// What is found, in order.
+    pub(crate) findings: Vec<Finding>,
+    /// Whether nothing is expanded any more, since there were too many expansions, one inside the other.
+    pub(crate) is_over: bool,
+}
+
+impl Known {
+    /// Nothing.
+    pub(crate) fn new(alloc: Global) -> Known
+        ensures { IsKnown knows_nothing result }
+    {
+        Known {
+            scope: Scope::new(alloc),
+            findings: Vec::new(alloc),
+            is_over: false,
+        }
+    }
+
+    /// Something more is found of the macro of that name.
+    pub(crate) fn find(
+        &mut self,
+        name: &Symbol,
+        at: u32,
+        fault: MacroFault,
+        defined_at: Option<u32>,
+    ) -> Result<(), AllocError>
+        ensures { OnOk result ((known : KnownOf) → IsKnown known self.old → IsKnown (with_finding (record { name = name.now; at = at; fault = fault; defined_at = defined_at }) known) self.new) }
+    {
+        let finding = Finding {
+            name: name.clone()?,
+            at,
+            fault,
+            defined_at,
+        };
+        if self.findings.push(finding).is_err() {
+            return Err(AllocError);
+        }
+        self.is_over = self.is_over || fault.is_too_deep();
+        Ok(())
+    }
+
+    /// So many macros are left in scope, the first ones, or all.
+    pub(crate) fn leave(&mut self, kept: Option<usize>)
+        ensures { (known : KnownOf) → IsKnown known self.old → IsKnown (left_in_scope kept known) self.new }
+    {
+        if let Some(len) = kept {
+            self.scope.leave(len);
+        }
+    }
+}

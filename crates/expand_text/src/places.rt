@@ -1,0 +1,96 @@
+//! Where in the text something stands.
+ghost use Rattle.std.specs.Prelude.{◌≡◌, ◌*◌};
+ghost use Rattle.tt.specs.Gluing.{after_trees};
+ghost use Rattle.tt.specs.Iters.{rest_of};
+ghost use Rattle.tt.specs.Span.{start_of};
+ghost use Rattle.tt.specs.Views.{trees_of};
+ghost use Rattle.expand_text.specs.Places.{byte_at, byte_within, pattern_place, template_place, arm_len, definition_byte};
+
+use mbe_pattern::{PatternError, pass};
+use mbe_rules::TemplateError;
+use mbe_rules::{ArmFault, RulesError};
+use syntax_edit::start_of;
+use tt::{TokenTreesView, TtIter};
+
+/// How many trees an arm is with the `;` behind it: a pattern, `=`, `>`, a template and `;`.
+const ARM_LEN: usize = 5;
+
+/// How many trees stand before an arm's template.
+const BEFORE_TEMPLATE: usize = 3;
+
+/// The byte where the token of a flat place among trees begins, or else that one.
+pub(crate) fn start_at(trees: TokenTreesView<'_>, place: usize, behind: u32) -> u32
+    ensures { result ≡ byte_at (trees_of trees.entry) place behind }
+{
+    match trees.iter_flat_tokens().nth(place) {
+        Some(token) => start_of(token.first_span()),
+        None => behind,
+    }
+}
+
+// The same in the subtree that stands first, or else where that closes; or that byte, where none stands first.
+fn start_within(mut trees: TtIter<'_>, place: usize, behind: u32) -> u32
+    ensures { result ≡ byte_within (rest_of trees.entry) place behind }
+{
+    match trees.expect_subtree() {
+        Ok((header, inside)) => start_at(
+            inside.remaining(),
+            place,
+            start_of(header.delimiter.close),
+        ),
+        Err(()) => behind,
+    }
+}
+
+// The flat place of a pattern's fault.
+fn pattern_place(error: PatternError) -> usize
+    ensures { result ≡ pattern_place error }
+{
+    match error {
+        PatternError::BeginsNothing(at)
+        | PatternError::UnknownFragment(at)
+        | PatternError::NameTwice(at)
+        | PatternError::NeedlessSeparator(at)
+        | PatternError::EmptyRepetition(at) => at,
+        PatternError::Memory => 0,
+    }
+}
+
+// The flat place of a template's fault.
+fn template_place(error: TemplateError) -> usize
+    ensures { result ≡ template_place error }
+{
+    match error {
+        TemplateError::StillRepeats(at) | TemplateError::NothingRepeats(at) => at,
+        TemplateError::Memory => 0,
+    }
+}
+
+// Passes so many arms.
+fn pass_arms(trees: &mut TtIter<'_>, count: usize)
+    ensures { rest_of trees.new ≡ after_trees (count * arm_len) (rest_of trees.old) }
+{
+    for _ in 0..count {
+        pass(trees, ARM_LEN);
+    }
+}
+
+/// The byte where the fault of a definition shows, whose arms these are, which end at that byte.
+pub(crate) fn definition_place(arms: TtIter<'_>, error: RulesError, behind: u32) -> u32
+    ensures { result ≡ definition_byte (rest_of arms.entry) error behind }
+{
+    let mut left = arms.remaining().iter();
+    pass_arms(&mut left, error.arm);
+    match error.fault {
+        ArmFault::NoPattern(at)
+        | ArmFault::NoArrow(at)
+        | ArmFault::NoTemplate(at)
+        | ArmFault::NoSemicolon(at) => start_at(arms.remaining(), at, behind),
+        ArmFault::Pattern(error) => start_within(left, pattern_place(error), behind),
+        ArmFault::Template(error) => {
+            pass(&mut left, BEFORE_TEMPLATE);
+            start_within(left, template_place(error), behind)
+        }
+        ArmFault::Memory => behind,
+    }
+}

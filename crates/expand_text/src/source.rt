@@ -1,0 +1,149 @@
+//! A source, and what its calls become.
+ghost use Rattle.std.specs.Prelude.{◌≡◌, IfOk, OnOk, string_bytes};
+ghost use Rattle.tt.specs.Stored.{IsWithinLimits};
+ghost use Rattle.expand_text.specs.Macros.{tree_of};
+ghost use Rattle.expand_text.specs.Expansion.{IsTextOf, IsInvocationText, IsInvocationWritten, IsEventWritten, GoesOn, IsSourceText};
+ghost use Rattle.expand_text.specs.Knowing.{Learns, setting_of};
+ghost use Rattle.syntax_edit.specs.Texts.{writing_of};
+ghost use Rattle.expand_text.specs.Walks.{IsWithin};
+
+use crate::expanding::place;
+use crate::fault::MacroFault;
+use crate::known::Known;
+use crate::memory::OutOfMemory;
+use crate::places::start_at;
+use crate::setting::Setting;
+use crate::walk::{Event, Invocation, Walk, next};
+use expand_items::Siblings;
+use std::alloc::Global;
+use syntax_edit::{Output, end_of, start_of};
+use syntax_unparse::{WriteFault, rust_text};
+use tt::{Delimiter, DelimiterKind, Refused, TopSubtree, TopSubtreeBuilder, TtFault};
+
+/// The text of what comes of a call, or why there is none and the byte where that shows.
+#[derive(Drop)]
+pub(crate) enum Written {
+    Text(String),
+    Faulty(u32, MacroFault),
+}
+
+// What comes of a call that begins at a byte, and is a tree within the limits, as a text, or why it has none.
+fn write_tree(
+    alloc: Global,
+    begin: u32,
+    delimiter: Delimiter,
+    tree: &TopSubtree,
+) -> Result<Written, OutOfMemory>
+    requires { IsWithinLimits (tree_of delimiter tree.now.children) }
+    ensures { IfOk result (IsTextOf delimiter tree.now.children begin) }
+{
+    match rust_text(alloc, tree.token_trees()) {
+        Ok(text) => Ok(Written::Text(text)),
+        Err(WriteFault::Memory) => Err(OutOfMemory),
+        Err(WriteFault::NotWritable { at: place }) => {
+            let at = start_at(tree.token_trees(), place, begin);
+            Ok(Written::Faulty(at, MacroFault::NotWritable))
+        }
+        Err(WriteFault::TooLong) => Ok(Written::Faulty(begin, MacroFault::TooLong)),
+    }
+}
+
+// The text of what comes of a call, or why it has none.
+fn invocation_text(
+    setting: &Setting,
+    known: &mut Known,
+    limit: usize,
+    invocation: &Invocation<'_>,
+) -> Result<Written, OutOfMemory>
+    ensures { IfOk result (λ written. Learns known.old known.new (IsInvocationText (setting_of setting.now) limit invocation.now written)) }
+{
+    let top = Delimiter {
+        kind: DelimiterKind::Invisible,
+        ..invocation.delimiter
+    };
+    let mut builder = TopSubtreeBuilder::new(setting.alloc, top)?;
+    let begin = start_of(invocation.first_span);
+    match place(setting, known, limit, invocation, &mut builder)? {
+        Some(fault) => return Ok(Written::Faulty(begin, fault)),
+        None => {}
+    }
+    match builder.build() {
+        Ok(tree) => Ok(write_tree(setting.alloc, begin, invocation.delimiter, &tree)?),
+        Err(
+            Refused {
+                fault: TtFault::Memory,
+                ..
+            },
+        ) => Err(OutOfMemory),
+        Err(refused) => Ok(Written::Faulty(begin, MacroFault::TooLarge(refused.fault))),
+    }
+}
+
+// Writes what comes of a call in its place, in which so many expansions may stand one inside the other. Where that has no text, it is found.
+fn write_invocation(
+    setting: &Setting,
+    known: &mut Known,
+    limit: usize,
+    invocation: &Invocation<'_>,
+    output: &mut Output<'_>,
+) -> Result<(), OutOfMemory>
+    ensures { OnOk result (Learns known.old known.new (IsInvocationWritten (setting_of setting.now) limit invocation.now (writing_of output.old) (writing_of output.new))) }
+{
+    match invocation_text(setting, known, limit, invocation)? {
+        Written::Text(text) => {
+            let start = start_of(invocation.first_span) as usize;
+            let end = end_of(invocation.last_span) as usize;
+            let _is_left = output.replace(start, end, text.as_str())?;
+            Ok(())
+        }
+        Written::Faulty(at, fault) => {
+            let defined_at = Some(invocation.defined_at);
+            known.find(&invocation.name, at, fault, defined_at)?;
+            Ok(())
+        }
+    }
+}
+
+// Writes what comes of a call; all else stays as it is. Whether this is not the end.
+fn write_event(
+    setting: &Setting,
+    known: &mut Known,
+    limit: usize,
+    event: Event<'_>,
+    output: &mut Output<'_>,
+) -> Result<bool, OutOfMemory>
+    requires { IsWithin limit event }
+    ensures goes_on { IfOk result (GoesOn event.entry) }
+    ensures written { OnOk result (Learns known.old known.new (IsEventWritten (setting_of setting.now) limit event.entry (writing_of output.old) (writing_of output.new))) }
+{
+    match event {
+        Event::End => Ok(false),
+        Event::Invocation(invocation) => {
+            write_invocation(setting, known, limit - 1, &invocation, output)?;
+            Ok(true)
+        }
+        Event::Leaf(_) | Event::Opens(_) | Event::Closes(_) | Event::Stays(_) => Ok(true),
+    }
+}
+
+/// The text in which calls are replaced by what comes of them.
+pub(crate) fn expand_source(
+    setting: &Setting,
+    known: &mut Known,
+    limit: usize,
+    source: &str,
+    tree: &TopSubtree,
+) -> Result<String, OutOfMemory>
+    ensures { IfOk result (λ text. Learns known.old known.new (IsSourceText (setting_of setting.now) limit source.now tree.now.children (string_bytes text))) }
+{
+    let mut output = Output::new(setting.alloc, source);
+    let close = tree.top_subtree().delimiter.close;
+    let mut walk = Walk::new(setting.alloc, tree.iter(), Siblings::Items, close);
+    'trees: loop {
+        let event = next(&mut walk, setting, known, limit)?;
+        let goes_on = write_event(setting, known, limit, event, &mut output)?;
+        if !goes_on {
+            return Ok(output.finish()?);
+        }
+    }
+}

@@ -1,0 +1,90 @@
+//! The macros of a text, and what its calls of them become.
+ghost use Rattle.std.specs.Prelude.{◌≡◌, None, IfOk, IfErr, MatchOption};
+ghost use Rattle.expand_text.specs.Expansion.{setting_by, IsExpanded, IsLenientError, IsExpandTextError, first_fault, IsFirstFault};
+ghost use Rattle.expand_text.specs.Knowing.{setting_of};
+
+use crate::fault::{ExpandTextError, Finding};
+use crate::known::Known;
+use crate::memory::OutOfMemory;
+use crate::options::ExpandOptions;
+use crate::setting::Setting;
+use crate::source::expand_source;
+use std::alloc::Global;
+use syntax_edit::parse;
+use tt::Symbol;
+
+/// A text whose calls are expanded.
+#[derive(Drop)]
+pub struct Expanded {
+    /// The text.
+    pub text: String,
+    /// What is found in its macros and calls, in the order in which they are gone through.
+    pub findings: Vec<Finding>,
+}
+
+// How a text is gone through.
+fn setting_by(alloc: Global, options: ExpandOptions<'_>) -> Result<Setting, OutOfMemory>
+    ensures { IfOk result (λ setting. setting_of setting ≡ setting_by options.entry) }
+{
+    let only = match options.only {
+        None => None,
+        Some(name) => Some(Symbol::new(alloc, name)?),
+    };
+    Ok(Setting {
+        alloc,
+        root: Symbol::new(alloc, options.root)?,
+        everywhere: options.everywhere,
+        only,
+    })
+}
+
+/// The text in which each call of a macro that is in scope is replaced by what comes of it, written as Rust. A definition or a call in which
+/// something is wrong stays as it is, and that is found.
+///
+/// Time is in proportion to the text, and to what the macros take and write; the stack to the options' limit.
+pub fn expand_leniently(
+    alloc: Global,
+    text: &str,
+    options: ExpandOptions<'_>,
+) -> Result<Expanded, ExpandTextError>
+    ensures ok { IfOk result (IsExpanded options.entry text.now) }
+    ensures err { IfErr result (IsLenientError text.now) }
+{
+    let tree = parse(alloc, text)?;
+    let setting = setting_by(alloc, options)?;
+    let mut known = Known::new(alloc);
+    let text = expand_source(&setting, &mut known, options.limit, text, &tree)?;
+    Ok(Expanded {
+        text,
+        findings: known.findings,
+    })
+}
+
+// The place of the first finding that is no warning.
+fn first_fault(findings: &[Finding]) -> Option<usize>
+    ensures { MatchOption result (first_fault findings.now ≡ None) (IsFirstFault findings.now) }
+{
+    for place in 0..findings.len() {
+        if !findings[place].fault.is_warning() {
+            return Some(place);
+        }
+    }
+    None
+}
+
+/// The same, where nothing is wrong, though something may be left as it is; and else the first fault.
+pub fn expand_text(
+    alloc: Global,
+    text: &str,
+    options: ExpandOptions<'_>,
+) -> Result<Expanded, ExpandTextError>
+    ensures ok { IfOk result (IsExpanded options.entry text.now) }
+    ensures warnings { IfOk result (λ it. first_fault it.findings.items ≡ None) }
+    ensures err { IfErr result (IsExpandTextError options.entry text.now) }
+{
+    let mut expanded = expand_leniently(alloc, text, options)?;
+    match first_fault(expanded.findings.as_slice()) {
+        None => Ok(expanded),
+        Some(place) => Err(ExpandTextError::Macro(expanded.findings.remove(place))),
+    }
+}

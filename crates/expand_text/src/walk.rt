@@ -1,0 +1,360 @@
+//! The walk through trees in which macros are defined and called.
+ghost use Rattle.std.specs.Prelude.{◌≡◌, ◌∷◌, [], ℕ, IfOk, OnOk, if◌then◌else◌};
+ghost use Rattle.tt.specs.Iters.{rest_of};
+ghost use Rattle.tt.specs.Views.{trees_of};
+ghost use Rattle.expand_text.specs.Coming.{begin_in, named_behind, IsPlain};
+ghost use Rattle.syntax_edit.specs.Places.{begin_at};
+ghost use Rattle.expand_items.specs.Items.{defines, calls, definition_of, call_of};
+ghost use Rattle.expand_text.specs.Knowing.{Setting as SettingOf, setting_of};
+ghost use Rattle.expand_text.specs.Passing.{IsStay, IsInvoked};
+ghost use Rattle.tt.specs.Gluing.{after_trees};
+ghost use Rattle.expand_text.specs.Walks.{stand_of, level_of, levels_of, past_leaf, past_subtree, past, past_semicolon, begun, entered, IsLeft, IsAtItem, IsFirst, IsWithin, Steps, Goes};
+ghost use Rattle.mbe_matcher.specs.Fragments.{front_trees};
+
+use crate::calling::{Called, expand_call, is_expanded};
+use crate::defining::read;
+use crate::known::Known;
+use crate::memory::OutOfMemory;
+use crate::setting::Setting;
+use expand_items::{Call, Definition, Item, Position, Siblings, is_at_punct, item_at};
+use mbe_pattern::pass;
+use std::alloc::{AllocError, Global};
+use syntax_edit::begin_at;
+use tt::{
+    Delimiter, DelimiterKind, Leaf, Span, Subtree, Symbol, TokenTreesView, TopSubtree, TtElement,
+    TtIter,
+};
+
+/// What is left of the trees of a subtree.
+#[derive(Drop)]
+pub(crate) struct Level<'a> {
+    rest: TtIter<'a>,
+    position: Position,
+    /// How many of the first trees are taken as they are.
+    plain: usize,
+    close: Span,
+    /// How many macros are in scope behind it, if not all.
+    kept: Option<usize>,
+}
+
+/// A call that is expanded: the name of its macro and the byte where that stands in its definition, where the call begins and ends, where
+/// its subtree stands, whether it is a statement or an item, and what comes of it and is among such siblings.
+#[derive(Drop)]
+pub(crate) struct Invocation<'a> {
+    pub(crate) name: Symbol,
+    pub(crate) defined_at: u32,
+    /// All of its trees, with the attributes before it if it stands under a condition, and with the `;` that is a part of it.
+    pub(crate) whole: TokenTreesView<'a>,
+    /// How many of them are attributes.
+    pub(crate) attributes: usize,
+    /// Where it begins, behind those.
+    pub(crate) first_span: Span,
+    pub(crate) last_span: Span,
+    pub(crate) delimiter: Delimiter,
+    pub(crate) is_statement: bool,
+    pub(crate) siblings: Siblings,
+    pub(crate) tree: TopSubtree,
+}
+
+/// What comes next in a walk.
+#[derive(Drop)]
+pub(crate) enum Event<'a> {
+    /// Nothing does.
+    End,
+    Leaf(Leaf),
+    Opens(Subtree),
+    Closes(Span),
+    /// Trees that stay with all that they hold.
+    Stays(TokenTreesView<'a>),
+    Invocation(Invocation<'a>),
+}
+
+/// A walk through trees.
+#[derive(Drop)]
+pub(crate) struct Walk<'a> {
+    level: Level<'a>,
+    /// The innermost last.
+    outer: Vec<Level<'a>>,
+}
+
+// How many trees behind a leaf are no call, where these stand there: the name of a lifetime, and behind a literal a `.` and the name of a
+// field.
+fn named_behind(leaf: &Leaf, behind: TtIter<'_>) -> usize
+    ensures { result ≡ named_behind leaf.now (rest_of behind.entry) }
+{
+    match leaf {
+        Leaf::Punct(punct) => { if punct.char == '\'' { 1 } else { 0 } }
+        Leaf::Literal(_) => { if is_at_punct(behind, '.') { 2 } else { 0 } }
+        Leaf::Ident(_) => 0,
+    }
+}
+
+impl<'a> Level<'a> {
+    // Behind the leaf that stands first.
+    fn pass_leaf(&mut self, leaf: &Leaf)
+        ensures { level_of self.new ≡ past_leaf leaf.now (level_of self.old) }
+    {
+        self.rest.next();
+        let behind = self.rest.remaining();
+        let left = self.plain.saturating_sub(1);
+        self.plain = left.max(named_behind(leaf, behind.iter()));
+        self.position = self.position.behind_leaf(leaf, behind.iter());
+    }
+
+    // Behind the subtree of that kind that stands first.
+    fn pass_subtree(&mut self, kind: DelimiterKind)
+        ensures { level_of self.new ≡ past_subtree kind (level_of self.old) }
+    {
+        self.rest.next();
+        self.plain = self.plain.saturating_sub(1);
+        self.position = self.position.behind_subtree(kind);
+    }
+
+    // Behind so many trees, which end a statement or an item, or do not.
+    fn pass_all(&mut self, len: usize, ends: bool)
+        ensures { level_of self.new ≡ past len ends (level_of self.old) }
+    {
+        pass(&mut self.rest, len);
+        self.position = self.position.behind(ends);
+    }
+
+    // The same, with these trees.
+    fn take_all(&mut self, len: usize, ends: bool) -> TokenTreesView<'a>
+        ensures taken { trees_of result ≡ front_trees len (rest_of self.old.rest) }
+        ensures level { level_of self.new ≡ past len ends (level_of self.old) }
+    {
+        let start = self.rest.savepoint();
+        self.pass_all(len, ends);
+        self.rest.from_savepoint(start)
+    }
+
+    // Behind the `;` that stands first, if that is to be passed: it, and else the other span.
+    fn pass_semicolon(&mut self, takes: bool, other: Span) -> Span
+        ensures last { result ≡ (if takes then begin_at (rest_of self.old.rest) other else other) }
+        ensures level { level_of self.new ≡ past_semicolon takes (level_of self.old) }
+    {
+        if !takes {
+            return other;
+        }
+        let last = begin_at(&self.rest, other);
+        self.pass_all(1, true);
+        last
+    }
+
+    // Where a call that stands first begins, behind its attributes.
+    fn begin_of(&self, call: &Call<'_>) -> Span
+        ensures { result ≡ begin_in (call_of call.now) (rest_of self.now.rest) }
+    {
+        let mut behind = self.rest.remaining().iter();
+        pass(&mut behind, call.attributes);
+        begin_at(&behind, call.name.span)
+    }
+}
+
+impl<'a> Invocation<'a> {
+    /// The attributes before it.
+    pub(crate) fn attributes(&self) -> TokenTreesView<'a>
+        ensures { trees_of result ≡ (stand_of self.now).attributes }
+    {
+        let mut trees = self.whole.iter();
+        let start = trees.savepoint();
+        pass(&mut trees, self.attributes);
+        trees.from_savepoint(start)
+    }
+
+    /// Its trees behind those.
+    pub(crate) fn call(&self) -> TokenTreesView<'a>
+        ensures { trees_of result ≡ after_trees self.now.attributes (trees_of self.now.whole) }
+    {
+        let mut trees = self.whole.iter();
+        pass(&mut trees, self.attributes);
+        trees.remaining()
+    }
+}
+
+impl<'a> Walk<'a> {
+    /// A walk through trees that are such siblings.
+    pub(crate) fn new(alloc: Global, trees: TtIter<'a>, siblings: Siblings, close: Span) -> Walk<'a>
+        ensures { levels_of result ≡ begun siblings (rest_of trees.entry) close ∷ [] }
+    {
+        Walk {
+            level: Level {
+                rest: trees,
+                position: Position::begun(siblings),
+                plain: 0,
+                close,
+                kept: None,
+            },
+            outer: Vec::new(alloc),
+        }
+    }
+
+    // Into the subtree that stands first, where so many macros are in scope.
+    fn enter(
+        &mut self,
+        delimiter: Delimiter,
+        children: TtIter<'a>,
+        macros: usize,
+    ) -> Result<(), AllocError>
+        ensures { OnOk result (levels_of self.new ≡ entered delimiter (rest_of children.entry) macros (levels_of self.old)) }
+    {
+        let position = self.level.position;
+        let are_kept = position.keeps_macros(delimiter.kind);
+        self.level.pass_subtree(delimiter.kind);
+        let inner = Level {
+            rest: children,
+            position: position.first_in(delimiter.kind),
+            plain: 0,
+            close: delimiter.close,
+            kept: if are_kept { None } else { Some(macros) },
+        };
+        let outer = std::mem::replace(&mut self.level, inner);
+        match self.outer.push(outer) {
+            Ok(()) => Ok(()),
+            Err(_) => Err(AllocError),
+        }
+    }
+
+    // Out of the innermost level: where it closes, if there is one round it.
+    fn leave(&mut self) -> Option<Span>
+        ensures { IsLeft self.old result self.new }
+    {
+        let round = self.outer.pop()?;
+        let close = self.level.close;
+        self.level = round;
+        Some(close)
+    }
+}
+
+// The first tree as it is, or the end of a level.
+fn next_tree<'a>(walk: &mut Walk<'a>, known: &mut Known) -> Result<Event<'a>, AllocError>
+    ensures limit { IfOk result (λ event. (limit : ℕ) → IsWithin limit event) }
+    ensures steps { IfOk result (λ event. Steps (levels_of walk.old) event (levels_of walk.new)) }
+    ensures next { IfOk result (λ event. (setting : SettingOf) (limit : ℕ) → Goes (λ before. IsPlain setting before walk.old.level.position walk.old.level.plain (rest_of walk.old.level.rest)) setting limit walk.old known.old event walk.new known.new) }
+{
+    match walk.level.rest.peek() {
+        None => {
+            known.leave(walk.level.kept);
+            match walk.leave() {
+                Some(close) => Ok(Event::Closes(close)),
+                None => Ok(Event::End),
+            }
+        }
+        Some(TtElement::Leaf(leaf)) => {
+            walk.level.pass_leaf(&leaf);
+            Ok(Event::Leaf(leaf))
+        }
+        Some(TtElement::Subtree(header, children)) => {
+            walk.enter(header.delimiter, children, known.scope.len())?;
+            Ok(Event::Opens(header))
+        }
+    }
+}
+
+// Past a definition that stands first, which is in scope from then on.
+fn next_definition<'a>(
+    walk: &mut Walk<'a>,
+    setting: &Setting,
+    known: &mut Known,
+    definition: &Definition<'a>,
+) -> Result<Event<'a>, OutOfMemory>
+    ensures limit { IfOk result (λ event. (limit : ℕ) → IsWithin limit event) }
+    ensures steps { IfOk result (λ event. IsFirst (defines (definition_of definition.now)) setting.now.root walk.old → Steps (levels_of walk.old) event (levels_of walk.new)) }
+    ensures next { IfOk result (λ event. (limit : ℕ) → Goes (IsAtItem (defines (definition_of definition.now)) (setting_of setting.now) walk.old) (setting_of setting.now) limit walk.old known.old event walk.new known.new) }
+{
+    read(setting, known, definition)?;
+    Ok(Event::Stays(walk.level.take_all(definition.len, true)))
+}
+
+// Past a call that stands first, which stays as it is.
+fn stay<'a>(walk: &mut Walk<'a>, call: &Call<'a>) -> Event<'a>
+    ensures { IsStay (call_of call.now) walk.old result walk.new }
+{
+    let ends = call.header.delimiter.kind == DelimiterKind::Brace;
+    Event::Stays(walk.level.take_all(call.len, ends))
+}
+
+// Past a call that stands first, of which that tree comes, by a macro whose name stands at that byte in its definition.
+fn invoke<'a>(
+    walk: &mut Walk<'a>,
+    call: &Call<'a>,
+    tree: TopSubtree,
+    defined_at: u32,
+) -> Result<Event<'a>, AllocError>
+    ensures { IfOk result (λ event. IsInvoked (call_of call.now) tree defined_at walk.old event walk.new) }
+{
+    let name = call.name.sym.clone()?;
+    let delimiter = call.header.delimiter;
+    let kind = delimiter.kind;
+    let position = walk.level.position;
+    let start = walk.level.rest.savepoint();
+    let first_span = walk.level.begin_of(call);
+    walk.level.pass_all(call.len, kind == DelimiterKind::Brace);
+    let behind = walk.level.rest.remaining();
+    let takes = position.takes_semicolon(kind, behind.iter());
+    let last_span = walk.level.pass_semicolon(takes, delimiter.close);
+    Ok(Event::Invocation(Invocation {
+        name,
+        defined_at,
+        whole: walk.level.rest.from_savepoint(start),
+        attributes: call.attributes,
+        first_span,
+        last_span,
+        delimiter,
+        is_statement: position.is_statement(kind, behind.iter()),
+        siblings: position.siblings_of_call(kind, behind.iter()),
+        tree,
+    }))
+}
+
+// Past a call that stands first, or into it, or into the attributes before it.
+fn next_call<'a>(
+    walk: &mut Walk<'a>,
+    setting: &Setting,
+    known: &mut Known,
+    limit: usize,
+    call: &Call<'a>,
+) -> Result<Event<'a>, OutOfMemory>
+    ensures limit { IfOk result (IsWithin limit) }
+    ensures steps { IfOk result (λ event. IsFirst (calls (call_of call.now)) setting.now.root walk.old → Steps (levels_of walk.old) event (levels_of walk.new)) }
+    ensures next { IfOk result (λ event. Goes (IsAtItem (calls (call_of call.now)) (setting_of setting.now) walk.old) (setting_of setting.now) limit walk.old known.old event walk.new known.new) }
+{
+    if call.attributes > 0 && !is_expanded(setting, &known.scope, call) {
+        walk.level.plain = call.attributes;
+        return Ok(next_tree(walk, known)?);
+    }
+    match expand_call(setting, known, limit, call)? {
+        Called::Tree(tree, defined_at) => Ok(invoke(walk, call, tree, defined_at)?),
+        Called::Faulty => Ok(stay(walk, call)),
+        Called::Other => {
+            if setting.everywhere {
+                walk.level.plain = call.len;
+                Ok(next_tree(walk, known)?)
+            } else {
+                Ok(stay(walk, call))
+            }
+        }
+    }
+}
+
+/// What comes next, with so many expansions one inside the other. What is defined is in scope from then on.
+pub(crate) fn next<'a>(
+    walk: &mut Walk<'a>,
+    setting: &Setting,
+    known: &mut Known,
+    limit: usize,
+) -> Result<Event<'a>, OutOfMemory>
+    ensures limit { IfOk result (IsWithin limit) }
+    ensures steps { IfOk result (λ event. Steps (levels_of walk.old) event (levels_of walk.new)) }
+    ensures next { IfOk result (λ event. Goes (λ _. Unit {0}) (setting_of setting.now) limit walk.old known.old event walk.new known.new) }
+{
+    if walk.level.plain > 0 || known.is_over {
+        return Ok(next_tree(walk, known)?);
+    }
+    let trees = walk.level.rest.remaining().iter();
+    match item_at(walk.level.position, trees, setting.root.as_str()) {
+        Item::Definition(definition) => next_definition(walk, setting, known, &definition),
+        Item::Call(call) => next_call(walk, setting, known, limit, &call),
+        Item::Other => Ok(next_tree(walk, known)?),
+    }
+}

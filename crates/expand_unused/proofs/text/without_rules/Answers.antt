@@ -1,0 +1,40 @@
+use Rattle.std.proofs.Common.{rules, ◌≡◌, map, string_bytes, ap, sym, subst, ◌∙◌}
+use Rattle.expand_unused.specs.Needing.{AreRight}
+use Rattle.expand_unused.specs.Parts.{part_of, parts_in}
+use Rattle.expand_unused.specs.Places.{begun}
+use Rattle.expand_unused.specs.Waiting.{waits_in}
+use Rattle.expand_unused.specs.Without.{cuts, IsWithout}
+use Rattle.syntax_edit.specs.Places.{text_part}
+use Rattle.syntax_edit.specs.Texts.{begun as begun_text, with_all, FitAll}
+use Rattle.syntax_parse.specs.Parsed.{IsParse}
+use Rattle.expand_unused.proofs.Fitting.{cuts_fit}
+use Rattle.expand_unused.proofs.text.without_rules.Goals as goal
+
+pub without-requires : goal.without-requires
+without-requires c =
+    let text = c.args.text.now in
+    let tree = c.in_ok-tree.tree in
+    let only = c.in_ok-only.only in
+    let goes = waits_in c.in_ok-unneeded.unneeded in
+    let read : IsParse text_part text tree = c.in_ok-tree.ensures.ok in
+    let same : map part_of c.as_slice-2.result.now ≡ parts_in only begun tree.children = search rules in
+    subst (λ parts. FitAll (cuts goes parts) (begun_text text)) (sym same) (cuts_fit only goes text_part text tree c.utf8.text read)
+
+pub returns-clause-ok : goal.returns-clause-ok
+returns-clause-ok c =
+    let text = c.args.text.now in
+    let tree = c.in_ok-tree.tree in
+    let only = c.in_ok-only.only in
+    let goes = waits_in c.in_ok-unneeded.unneeded in
+    let read : IsParse text_part text tree = c.in_ok-tree.ensures.ok in
+    let first : map part_of c.as_slice.result.now ≡ parts_in only begun tree.children = search rules in
+    let same : map part_of c.as_slice-2.result.now ≡ parts_in only begun tree.children = search rules in
+    subst (λ it. IsWithout it text (string_bytes c.in_ok-without.field-0)) c.in_ok-only.ensures
+    (record {
+      tree = tree;
+      read = read;
+      goes = goes;
+      right = subst (AreRight goes) first c.in_ok-unneeded.ensures;
+      fits = cuts_fit only goes text_part text tree c.utf8.text read;
+      text = c.in_ok-without.ensures ∙ ap (λ parts. with_all (cuts goes parts) (begun_text text)) same;
+    })

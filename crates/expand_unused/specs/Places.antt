@@ -1,0 +1,104 @@
+-- What stands before a tree among its siblings, as far as it matters to what is cut, and what stands first there.
+use Rattle.std.specs.Prelude.{◌-◌, ◌==◌, ◌&&◌, ℕ, zero, suc, Bool, true, false, List, Option, None, Some, codes, bytes_eq, is_some, if◌then◌else◌}
+use Rattle.tt.specs.Forest.{Forest}
+use Rattle.tt.specs.Span.{start_of}
+use Rattle.tt.specs.Types.DelimiterKind.{DelimiterKind}
+use Rattle.tt.specs.Types.Leaf.{Leaf}
+use Rattle.tt.specs.Types.Leaf.TheVariants as leaf_of
+use Rattle.tt.specs.Token.{leaf_span}
+use Rattle.expand_unused.specs.declared.place.Attributes.{Attributes}
+use Rattle.expand_unused.specs.declared.place.Place.{Place}
+use Rattle.expand_unused.specs.declared.place.Place.TheVariants as at
+use Rattle.expand_items.specs.Items.{Definition, Item, defines, calls, other, item_in}
+use Rattle.expand_items.specs.Positions.{is_bracket}
+
+-- a definition of that name may go, where those of one name alone may, or all
+abbrev pub may_go : (only : Option (List ℕ)) → (name : List ℕ) → Bool
+may_go None name = true
+may_go (Some it) name = bytes_eq it name
+
+-- what stands first: a definition that may go; so many trees that are taken as they are, a call or a definition that stays; or something else
+pub data First : Type 0 where
+  drops : Definition → First
+  takes : (len : ℕ) → First
+  others : First
+
+abbrev pub first_from : (only : Option (List ℕ)) → Item → First
+first_from only (defines it) = if may_go only it.name.sym then drops it else takes it.len
+first_from only (calls it) = takes it.len
+first_from only other = others
+
+-- what stands first among these trees
+abbrev pub first_in : (only : Option (List ℕ)) → Forest → First
+first_in only trees = first_from only (item_in (codes "crate") trees)
+
+-- no attribute stands right before
+abbrev pub no_attributes : Attributes
+no_attributes = record { since = None; sign = None }
+
+-- before the first of some trees
+abbrev pub begun : Place
+begun = at.Free no_attributes
+
+-- so many trees more are of a definition, or are taken as they are
+abbrev pub passing : ℕ → Place
+passing zero = begun
+passing (suc left) = at.Passed left
+
+abbrev pub taking : ℕ → Place
+taking zero = begun
+taking (suc left) = at.Taken left
+
+-- a `#`
+abbrev pub is_sign : Leaf → Bool
+is_sign (leaf_of.Literal it) = false
+is_sign (leaf_of.Punct it) = it.char == 35
+is_sign (leaf_of.Ident it) = false
+
+-- where the attributes begin: a `#` with no brackets behind it is none
+abbrev pub since_without : (sign since : Option ℕ) → Option ℕ
+since_without None since = since
+since_without (Some start) since = None
+
+-- the first of the attributes begins at that byte, if there is none before
+abbrev pub since_or : (since : Option ℕ) → (start : ℕ) → Option ℕ
+since_or None start = Some start
+since_or (Some first) start = Some first
+
+-- behind a `#` that begins at a byte
+abbrev pub behind_sign : (start : ℕ) → Attributes → Attributes
+behind_sign start it = record { since = since_without it.sign it.since; sign = Some start }
+
+-- behind brackets that stand behind a `#`, or behind nothing
+abbrev pub signed : (sign since : Option ℕ) → Attributes
+signed None since = no_attributes
+signed (Some start) since = record { since = since_or since start; sign = None }
+
+-- brackets of that kind are those of an attribute
+abbrev pub is_attribute : DelimiterKind → Attributes → Bool
+is_attribute kind it = is_bracket kind && is_some it.sign
+
+-- behind a leaf that is of nothing else, and behind a subtree
+abbrev pub attributes_behind_leaf : Leaf → Attributes → Attributes
+attributes_behind_leaf leaf it = if is_sign leaf then behind_sign (start_of (leaf_span leaf).range) it else no_attributes
+
+abbrev pub attributes_behind_subtree : DelimiterKind → Attributes → Attributes
+attributes_behind_subtree kind it = if is_bracket kind then signed it.sign it.since else no_attributes
+
+-- behind a leaf with which that begins, where no tree is passed or taken as it is
+abbrev pub behind_first : First → Leaf → Attributes → Place
+behind_first (drops it) leaf attributes = passing (it.len - 1)
+behind_first (takes len) leaf attributes = taking (len - 1)
+behind_first others leaf attributes = at.Free (attributes_behind_leaf leaf attributes)
+
+-- behind a leaf
+abbrev pub behind_leaf : First → Leaf → Place → Place
+behind_leaf first leaf (at.Passed left) = passing left
+behind_leaf first leaf (at.Taken left) = taking left
+behind_leaf first leaf (at.Free attributes) = behind_first first leaf attributes
+
+-- behind a subtree
+abbrev pub behind_subtree : DelimiterKind → Place → Place
+behind_subtree kind (at.Passed left) = passing left
+behind_subtree kind (at.Taken left) = taking left
+behind_subtree kind (at.Free attributes) = at.Free (attributes_behind_subtree kind attributes)

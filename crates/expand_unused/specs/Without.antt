@@ -1,0 +1,41 @@
+-- A text without the definitions that it does not need.
+use Rattle.std.specs.Prelude.{◌≡◌, ℕ, Bool, List, [], ◌∷◌, Option, if◌then◌else◌}
+use Rattle.tt.specs.Forest.{Root}
+use Rattle.expand_unused.specs.declared.fault.DropRulesError.{DropRulesError}
+use Rattle.expand_unused.specs.declared.fault.DropRulesError.TheVariants as error
+use Rattle.expand_unused.specs.Needing.{AreRight}
+use Rattle.expand_unused.specs.Parts.{Part, word, rules, Rules, parts_in}
+use Rattle.expand_unused.specs.Places.{begun}
+use Rattle.syntax_edit.specs.Places.{text_part}
+use Rattle.syntax_edit.specs.Texts.{Replacement, Writing, begun as begun_text, replaced, with_all, FitAll}
+use Rattle.syntax_parse.specs.Parsed.{IsParse}
+use Rattle.syntax_parse.specs.Refusal.{IsRefusal}
+
+-- nothing takes the place of a definition
+abbrev pub cut_of : Rules → Replacement
+cut_of it = record { start = it.start; end = it.end; text = [] }
+
+-- all that is cut, in order
+abbrev pub cuts : (goes : List ℕ → Bool) → List Part → List Replacement
+cuts goes [] = []
+cuts goes (word it ∷ more) = cuts goes more
+cuts goes (rules it ∷ more) = if goes it.name then cut_of it ∷ cuts goes more else cuts goes more
+
+-- behind something that stands in a text: where it is a definition that goes, it is passed
+abbrev pub cut_behind : (goes : List ℕ → Bool) → Part → Writing → Writing
+cut_behind goes (word it) writing = writing
+cut_behind goes (rules it) writing = if goes it.name then replaced (cut_of it) writing else writing
+
+-- a text without the definitions that are not needed, of those that may go; all else stays byte for byte
+pub record IsWithout (only : Option (List ℕ)) (source result : List ℕ) : Type 0 where
+  pub tree : Root
+  pub read : IsParse text_part source tree
+  pub goes : List ℕ → Bool
+  pub right : AreRight goes (parts_in only begun tree.children)
+  pub fits : FitAll (cuts goes (parts_in only begun tree.children)) (begun_text source)
+  pub text : result ≡ with_all (cuts goes (parts_in only begun tree.children)) (begun_text source)
+
+-- why none comes of a text: it is not read, or memory is wanting
+abbrev pub IsDropRulesError : (text : List ℕ) → DropRulesError → Type 0
+IsDropRulesError text (error.Text fault) = IsRefusal text_part text fault
+IsDropRulesError text error.Memory = Unit {0}

@@ -1,0 +1,44 @@
+//! A text without the macros that it defines and does not need.
+ghost use Rattle.std.specs.Prelude.{◌≡◌, option_map, IfOk, IfErr, string_bytes};
+ghost use Rattle.expand_unused.specs.Without.{IsWithout, IsDropRulesError};
+
+use crate::cutting::without;
+use crate::fault::DropRulesError;
+use crate::needing::unneeded;
+use crate::walk::parts_in;
+use std::alloc::{AllocError, Global};
+use syntax_edit::parse;
+use tt::Symbol;
+
+// The name, if there is one.
+fn name_of(alloc: Global, only: Option<&str>) -> Result<Option<Symbol>, AllocError>
+    ensures { IfOk result (λ it. it ≡ option_map (λ name. name.now) only.entry) }
+{
+    let Some(name) = only else {
+        return Ok(None);
+    };
+    match Symbol::new(alloc, name) {
+        Ok(name) => Ok(Some(name)),
+        Err(_) => Err(AllocError),
+    }
+}
+
+/// The text without the definitions of macros whose names are not needed, and without the attributes right before them. Of these, only
+/// those of one name may go, where one is given. A name is needed that stands outside of the definitions that may go, or in the arms of one
+/// whose name is needed.
+///
+/// Time and memory are in proportion to the text.
+pub fn without_rules(
+    alloc: Global,
+    text: &str,
+    only: Option<&str>,
+) -> Result<String, DropRulesError>
+    ensures ok { IfOk result (λ it. IsWithout (option_map (λ name. name.now) only.entry) text.now (string_bytes it)) }
+    ensures err { IfErr result (IsDropRulesError text.now) }
+{
+    let tree = parse(alloc, text)?;
+    let only = name_of(alloc, only)?;
+    let parts = parts_in(alloc, tree.iter(), &only)?;
+    let unneeded = unneeded(alloc, parts.as_slice())?;
+    Ok(without(alloc, text, parts.as_slice(), &unneeded)?)
+}

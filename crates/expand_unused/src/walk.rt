@@ -1,0 +1,213 @@
+//! The walk through a text's trees. What is left of each subtree that was entered is kept in memory, so a tree may be as deep as that holds.
+ghost use Rattle.std.specs.Prelude.{◌≡◌, ◌++◌, IfOk, OnOk, map};
+ghost use Rattle.tt.specs.Iters.{rest_of};
+ghost use Rattle.tt.specs.Views.{trees_of};
+ghost use Rattle.expand_unused.specs.Firsts.{first_of};
+ghost use Rattle.expand_unused.specs.Parts.{first_parts, leaf_parts, leaf_words, word, words_in, part_of, parts_in};
+ghost use Rattle.expand_unused.specs.Places.{begun, behind_first, first_in, behind_leaf};
+ghost use Rattle.expand_unused.specs.Steps.{IsStep, IsTaken, IsEntered};
+
+use crate::first::{First, first_in, rules_from};
+use crate::part::Part;
+use crate::place::{Attributes, Place};
+use crate::words::{leaf_word, words_in};
+use std::alloc::{AllocError, Global};
+use tt::{DelimiterKind, Leaf, Symbol, TokenTreesView, TtElement, TtIter};
+
+// What is left of the trees of a subtree, and what stands before them.
+#[derive(Drop)]
+struct Level<'a> {
+    rest: TtIter<'a>,
+    place: Place,
+}
+
+// What a step through a level comes to.
+#[derive(Drop)]
+enum Step<'a> {
+    // Nothing is left.
+    Over,
+    // Past the first tree.
+    Past,
+    // Past a subtree that holds these trees, which are to be gone through.
+    Into(TtIter<'a>),
+}
+
+// Notes the text of an ident.
+fn note_leaf(parts: &mut Vec<Part>, leaf: Leaf) -> Result<(), AllocError>
+    ensures { OnOk result (map part_of parts.new.items ≡ map part_of parts.old.items ++ map word (leaf_words leaf)) }
+{
+    if let Some(it) = leaf_word(leaf) {
+        parts.push(Part::Word(it))?;
+    }
+    Ok(())
+}
+
+// Notes the texts of all idents in trees.
+fn note_words(
+    alloc: Global,
+    parts: &mut Vec<Part>,
+    trees: TokenTreesView<'_>,
+) -> Result<(), AllocError>
+    ensures { OnOk result (map part_of parts.new.items ≡ map part_of parts.old.items ++ map word (words_in (trees_of trees.entry))) }
+{
+    for it in words_in(alloc, trees)? {
+        parts.push(Part::Word(it))?;
+    }
+    Ok(())
+}
+
+// Past a subtree that holds these trees, of which it notes the texts of all idents.
+fn take_held<'a>(
+    alloc: Global,
+    parts: &mut Vec<Part>,
+    children: TtIter<'a>,
+) -> Result<Step<'a>, AllocError>
+    ensures { IfOk result (λ step. IsTaken children.entry parts.old.items step parts.new.items) }
+{
+    note_words(alloc, parts, children.remaining())?;
+    Ok(Step::Past)
+}
+
+// Notes what begins with a leaf that stands first among trees: what stands behind that.
+fn note_first(
+    alloc: Global,
+    parts: &mut Vec<Part>,
+    attributes: Attributes,
+    leaf: Leaf,
+    trees: TtIter<'_>,
+    only: &Option<Symbol>,
+) -> Result<Place, AllocError>
+    ensures parts { OnOk result (map part_of parts.new.items ≡ map part_of parts.old.items ++ first_parts (first_in only.now (rest_of trees.entry)) leaf attributes (rest_of trees.entry)) }
+    ensures place { IfOk result (λ place. place ≡ behind_first (first_in only.now (rest_of trees.entry)) leaf attributes) }
+{
+    match first_in(trees.remaining().iter(), only) {
+        First::Drops(definition) => {
+            let len = definition.len;
+            let rules = rules_from(alloc, attributes, definition, &leaf, trees)?;
+            parts.push(Part::Rules(rules))?;
+            Ok(Place::passing(len.saturating_sub(1)))
+        }
+        First::Takes(len) => {
+            note_leaf(parts, leaf)?;
+            Ok(Place::taking(len.saturating_sub(1)))
+        }
+        First::Others => {
+            let behind = attributes.behind_leaf(&leaf);
+            note_leaf(parts, leaf)?;
+            Ok(Place::Free(behind))
+        }
+    }
+}
+
+impl<'a> Level<'a> {
+    // Before the first of some trees.
+    fn begun(trees: TtIter<'a>) -> Level<'a>
+        ensures rest { result.rest ≡ trees.entry }
+        ensures place { result.place ≡ begun }
+    {
+        Level {
+            rest: trees,
+            place: Place::begun(),
+        }
+    }
+
+    // Notes what a leaf is that stands first among trees: what stands behind it.
+    fn behind_leaf(
+        &self,
+        alloc: Global,
+        parts: &mut Vec<Part>,
+        leaf: Leaf,
+        only: &Option<Symbol>,
+    ) -> Result<Place, AllocError>
+        ensures parts { OnOk result (map part_of parts.new.items ≡ map part_of parts.old.items ++ leaf_parts (first_in only.now (rest_of self.now.rest)) leaf self.now.place (rest_of self.now.rest)) }
+        ensures place { IfOk result (λ place. place ≡ behind_leaf (first_in only.now (rest_of self.now.rest)) leaf self.now.place) }
+    {
+        match self.place {
+            Place::Passed(left) => Ok(Place::passing(left)),
+            Place::Taken(left) => {
+                note_leaf(parts, leaf)?;
+                Ok(Place::taking(left))
+            }
+            Place::Free(attributes) => {
+                let trees = self.rest.remaining().iter();
+                note_first(alloc, parts, attributes, leaf, trees, only)
+            }
+        }
+    }
+
+    // Notes what a subtree of a kind holds that stands first, or has it gone through.
+    fn enter(
+        &self,
+        alloc: Global,
+        parts: &mut Vec<Part>,
+        kind: DelimiterKind,
+        children: TtIter<'a>,
+    ) -> Result<Step<'a>, AllocError>
+        ensures { IfOk result (λ step. IsEntered kind self.now.place children.entry parts.old.items step parts.new.items) }
+    {
+        match self.place {
+            Place::Passed(_) => Ok(Step::Past),
+            Place::Taken(_) => take_held(alloc, parts, children),
+            Place::Free(attributes) => {
+                if attributes.is_attribute(kind) {
+                    take_held(alloc, parts, children)
+                } else {
+                    Ok(Step::Into(children))
+                }
+            }
+        }
+    }
+
+    // Past the first tree, of which it notes what it is.
+    fn step(
+        &mut self,
+        alloc: Global,
+        parts: &mut Vec<Part>,
+        only: &Option<Symbol>,
+    ) -> Result<Step<'a>, AllocError>
+        ensures { IfOk result (λ step. IsStep only.now self.old parts.old.items step self.new parts.new.items) }
+    {
+        match self.rest.peek() {
+            None => Ok(Step::Over),
+            Some(TtElement::Leaf(leaf)) => {
+                self.place = self.behind_leaf(alloc, parts, leaf, only)?;
+                self.rest.next();
+                Ok(Step::Past)
+            }
+            Some(TtElement::Subtree(header, children)) => {
+                let kind = header.delimiter.kind;
+                let step = self.enter(alloc, parts, kind, children)?;
+                self.place = self.place.behind_subtree(kind);
+                self.rest.next();
+                Ok(step)
+            }
+        }
+    }
+}
+
+/// All that stands in trees, in order.
+pub(crate) fn parts_in(
+    alloc: Global,
+    trees: TtIter<'_>,
+    only: &Option<Symbol>,
+) -> Result<Vec<Part>, AllocError>
+    ensures { IfOk result (λ parts. map part_of parts.items ≡ parts_in only.now begun (rest_of trees.entry)) }
+{
+    let mut parts = Vec::new(alloc);
+    let mut levels = Vec::new(alloc);
+    levels.push(Level::begun(trees))?;
+    // The innermost is the last.
+    'levels: while let Some(mut level) = levels.pop() {
+        match level.step(alloc, &mut parts, only)? {
+            Step::Over => {}
+            Step::Past => {
+                levels.push(level)?;
+            }
+            Step::Into(children) => {
+                levels.push(level)?;
+                levels.push(Level::begun(children))?;
+            }
+        }
+    }
+    Ok(parts)
+}

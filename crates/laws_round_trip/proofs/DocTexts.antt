@@ -1,0 +1,135 @@
+-- The text of a comment that documents something: as many hashes as it wants keep it, and it holds no bare carriage return.
+use Rattle.std.proofs.Common.{◌≡◌, ℕ, suc, ◌+◌, ◌-◌, ◌<◌, ◌≤◌, Bool, true, false, ◌==◌, List, [], ◌∷◌, ◌++◌, length, take, drop, max, refl, sym, ap, ◌∙◌, subst, arith, if◌then◌else◌}
+use Rattle.std.proofs.Math.Seq.{take-append_seam}
+use Rattle.std.proofs.Math.Utf8.{encodes}
+use Rattle.std.proofs.lemmas.Bool.{eqb-true, false≢true, lt-ltb}
+use Rattle.std.proofs.lemmas.Bool.Decides.{Decides-eqb}
+use Rattle.std.proofs.lemmas.Slice.Eq.{ends_is, starts_is}
+use Rattle.std.proofs.lemmas.Str.{IsCharBoundary-at_seam, IsUtf8-append, IsUtf8-from_ascii, IsUtf8-past_char, IsUtf8-take, encode_ascii, encodes-append}
+use Rattle.std.specs.List.{ends_with, starts_with}
+use Rattle.std.specs.Prelude.{codes, nat_eq}
+use Rattle.std.specs.Str.{IsUtf8}
+use Rattle.syntax_lex.specs.Closing.{hashes_of}
+use Rattle.syntax_lex.specs.Grammar.{IsRawText}
+use Rattle.syntax_lex.specs.declared.token.DocStyle.{DocStyle}
+use Rattle.syntax_lex.specs.declared.token.DocStyle.TheVariants.{Outer, Inner}
+use Rattle.laws_round_trip.proofs.Returns.{bare_before, bare_behind, inner_before, inner_behind, no_last}
+use Rattle.syntax_parse.specs.Doc.{behind_line_opening, behind_opening, block_text, hashes_wanted, line_text, longest_run, next_run, without_prefix, without_suffix}
+use Rattle.syntax_parse.specs.Inside.{bare_return, inner_return}
+use Rattle.syntax_unparse.proofs.KindFacts.{ascii_one}
+
+-- the longest run is no shorter than one that is known
+most_le : (text : List ℕ) (run most : ℕ) → most ≤ longest_run run most text
+most_le [] run most = omega arith
+most_le (x ∷ xs) run most = omega (arith, most_le xs (next_run run x) (max most (next_run run x)))
+
+-- nor than a run with the hashes behind it
+run_le : (text : List ℕ) (run most : ℕ) → 0 < run → run ≤ most → run + hashes_of text ≤ longest_run run most text
+run_le [] run most some le = omega (arith, le)
+run_le (x ∷ xs) run most some le = go (x == 35) refl (run_le xs (run + 1) (max most (run + 1)) (omega arith) (omega arith))
+  where
+    go : (b : Bool) → (x == 35) ≡ b → (run + 1) + hashes_of xs ≤ longest_run (run + 1) (max most (run + 1)) xs → run + hashes_of (x ∷ xs) ≤ longest_run run most (x ∷ xs)
+    go false e inner = let none : hashes_of (x ∷ xs) ≡ 0 = rw e refl in omega (arith, le, none, most_le (x ∷ xs) run most)
+    go true e inner =
+        let hash : hashes_of (x ∷ xs) ≡ suc (hashes_of xs) = rw e refl in
+        let next : next_run run x ≡ run + 1 = ap (next_run run) (eqb-true x 35 e) ∙ rw (lt-ltb 0 run some) refl in
+        let more : longest_run run most (x ∷ xs) ≡ longest_run (run + 1) (max most (run + 1)) xs = ap (λ n. longest_run n (max most n) xs) next in
+        omega (arith, hash, more, inner)
+
+-- nor than a quote with the hashes behind it
+quote_le : (front behind : List ℕ) (run most : ℕ) → 1 + hashes_of behind ≤ longest_run run most (front ++ 34 ∷ behind)
+quote_le [] behind run most = run_le behind 1 (max most 1) (omega arith) (omega arith)
+quote_le (x ∷ xs) behind run most = quote_le xs behind (next_run run x) (max most (next_run run x))
+
+-- hashes stand in front of the bytes of a text that has them
+hashes_bytes : (cs : List ℕ) → hashes_of cs ≤ hashes_of (encodes cs)
+hashes_bytes [] = omega arith
+hashes_bytes (c ∷ cs) = go (c == 35) refl (hashes_bytes cs)
+  where
+    go : (b : Bool) → (c == 35) ≡ b → hashes_of cs ≤ hashes_of (encodes cs) → hashes_of (c ∷ cs) ≤ hashes_of (encodes (c ∷ cs))
+    go false e ih = let none : hashes_of (c ∷ cs) ≡ 0 = rw e refl in omega (arith, none)
+    go true e ih =
+        let hash : hashes_of (c ∷ cs) ≡ suc (hashes_of cs) = rw e refl in
+        let bytes : encodes (c ∷ cs) ≡ 35 ∷ encodes cs = ap (λ d. encodes (d ∷ cs)) (eqb-true c 35 e) ∙ ap (λ t. t ++ encodes cs) (encode_ascii 35 (omega arith)) in
+        let same : hashes_of (encodes (c ∷ cs)) ≡ suc (hashes_of (encodes cs)) = ap hashes_of bytes in
+        omega (arith, hash, same, ih)
+
+-- as many hashes as a text wants keep it
+pub wanted_keep : (body : List ℕ) → IsRawText (hashes_wanted (encodes body)) body
+wanted_keep body front behind are =
+    let bytes : encodes body ≡ encodes front ++ 34 ∷ encodes behind =
+    ap encodes are ∙ encodes-append front (34 ∷ behind) ∙ ap (λ t. encodes front ++ (t ++ encodes behind)) (encode_ascii 34 (omega arith)) in
+    let long : hashes_wanted (encodes body) ≡ longest_run 0 0 (encodes front ++ 34 ∷ encodes behind) = ap hashes_wanted bytes in
+    omega (arith, long, quote_le (encodes front) (encodes behind) 0 0, hashes_bytes behind)
+
+-- what holds of a text with and without a prefix holds where it is left out
+without_prefix_is : (P : List ℕ → Type 0) (prefix text : List ℕ) → P text → ((rest : List ℕ) → text ≡ prefix ++ rest → P rest) → P (without_prefix prefix text)
+without_prefix_is P prefix text all part = go (starts_with nat_eq text prefix) refl
+  where
+    go : (b : Bool) → starts_with nat_eq text prefix ≡ b → P (if b then drop (length prefix) text else text)
+    go true e = part (drop (length prefix) text) ((starts_is Decides-eqb text prefix _ refl).0 e)
+    go false e = all
+
+-- the same of a suffix
+without_suffix_is : (P : List ℕ → Type 0) (suffix text : List ℕ) → (((front : List ℕ) → text ≡ front ++ suffix → ⊥) → P text) → ((front : List ℕ) → text ≡ front ++ suffix → P front) → P (without_suffix suffix text)
+without_suffix_is P suffix text all part = go (ends_with nat_eq text suffix) refl
+  where
+    go : (b : Bool) → ends_with nat_eq text suffix ≡ b → P (if b then take (length text - length suffix) text else text)
+    go true e = part (take (length text - length suffix) text) ((ends_is Decides-eqb text suffix _ refl).0 e)
+    go false e = all (λ front is. false≢true (sym e ∙ (ends_is Decides-eqb text suffix _ refl).1 front is))
+
+-- a text behind and before ASCII characters
+utf8_behind : (c : ℕ) (rest : List ℕ) → c < 128 → IsUtf8 (c ∷ rest) → IsUtf8 rest
+utf8_behind c rest low utf8 = IsUtf8-past_char (c ∷ rest) rest c utf8 (ap (λ t. t ++ rest) (sym (encode_ascii c low)))
+
+utf8_before : (xs ys : List ℕ) → IsUtf8 ys → IsUtf8 (xs ++ ys) → IsUtf8 xs
+utf8_before xs ys last utf8 = subst IsUtf8 (take-append_seam xs ys) (IsUtf8-take (xs ++ ys) (length xs) utf8 (IsCharBoundary-at_seam (xs ++ ys) xs ys refl last))
+
+utf8_both : (a b : ℕ) → a < 128 → b < 128 → IsUtf8 (a ∷ b ∷ [])
+utf8_both a b low few = IsUtf8-append (a ∷ []) (b ∷ []) (IsUtf8-from_ascii (a ∷ []) (ascii_one a low)) (IsUtf8-from_ascii (b ∷ []) (ascii_one b few))
+
+-- the text of a comment that documents something: no carriage return of it is bare, whatever stands behind it
+pub record IsDocText (text : List ℕ) : Type 0 where
+  pub utf8 : IsUtf8 text
+  pub quiet : bare_return text ≡ false
+
+abbrev IsLine : List ℕ → Type 0
+IsLine text = IsUtf8 text × (inner_return text ≡ false)
+
+behind_line : (style : DocStyle) (word : List ℕ) → IsLine word → IsLine (behind_line_opening style word)
+behind_line Outer word it =
+    without_prefix_is IsLine (codes "///") word it
+    (λ rest e. (utf8_behind 47 rest (omega arith) (utf8_behind 47 (47 ∷ rest) (omega arith) (utf8_behind 47 (47 ∷ 47 ∷ rest) (omega arith) (subst IsUtf8 e it.0))), inner_behind (codes "///") rest (sym (ap inner_return e) ∙ it.1)))
+behind_line Inner word it =
+    without_prefix_is IsLine (codes "//!") word it
+    (λ rest e. (utf8_behind 33 rest (omega arith) (utf8_behind 47 (33 ∷ rest) (omega arith) (utf8_behind 47 (47 ∷ 33 ∷ rest) (omega arith) (subst IsUtf8 e it.0))), inner_behind (codes "//!") rest (sym (ap inner_return e) ∙ it.1)))
+
+-- of a comment of one line
+pub line_doc : (style : DocStyle) (word : List ℕ) → IsUtf8 word → inner_return word ≡ false → IsDocText (line_text style word)
+line_doc style word utf8 none =
+    let text = behind_line_opening style word in
+    let it = behind_line style word (utf8, none) in
+    without_suffix_is IsDocText (codes "\r") text (λ last. record { utf8 = it.0; quiet = no_last text last it.1 })
+    (λ front e. record {
+      utf8 = utf8_before front (13 ∷ []) (IsUtf8-from_ascii (13 ∷ []) (ascii_one 13 (omega arith))) (subst IsUtf8 e it.0);
+      quiet = inner_before front 13 [] refl (sym (ap inner_return e) ∙ it.1);
+    })
+
+behind_signs : (style : DocStyle) (word : List ℕ) → IsDocText word → IsDocText (behind_opening style word)
+behind_signs Outer word it =
+    without_prefix_is IsDocText (codes "/**") word it
+    (λ rest e. record { utf8 = utf8_behind 42 rest (omega arith) (utf8_behind 42 (42 ∷ rest) (omega arith) (utf8_behind 47 (42 ∷ 42 ∷ rest) (omega arith) (subst IsUtf8 e it.utf8))); quiet = bare_behind (codes "/**") rest (sym (ap bare_return e) ∙ it.quiet) })
+behind_signs Inner word it =
+    without_prefix_is IsDocText (codes "/*!") word it
+    (λ rest e. record { utf8 = utf8_behind 33 rest (omega arith) (utf8_behind 42 (33 ∷ rest) (omega arith) (utf8_behind 47 (42 ∷ 33 ∷ rest) (omega arith) (subst IsUtf8 e it.utf8))); quiet = bare_behind (codes "/*!") rest (sym (ap bare_return e) ∙ it.quiet) })
+
+-- of a comment between signs
+pub block_doc : (style : DocStyle) (word : List ℕ) → IsUtf8 word → bare_return word ≡ false → IsDocText (block_text style word)
+block_doc style word utf8 none =
+    let text = behind_opening style word in
+    let it = behind_signs style word (record { utf8 = utf8; quiet = none }) in
+    without_suffix_is IsDocText (codes "*/") text (λ last. it)
+    (λ front e. record {
+      utf8 = utf8_before front (42 ∷ 47 ∷ []) (utf8_both 42 47 (omega arith) (omega arith)) (subst IsUtf8 e it.utf8);
+      quiet = bare_before front 42 (47 ∷ []) refl (sym (ap bare_return e) ∙ it.quiet);
+    })

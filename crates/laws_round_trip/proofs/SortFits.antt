@@ -1,0 +1,225 @@
+-- Sorts of leaves and brackets that can be written one behind another, and trees that are spelled by them.
+use Rattle.std.proofs.Common.{◌≡◌, ◌⊎◌, ℕ, ◌+◌, Bool, true, false, ◌==◌, ◌||◌, IsTrue, inl, inr, List, [], ◌∷◌, ◌++◌, None, Some, refl, sym, ap, ap₂, ◌∙◌, subst, append-nil, append_assoc, if◌then◌else◌}
+use Rattle.tt_base.specs.Forest.{Forest, end, leaf, node, size}
+use Rattle.tt_base.specs.LeafText.{ident_text}
+use Rattle.tt_base.specs.TreeText.{is_alone}
+use Rattle.tt_base.specs.declared.delimiter.DelimiterKind.{DelimiterKind}
+use Rattle.tt_base.specs.declared.delimiter.DelimiterKind.TheVariants as delimits
+use Rattle.tt_base.specs.declared.ident.Ident.{Ident}
+use Rattle.tt_base.specs.declared.ident.IdentIsRaw.{IdentIsRaw}
+use Rattle.tt_base.specs.declared.leaf.Leaf.{Leaf}
+use Rattle.tt_base.specs.declared.leaf.Leaf.TheVariants as leaf_of
+use Rattle.tt_base.specs.declared.literal.Literal.{Literal}
+use Rattle.tt_base.specs.declared.punct.Punct.{Punct}
+use Rattle.tt_base.specs.declared.punct.Spacing.{Spacing}
+use Rattle.tt_base.specs.declared.punct.Spacing.TheVariants.{Alone, Joint as JointSpacing}
+use Rattle.syntax_lex.specs.declared.token.TokenKind.{TokenKind}
+use Rattle.laws_round_trip.proofs.Names.{punct_alone}
+use Rattle.tt_base.specs.Literal.{kind_of as literal_kind, suffix_len_of, symbol_of}
+use Rattle.tt_base.specs.declared.literal.LitKind.{LitKind}
+use Rattle.syntax_parse.specs.Pieces.{punct_char}
+use Rattle.syntax_parse.specs.Role.{kind_of}
+use Rattle.syntax_parse.specs.Spelled.{Piece, Sort, name, sign, value, opening as opening_sort, closing as closing_sort, at_span, sort_of, spelled}
+use Rattle.syntax_parse.specs.declared.bracket.Bracket.TheVariants.{Parenthesis, Brace, Square}
+use Rattle.syntax_unparse.specs.Marks.{Mark, word, opening, closing, opens, closes, brackets_of, marks, shown}
+use Rattle.syntax_unparse.specs.Settled.{joins, settled, sorts}
+use Rattle.syntax_unparse.specs.Text.{behind_punct}
+use Rattle.syntax_unparse.specs.Writable.{IsFirstRefused, MakesLifetime, MayEnd, MayFollow, ReadsAlone, ReadsAs}
+use Rattle.syntax_unparse.specs.declared.behind.Behind.{Behind}
+use Rattle.syntax_unparse.specs.declared.behind.Behind.TheVariants.{Opening, Apart, Joint, Slash, Pound, Quote}
+
+-- what marks are, as sorts
+abbrev pub raw : List Mark → List Sort
+raw [] = []
+raw (word at it ∷ rest) = sort_of it ∷ raw rest
+raw (opening pair ∷ rest) = opening_sort (kind_of pair) ∷ raw rest
+raw (closing pair ∷ rest) = closing_sort (kind_of pair) ∷ raw rest
+
+-- no `'` was written last
+abbrev pub NoQuote : Behind → Type 0
+NoQuote Quote = ⊥
+NoQuote _ = Unit {0}
+
+-- a name reads alone
+abbrev pub NameAlone : (text : List ℕ) → IdentIsRaw → Type 0
+NameAlone text is_raw = (ident : Ident) → ident.sym ≡ text → ident.is_raw ≡ is_raw → ReadsAs (ident_text ident) (leaf_of.Ident ident)
+
+-- and makes a lifetime with a `'` before it
+abbrev pub QuoteFits : Behind → (text : List ℕ) → IdentIsRaw → Type 0
+QuoteFits Quote text is_raw = (ident : Ident) → ident.sym ≡ text → ident.is_raw ≡ is_raw → MakesLifetime (leaf_of.Ident ident)
+QuoteFits _ text is_raw = Unit {0}
+
+-- a punct may follow
+abbrev pub SignFollows : Behind → (c : ℕ) → Type 0
+SignFollows Quote c = ⊥
+SignFollows Slash c = ((c == 47) || (c == 42)) ≡ false
+SignFollows Pound c = (c == 35) ≡ false
+SignFollows _ c = Unit {0}
+
+-- it reads alone
+abbrev pub SignAlone : (c : ℕ) → Type 0
+SignAlone c = (IsTrue (c == 39)) ⊎ ((kind : TokenKind) × (punct_char kind ≡ Some c))
+
+-- whether a punct stands first
+abbrev pub begins_sign : List Sort → Bool
+begins_sign (sign c spacing ∷ rest) = true
+begins_sign _ = false
+
+-- the spacing that a punct is read with before these
+abbrev pub settled_before : (c : ℕ) → Spacing → List Sort → Spacing
+settled_before c spacing rest = if c == 39 then JointSpacing else (if is_alone spacing then Alone else (if begins_sign rest then JointSpacing else Alone))
+
+-- a kind of brackets
+abbrev pub IsPair : DelimiterKind → Type 0
+IsPair delimits.Invisible = ⊥
+IsPair delimits.InvisibleOpaque = ⊥
+IsPair _ = Unit {0}
+
+-- a literal reads alone
+abbrev pub ValueAlone : LitKind → (symbol : List ℕ) → (suffix_len : ℕ) → Type 0
+ValueAlone kind symbol suffix_len =
+    (literal : Literal) → symbol_of literal ≡ symbol → literal_kind literal ≡ kind → suffix_len_of literal ≡ suffix_len
+    → ReadsAlone (leaf_of.Literal literal)
+
+-- these can be written behind what was written last, and are read with the same spacings
+abbrev pub SortFits : Behind → List Sort → Type 0
+SortFits behind [] = NoQuote behind
+SortFits behind (name text is_raw ∷ rest) = NameAlone text is_raw × QuoteFits behind text is_raw × SortFits Apart rest
+SortFits behind (sign c spacing ∷ rest) = SignFollows behind c × SignAlone c × (settled_before c spacing rest ≡ spacing) × SortFits (behind_punct c spacing) rest
+SortFits behind (value kind symbol suffix_len ∷ rest) = NoQuote behind × ValueAlone kind symbol suffix_len × SortFits Apart rest
+SortFits behind (opening_sort kind ∷ rest) = NoQuote behind × IsPair kind × SortFits Opening rest
+SortFits behind (closing_sort kind ∷ rest) = NoQuote behind × IsPair kind × SortFits Apart rest
+
+joins_raw : (ms : List Mark) → begins_sign (raw ms) ≡ joins ms
+joins_raw [] = refl
+joins_raw (word at (leaf_of.Punct punct) ∷ rest) = refl
+joins_raw (word at (leaf_of.Literal literal) ∷ rest) = refl
+joins_raw (word at (leaf_of.Ident ident) ∷ rest) = refl
+joins_raw (opening pair ∷ rest) = refl
+joins_raw (closing pair ∷ rest) = refl
+
+-- marks that are such sorts are read as these
+pub settled_are : (behind : Behind) (ms : List Mark) → SortFits behind (raw ms) → settled ms ≡ raw ms
+settled_are behind [] f = refl
+settled_are behind (word at (leaf_of.Ident ident) ∷ rest) f = ap (λ t. sort_of (leaf_of.Ident ident) ∷ t) (settled_are Apart rest f.2)
+settled_are behind (word at (leaf_of.Literal literal) ∷ rest) f = ap (λ t. sort_of (leaf_of.Literal literal) ∷ t) (settled_are Apart rest f.2)
+settled_are behind (word at (leaf_of.Punct punct) ∷ rest) f =
+    let (follows, alone, spacing, more) = f in
+    ap₂ (λ s t. sign punct.char s ∷ t)
+    (ap (λ b. if punct.char == 39 then JointSpacing else (if is_alone punct.spacing then Alone else (if b then JointSpacing else Alone))) (sym (joins_raw rest)) ∙ spacing)
+    (settled_are (behind_punct punct.char punct.spacing) rest more)
+settled_are behind (opening pair ∷ rest) f = let (no_quote, is, more) = f in ap (λ t. opening_sort (kind_of pair) ∷ t) (settled_are Opening rest more)
+settled_are behind (closing pair ∷ rest) f = let (no_quote, is, more) = f in ap (λ t. closing_sort (kind_of pair) ∷ t) (settled_are Apart rest more)
+
+name_follows : (behind : Behind) (ident : Ident) → QuoteFits behind ident.sym ident.is_raw → MayFollow behind (leaf_of.Ident ident)
+name_follows Opening ident f = tt
+name_follows Apart ident f = tt
+name_follows Joint ident f = tt
+name_follows Slash ident f = refl
+name_follows Pound ident f = refl
+name_follows Quote ident f = f ident refl refl
+
+literal_follows : (behind : Behind) (literal : Literal) → NoQuote behind → MayFollow behind (leaf_of.Literal literal)
+literal_follows Opening literal f = tt
+literal_follows Apart literal f = tt
+literal_follows Joint literal f = tt
+literal_follows Slash literal f = refl
+literal_follows Pound literal f = refl
+literal_follows Quote literal f = absurd f
+
+sign_follows : (behind : Behind) (punct : Punct) → SignFollows behind punct.char → MayFollow behind (leaf_of.Punct punct)
+sign_follows Opening punct f = tt
+sign_follows Apart punct f = tt
+sign_follows Joint punct f = tt
+sign_follows Slash punct f = f
+sign_follows Pound punct f = f
+sign_follows Quote punct f = absurd f
+
+may_end : (behind : Behind) → NoQuote behind → MayEnd behind
+may_end Opening f = tt
+may_end Apart f = tt
+may_end Joint f = tt
+may_end Slash f = tt
+may_end Pound f = tt
+may_end Quote f = absurd f
+
+sign_alone : (punct : Punct) → SignAlone punct.char → ReadsAlone (leaf_of.Punct punct)
+sign_alone punct (inl quote) = inl quote
+sign_alone punct (inr (kind, is)) = inr (punct_alone punct kind is)
+
+-- marks that are such sorts can be written
+pub writable : (last : ℕ) (behind : Behind) (ms : List Mark) → SortFits behind (raw ms) → IsFirstRefused last behind ms None
+writable last behind [] f = inl (may_end behind f, refl)
+writable last behind (word at (leaf_of.Ident ident) ∷ rest) f =
+    inl (name_follows behind ident f.1, inl (inr (f.0 ident refl refl), writable at Apart rest f.2))
+writable last behind (word at (leaf_of.Literal literal) ∷ rest) f =
+    inl (literal_follows behind literal f.0, inl (f.1 literal refl refl refl, writable at Apart rest f.2))
+writable last behind (word at (leaf_of.Punct punct) ∷ rest) f =
+    inl (sign_follows behind punct f.0, inl (sign_alone punct f.1, writable at (behind_punct punct.char punct.spacing) rest f.3))
+writable last behind (opening pair ∷ rest) f = inl (may_end behind f.0, writable last Opening rest f.2)
+writable last behind (closing pair ∷ rest) f = inl (may_end behind f.0, writable last Apart rest f.2)
+
+-- the brackets among sorts are pairs
+abbrev Paired : List Sort → Type 0
+Paired [] = Unit {0}
+Paired (name text is_raw ∷ rest) = Paired rest
+Paired (sign c spacing ∷ rest) = Paired rest
+Paired (value kind symbol suffix_len ∷ rest) = Paired rest
+Paired (opening_sort kind ∷ rest) = IsPair kind × Paired rest
+Paired (closing_sort kind ∷ rest) = IsPair kind × Paired rest
+
+paired : (behind : Behind) (ss : List Sort) → SortFits behind ss → Paired ss
+paired behind [] f = tt
+paired behind (name text is_raw ∷ rest) f = paired Apart rest f.2
+paired behind (sign c spacing ∷ rest) f = paired (behind_punct c spacing) rest f.3
+paired behind (value kind symbol suffix_len ∷ rest) f = paired Apart rest f.2
+paired behind (opening_sort kind ∷ rest) f = (f.1, paired Opening rest f.2)
+paired behind (closing_sort kind ∷ rest) f = (f.1, paired Apart rest f.2)
+
+pub sorts-append : (xs ys : List Piece) → sorts (xs ++ ys) ≡ sorts xs ++ sorts ys
+sorts-append [] ys = refl
+sorts-append (x ∷ xs) ys = ap (λ t. x.sort ∷ t) (sorts-append xs ys)
+
+raw-append : (xs ys : List Mark) → raw (xs ++ ys) ≡ raw xs ++ raw ys
+raw-append [] ys = refl
+raw-append (word at it ∷ xs) ys = ap (λ t. sort_of it ∷ t) (raw-append xs ys)
+raw-append (opening pair ∷ xs) ys = ap (λ t. opening_sort (kind_of pair) ∷ t) (raw-append xs ys)
+raw-append (closing pair ∷ xs) ys = ap (λ t. closing_sort (kind_of pair) ∷ t) (raw-append xs ys)
+
+leaf_paired : (it : Leaf) (rest : List Sort) → Paired (sort_of it ∷ rest) → Paired rest
+leaf_paired (leaf_of.Literal literal) rest p = p
+leaf_paired (leaf_of.Punct punct) rest p = p
+leaf_paired (leaf_of.Ident ident) rest p = p
+
+-- a subtree in brackets, by what it holds
+round : (kind : DelimiterKind) (held : ℕ) (inner rest : List Mark) → IsPair kind
+    → raw (opens (brackets_of kind held) ++ (inner ++ (closes (brackets_of kind held) ++ rest))) ≡ opening_sort kind ∷ (raw inner ++ closing_sort kind ∷ raw rest)
+round delimits.Parenthesis held inner rest is = ap (λ t. opening_sort delimits.Parenthesis ∷ t) (raw-append inner (closing Parenthesis ∷ rest))
+round delimits.Brace held inner rest is = ap (λ t. opening_sort delimits.Brace ∷ t) (raw-append inner (closing Brace ∷ rest))
+round delimits.Bracket held inner rest is = ap (λ t. opening_sort delimits.Bracket ∷ t) (raw-append inner (closing Square ∷ rest))
+round delimits.Invisible held inner rest is = absurd is
+round delimits.InvisibleOpaque held inner rest is = absurd is
+
+-- the marks of trees whose brackets are pairs are their sorts
+raw_marks : (at : ℕ) (trees : Forest) (more : List Sort) → Paired (sorts (spelled trees) ++ more) → (raw (marks at trees) ≡ sorts (spelled trees)) × Paired more
+raw_marks at end more p = (refl, p)
+raw_marks at (leaf it rest) more p =
+    let inner = raw_marks (at + 1) rest more (leaf_paired it (sorts (spelled rest) ++ more) p) in
+    (ap (λ t. sort_of it ∷ t) inner.0, inner.1)
+raw_marks at (node delimiter children rest) more p =
+    let held = sorts (spelled children) in
+    let whole : sorts (spelled children ++ at_span (closing_sort delimiter.kind) delimiter.close ∷ spelled rest) ≡ held ++ closing_sort delimiter.kind ∷ sorts (spelled rest) =
+    sorts-append (spelled children) (at_span (closing_sort delimiter.kind) delimiter.close ∷ spelled rest) in
+    let grouped : Paired (held ++ (closing_sort delimiter.kind ∷ (sorts (spelled rest) ++ more))) =
+    subst Paired (ap (λ t. t ++ more) whole ∙ append_assoc held (closing_sort delimiter.kind ∷ sorts (spelled rest)) more) p.1 in
+    let inner = raw_marks (at + 1) children (closing_sort delimiter.kind ∷ (sorts (spelled rest) ++ more)) grouped in
+    let outer = raw_marks ((at + 1) + size children) rest more inner.1.1 in (
+      round delimiter.kind (shown children) (marks (at + 1) children) (marks ((at + 1) + size children) rest) p.0
+          ∙ ap₂ (λ a b. opening_sort delimiter.kind ∷ (a ++ closing_sort delimiter.kind ∷ b)) inner.0 outer.0
+          ∙ ap (λ t. opening_sort delimiter.kind ∷ t) (sym whole),
+      outer.1,
+    )
+
+-- the marks of trees that are spelled by such sorts are these
+pub marks_are : (behind : Behind) (trees : Forest) → SortFits behind (sorts (spelled trees)) → raw (marks 0 trees) ≡ sorts (spelled trees)
+marks_are behind trees f = (raw_marks 0 trees [] (subst Paired (sym (append-nil (sorts (spelled trees)))) (paired behind (sorts (spelled trees)) f))).0

@@ -1,0 +1,270 @@
+-- Where two texts touch: what their last and first bytes tell of the tokens there.
+use Rattle.std.proofs.Common.{◌≡◌, ◌≢◌, ◌⊎◌, inl, inr, ℕ, ◌-◌, ◌<◌, Bool, true, false, ◌==◌, ◌||◌, ◌&&◌, not, List, [], ◌∷◌, ◌++◌, length, Option, None, Some, refl, sym, ap, ◌∙◌, ⊎_elim, subst, arith, append-nil, length-append}
+use Rattle.std.proofs.lemmas.Bool.{false≢true, and_parts, cases_eq, ne_eqb}
+use Rattle.std.proofs.lemmas.Str.{IsCharBoundary-before_ascii, IsUtf8-take, chars-append, chars-nil, encode_ascii, encodes-chars}
+use Rattle.std.proofs.Math.Seq.{take-append_seam}
+use Rattle.std.proofs.Math.Utf8.{encode, encodes}
+use Rattle.std.specs.List.{slice_get}
+use Rattle.std.specs.Prelude.{get_or}
+use Rattle.std.specs.Str.{chars, IsUtf8}
+use Rattle.tt_base.specs.declared.punct.Spacing.TheVariants.{Alone}
+use Rattle.syntax_edit.specs.Texts.{is_apart, is_joined_before, is_separator, is_sign, may_touch}
+use Rattle.syntax_lex.specs.Class.{is_whitespace}
+use Rattle.syntax_lex.specs.Front.{first}
+use Rattle.syntax_lex.specs.Opening.{symbol}
+use Rattle.syntax_lex.specs.Reading.{reading}
+use Rattle.syntax_lex.specs.declared.token.TokenKind.{TokenKind}
+use Rattle.syntax_lex.specs.declared.token.TokenKind.TheVariants as kinds
+use Rattle.laws_round_trip.proofs.ToldKinds.{Told, told, line, block, blank, wrong, opened, closed, wordy, valued, living, sign as sign_kind, punct_back}
+use Rattle.laws_round_trip.proofs.Blanks.{blank_read}
+use Rattle.laws_round_trip.proofs.KindFacts.{SameBefore, life_first}
+use Rattle.laws_round_trip.proofs.MoreFacts.{IsBlunt}
+use Rattle.laws_round_trip.proofs.Tokens.{blunt_parting, never_last, token_blunt}
+use Rattle.laws_round_trip.specs.Kept.{is_parting, is_sound}
+use Rattle.laws_tokens.proofs.SignFacts.{sign_read}
+use Rattle.laws_tokens.specs.Stops.{is_ended}
+use Rattle.syntax_parse.specs.Pieces.{punct_char, spacing_before}
+use Rattle.syntax_unparse.proofs.Fronts.{ascii_first}
+use Rattle.syntax_unparse.proofs.KindFacts.{punct_known}
+use Rattle.syntax_unparse.specs.Writable.{is_lifetime}
+
+-- one of the bytes that stand apart
+apart_cases : (P : ℕ → Type 0) (b : ℕ) → P 32 → P 9 → P 10 → P 13 → P 40 → P 41 → P 91 → P 93 → P 123 → P 125 → is_apart b ≡ true → P b
+apart_cases P b p32 p9 p10 p13 p40 p41 p91 p93 p123 p125 is =
+    ⊎_elim (λ e. subst P (sym e) p32) (λ n32.
+    ⊎_elim (λ e. subst P (sym e) p9) (λ n9.
+    ⊎_elim (λ e. subst P (sym e) p10) (λ n10.
+    ⊎_elim (λ e. subst P (sym e) p13) (λ n13.
+    ⊎_elim (λ e. subst P (sym e) p40) (λ n40.
+    ⊎_elim (λ e. subst P (sym e) p41) (λ n41.
+    ⊎_elim (λ e. subst P (sym e) p91) (λ n91.
+    ⊎_elim (λ e. subst P (sym e) p93) (λ n93.
+    ⊎_elim (λ e. subst P (sym e) p123) (λ n123.
+    ⊎_elim (λ e. subst P (sym e) p125) (λ n125.
+    let none : is_apart b ≡ false =
+    rw (ne_eqb 32 b (λ e. n32 (sym e)), ne_eqb 9 b (λ e. n9 (sym e)), ne_eqb 10 b (λ e. n10 (sym e)), ne_eqb 13 b (λ e. n13 (sym e)), ne_eqb 40 b (λ e. n40 (sym e)), ne_eqb 41 b (λ e. n41 (sym e)), ne_eqb 91 b (λ e. n91 (sym e)), ne_eqb 93 b (λ e. n93 (sym e)), ne_eqb 123 b (λ e. n123 (sym e)), ne_eqb 125 b (λ e. n125 (sym e))) refl in
+    absurd (false≢true (sym none ∙ is))) (cases_eq b 125)) (cases_eq b 123)) (cases_eq b 93)) (cases_eq b 91)) (cases_eq b 41)) (cases_eq b 40)) (cases_eq b 13)) (cases_eq b 10)) (cases_eq b 9)) (cases_eq b 32)
+
+-- a comma or a semicolon
+separator_cases : (P : ℕ → Type 0) (b : ℕ) → P 44 → P 59 → is_separator b ≡ true → P b
+separator_cases P b p44 p59 is =
+    ⊎_elim (λ e. subst P (sym e) p44) (λ n44.
+    ⊎_elim (λ e. subst P (sym e) p59) (λ n59.
+    let none : is_separator b ≡ false = rw (ne_eqb 44 b (λ e. n44 (sym e)), ne_eqb 59 b (λ e. n59 (sym e))) refl in
+    absurd (false≢true (sym none ∙ is))) (cases_eq b 59)) (cases_eq b 44)
+
+-- a byte of ASCII that parts tokens
+pub record Parts (b : ℕ) : Type 0 where
+  pub ascii : b < 128
+  pub parts : is_parting b ≡ true
+
+apart_parts : (b : ℕ) → is_apart b ≡ true → Parts b
+apart_parts b =
+    apart_cases Parts b (record { ascii = omega arith; parts = refl }) (record { ascii = omega arith; parts = refl }) (record { ascii = omega arith; parts = refl })
+    (record { ascii = omega arith; parts = refl }) (record { ascii = omega arith; parts = refl }) (record { ascii = omega arith; parts = refl }) (record { ascii = omega arith; parts = refl })
+    (record { ascii = omega arith; parts = refl }) (record { ascii = omega arith; parts = refl }) (record { ascii = omega arith; parts = refl })
+
+separator_parts : (b : ℕ) → is_separator b ≡ true → Parts b
+separator_parts b = separator_cases Parts b (record { ascii = omega arith; parts = refl }) (record { ascii = omega arith; parts = refl })
+
+-- no punct is joint before such a token
+abbrev AloneBefore : ℕ → Type 0
+AloneBefore f = (fs : List ℕ) → spacing_before (Some (reading (f ∷ fs)).0) ≡ Alone
+
+blank_alone : (f : ℕ) → is_whitespace f ≡ true → AloneBefore f
+blank_alone f is fs = ap (λ p. spacing_before (Some p.0)) (blank_read f fs is)
+
+bracket_alone : (f : ℕ) → spacing_before (Some (symbol f)) ≡ Alone → ((fs : List ℕ) → reading (f ∷ fs) ≡ (symbol f, fs)) → AloneBefore f
+bracket_alone f is read fs = ap (λ p. spacing_before (Some p.0)) (read fs) ∙ is
+
+apart_alone : (f : ℕ) → is_apart f ≡ true → AloneBefore f
+unfolding symbol
+apart_alone f =
+    apart_cases AloneBefore f (blank_alone 32 refl) (blank_alone 9 refl) (blank_alone 10 refl) (blank_alone 13 refl) (bracket_alone 40 refl (λ fs. sign_read 40 fs refl refl))
+    (bracket_alone 41 refl (λ fs. sign_read 41 fs refl refl)) (bracket_alone 91 refl (λ fs. sign_read 91 fs refl refl)) (bracket_alone 93 refl (λ fs. sign_read 93 fs refl refl))
+    (bracket_alone 123 refl (λ fs. sign_read 123 fs refl refl)) (bracket_alone 125 refl (λ fs. sign_read 125 fs refl refl))
+
+-- a sign that is a token whatever stands behind it
+abbrev pub Lone : ℕ → Type 0
+Lone l = (r : List ℕ) → reading (l ∷ r) ≡ (symbol l, r)
+
+-- a bracket, which is no punct
+abbrev LoneBracket : ℕ → Type 0
+LoneBracket l = is_whitespace l ≡ false → Lone l × (punct_char (symbol l) ≡ None)
+
+apart_lone : (l : ℕ) → is_apart l ≡ true → LoneBracket l
+unfolding symbol
+apart_lone l =
+    apart_cases LoneBracket l (λ n. absurd (false≢true (sym n))) (λ n. absurd (false≢true (sym n))) (λ n. absurd (false≢true (sym n))) (λ n. absurd (false≢true (sym n)))
+    (λ n. ((λ r. sign_read 40 r refl refl), refl)) (λ n. ((λ r. sign_read 41 r refl refl), refl)) (λ n. ((λ r. sign_read 91 r refl refl), refl))
+    (λ n. ((λ r. sign_read 93 r refl refl), refl)) (λ n. ((λ r. sign_read 123 r refl refl), refl)) (λ n. ((λ r. sign_read 125 r refl refl), refl))
+
+separator_lone : (l : ℕ) → is_separator l ≡ true → Lone l
+separator_lone l = separator_cases Lone l (λ r. sign_read 44 r refl refl) (λ r. sign_read 59 r refl refl)
+
+-- the character of a punct is a sign
+abbrev signs : Option ℕ → Bool
+signs None = true
+signs (Some c) = is_sign c
+
+punct_signs : (kind : TokenKind) → signs (punct_char kind) ≡ true
+punct_signs kinds.Semi = refl
+punct_signs kind = refl
+
+pub punct_sign : (kind : TokenKind) (c : ℕ) → punct_char kind ≡ Some c → is_sign c ≡ true
+punct_sign kind c is = sym (ap signs is) ∙ punct_signs kind
+
+-- no punct is joint before a token whose first character is no punct and no quote
+pub sign_alone : (f : ℕ) (fs : List ℕ) → (encode f ≡ f ∷ [] → is_joined_before f ≡ true → ⊥) → spacing_before (Some (reading (f ∷ fs)).0) ≡ Alone
+sign_alone f fs other = go (reading (f ∷ fs)).0 refl (told (reading (f ∷ fs)).0)
+  where
+    go : (kind : TokenKind) → (reading (f ∷ fs)).0 ≡ kind → Told kind → spacing_before (Some kind) ≡ Alone
+    go kind e (line style) = refl
+    go kind e (block style terminated) = refl
+    go kind e (blank role alone) = alone
+    go kind e (wrong why role alone) = alone
+    go kind e (opened pair role alone) = alone
+    go kind e (closed pair role alone) = alone
+    go kind e (wordy named alone) = alone
+    go kind e (valued it start) = refl
+    go kind e (living life) =
+        let is : f ≡ 39 = life_first f fs (ap is_lifetime e ∙ life) in
+        absurd (other (subst (λ c. encode c ≡ c ∷ []) (sym is) (encode_ascii 39 (omega arith))) (ap is_joined_before is))
+    go kind e (sign_kind c is) =
+        let same : f ≡ c = (punct_back f fs c (ap punct_char e ∙ is)).0 in
+        absurd (other (subst (λ d. encode d ≡ d ∷ []) (sym same) (punct_known kind c is).bytes)
+        (ap is_joined_before same ∙ ap (λ b. b || (c == 39)) (punct_sign kind c is)))
+
+-- the first character and the first byte of a text
+first_byte : (t : List ℕ) (f : ℕ) (fs : List ℕ) (b : ℕ) → IsUtf8 t → chars t ≡ f ∷ fs → slice_get t 0 ≡ Some b → encode f ≡ f ∷ [] → Some f ≡ Some b
+first_byte t f fs b utf8 letters byte one =
+    ap (λ u. slice_get u 0) (ap (λ u. u ++ encodes fs) (sym one) ∙ sym (ap encodes letters) ∙ encodes-chars t utf8) ∙ byte
+
+some_is : (f b : ℕ) → Some f ≡ Some b → f ≡ b
+some_is f b e = ap (λ o. value o) e
+  where
+    value : Option ℕ → ℕ
+    value None = 0
+    value (Some c) = c
+
+-- a first byte of ASCII is the first character
+pub first_letter : (t : List ℕ) (f : ℕ) (fs : List ℕ) (b : ℕ) → chars t ≡ f ∷ fs → slice_get t 0 ≡ Some b → b < 128 → f ≡ b
+first_letter [] f fs b letters byte lt = absurd (cc)
+first_letter (d ∷ bs) f fs b letters byte lt =
+    let is : d ≡ b = some_is d b byte in
+    ap first (sym letters) ∙ ap first (ascii_first d bs (subst (λ n. n < 128) (sym is) lt)) ∙ is
+
+-- the last byte of a text
+abbrev pub last_of : List ℕ → Option ℕ
+last_of t = slice_get t (length t - 1)
+
+get_last : (front : List ℕ) (l : ℕ) → get_or (front ++ l ∷ []) (length front) 0 ≡ l
+get_last [] l = refl
+get_last (x ∷ front) l = get_last front l
+
+-- a last byte of ASCII is the last character
+last_letter : (front : List ℕ) (l : ℕ) → l < 128 → IsUtf8 (front ++ l ∷ []) → chars (front ++ l ∷ []) ≡ chars front ++ l ∷ []
+last_letter front l lt utf8 =
+    let at : get_or (front ++ l ∷ []) (length front) 0 < 128 = subst (λ n. n < 128) (sym (get_last front l)) lt in
+    let boundary = IsCharBoundary-before_ascii (front ++ l ∷ []) (length front) (omega (arith, length-append front (l ∷ []))) at in
+    let fine : IsUtf8 front = subst IsUtf8 (take-append_seam front (l ∷ [])) (IsUtf8-take (front ++ l ∷ []) (length front) utf8 boundary) in
+    chars-append front (l ∷ []) fine ∙ ap (λ t. chars front ++ t) (ascii_first l [] lt ∙ ap (λ t. l ∷ t) chars-nil)
+
+-- a text with something in it has a last byte
+pub snoc : (t : List ℕ) → t ≢ [] → (front : List ℕ) × (l : ℕ) × (t ≡ front ++ l ∷ [])
+snoc [] some = absurd (some refl)
+snoc (x ∷ []) some = ([], x, refl)
+snoc (x ∷ y ∷ t) some = let (front, l, e) = snoc (y ∷ t) (λ h. absurd (omega (arith, ap length h))) in (x ∷ front, l, ap (λ u. x ∷ u) e)
+
+pub last_snoc : (front : List ℕ) (l : ℕ) → last_of (front ++ l ∷ []) ≡ Some l
+last_snoc front l = ap (slice_get (front ++ l ∷ [])) (omega (arith, length-append front (l ∷ []))) ∙ at front
+  where
+    at : (front : List ℕ) → slice_get (front ++ l ∷ []) (length front) ≡ Some l
+    at [] = refl
+    at (x ∷ front) = at front
+
+-- a token whose last byte parts tokens is that byte
+pub lone_last : (t : List ℕ) (c : ℕ) (cs : List ℕ) (l : ℕ) (kind : TokenKind) → IsUtf8 t → chars t ≡ c ∷ cs → last_of t ≡ Some l → Parts l → reading (c ∷ cs) ≡ (kind, []) → is_sound kind ≡ true → is_ended kind ≡ true
+    → c ∷ cs ≡ l ∷ []
+lone_last t c cs l kind utf8 letters last parts read sound ended =
+    let (front, d, e) = snoc t (λ none. not_nil (sym letters ∙ ap chars none ∙ chars-nil)) in
+    let is : d ≡ l = some_is d l (sym (last_snoc front d) ∙ ap last_of (sym e) ∙ last) in
+    let whole : t ≡ front ++ l ∷ [] = e ∙ ap (λ n. front ++ n ∷ []) is in
+    let shape : chars front ++ l ∷ [] ≡ c ∷ cs = sym (last_letter front l parts.ascii (subst IsUtf8 whole utf8)) ∙ sym (ap chars whole) ∙ letters in
+    go (chars front) shape
+  where
+    not_nil : ◌≡◌ {A = List ℕ} (c ∷ cs) [] → ⊥
+    not_nil h = omega (arith, ap length h)
+
+    go : (ds : List ℕ) → ds ++ l ∷ [] ≡ c ∷ cs → c ∷ cs ≡ l ∷ []
+    go [] h = sym h
+    go (d ∷ ds) h = absurd (never_last (d ∷ ds) l kind (λ n. absurd (omega (arith, ap length n))) (ap reading h ∙ read) sound ended parts.parts)
+
+or_split : (b d : Bool) → (b || d) ≡ true → (b ≡ true) ⊎ (d ≡ true)
+or_split true d h = inl refl
+or_split false d h = inr h
+
+not_true : (b : Bool) → not b ≡ true → b ≡ true → ⊥
+not_true true h k = false≢true h
+not_true false h k = false≢true k
+
+-- what a token is, and how it stands to what it touches
+pub record Touch (c : ℕ) (cs : List ℕ) (kind : TokenKind) (f : ℕ) (fs : List ℕ) : Type 0 where
+  pub read : reading (c ∷ (cs ++ f ∷ fs)) ≡ (kind, f ∷ fs)
+  pub same : SameBefore kind None (Some (reading (f ∷ fs)).0)
+
+-- a token is the same where it touches a text that may touch it
+pub touch : (t u : List ℕ) (c : ℕ) (cs : List ℕ) (kind : TokenKind) (f : ℕ) (fs : List ℕ) (l b : ℕ) → IsUtf8 t → IsUtf8 u → chars t ≡ c ∷ cs → chars u ≡ f ∷ fs → last_of t ≡ Some l → slice_get u 0 ≡ Some b
+    → reading (c ∷ cs) ≡ (kind, []) → is_sound kind ≡ true → is_ended kind ≡ true → is_whitespace c ≡ false → may_touch l b ≡ true → Touch c cs kind f fs
+touch t u c cs kind f fs l b utf8 fine letters marks last byte read sound ended space may =
+    ⊎_elim last_apart (λ rest. ⊎_elim first_apart (λ more. ⊎_elim first_separates last_separates (or_split (is_separator b && not (is_sign l)) (is_separator l && not (is_joined_before b)) more))
+    (or_split (is_apart b) ((is_separator b && not (is_sign l)) || (is_separator l && not (is_joined_before b))) rest))
+    (or_split (is_apart l) (is_apart b || ((is_separator b && not (is_sign l)) || (is_separator l && not (is_joined_before b)))) may)
+  where
+    lone : Lone l → c ∷ cs ≡ l ∷ [] → reading (c ∷ (cs ++ f ∷ fs)) ≡ (kind, f ∷ fs)
+    lone any e = ap (λ x. reading (x ++ f ∷ fs)) e ∙ any (f ∷ fs) ∙ ap (λ k. (k, f ∷ fs)) (kind_of any e)
+      where
+        kind_of : Lone l → c ∷ cs ≡ l ∷ [] → symbol l ≡ kind
+        kind_of any e = ap (λ p. p.0) (sym (any []) ∙ ap reading (sym e) ∙ read)
+
+    blunt : Parts b → reading (c ∷ (cs ++ f ∷ fs)) ≡ (kind, f ∷ fs)
+    blunt parts =
+        let is : f ≡ b = first_letter u f fs b marks byte parts.ascii in
+        token_blunt (c ∷ cs) (f ∷ fs) kind (λ n. absurd (omega (arith, ap length n))) read sound ended (subst IsBlunt (sym is) (blunt_parting b parts.parts))
+
+    last_apart : is_apart l ≡ true → Touch c cs kind f fs
+    last_apart h =
+        let parts = apart_parts l h in
+        let e = lone_last t c cs l kind utf8 letters last parts read sound ended in
+        let bracket = apart_lone l h (ap is_whitespace (ap first (sym e)) ∙ space) in
+        record { read = lone bracket.0 e; same = inr (ap (λ p. punct_char p.0) (sym read ∙ ap reading e ∙ bracket.0 []) ∙ bracket.1) }
+
+    first_apart : is_apart b ≡ true → Touch c cs kind f fs
+    first_apart h =
+        let parts = apart_parts b h in
+        let is : f ≡ b = first_letter u f fs b marks byte parts.ascii in
+        record { read = blunt parts; same = inl (sym (apart_alone f (ap is_apart is ∙ h) fs)) }
+
+    first_separates : (is_separator b && not (is_sign l)) ≡ true → Touch c cs kind f fs
+    first_separates h =
+        let both = and_parts (is_separator b) (not (is_sign l)) h in
+        record { read = blunt (separator_parts b both.0); same = inr (no_punct (not_true (is_sign l) both.1) (punct_char kind) refl) }
+      where
+        no_punct : (is_sign l ≡ true → ⊥) → (o : Option ℕ) → punct_char kind ≡ o → punct_char kind ≡ None
+        no_punct none None e = e
+        no_punct none (Some d) e =
+            let back = punct_back c cs d (ap (λ p. punct_char p.0) read ∙ e) in
+            let alone : cs ≡ [] = sym back.1 ∙ ap (λ p. p.1) read in
+            let one : encode c ≡ c ∷ [] = subst (λ n. encode n ≡ n ∷ []) (sym back.0) (punct_known kind d e).bytes in
+            let whole : t ≡ c ∷ [] = sym (encodes-chars t utf8) ∙ ap encodes (letters ∙ ap (λ x. c ∷ x) alone) ∙ append-nil (encode c) ∙ one in
+            let is : c ≡ l = some_is c l (ap last_of (sym whole) ∙ last) in
+            absurd (none (ap is_sign (sym is ∙ back.0) ∙ punct_sign kind d e))
+
+    last_separates : (is_separator l && not (is_joined_before b)) ≡ true → Touch c cs kind f fs
+    last_separates h =
+        let both = and_parts (is_separator l) (not (is_joined_before b)) h in
+        let e = lone_last t c cs l kind utf8 letters last (separator_parts l both.0) read sound ended in
+        record {
+          read = lone (separator_lone l both.0) e;
+          same = inl (sym (sign_alone f fs (λ one joined. not_true (is_joined_before b) both.1 (ap is_joined_before (sym (some_is f b (first_byte u f fs b fine marks byte one))) ∙ joined))));
+        }

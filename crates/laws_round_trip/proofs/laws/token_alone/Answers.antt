@@ -1,0 +1,5 @@
+use Rattle.laws_round_trip.proofs.ReadCuts.{token_alone}
+use Rattle.laws_round_trip.proofs.laws.token_alone.Goals as goal
+
+pub returns : goal.returns
+returns c = token_alone

@@ -1,0 +1,5 @@
+use Rattle.laws_round_trip.proofs.Woven.{read_spliced}
+use Rattle.laws_round_trip.proofs.splices.read_spliced.Goals as goal
+
+pub returns : goal.returns
+returns c = read_spliced

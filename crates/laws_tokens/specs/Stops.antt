@@ -1,0 +1,44 @@
+-- What ends a token, and which tokens are ended.
+use Rattle.std.specs.Prelude.{◌≡◌, ℕ, Bool, true, false, ◌==◌, ◌||◌, ◌&&◌, List, [], ◌∷◌, is_some}
+use Rattle.syntax_lex.specs.declared.token.LiteralKind.{LiteralKind}
+use Rattle.syntax_lex.specs.declared.token.LiteralKind.TheVariants as literals
+use Rattle.syntax_lex.specs.declared.token.TokenKind.{TokenKind}
+use Rattle.syntax_lex.specs.declared.token.TokenKind.TheVariants as kinds
+
+-- a space, or a bracket
+abbrev pub is_stop : ℕ → Bool
+is_stop c = (c == 32) || ((c == 40) || ((c == 41) || ((c == 91) || ((c == 93) || ((c == 123) || (c == 125))))))
+
+-- nothing, or a space or a bracket first
+abbrev pub Stops : List ℕ → Type 0
+Stops [] = Unit {0}
+Stops (c ∷ cs) = is_stop c ≡ true
+
+-- whether a literal has its last quote
+abbrev pub is_closed : LiteralKind → Bool
+is_closed (literals.Int base empty_int) = true
+is_closed (literals.Float base empty_exponent) = true
+is_closed (literals.Char terminated) = terminated
+is_closed (literals.Byte terminated) = terminated
+is_closed (literals.Str terminated) = terminated
+is_closed (literals.ByteStr terminated) = terminated
+is_closed (literals.CStr terminated) = terminated
+is_closed (literals.RawStr n_hashes) = is_some n_hashes
+is_closed (literals.RawByteStr n_hashes) = is_some n_hashes
+is_closed (literals.RawCStr n_hashes) = is_some n_hashes
+
+-- whether a space, a bracket or the end ends a token: all but comments, white space, and what is not closed
+abbrev pub is_ended : TokenKind → Bool
+is_ended (kinds.LineComment doc_style) = false
+is_ended (kinds.BlockComment doc_style terminated) = false
+is_ended kinds.Whitespace = false
+is_ended (kinds.Literal kind suffix_start) = is_closed kind
+is_ended _ = true
+
+-- a punct or a bracket
+abbrev pub is_sign : ℕ → Bool
+is_sign c = (c == 59) || ((c == 44) || ((c == 46) || ((c == 40) || ((c == 41) || ((c == 123) || ((c == 125) || ((c == 91) || ((c == 93) || ((c == 64) || ((c == 35) || ((c == 126) || ((c == 63) || ((c == 58) || ((c == 36) || ((c == 61) || ((c == 33) || ((c == 60) || ((c == 62) || ((c == 45) || ((c == 38) || ((c == 124) || ((c == 43) || ((c == 42) || ((c == 47) || ((c == 94) || ((c == 37)))))))))))))))))))))))))))
+
+-- whether a sign is no token with this behind it: `//`, `/*`, `##`, `#"`
+abbrev pub is_glued : (c next : ℕ) → Bool
+is_glued c next = ((c == 47) && ((next == 47) || (next == 42))) || ((c == 35) && ((next == 34) || (next == 35)))

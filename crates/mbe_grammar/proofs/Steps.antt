@@ -1,0 +1,186 @@
+-- The machine goes through each derivation, and stops once.
+use Rattle.std.proofs.Common.{◌≡◌, inl, inr, ℕ, suc, zero, List, [], ◌∷◌, Some, None, refl, sym, subst, ap, ◌∙◌}
+use Rattle.std.specs.Prelude.{slice_get, Option}
+use Rattle.mbe_grammar.specs.declared.known.Glance.{Glance}
+use Rattle.mbe_grammar.specs.declared.known.Glance.TheVariants as glance
+use Rattle.mbe_grammar.specs.declared.rule.Rule.{Rule}
+use Rattle.mbe_grammar.specs.declared.rule.Rule.TheVariants as rule
+use Rattle.mbe_grammar.specs.declared.test.Test.{Test}
+use Rattle.mbe_grammar.specs.Machine.{Frame, State, Begun, awaited, within, begun_behind, begun_sequence_open, begun_sequence, begun_first, begun_choice, begun_repetition, begun_not, begun_open, begun_by, begun, resumed, Ends}
+use Rattle.mbe_grammar.specs.Machine as machine
+use Rattle.mbe_grammar.specs.Parses.{Answering, Holds, ParsesIn}
+use Rattle.mbe_grammar.specs.Positions.{Position}
+use Rattle.mbe_grammar.proofs.Agreeing.{Agrees, AgreesWith, UnitsTaken, units_taken}
+
+module _ (takes : Test → Position → Option Position) (looks : ℕ → Position → Glance) (rules : List Rule) where
+  -- what begins so ends, where these wait
+  abbrev Goes : Begun → List Frame → (final : Option Position) → Type 0
+  Goes begun frames final = (all : ℕ) × Ends takes looks rules all begun.state (awaited begun.waiting frames) final
+
+  -- from there on it ends after so many steps
+  abbrev EndsFrom : State → List Frame → (steps : ℕ) → (final : Option Position) → Type 0
+  EndsFrom state frames steps final = Ends takes looks rules steps state frames final
+
+  -- From an expression that has an answer it ends as from the answer.
+  abbrev pub Leads : (P : Answering) → Type 0
+  Leads P = (at : ℕ) (from : Position) (answer : Option Position) → P at from answer → (frames : List Frame) (steps : ℕ) (final : Option Position)
+      → EndsFrom (machine.answered answer) frames steps final → (all : ℕ) × Ends takes looks rules all (machine.reading at from) frames final
+
+  module _ (P : Answering) (f : Leads P) (agree : AgreesWith takes rules looks P) (taken : UnitsTaken takes rules P) where
+    answers : (answer found : Option Position) → answer ≡ found → (frames : List Frame) (steps : ℕ) (final : Option Position) → EndsFrom (machine.answered answer) frames steps final
+        → EndsFrom (machine.answered found) frames steps final
+    answers answer found e frames steps final ends = subst (λ a. EndsFrom (machine.answered a) frames steps final) e ends
+
+    -- one after another, where the first part fails
+    fails_open : (first second : ℕ) (from : Position) (it : Option Rule) → slice_get rules first ≡ it → P first from None → (frames : List Frame) (steps : ℕ) (final : Option Position)
+        → EndsFrom (machine.answered None) frames steps final → Goes (begun_sequence_open takes first second from it) frames final
+    fails_open first second from (Some (rule.Unit wanted)) is h frames steps final e =
+        subst (λ a. Goes (begun_behind second a) frames final) (taken first from None wanted is h) (steps, e)
+    fails_open first second from None is h frames steps final e = f first from None h (machine.in_sequence second ∷ frames) (suc steps) final e
+    fails_open first second from (Some rule.Empty) is h frames steps final e = f first from None h (machine.in_sequence second ∷ frames) (suc steps) final e
+    fails_open first second from (Some (rule.Name x)) is h frames steps final e = f first from None h (machine.in_sequence second ∷ frames) (suc steps) final e
+    fails_open first second from (Some (rule.Sequence x y)) is h frames steps final e = f first from None h (machine.in_sequence second ∷ frames) (suc steps) final e
+    fails_open first second from (Some (rule.Choice x y)) is h frames steps final e = f first from None h (machine.in_sequence second ∷ frames) (suc steps) final e
+    fails_open first second from (Some (rule.ZeroOrMore x)) is h frames steps final e = f first from None h (machine.in_sequence second ∷ frames) (suc steps) final e
+    fails_open first second from (Some (rule.Not x)) is h frames steps final e = f first from None h (machine.in_sequence second ∷ frames) (suc steps) final e
+
+    first_fails : (first second : ℕ) (from : Position) (look : Glance) → Agrees look from None → P first from None → (frames : List Frame) (steps : ℕ) (final : Option Position)
+        → EndsFrom (machine.answered None) frames steps final → Goes (begun_sequence takes first second from (slice_get rules first) look) frames final
+    first_fails first second from glance.Fails a h frames steps final e = (steps, e)
+    first_fails first second from glance.Idles a h frames steps final e = absurd (cc a)
+    first_fails first second from glance.Open a h frames steps final e = fails_open first second from (slice_get rules first) refl h frames steps final e
+
+    -- and where it takes what is before a place
+    takes_open : (first second : ℕ) (from middle : Position) (it : Option Rule) → slice_get rules first ≡ it → P first from (Some middle) → (frames : List Frame) (steps : ℕ) (final : Option Position)
+        → EndsFrom (machine.reading second middle) frames steps final → Goes (begun_sequence_open takes first second from it) frames final
+    takes_open first second from middle (Some (rule.Unit wanted)) is h frames steps final e =
+        subst (λ a. Goes (begun_behind second a) frames final) (taken first from (Some middle) wanted is h) (steps, e)
+    takes_open first second from middle None is h frames steps final e = f first from (Some middle) h (machine.in_sequence second ∷ frames) (suc steps) final e
+    takes_open first second from middle (Some rule.Empty) is h frames steps final e = f first from (Some middle) h (machine.in_sequence second ∷ frames) (suc steps) final e
+    takes_open first second from middle (Some (rule.Name x)) is h frames steps final e = f first from (Some middle) h (machine.in_sequence second ∷ frames) (suc steps) final e
+    takes_open first second from middle (Some (rule.Sequence x y)) is h frames steps final e = f first from (Some middle) h (machine.in_sequence second ∷ frames) (suc steps) final e
+    takes_open first second from middle (Some (rule.Choice x y)) is h frames steps final e = f first from (Some middle) h (machine.in_sequence second ∷ frames) (suc steps) final e
+    takes_open first second from middle (Some (rule.ZeroOrMore x)) is h frames steps final e = f first from (Some middle) h (machine.in_sequence second ∷ frames) (suc steps) final e
+    takes_open first second from middle (Some (rule.Not x)) is h frames steps final e = f first from (Some middle) h (machine.in_sequence second ∷ frames) (suc steps) final e
+
+    first_takes : (first second : ℕ) (from middle : Position) (look : Glance) → Agrees look from (Some middle) → P first from (Some middle) → (frames : List Frame) (steps : ℕ) (final : Option Position)
+        → EndsFrom (machine.reading second middle) frames steps final → Goes (begun_sequence takes first second from (slice_get rules first) look) frames final
+    first_takes first second from middle glance.Fails a h frames steps final e = absurd (cc a)
+    first_takes first second from middle glance.Idles a h frames steps final e =
+        let same : middle ≡ from = cc a in
+        (steps, subst (λ m. EndsFrom (machine.reading second m) frames steps final) same e)
+    first_takes first second from middle glance.Open a h frames steps final e = takes_open first second from middle (slice_get rules first) refl h frames steps final e
+
+    -- a choice whose first part fails
+    pushed_choice : (first other : ℕ) (from : Position) (answer : Option Position) → P first from None → P other from answer → (frames : List Frame) (steps : ℕ) (final : Option Position)
+        → EndsFrom (machine.answered answer) frames steps final → Goes (within first from (machine.in_choice other from)) frames final
+    pushed_choice first other from answer h k frames steps final e =
+        let behind = f other from answer k frames steps final e in
+        f first from None h (machine.in_choice other from ∷ frames) (suc behind.0) final behind.1
+
+    then_other : (first other : ℕ) (from : Position) (answer : Option Position) (look : Glance) → Agrees look from answer → P first from None → P other from answer → (frames : List Frame) (steps : ℕ) (final : Option Position)
+        → EndsFrom (machine.answered answer) frames steps final → Goes (begun_first first other from look) frames final
+    then_other first other from answer glance.Fails a h k frames steps final e = f first from None h frames steps final (answers answer None a frames steps final e)
+    then_other first other from answer glance.Idles a h k frames steps final e = pushed_choice first other from answer h k frames steps final e
+    then_other first other from answer glance.Open a h k frames steps final e = pushed_choice first other from answer h k frames steps final e
+
+    other_taken : (first other : ℕ) (from : Position) (answer : Option Position) (look : Glance) → Agrees look from None → P first from None → P other from answer → (frames : List Frame) (steps : ℕ) (final : Option Position)
+        → EndsFrom (machine.answered answer) frames steps final → Goes (begun_choice first other from look (looks other from)) frames final
+    other_taken first other from answer glance.Fails a h k frames steps final e = f other from answer k frames steps final e
+    other_taken first other from answer glance.Idles a h k frames steps final e = absurd (cc a)
+    other_taken first other from answer glance.Open a h k frames steps final e =
+        then_other first other from answer (looks other from) (agree other from answer k) h k frames steps final e
+
+    -- and one whose first part does not fail
+    without_other : (first other : ℕ) (from to : Position) (look : Glance) → P first from (Some to) → (frames : List Frame) (steps : ℕ) (final : Option Position)
+        → EndsFrom (machine.answered (Some to)) frames steps final → Goes (begun_first first other from look) frames final
+    without_other first other from to glance.Fails h frames steps final e = f first from (Some to) h frames steps final e
+    without_other first other from to glance.Idles h frames steps final e = f first from (Some to) h (machine.in_choice other from ∷ frames) (suc steps) final e
+    without_other first other from to glance.Open h frames steps final e = f first from (Some to) h (machine.in_choice other from ∷ frames) (suc steps) final e
+
+    first_taken : (first other : ℕ) (from to : Position) (look of_other : Glance) → Agrees look from (Some to) → P first from (Some to) → (frames : List Frame) (steps : ℕ) (final : Option Position)
+        → EndsFrom (machine.answered (Some to)) frames steps final → Goes (begun_choice first other from look of_other) frames final
+    first_taken first other from to glance.Fails of_other a h frames steps final e = absurd (cc a)
+    first_taken first other from to glance.Idles of_other a h frames steps final e = (steps, answers (Some to) (Some from) a frames steps final e)
+    first_taken first other from to glance.Open of_other a h frames steps final e = without_other first other from to of_other h frames steps final e
+
+    -- a repetition that ends, and one that goes on
+    many_ends : (at part : ℕ) (from : Position) (look : Glance) → Agrees look from None → P part from None → (frames : List Frame) (steps : ℕ) (final : Option Position)
+        → EndsFrom (machine.answered (Some from)) frames steps final → Goes (begun_repetition at part from look) frames final
+    many_ends at part from glance.Fails a h frames steps final e = (steps, e)
+    many_ends at part from glance.Idles a h frames steps final e = absurd (cc a)
+    many_ends at part from glance.Open a h frames steps final e = f part from None h (machine.in_repetition at from ∷ frames) (suc steps) final e
+
+    many_goes_on : (at part : ℕ) (from middle : Position) (look : Glance) → Agrees look from (Some middle) → P part from (Some middle) → (frames : List Frame) (steps : ℕ) (final : Option Position)
+        → EndsFrom (machine.reading at middle) frames steps final → Goes (begun_repetition at part from look) frames final
+    many_goes_on at part from middle glance.Fails a h frames steps final e = absurd (cc a)
+    many_goes_on at part from middle glance.Idles a h frames steps final e = f part from (Some middle) h (machine.in_repetition at from ∷ frames) (suc steps) final e
+    many_goes_on at part from middle glance.Open a h frames steps final e = f part from (Some middle) h (machine.in_repetition at from ∷ frames) (suc steps) final e
+
+    -- the opposite
+    not_taken : (part : ℕ) (from : Position) (look : Glance) → Agrees look from None → P part from None → (frames : List Frame) (steps : ℕ) (final : Option Position)
+        → EndsFrom (machine.answered (Some from)) frames steps final → Goes (begun_not part from look) frames final
+    not_taken part from glance.Fails a h frames steps final e = (steps, e)
+    not_taken part from glance.Idles a h frames steps final e = absurd (cc a)
+    not_taken part from glance.Open a h frames steps final e = f part from None h (machine.in_not from ∷ frames) (suc steps) final e
+
+    not_failed : (part : ℕ) (from to : Position) (look : Glance) → Agrees look from (Some to) → P part from (Some to) → (frames : List Frame) (steps : ℕ) (final : Option Position)
+        → EndsFrom (machine.answered None) frames steps final → Goes (begun_not part from look) frames final
+    not_failed part from to glance.Fails a h frames steps final e = absurd (cc a)
+    not_failed part from to glance.Idles a h frames steps final e = (steps, e)
+    not_failed part from to glance.Open a h frames steps final e = f part from (Some to) h (machine.in_not from ∷ frames) (suc steps) final e
+
+    leads_open : (at : ℕ) (from : Position) (answer : Option Position) (it : Option Rule) → Holds takes P at it from answer → (frames : List Frame) (steps : ℕ) (final : Option Position)
+        → EndsFrom (machine.answered answer) frames steps final → Goes (begun_open takes looks rules at from it) frames final
+    leads_open at from answer None h frames steps final e = (steps, answers answer None h frames steps final e)
+    leads_open at from answer (Some rule.Empty) h frames steps final e = (steps, answers answer (Some from) h frames steps final e)
+    leads_open at from answer (Some (rule.Unit wanted)) h frames steps final e = (steps, answers answer (takes wanted from) h frames steps final e)
+    leads_open at from answer (Some (rule.Name other)) h frames steps final e = f other from answer h frames steps final e
+    leads_open at from answer (Some (rule.Sequence first second)) (inl h) frames steps final e =
+        first_fails first second from (looks first from) (agree first from None h.0) h.0 frames steps final (answers answer None h.1 frames steps final e)
+    leads_open at from answer (Some (rule.Sequence first second)) (inr h) frames steps final e =
+        let behind = f second h.0 answer h.2 frames steps final e in
+        first_takes first second from h.0 (looks first from) (agree first from (Some h.0) h.1) h.1 frames behind.0 final behind.1
+    leads_open at from answer (Some (rule.Choice first other)) (inl h) frames steps final e =
+        other_taken first other from answer (looks first from) (agree first from None h.0) h.0 h.1 frames steps final e
+    leads_open at from answer (Some (rule.Choice first other)) (inr h) frames steps final e =
+        first_taken first other from h.0 (looks first from) (looks other from) (agree first from (Some h.0) h.1) h.1 frames steps final
+        (answers answer (Some h.0) h.2 frames steps final e)
+    leads_open at from answer (Some (rule.ZeroOrMore part)) (inl h) frames steps final e =
+        many_ends at part from (looks part from) (agree part from None h.0) h.0 frames steps final (answers answer (Some from) h.1 frames steps final e)
+    leads_open at from answer (Some (rule.ZeroOrMore part)) (inr h) frames steps final e =
+        let behind = f at h.0 answer h.2 frames steps final e in
+        many_goes_on at part from h.0 (looks part from) (agree part from (Some h.0) h.1) h.1 frames behind.0 final behind.1
+    leads_open at from answer (Some (rule.Not part)) (inl h) frames steps final e =
+        not_taken part from (looks part from) (agree part from None h.0) h.0 frames steps final (answers answer (Some from) h.1 frames steps final e)
+    leads_open at from answer (Some (rule.Not part)) (inr h) frames steps final e =
+        not_failed part from h.0 (looks part from) (agree part from (Some h.0) h.1) h.1 frames steps final (answers answer None h.2 frames steps final e)
+
+    leads_by : (at : ℕ) (from : Position) (answer : Option Position) (look : Glance) → Agrees look from answer → Holds takes P at (slice_get rules at) from answer → (frames : List Frame) (steps : ℕ) (final : Option Position)
+        → EndsFrom (machine.answered answer) frames steps final → Goes (begun_by look from (begun_open takes looks rules at from (slice_get rules at))) frames final
+    leads_by at from answer glance.Fails a h frames steps final e = (steps, answers answer None a frames steps final e)
+    leads_by at from answer glance.Idles a h frames steps final e = (steps, answers answer (Some from) a frames steps final e)
+    leads_by at from answer glance.Open a h frames steps final e = leads_open at from answer (slice_get rules at) h frames steps final e
+
+  module _ (agree : (depth : ℕ) → AgreesWith takes rules looks (ParsesIn takes rules depth)) where
+    pub leads : (depth : ℕ) → Leads (ParsesIn takes rules depth)
+    leads zero at from answer h frames steps final e = absurd h
+    leads (suc depth) at from answer h frames steps final e =
+        let it = leads_by (ParsesIn takes rules depth) (leads depth) (agree depth) (units_taken takes rules depth) at from answer (looks at from) (agree (suc depth) at from answer h) h frames steps final e in
+        (suc it.0, it.1)
+
+  -- It stops once, after one number of steps.
+  pub one_end : (n m : ℕ) (at : State) (frames : List Frame) (answer other : Option Position)
+      → Ends takes looks rules n at frames answer → Ends takes looks rules m at frames other → (n ≡ m) × (answer ≡ other)
+  one_end zero m (machine.reading at from) frames answer other h k = absurd h
+  one_end (suc n) zero (machine.reading at from) frames answer other h k = absurd k
+  one_end (suc n) (suc m) (machine.reading at from) frames answer other h k =
+      let it = one_end n m (begun takes looks rules at from).state (awaited (begun takes looks rules at from).waiting frames) answer other h k in
+      (ap suc it.0, it.1)
+  one_end zero zero (machine.answered found) [] answer other h k = (refl, sym h ∙ k)
+  one_end zero (suc m) (machine.answered found) [] answer other h k = absurd k
+  one_end (suc n) m (machine.answered found) [] answer other h k = absurd h
+  one_end zero m (machine.answered found) (frame ∷ frames) answer other h k = absurd h
+  one_end (suc n) zero (machine.answered found) (frame ∷ frames) answer other h k = absurd k
+  one_end (suc n) (suc m) (machine.answered found) (frame ∷ frames) answer other h k =
+      let it = one_end n m (resumed frame found) frames answer other h k in (ap suc it.0, it.1)

@@ -1,0 +1,13 @@
+-- It ends in an answer that the expression has.
+use Rattle.std.proofs.Common.{reverse, map}
+use Rattle.mbe_grammar.specs.Places.{position_of}
+use Rattle.mbe_grammar.specs.Running.{state_at, frame_of}
+use Rattle.mbe_grammar.proofs.Reaching.{Reaches, steps_left}
+use Rattle.mbe_grammar.proofs.machine.parse.Given as goal
+
+abbrev pub invariant-loop-frames : goal.invariant-loop-frames
+invariant-loop-frames l = Reaches l.table.known.now l.table.rules.now l.at (position_of l.from) (state_at (position_of l.here) l.state) (map frame_of (reverse l.frames.items))
+
+abbrev pub decreases-loop-frames : goal.decreases-loop-frames
+decreases-loop-frames l =
+    steps_left l.table.known.now l.table.rules.now (record { marks = l.table.marks.now; are_right = l.table.good }) l.table.right (state_at (position_of l.here) l.state) (map frame_of (reverse l.frames.items))

@@ -1,0 +1,102 @@
+-- Parsing expressions as one writes them, and what they take.
+use Rattle.std.specs.Prelude.{◌≡◌, ◌⊎◌, ℕ, zero, suc, List, [], ◌∷◌, Option, None, Some}
+use Rattle.tt.specs.Types.DelimiterKind.{DelimiterKind}
+use Rattle.mbe_grammar.specs.declared.test.Test.{Test}
+use Rattle.mbe_grammar.specs.declared.test.Test.TheVariants as test
+use Rattle.mbe_grammar.specs.declared.unit.Unit.{Unit}
+use Rattle.mbe_grammar.specs.declared.unit.Unit.TheVariants as unit_of
+use Rattle.mbe_grammar.specs.declared.words.Word.{Word}
+use Rattle.mbe_grammar.specs.Names.{Name}
+use Rattle.mbe_grammar.specs.Positions.{Position, takes}
+
+-- a parsing expression: nothing, a unit that passes a test, what a name stands for, one after another, the other only where the
+-- first fails, as often as it goes, and only where it fails
+pub data Expression : Type 0 where
+  nothing : Expression
+  unit : Test → Expression
+  name : Name → Expression
+  sequence : Expression → Expression → Expression
+  choice : Expression → Expression → Expression
+  many : Expression → Expression
+  never : Expression → Expression
+
+-- none or one
+abbrev pub maybe : Expression → Expression
+maybe it = choice it nothing
+
+-- one or more
+abbrev pub some : Expression → Expression
+some it = sequence it (many it)
+
+-- ahead, and not taken
+abbrev pub ahead : Expression → Expression
+ahead it = never (never it)
+
+-- one after another
+abbrev pub all_behind : Expression → List Expression → Expression
+all_behind it [] = it
+all_behind it (next ∷ others) = sequence it (all_behind next others)
+
+abbrev pub all_of : List Expression → Expression
+all_of [] = nothing
+all_of (it ∷ others) = all_behind it others
+
+-- the first that does not fail
+abbrev pub either : Expression → List Expression → Expression
+either it [] = it
+either it (next ∷ others) = choice it (either next others)
+
+abbrev pub one_of : List Expression → Expression
+one_of [] = never nothing
+one_of (it ∷ others) = either it others
+
+-- that word
+abbrev pub word : Word → Expression
+word it = unit (test.Is (unit_of.Word it))
+
+-- a `'` and its ident
+abbrev pub lifetime : Expression
+lifetime = unit (test.Is unit_of.Lifetime)
+
+-- a subtree of that kind
+abbrev pub subtree : DelimiterKind → Expression
+subtree kind = unit (test.Is (unit_of.Subtree kind))
+
+-- the unit of these characters
+abbrev pub unit_of_chars : List ℕ → Unit
+unit_of_chars [] = unit_of.End
+unit_of_chars (one ∷ []) = unit_of.Punct one
+unit_of_chars (one ∷ two ∷ []) = unit_of.TwoPuncts one two
+unit_of_chars (one ∷ two ∷ three ∷ others) = unit_of.ThreePuncts one two three
+
+-- puncts that stand as one
+abbrev pub sign : (chars : List ℕ) → Expression
+sign chars = unit (test.Is (unit_of_chars chars))
+
+-- a punct, also where others stand as one with it
+abbrev pub front : (chars : List ℕ) → Expression
+front [] = never nothing
+front (char ∷ others) = unit (test.Front char)
+
+-- an expression has this answer, by a derivation that is not deeper, where names stand for these: where it ends, or none if it fails
+abbrev pub AnswersIn : (Name → Expression) → (depth : ℕ) → Expression → (from : Position) → (answer : Option Position) → Type 0
+AnswersIn stands zero it from answer = ⊥
+AnswersIn stands (suc depth) nothing from answer = answer ≡ Some from
+AnswersIn stands (suc depth) (unit wanted) from answer = answer ≡ takes wanted from
+AnswersIn stands (suc depth) (name n) from answer = AnswersIn stands depth (stands n) from answer
+AnswersIn stands (suc depth) (sequence first second) from answer =
+    (AnswersIn stands depth first from None × (answer ≡ None))
+    ⊎ ((middle : Position) × AnswersIn stands depth first from (Some middle) × AnswersIn stands depth second middle answer)
+AnswersIn stands (suc depth) (choice first other) from answer =
+    (AnswersIn stands depth first from None × AnswersIn stands depth other from answer)
+    ⊎ ((to : Position) × AnswersIn stands depth first from (Some to) × (answer ≡ Some to))
+AnswersIn stands (suc depth) (many part) from answer =
+    (AnswersIn stands depth part from None × (answer ≡ Some from))
+    ⊎ ((middle : Position) × AnswersIn stands depth part from (Some middle) × AnswersIn stands depth (many part) middle answer)
+AnswersIn stands (suc depth) (never part) from answer =
+    (AnswersIn stands depth part from None × (answer ≡ Some from))
+    ⊎ ((to : Position) × AnswersIn stands depth part from (Some to) × (answer ≡ None))
+
+-- it has this answer
+unfoldable pub Answers : (Name → Expression) → Expression → (from : Position) → (answer : Option Position) → Type 0
+Answers stands it from answer = (depth : ℕ) × AnswersIn stands depth it from answer

@@ -1,0 +1,25 @@
+-- How far a fragment of Rust's grammar reaches.
+use Rattle.std.specs.Prelude.{ℕ, Option, option_map}
+use Rattle.tt.specs.Forest.{Forest}
+use Rattle.mbe_grammar.specs.Expressions.{Answers}
+use Rattle.mbe_grammar.specs.Names.{Name, expression, expression_2021_fragment, type, pattern_fragment, pattern_param_fragment, type_path, statement, item, meta}
+use Rattle.mbe_grammar.specs.Positions.{first_position, behind}
+use Rattle.mbe_grammar.specs.Rust.{stands}
+use Rattle.mbe_pattern.specs.declared.pattern.GrammarFragment.{GrammarFragment}
+use Rattle.mbe_pattern.specs.declared.pattern.GrammarFragment.TheVariants as fragment
+
+-- the name that a fragment is in the grammar
+abbrev pub name_of : GrammarFragment → Name
+name_of fragment.Expr = expression
+name_of fragment.Expr2021 = expression_2021_fragment
+name_of fragment.Ty = type
+name_of fragment.Pat = pattern_fragment
+name_of fragment.PatParam = pattern_param_fragment
+name_of fragment.Path = type_path
+name_of fragment.Stmt = statement
+name_of fragment.Item = item
+name_of fragment.Meta = meta
+
+-- the fragment takes so many of these trees, from the first on, or it is none of them
+abbrev pub Reaches : GrammarFragment → (trees : Forest) → (count : Option ℕ) → Type 0
+Reaches which trees count = Answers stands (stands (name_of which)) (first_position trees) (option_map (λ n. behind n (first_position trees)) count)

@@ -1,0 +1,56 @@
+//! How many trees a fragment of Rust's grammar takes.
+ghost use Rattle.std.specs.Prelude.{◌≡◌, IfOk};
+ghost use Rattle.tt.specs.Iters.{rest_of};
+ghost use Rattle.mbe_grammar.specs.Fragments.{name_of, Reaches};
+ghost use Rattle.mbe_grammar.specs.Names.{start};
+ghost use Rattle.mbe_grammar.specs.Table.{rust_rules};
+
+use crate::machine::parse;
+use crate::place::Place;
+use crate::rust;
+use crate::rust_known::KNOWN;
+use crate::rust_marks::MARKS;
+use crate::table::Table;
+use mbe_pattern::GrammarFragment;
+use std::alloc::{AllocError, Global};
+use tt::TtIter;
+
+// Where the table has the expression of a fragment.
+fn start_of(fragment: GrammarFragment) -> usize
+    ensures { result ≡ start (name_of fragment) }
+{
+    match fragment {
+        GrammarFragment::Expr => rust::EXPRESSION,
+        GrammarFragment::Expr2021 => rust::EXPRESSION_2021_FRAGMENT,
+        GrammarFragment::Ty => rust::TYPE,
+        GrammarFragment::Pat => rust::PATTERN_FRAGMENT,
+        GrammarFragment::PatParam => rust::PATTERN_PARAM_FRAGMENT,
+        GrammarFragment::Path => rust::TYPE_PATH,
+        GrammarFragment::Stmt => rust::STATEMENT,
+        GrammarFragment::Item => rust::ITEM,
+        GrammarFragment::Meta => rust::META,
+    }
+}
+
+// Rust's grammar.
+fn rust_table() -> Table<'static>
+    ensures { result.rules.now ≡ rust_rules }
+{
+    Table::with_known(&rust::RULES, &MARKS, &KNOWN)
+}
+
+/// How many of the trees the fragment takes, from the first on, by the grammar of docs/GRAMMAR.md; none if it is none of them.
+/// It is refused only where memory is.
+pub fn reach(
+    alloc: Global,
+    fragment: GrammarFragment,
+    trees: TtIter<'_>,
+) -> Result<Option<usize>, AllocError>
+    ensures { IfOk result (λ count. Reaches fragment (rest_of trees.entry) count) }
+{
+    let from = Place::first(trees.remaining());
+    match parse(alloc, rust_table(), start_of(fragment), from)? {
+        Some(place) => Ok(Some(place.passed())),
+        None => Ok(None),
+    }
+}

@@ -1,0 +1,100 @@
+//! A place among trees, and the unit that stands there.
+ghost use Rattle.std.specs.Coded.{Coded-set};
+ghost use Rattle.std.specs.Prelude.{◌≡◌, ◌+◌, ◌<◌, ◌≤◌, ◌^◌};
+ghost use Rattle.tt.specs.Forest.{size};
+ghost use Rattle.tt.specs.Moves.{after_tree};
+ghost use Rattle.tt.specs.Views.{trees_of};
+ghost use Rattle.tt_base.specs.Unflat.{forest_code};
+ghost use Rattle.mbe_grammar.specs.Kinds.{kind_of};
+ghost use Rattle.mbe_grammar.specs.Units.{first_unit};
+
+use crate::known::{Glance, Known, look};
+use crate::test::Test;
+use crate::unit::Unit;
+use mbe_pattern::pass;
+use tt::TokenTreesView;
+
+/// A place among trees: those that are left, those behind the first of them, the unit that stands first, and how many were passed on
+/// the way.
+#[derive(Clone, Copy)]
+pub struct Place<'t> {
+    rest: TokenTreesView<'t>,
+    behind: TokenTreesView<'t>,
+    unit: Unit,
+    // the kind of that unit
+    kind: u32,
+    passed: usize,
+    ghost is_kind: { kind ≡ kind_of unit },
+    ghost stands_first: { unit ≡ first_unit (trees_of rest) },
+    ghost is_behind: { trees_of behind ≡ after_tree (trees_of rest) } by { Coded-set forest_code (trees_of behind) (after_tree (trees_of rest)) },
+    ghost fits: { passed + size (trees_of rest) < 2 ^ 64 },
+}
+
+impl<'t> Place<'t> {
+    ghost use Rattle.tt.specs.Gluing.{after_trees};
+    ghost use Rattle.mbe_grammar.specs.Known.{glance_at};
+    ghost use Rattle.mbe_grammar.specs.Places.{position_of};
+    ghost use Rattle.mbe_grammar.specs.Positions.{first_position, behind, takes};
+    ghost use Rattle.mbe_grammar.specs.Running.{answer_at};
+
+    // The place before these trees, where so many were passed.
+    fn before(rest: TokenTreesView<'t>, passed: usize) -> Place<'t>
+        requires fits { passed + size (trees_of rest) < 2 ^ 64 }
+        ensures rest { trees_of result.rest ≡ trees_of rest.entry }
+        ensures passed { result.passed ≡ passed }
+    {
+        let mut trees = rest.iter();
+        let unit = Unit::take(&mut trees);
+        Place {
+            rest,
+            behind: trees.remaining(),
+            unit,
+            kind: unit.kind(),
+            passed,
+        }
+    }
+
+    /// The place before all of these trees.
+    pub fn first(rest: TokenTreesView<'t>) -> Place<'t>
+        ensures { position_of result ≡ first_position (trees_of rest.entry) }
+    {
+        Place::before(rest, 0)
+    }
+
+    /// What the expression at that place of a table comes to here.
+    #[inline(always)]
+    pub(crate) fn glance(&self, known: &[Known], at: usize) -> Glance
+        ensures { result ≡ glance_at known.now at (position_of self.now) }
+    {
+        look(known, at, self.kind)
+    }
+
+    /// How many trees were passed.
+    pub fn passed(self) -> usize
+        ensures { result ≡ (position_of self.entry).passed }
+    {
+        self.passed
+    }
+
+    // The place behind so many trees, one at least, of which none is missing.
+    fn moved(&self, count: usize) -> Place<'t>
+        requires some { 0 < count }
+        requires within { count + size (after_trees count (trees_of self.now.rest)) ≤ size (trees_of self.now.rest) }
+        ensures { position_of result ≡ behind count (position_of self.now) }
+    {
+        let mut trees = self.behind.iter();
+        pass(&mut trees, count - 1);
+        Place::before(trees.remaining(), self.passed + count)
+    }
+
+    /// Takes the unit that stands first, if that passes the test; whether it does.
+    pub fn take(&mut self, test: Test) -> bool
+        ensures { answer_at (position_of self.new) result ≡ takes test (position_of self.old) }
+    {
+        let passes = test.passes(self.unit);
+        if passes {
+            *self = self.moved(test.taken_size(self.unit));
+        }
+        passes
+    }
+}

@@ -1,0 +1,280 @@
+-- Each path through the places of a repetition is that of its rounds, or ends in one.
+use Rattle.std.proofs.Common.{◌≡◌, inl, inr, ◌+◌, ◌<◌, ◌≤◌, ℕ, suc, zero, Bool, true, false, List, [], ◌∷◌, ◌++◌, length, refl, ap, sym, subst, ◌∙◌, arith}
+use Rattle.std.specs.Prelude.{◌⊎◌, ◌||◌, ◌&&◌, Option, slice_get}
+use Rattle.tt.specs.Forest.{Forest, end, size}
+use Rattle.tt.specs.Gluing.{after_trees}
+use Rattle.tt.specs.Types.Leaf.{Leaf}
+use Rattle.mbe_pattern.specs.declared.pattern.RepeatKind.{RepeatKind}
+use Rattle.mbe_pattern.specs.declared.pattern.RepeatKind.TheVariants as repeat
+use Rattle.mbe_matcher.specs.Asks as ask
+use Rattle.mbe_matcher.specs.declared.places.Place.{Place}
+use Rattle.mbe_matcher.specs.Compiled.{Stop, IsStop, Stand, separator_count, place_count, entries, again, separator_stops}
+use Rattle.mbe_matcher.specs.Fronts.{OtherRoundsUpTo, TakesUpTo}
+use Rattle.mbe_matcher.specs.Paths.{shift, firsts, entry_count, path_of, path_of_others}
+use Rattle.mbe_pattern.specs.Patterns.{Pattern, repetition, may_be_empty, may_be_none, may_be_more, IsFull}
+use Rattle.mbe_matcher.specs.Places.{Goes, Ends, is_leave, left_in}
+use Rattle.mbe_matcher.specs.Readings.{Reading, round, over, Takes, AreOtherRounds, Separates}
+use Rattle.mbe_matcher.proofs.Compiling.{entries_full}
+use Rattle.mbe_matcher.proofs.Fronts.{front_here}
+use Rattle.mbe_matcher.proofs.Via.{Via, via_split, via_none, via_one, comes_by, ended_by}
+
+-- A path is as long as however late its first turn is.
+length-shift : (n : ℕ) (path : List ℕ) → length (shift n path) ≡ length path
+length-shift n [] = refl
+length-shift n (turn ∷ more) = refl
+
+module _ (places : List Place) (Last : Option Place → List Forest → Type 0) where
+  -- how a path is read by a pattern that it leads through
+  pub record Read (at : ℕ) (pattern : Pattern) (behind : List ℕ) (outer : List Forest) (input : Forest) (path : List ℕ) : Type 0 where
+    pub reading : Reading
+    pub rest : Forest
+    pub tail : List ℕ
+    pub takes : Takes pattern input reading rest
+    pub via : Via places Last behind (rest ∷ outer) tail
+    pub is : path ≡ path_of at pattern reading tail
+    pub shorter : length tail ≤ length path
+    pub less : may_be_empty pattern ≡ false → length tail < length path
+
+  -- where a path ends that does not lead through all, so that this holds of how many tokens are left
+  pub record Halts (Comes : (left : ℕ) → Type 0) : Type 0 where
+    pub place : Option Place
+    pub levels : List Forest
+    pub last : Last place levels
+    pub sooner : Ends place levels → ⊥
+    pub comes : Comes (left_in levels)
+
+  -- What follows holds too.
+  pub halts_with : (Comes Further : (left : ℕ) → Type 0) → ((left : ℕ) → Comes left → Further left) → Halts Comes → Halts Further
+  halts_with Comes Further by halts =
+      record { place = halts.place; levels = halts.levels; last = halts.last; sooner = halts.sooner; comes = by (left_in halts.levels) halts.comes }
+
+  -- A path that ends at a place ends before all is done, where that is not the end of all.
+  pub halts_at : (at : ℕ) (levels : List Forest) (stop : Stop) → IsStop (slice_get places at) stop → (is_leave stop.asked ≡ true → levels ≡ end ∷ [] → ⊥)
+      → Last (slice_get places at) levels → (Comes : (left : ℕ) → Type 0) → Comes (left_in levels) → Halts Comes
+  halts_at at levels stop stands never last Comes comes =
+      record {
+        place = slice_get places at;
+        levels = levels;
+        last = last;
+        sooner = λ ends. let all = ended_by places levels at stop stands ends in never all.0 all.1;
+        comes = comes;
+      }
+
+  -- how a path is read by a separator
+  record Separated (separator : List Leaf) (behind : List ℕ) (outer : List Forest) (input : Forest) (path : List ℕ) : Type 0 where
+    start : Forest
+    tail : List ℕ
+    separates : Separates separator input start
+    via : Via places Last behind (start ∷ outer) tail
+    is : path ≡ firsts separator tail
+    shorter : length tail ≤ length path
+
+  -- or it ends before it
+  abbrev Before : (input : Forest) → (outer : List Forest) → Type 0
+  Before input outer = Halts (λ left. left ≡ size input + left_in outer)
+
+  to_separator : (at : ℕ) (it : Leaf) (others : List Leaf) (behind : List ℕ) (outer : List Forest) (input : Forest) (path : List ℕ)
+      → Stand places at (separator_stops (it ∷ others) behind) → Goes places Last at (input ∷ outer) path
+      → Separated (it ∷ others) behind outer input (0 ∷ path) ⊎ Before input outer
+  to_separator at it others behind outer input path stand goes =
+      let stop : Stop = record { asked = ask.same (it ∷ others); edges = behind } in
+      elim (comes_by places Last (input ∷ outer) at stop stand.0 path goes) [
+        | inl (none, last) ↦ inr (halts_at at (input ∷ outer) stop stand.0 (λ leave ended. cc leave) last (λ left. left ≡ size input + left_in outer) refl)
+        | inr (like, via) ↦
+            inl (record { start = after_trees (length (it ∷ others)) input; tail = path; separates = (like, refl); via = via; is = refl; shorter = omega arith })
+      ]
+
+  module _ (at : ℕ) (inner : Pattern) (others : Pattern) (behind : List ℕ) (outer : List Forest) where
+    -- the same of what leads to another round
+    record Again (separator : List Leaf) (op : RepeatKind) (input : Forest) (path : List ℕ) : Type 0 where
+      may_be : may_be_more op ≡ true
+      separated : Separated separator (entries at inner []) outer input path
+
+    at_once : (op : RepeatKind) (input : Forest) (path : List ℕ) → may_be_more op ≡ true → Via places Last (entries at inner []) (input ∷ outer) path
+        → Again [] op input path ⊎ Before input outer
+    at_once op input path more via =
+        inl (record {
+          may_be = more;
+          separated = record { start = input; tail = path; separates = refl; via = via; is = refl; shorter = omega arith };
+        })
+
+    through : (it : Leaf) (separator : List Leaf) (op : RepeatKind) (input : Forest) (path : List ℕ) → may_be_more op ≡ true
+        → Stand places (at + place_count inner) (separator_stops (it ∷ separator) (entries at inner []))
+        → (more : List ℕ) × (path ≡ 0 ∷ more) × Goes places Last (at + place_count inner) (input ∷ outer) more → Again (it ∷ separator) op input path ⊎ Before input outer
+    through it separator op input path may stand (more, same, goes) =
+        elim (to_separator (at + place_count inner) it separator (entries at inner []) outer input more stand goes) [
+          | inl separated ↦ inl (record { may_be = may; separated = subst (Separated (it ∷ separator) (entries at inner []) outer input) (sym same) separated })
+          | inr halts ↦ inr halts
+        ]
+
+    to_again : (separator : List Leaf) (op : RepeatKind) (input : Forest) (path : List ℕ)
+        → Stand places (at + place_count inner) (separator_stops separator (entries at inner []))
+        → Via places Last (again at inner separator op) (input ∷ outer) path → Again separator op input path ⊎ Before input outer
+    to_again separator repeat.ZeroOrOne input path stand via = absurd (via_none places Last (input ∷ outer) path via)
+    to_again [] repeat.ZeroOrMore input path stand via = at_once repeat.ZeroOrMore input path refl via
+    to_again [] repeat.OneOrMore input path stand via = at_once repeat.OneOrMore input path refl via
+    to_again (it ∷ separator) repeat.ZeroOrMore input path stand via =
+        through it separator repeat.ZeroOrMore input path refl stand (via_one places Last (input ∷ outer) (at + place_count inner) path via)
+    to_again (it ∷ separator) repeat.OneOrMore input path stand via =
+        through it separator repeat.OneOrMore input path refl stand (via_one places Last (input ∷ outer) (at + place_count inner) path via)
+
+    module _ (separator : List Leaf) (op : RepeatKind) where
+      -- where what is behind the rounds begins, and where it is gone on behind a round
+      abbrev over_edges : List ℕ
+      over_edges = entries (at + place_count inner + separator_count separator) others behind
+
+      abbrev next_edges : List ℕ
+      next_edges = again at inner separator op ++ over_edges
+
+      -- where rounds behind a round come up to
+      abbrev OthersUpTo : Forest → (left : ℕ) → Type 0
+      OthersUpTo input left =
+          (n : ℕ) × OtherRoundsUpTo op separator (λ trees rest. (reading : Reading) × Takes inner trees reading rest) (λ trees. TakesUpTo inner trees (left_in outer) left)
+          (λ trees. TakesUpTo others trees (left_in outer) left) n input
+
+      -- how a path is read by them
+      record Others (input : Forest) (path : List ℕ) : Type 0 where
+        reading : Reading
+        rest : Forest
+        tail : List ℕ
+        rounds : AreOtherRounds op separator (Takes inner) (λ trees more. Takes others trees more rest) input reading
+        via : Via places Last behind (rest ∷ outer) tail
+        is : path
+            ≡ path_of_others separator (length (again at inner separator op)) (path_of at inner) (λ more. path_of (at + place_count inner + separator_count separator) others more tail) reading
+        shorter : length tail ≤ length path
+
+      -- it leads through a pattern, or ends in it
+      abbrev Inner : Forest → List ℕ → Type 0
+      Inner input path = Read at inner next_edges outer input path ⊎ Halts (TakesUpTo inner input (left_in outer))
+
+      abbrev Past : Forest → List ℕ → Type 0
+      Past input path = Read (at + place_count inner + separator_count separator) others behind outer input path ⊎ Halts (TakesUpTo others input (left_in outer))
+
+      abbrev Whole : Forest → List ℕ → Type 0
+      Whole input path =
+          Read at (repetition inner separator op others) behind outer input path ⊎ Halts (TakesUpTo (repetition inner separator op others) input (left_in outer))
+
+      module _ (full : may_be_empty inner ≡ false) (all : IsFull inner) (stand : Stand places (at + place_count inner) (separator_stops separator (entries at inner [])))
+          (one : (input : Forest) (path : List ℕ) → Via places Last (entries at inner next_edges) (input ∷ outer) path → Inner input path)
+          (past : (input : Forest) (path : List ℕ) → Via places Last over_edges (input ∷ outer) path → Past input path) where
+        one_here : (input : Forest) (path : List ℕ) → Via places Last (entries at inner []) (input ∷ outer) path → Inner input path
+        one_here input path via = one input path (subst (λ e. Via places Last e (input ∷ outer) path) (sym (entries_full at inner next_edges full all)) via)
+
+        to_others : (n : ℕ) (input : Forest) (path : List ℕ) → length path ≤ n → Via places Last next_edges (input ∷ outer) path → Others input path ⊎ Halts (OthersUpTo input)
+        to_others zero input [] le via = absurd via
+        to_others zero input (turn ∷ more) le via = absurd (omega (arith, le))
+        to_others (suc n) input path le via =
+            by (via_split places Last (input ∷ outer) (again at inner separator op) over_edges path via) (λ input path le via. to_others n input path le via)
+          where
+            with_others : (found : Again separator op input path) (this : Read at inner next_edges outer found.separated.start found.separated.tail)
+                → Others this.rest this.tail ⊎ Halts (OthersUpTo this.rest) → Others input path ⊎ Halts (OthersUpTo input)
+            with_others found this (inl rest) =
+                inl (record {
+                  reading = round this.reading rest.reading;
+                  rest = rest.rest;
+                  tail = rest.tail;
+                  rounds = (found.separated.start, this.rest, found.may_be, found.separated.separates, this.takes, rest.rounds);
+                  via = rest.via;
+                  is = found.separated.is ∙ ap (firsts separator) (this.is ∙ ap (path_of at inner this.reading) rest.is);
+                  shorter = omega (arith, found.separated.shorter, this.shorter, rest.shorter);
+                })
+            with_others found this (inr halts) =
+                inr (halts_with (OthersUpTo this.rest) (OthersUpTo input)
+                (λ left up. (suc up.0, (found.separated.start, found.may_be, found.separated.separates, inr (this.rest, (this.reading, this.takes), up.1)))) halts)
+
+            with_round : (found : Again separator op input path) → Inner found.separated.start found.separated.tail
+                → ((input : Forest) (path : List ℕ) → length path ≤ n → Via places Last next_edges (input ∷ outer) path → Others input path ⊎ Halts (OthersUpTo input))
+                → Others input path ⊎ Halts (OthersUpTo input)
+            with_round found (inl this) further =
+                with_others found this (further this.rest this.tail (omega (arith, le, found.separated.shorter, this.less full)) this.via)
+            with_round found (inr halts) further =
+                inr (halts_with (TakesUpTo inner found.separated.start (left_in outer)) (OthersUpTo input)
+                (λ left up. (1, (found.separated.start, found.may_be, found.separated.separates, inl up))) halts)
+
+            by : Via places Last (again at inner separator op) (input ∷ outer) path
+                ⊎ ((p : List ℕ) × (path ≡ shift (length (again at inner separator op)) p) × Via places Last over_edges (input ∷ outer) p)
+                → ((input : Forest) (path : List ℕ) → length path ≤ n → Via places Last next_edges (input ∷ outer) path → Others input path ⊎ Halts (OthersUpTo input))
+                → Others input path ⊎ Halts (OthersUpTo input)
+            by (inl v) further = elim (to_again separator op input path stand v) [
+              | inl found ↦ with_round found (one_here found.separated.start found.separated.tail found.separated.via) further
+              | inr halts ↦
+                  inr (halts_with (λ left. left ≡ size input + left_in outer) (OthersUpTo input) (λ left up. (0, front_here others input (left_in outer) left up)) halts)
+            ]
+            by (inr (p, same, v)) further = elim (past input p v) [
+              | inl found ↦
+                  inl (record {
+                    reading = over found.reading;
+                    rest = found.rest;
+                    tail = found.tail;
+                    rounds = found.takes;
+                    via = found.via;
+                    is = same ∙ ap (shift (length (again at inner separator op))) found.is;
+                    shorter = omega (arith, found.shorter, ap length same, length-shift (length (again at inner separator op)) p);
+                  })
+              | inr halts ↦ inr (halts_with (TakesUpTo others input (left_in outer)) (OthersUpTo input) (λ left up. (0, up)) halts)
+            ]
+
+        -- a first round
+        first_round : (input : Forest) (path : List ℕ) → Via places Last (entries at inner []) (input ∷ outer) path → Whole input path
+        first_round input path via = by (one_here input path via)
+          where
+            with_others : (this : Read at inner next_edges outer input path) → Others this.rest this.tail ⊎ Halts (OthersUpTo this.rest) → Whole input path
+            with_others this (inl rest) =
+                inl (record {
+                  reading = round this.reading rest.reading;
+                  rest = rest.rest;
+                  tail = rest.tail;
+                  takes = (this.rest, this.takes, rest.rounds);
+                  via = rest.via;
+                  is = this.is ∙ ap (path_of at inner this.reading) rest.is;
+                  shorter = omega (arith, this.shorter, rest.shorter);
+                  less = λ e. omega (arith, this.less full, rest.shorter);
+                })
+            with_others this (inr halts) =
+                inr (halts_with (OthersUpTo this.rest) (TakesUpTo (repetition inner separator op others) input (left_in outer))
+                (λ left up. inr (inl (inr (up.0, this.rest, (this.reading, this.takes), up.1)))) halts)
+
+            by : Inner input path → Whole input path
+            by (inl this) = with_others this (to_others (length this.tail) this.rest this.tail (omega arith) this.via)
+            by (inr halts) =
+                inr (halts_with (TakesUpTo inner input (left_in outer)) (TakesUpTo (repetition inner separator op others) input (left_in outer)) (λ left up. inr (inl (inl up))) halts)
+
+        -- none
+        no_round : may_be_none op ≡ true → (input : Forest) (path p : List ℕ) → path ≡ shift (entry_count at inner) p → Via places Last over_edges (input ∷ outer) p → Whole input path
+        no_round none input path p same v = elim (past input p v) [
+          | inl found ↦
+              inl (record {
+                reading = over found.reading;
+                rest = found.rest;
+                tail = found.tail;
+                takes = (none, found.takes);
+                via = found.via;
+                is = same ∙ ap (shift (entry_count at inner)) found.is;
+                shorter = omega (arith, found.shorter, ap length same, length-shift (entry_count at inner) p);
+                less = λ e. omega (arith, found.less (only none e), ap length same, length-shift (entry_count at inner) p);
+              })
+          | inr halts ↦
+              inr (halts_with (TakesUpTo others input (left_in outer)) (TakesUpTo (repetition inner separator op others) input (left_in outer)) (λ left up. inr (inr (none, up))) halts)
+        ]
+          where
+            by : (a b c : Bool) → a ≡ true → ((a || b) && c) ≡ false → c ≡ false
+            by true b c t e = e
+            by false b c t e = absurd (cc t)
+
+            only : may_be_none op ≡ true → may_be_empty (repetition inner separator op others) ≡ false → may_be_empty others ≡ false
+            only none e = by (may_be_none op) (may_be_empty inner) (may_be_empty others) none e
+
+        either_round : may_be_none op ≡ true → (input : Forest) (path : List ℕ) → Via places Last (entries at inner [] ++ over_edges) (input ∷ outer) path → Whole input path
+        either_round none input path via = elim (via_split places Last (input ∷ outer) (entries at inner []) over_edges path via) [
+          | inl v ↦ first_round input path v
+          | inr (p, same, v) ↦ no_round none input path p same v
+        ]
+
+    pub to_rounds : (separator : List Leaf) (op : RepeatKind) (full : may_be_empty inner ≡ false) (all : IsFull inner)
+        (stand : Stand places (at + place_count inner) (separator_stops separator (entries at inner [])))
+        (one : (input : Forest) (path : List ℕ) → Via places Last (entries at inner (next_edges separator op)) (input ∷ outer) path → Inner separator op input path)
+        (past : (input : Forest) (path : List ℕ) → Via places Last (over_edges separator op) (input ∷ outer) path → Past separator op input path)
+        (input : Forest) (path : List ℕ) → Via places Last (entries at (repetition inner separator op others) behind) (input ∷ outer) path → Whole separator op input path
+    to_rounds separator repeat.ZeroOrMore full all stand one past input path via = either_round separator repeat.ZeroOrMore full all stand one past refl input path via
+    to_rounds separator repeat.ZeroOrOne full all stand one past input path via = either_round separator repeat.ZeroOrOne full all stand one past refl input path via
+    to_rounds separator repeat.OneOrMore full all stand one past input path via = first_round separator repeat.OneOrMore full all stand one past input path via

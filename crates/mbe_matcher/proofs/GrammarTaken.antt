@@ -1,0 +1,34 @@
+-- What a fragment of Rust's grammar takes is the grammar's one answer, and is a tree at least.
+use Rattle.std.proofs.Common.{◌≡◌, ◌-◌, ℕ, suc, true, Some, None, refl, arith}
+use Rattle.std.specs.Prelude.{Option, is_some}
+use Rattle.tt.specs.Forest.{Forest, end}
+use Rattle.mbe_grammar.specs.Fragments.{Reaches}
+use Rattle.mbe_grammar.proofs.FragmentAnswers.{has_answer, one_answer, takes_a_tree, takes_no_end}
+use Rattle.mbe_pattern.specs.declared.pattern.GrammarFragment.{GrammarFragment}
+use Rattle.mbe_matcher.specs.Fragments.{or_one}
+use Rattle.mbe_matcher.specs.GrammarReach.{grammar_reach}
+
+-- It is an answer.
+pub reach_holds : (which : GrammarFragment) (trees : Forest) → Reaches which trees (grammar_reach which trees)
+unfolding grammar_reach
+reach_holds which trees = (has_answer which trees).1
+
+-- And each answer is it.
+pub reach_alone : (which : GrammarFragment) (trees : Forest) (count : Option ℕ) → Reaches which trees count → count ≡ grammar_reach which trees
+reach_alone which trees count h = one_answer which trees count (grammar_reach which trees) h (reach_holds which trees)
+
+-- It is one tree at least.
+pub reach_full : (which : GrammarFragment) (trees : Forest) → or_one (grammar_reach which trees) ≡ suc (or_one (grammar_reach which trees) - 1)
+reach_full which trees = by (grammar_reach which trees) (reach_holds which trees)
+  where
+    by : (count : Option ℕ) → Reaches which trees count → or_one count ≡ suc (or_one count - 1)
+    by None h = refl
+    by (Some n) h = let full = (takes_a_tree which trees n h).1 in omega (arith, full)
+
+-- Where no tree is nothing is taken.
+pub takes_no_tree : (which : GrammarFragment) → is_some (grammar_reach which end) ≡ true → ⊥
+takes_no_tree which is = by (grammar_reach which end) (reach_holds which end) is
+  where
+    by : (count : Option ℕ) → Reaches which end count → is_some count ≡ true → ⊥
+    by None h t = cc t
+    by (Some n) h t = takes_no_end which n h

@@ -1,0 +1,253 @@
+-- Worked patterns with repetitions, and inputs: each holds by computation.
+use Rattle.std.proofs.Common.{◌≡◌, inl, inr, ◌≤◌, ℕ, true, false, [], ◌∷◌, None, Some, codes, refl, sym, ◌∙◌, arith}
+use Rattle.tt.specs.Forest.{Forest, end, join}
+use Rattle.tt.specs.Types.DelimiterKind.TheVariants.{Parenthesis, Brace}
+use Rattle.tt.specs.Types.Spacing.TheVariants.{Alone, Joint}
+use Rattle.tt_base.proofs.Samples.{punct, subtree}
+use Rattle.mbe_pattern.specs.declared.pattern.Fragment.{Fragment}
+use Rattle.mbe_pattern.specs.declared.pattern.Fragment.TheVariants as fragment
+use Rattle.mbe_pattern.specs.declared.pattern.Variable.{Variable}
+use Rattle.mbe_matcher.specs.declared.steps.Step.TheVariants as step
+use Rattle.mbe_matcher.specs.Asks as ask
+use Rattle.mbe_matcher.specs.Bindings.{one, none, first, binding_of, bound_to}
+use Rattle.mbe_matcher.specs.Grouping.{variables_of, binding_by}
+use Rattle.mbe_matcher.specs.Marks.{taken as took_by, begun, ended, notes_of}
+use Rattle.mbe_matcher.specs.Steps.{steps_of}
+use Rattle.mbe_matcher.specs.Compiled.{starts_of, all_stops}
+use Rattle.mbe_matcher.specs.Fragments.{takes, taken, reach}
+use Rattle.mbe_matcher.specs.Fronts.{StopsAt, TakesUpTo}
+use Rattle.mbe_pattern.specs.Patterns.{Pattern}
+use Rattle.mbe_matcher.specs.Readings.{Reading, done, took, held, round, over, IsInstance, IsNoInstance, IsReadBy, IsAmbiguous}
+use Rattle.mbe_pattern.specs.Spelling.{pattern_of}
+use Rattle.mbe_pattern.proofs.Rows.{word, raw_word, alone, joint, arrow, life, comma, var, rounds, listed}
+
+-- An ident takes an ident, raw or not, but `_`, and no lifetime.
+ident_takes : takes fragment.Ident (word (codes "a") end) ≡ true
+ident_takes = refl
+
+raw_taken : takes fragment.Ident (raw_word (codes "a") end) ≡ true
+raw_taken = refl
+
+underscore_left : takes fragment.Ident (word (codes "_") end) ≡ false
+underscore_left = refl
+
+lifetime_no_ident : takes fragment.Ident (life end) ≡ false
+lifetime_no_ident = refl
+
+-- A literal takes a truth value, and a number behind `-`, which are two trees.
+truth_taken : takes fragment.Literal (word (codes "true") end) ≡ true
+truth_taken = refl
+
+minus_left : takes fragment.Literal (alone 45 (word (codes "a") end)) ≡ false
+minus_left = refl
+
+module _ (rest : Forest) where
+  -- A lifetime is a `'` and an ident.
+  lifetime_takes : takes fragment.Lifetime (life rest) ≡ true
+  lifetime_takes = refl
+
+  lifetime_taken : taken fragment.Lifetime (life rest) ≡ life end
+  lifetime_taken = refl
+
+quote_left : takes fragment.Lifetime (joint 39 (comma end)) ≡ false
+quote_left = refl
+
+-- A block is what stands in braces.
+block_takes : takes fragment.Block (subtree Brace end) ≡ true
+block_takes = refl
+
+parentheses_left : takes fragment.Block (subtree Parenthesis end) ≡ false
+parentheses_left = refl
+
+-- A visibility is `pub`, with `(crate)` or `(in ..)` behind it or without, or nothing; `r#pub` is none, and `(a)` is not part of one.
+visible : reach fragment.Vis (word (codes "pub") (comma end)) ≡ 1
+visible = refl
+
+visible_in_crate : reach fragment.Vis (word (codes "pub") (join (subtree Parenthesis (word (codes "crate") end)) end)) ≡ 2
+visible_in_crate = refl
+
+visible_in_path : reach fragment.Vis (word (codes "pub") (join (subtree Parenthesis (word (codes "in") (word (codes "a") end))) end)) ≡ 2
+visible_in_path = refl
+
+visible_before : reach fragment.Vis (word (codes "pub") (join (subtree Parenthesis (word (codes "a") end)) end)) ≡ 1
+visible_before = refl
+
+not_visible : reach fragment.Vis (raw_word (codes "pub") end) ≡ 0
+not_visible = refl
+
+-- `tt` takes a token, or a subtree; and nothing where nothing is.
+arrow_taken : taken fragment.Tt (arrow (comma end)) ≡ arrow end
+arrow_taken = refl
+
+life_taken : taken fragment.Tt (life (comma end)) ≡ life end
+life_taken = refl
+
+nothing_left : takes fragment.Tt end ≡ false
+nothing_left = refl
+
+-- variables
+abbrev x_of : Fragment → Variable
+x_of which = record { name = Some (codes "x"); fragment = which }
+
+abbrev nameless : Variable
+nameless = record { name = None; fragment = fragment.Tt }
+
+-- `a, b,` is an instance of `$($x:ident),* $(,)?`; the last comma is the second repetition's.
+abbrev a_b : Forest
+a_b = word (codes "a") (comma (word (codes "b") (comma end)))
+
+abbrev a_b_reading : Reading
+a_b_reading = round (took (word (codes "a") end) done) (round (took (word (codes "b") end) done) (over (round done (over done))))
+
+listed_instance : IsInstance (pattern_of listed) a_b a_b_reading
+listed_instance = (_, (done, refl, refl, (refl, refl)), (_, _, refl, ((refl, (refl, tt)), refl), (done, refl, refl, (refl, refl)), (_, ((refl, (refl, tt)), (refl, refl)), (refl, refl))))
+
+-- It binds to `x` the list of both.
+listed_binds : binding_of (pattern_of listed) a_b_reading ≡ record { variable = x_of fragment.Ident; bound = first (one (word (codes "a") end)) (first (one (word (codes "b") end)) none) } ∷ []
+listed_binds = refl
+
+-- What is noted of it: two rounds of the first repetition, behind which 4 steps stand, and one of the other, behind which one stands.
+listed_notes : notes_of (pattern_of listed) a_b_reading
+    ≡ begun 4 ∷ took_by 5 (word (codes "a") end) ∷ begun 4 ∷ took_by 5 (word (codes "b") end) ∷ ended 4 ∷ begun 1 ∷ ended 1 ∷ []
+listed_notes = refl
+
+listed_variables : variables_of (pattern_of listed) 1 ≡ record { variable = x_of fragment.Ident; number = 5; nest = 4 ∷ [] } ∷ []
+listed_variables = refl
+
+-- Its steps: the first repetition with its separator, its variable and its end, the other, and the end of all.
+listed_steps : steps_of (pattern_of listed)
+    ≡ step.Begin 1 1 3 ∷ step.Pass 1 ∷ step.Take fragment.Ident ∷ step.Close 1
+    ∷ step.Begin 1 0 2 ∷ step.Pass 1 ∷ step.Close 0
+    ∷ step.Leave ∷ []
+listed_steps = refl
+
+-- Where there is no round an empty list is bound.
+listed_none : binding_of (pattern_of listed) (over (over done)) ≡ record { variable = x_of fragment.Ident; bound = none } ∷ []
+listed_none = refl
+
+-- A variable in a subtree, and one that is written `_`.
+abbrev in_brace : Pattern
+in_brace = pattern_of (join (subtree Brace (var (codes "x") (codes "tt") end)) (var (codes "_") (codes "tt") end))
+
+brace_binds : binding_of in_brace (held (took (arrow end) done) (took (life end) done))
+    ≡ record { variable = x_of fragment.Tt; bound = one (arrow end) } ∷ record { variable = nameless; bound = one (life end) } ∷ []
+brace_binds = refl
+
+-- A list in a list: `$( $($x:ident)+ );*` on `a b; c` binds `a` and `b` in the first round, and `c` in the second.
+abbrev nested : Pattern
+nested = pattern_of (rounds (rounds (var (codes "x") (codes "ident") end) (alone 43 end)) (joint 59 (alone 42 end)))
+
+abbrev nested_reading : Reading
+nested_reading =
+    round (round (took (word (codes "a") end) done) (round (took (word (codes "b") end) done) (over done))) (round (round (took (word (codes "c") end) done) (over done)) (over done))
+
+nested_binds : binding_of nested nested_reading
+    ≡ record {
+      variable = x_of fragment.Ident;
+      bound = first (first (one (word (codes "a") end)) (first (one (word (codes "b") end)) none)) (first (first (one (word (codes "c") end)) none) none);
+    } ∷ []
+nested_binds = refl
+
+nested_noted : binding_by (variables_of nested 1) (notes_of nested nested_reading) ≡ binding_of nested nested_reading
+nested_noted = refl
+
+-- Of two variables of one name the first is found, and of an unknown name none is.
+twice_bound : bound_to (codes "x")
+    (record { variable = nameless; bound = none } ∷ record { variable = x_of fragment.Tt; bound = one end } ∷ record { variable = x_of fragment.Tt; bound = none } ∷ []) ≡ Some (one end)
+twice_bound = refl
+
+none_bound : bound_to (codes "y") (record { variable = x_of fragment.Tt; bound = one end } ∷ []) ≡ None
+none_bound = refl
+
+-- Its places: the variable, its comma, the other comma, the end. It begins with a name, with the other comma, or ends at once.
+listed_starts : starts_of (pattern_of listed) ≡ 0 ∷ 2 ∷ 3 ∷ []
+listed_starts = refl
+
+listed_stops : all_stops (pattern_of listed)
+    ≡ record { asked = ask.take (x_of fragment.Ident); edges = 1 ∷ 2 ∷ 3 ∷ [] }
+    ∷ record { asked = ask.same (punct 44 Joint ∷ []); edges = 0 ∷ [] }
+    ∷ record { asked = ask.same (punct 44 Alone ∷ []); edges = 3 ∷ [] }
+    ∷ record { asked = ask.leave; edges = [] }
+    ∷ []
+listed_stops = refl
+
+-- `+` wants a round.
+abbrev plus : Pattern
+plus = pattern_of (rounds (comma end) (alone 43 end))
+
+plus_of_none : IsNoInstance plus end
+plus_of_none (round this others) (rest, takes, more) = takes.0.1.0
+plus_of_none (over more) is = cc is.0
+plus_of_none done is = is
+plus_of_none (took trees more) is = is
+plus_of_none (held inside more) is = is
+
+-- `$(,)? $(,)?` takes one comma in two ways.
+abbrev maybe_twice : Pattern
+maybe_twice = pattern_of (rounds (comma end) (alone 63 (rounds (comma end) (alone 63 end))))
+
+twice_ambiguous : IsAmbiguous maybe_twice (comma end)
+twice_ambiguous =
+    record {
+      one = round done (over (over done));
+      other = over (round done (over done));
+      differ = λ e. cc e;
+      one_holds = (_, ((refl, (refl, tt)), (refl, refl)), (refl, (refl, refl)));
+      other_holds = (refl, (_, ((refl, (refl, tt)), (refl, refl)), (refl, refl)));
+    }
+
+-- `a $x:ident (b c)` stops before its second part where no name is, and in its subtree where no `c` is.
+abbrev grouped : Pattern
+grouped = pattern_of (word (codes "a") (var (codes "x") (codes "ident") (join (subtree Parenthesis (word (codes "b") (word (codes "c") end))) end)))
+
+abbrev group : (inside rest : Forest) → Forest
+group inside rest = word (codes "a") (word (codes "d") (join (subtree Parenthesis inside) rest))
+
+stops_before_name : StopsAt grouped (word (codes "a") (comma end)) 1
+stops_before_name = record { left = 1; comes = inr ((refl, ((refl, refl), tt)), inl refl); least = least; place = refl }
+  where
+    least : (other : ℕ) → TakesUpTo grouped (word (codes "a") (comma end)) 0 other → 1 ≤ other
+    least other (inl is) = omega (arith, is)
+    least other (inr (a, inl is)) = omega (arith, is)
+    least other (inr (a, inr (name, more))) = absurd (cc name)
+
+stops_in_group : StopsAt grouped (group (word (codes "b") (comma end)) end) 4
+stops_in_group =
+    record { left = 1; comes = inr ((refl, ((refl, refl), tt)), inr (refl, inr (refl, inl (inr ((refl, ((refl, refl), tt)), inl refl))))); least = least; place = refl }
+  where
+    least : (other : ℕ) → TakesUpTo grouped (group (word (codes "b") (comma end)) end) 0 other → 1 ≤ other
+    least other (inl is) = omega (arith, is)
+    least other (inr (a, inl is)) = omega (arith, is)
+    least other (inr (a, inr (name, inl is))) = omega (arith, is)
+    least other (inr (a, inr (name, inr (node, inl (inl is))))) = omega (arith, is)
+    least other (inr (a, inr (name, inr (node, inl (inr (b, inl is)))))) = omega (arith, is)
+    least other (inr (a, inr (name, inr (node, inl (inr (b, inr (c, more))))))) = absurd c.1.0
+    least other (inr (a, inr (name, inr (node, inr (inside, (b, (c, all)), more))))) = absurd c.1.0
+
+-- It comes to the subtree's end, and behind it.
+comes_to_end : TakesUpTo grouped (group (word (codes "b") (word (codes "c") (comma end))) end) 0 1
+comes_to_end = inr ((refl, ((refl, refl), tt)), inr (refl, inr (refl, inl (inr ((refl, ((refl, refl), tt)), inr ((refl, ((refl, refl), tt)), refl))))))
+
+comes_behind : TakesUpTo grouped (group (word (codes "b") (word (codes "c") end)) (comma end)) 0 1
+comes_behind = inr ((refl, ((refl, refl), tt)), inr (refl, inr (refl, inr (done, ((refl, ((refl, refl), tt)), ((refl, ((refl, refl), tt)), (refl, refl))), refl))))
+
+-- `$($x:ident +),*` comes behind a separator, and into a round.
+abbrev added : Pattern
+added = pattern_of (rounds (var (codes "x") (codes "ident") (alone 43 end)) (comma (alone 42 end)))
+
+comes_behind_separator : TakesUpTo added (word (codes "a") (alone 43 (comma (comma end)))) 0 1
+comes_behind_separator = inr (inl (inr (1, _, (_, (_, refl, refl, ((refl, (refl, tt)), (refl, refl)))), (_, refl, ((refl, (refl, tt)), refl), inl (inl refl)))))
+
+comes_into_round : TakesUpTo added (word (codes "a") (alone 43 (comma (word (codes "b") (comma end))))) 0 1
+comes_into_round = inr (inl (inr (1, _, (_, (_, refl, refl, ((refl, (refl, tt)), (refl, refl)))), (_, refl, ((refl, (refl, tt)), refl), inl (inr (refl, inl refl))))))
+
+-- No two of the three answers can hold of one input.
+module _ (pattern : Pattern) (input : Forest) where
+  none_or_one : IsNoInstance pattern input → (reading : Reading) → IsReadBy pattern input reading → ⊥
+  none_or_one never reading by = never reading by.holds
+
+  none_or_two : IsNoInstance pattern input → IsAmbiguous pattern input → ⊥
+  none_or_two never two = never two.one two.one_holds
+
+  one_or_two : (reading : Reading) → IsReadBy pattern input reading → IsAmbiguous pattern input → ⊥
+  one_or_two reading by two = two.differ (by.alone two.one two.one_holds ∙ sym (by.alone two.other two.other_holds))

@@ -1,0 +1,34 @@
+-- The places of a whole pattern, and the paths from where it may begin.
+use Rattle.std.proofs.Common.{ℕ, List, [], ◌∷◌, arith}
+use Rattle.std.specs.Prelude.{Option}
+use Rattle.tt.specs.Forest.{Forest}
+use Rattle.mbe_matcher.specs.Asks as ask
+use Rattle.mbe_matcher.specs.declared.places.Place.{Place}
+use Rattle.mbe_matcher.specs.Compiled.{Stop, Stand, place_count, stops, all_stops, starts_of}
+use Rattle.mbe_matcher.specs.Places.{GoesAll}
+use Rattle.mbe_pattern.specs.Patterns.{Pattern}
+use Rattle.mbe_matcher.proofs.Compiling.{length-stops}
+use Rattle.mbe_matcher.proofs.Via.{Via, stand_left, stand_right}
+
+-- the place where all ends
+abbrev pub last_stop : Stop
+last_stop = record { asked = ask.leave; edges = [] }
+
+module _ (places : List Place) (pattern : Pattern) (stand : Stand places 0 (all_stops pattern)) where
+  -- The pattern's places stand first, and then that one.
+  pub stand_first : Stand places 0 (stops 0 pattern (place_count pattern ∷ []))
+  stand_first = stand_left places 0 (stops 0 pattern (place_count pattern ∷ [])) (last_stop ∷ []) stand
+
+  pub stand_last : Stand places (place_count pattern) (last_stop ∷ [])
+  stand_last =
+      stand_right places 0 (place_count pattern) (stops 0 pattern (place_count pattern ∷ [])) (last_stop ∷ []) (omega (arith, length-stops 0 pattern (place_count pattern ∷ []))) stand
+
+-- The paths that are wanted, in two spellings.
+module _ (places : List Place) (Last : Option Place → List Forest → Type 0) (pattern : Pattern) (input : Forest) where
+  pub to_via : (path : List ℕ) → GoesAll places Last (starts_of pattern) input path → Via places Last (starts_of pattern) (input ∷ []) path
+  to_via [] w = w
+  to_via (turn ∷ more) w = w
+
+  pub of_via : (path : List ℕ) → Via places Last (starts_of pattern) (input ∷ []) path → GoesAll places Last (starts_of pattern) input path
+  of_via [] w = w
+  of_via (turn ∷ more) w = w

@@ -1,0 +1,335 @@
+-- What is told while an input is read: which paths lead through it, and how far others come.
+use Rattle.std.proofs.Common.{◌≡◌, ◌+◌, ◌-◌, ◌<◌, ◌≤◌, ◌∙◌, inl, inr, ℕ, Bool, true, false, List, [], ◌∷◌, ◌++◌, append-nil, length, drop, get_or, Some, None, refl, ap, ap₂, sym, subst, arith, cond}
+use Rattle.std.proofs.lemmas.List.{drop_more, drop_all}
+use Rattle.std.specs.Global.{Global}
+use Rattle.std.specs.Prelude.{◌⊎◌, ◌||◌, Vec, nat_eq}
+use Rattle.tt.specs.Forest.{Forest, end, size}
+use Rattle.tt.specs.Siblings.{is_end}
+use Rattle.mbe_matcher.specs.Asks.{Ask, ask_of}
+use Rattle.mbe_matcher.specs.Asks as ask
+use Rattle.mbe_matcher.specs.declared.places.Place.{Place}
+use Rattle.mbe_matcher.specs.declared.reading.Choice.{Choice}
+use Rattle.mbe_matcher.specs.declared.reading.Choice.TheVariants as choice
+use Rattle.mbe_matcher.specs.declared.threads.Thread.{Thread}
+use Rattle.mbe_matcher.specs.declared.threads.Turn.{Turn}
+use Rattle.mbe_matcher.specs.Levels.{LevelView, Advances, IsEndedWith, AreStopped, Finds, choice_of, found_of, reached}
+use Rattle.mbe_matcher.specs.Places.{is_leave, Ends, ReadsAll, StopsAll, AreLeft, left_in}
+use Rattle.mbe_matcher.specs.Settling.{is_here, asks_nothing, AreSettled, IsSettledBy}
+use Rattle.mbe_matcher.specs.Threads.{View, view_of, views_of}
+use Rattle.mbe_matcher.proofs.Ending.{Says, says}
+use Rattle.mbe_matcher.proofs.Leading.{threads, Has, HasMany, Told}
+use Rattle.mbe_matcher.proofs.LevelSteps.{configs_of, levels_of, told_advances}
+use Rattle.mbe_matcher.proofs.Results.{less_or_not}
+use Rattle.mbe_matcher.proofs.SettleSteps.{here_is, told_settled}
+use Rattle.mbe_matcher.proofs.Stands.{Stands, AreGoingOn, AreGoingAtOnce, stands_settled}
+
+-- the levels, the innermost first, end where the tokens of the ones outside begin
+abbrev pub AreCounted : (total : ℕ) → List LevelView → Type 0
+AreCounted total [] = Unit {0}
+AreCounted total (level ∷ outer) = (level.until + left_in (levels_of outer) ≡ total) × (size level.trees ≤ level.until) × AreCounted total outer
+
+-- Each step leaves them so.
+counted_on : (places : List Place) (total : ℕ) (level : LevelView) (outer news : List LevelView) → Advances places level outer news → AreCounted total (level ∷ outer) → AreCounted total news
+counted_on places total level outer news (inl is) counted =
+    subst (AreCounted total) (sym is.news_are) (subst (AreCounted total) is.outer_is counted.2)
+counted_on places total level outer news (inr (inl is)) counted =
+    subst (AreCounted total) (sym is.news_are) (counted.0, omega (arith, counted.1, ap size is.first), counted.2)
+counted_on places total level outer news (inr (inr (inl is))) counted =
+    subst (AreCounted total) (sym is.news_are) (
+      omega (arith, counted.0, counted.1, ap size is.first),
+      omega (arith, counted.1, ap size is.first),
+      (counted.0, omega (arith, counted.1, ap size is.first), counted.2),
+    )
+counted_on places total level outer news (inr (inr (inr is))) counted =
+    subst (AreCounted total) (sym is.news_are) (counted.0, omega (arith, counted.1, ap size is.first), counted.2)
+
+-- And no more tokens.
+left_on : (places : List Place) (level : LevelView) (outer news : List LevelView) → Advances places level outer news → left_in (levels_of news) ≤ left_in (levels_of (level ∷ outer))
+left_on places level outer news (inl is) = omega (arith, ap (λ ls. left_in (levels_of ls)) is.news_are, ap (λ ls. left_in (levels_of ls)) is.outer_is)
+left_on places level outer news (inr (inl is)) = omega (arith, ap (λ ls. left_in (levels_of ls)) is.news_are, ap size is.first)
+left_on places level outer news (inr (inr (inl is))) = omega (arith, ap (λ ls. left_in (levels_of ls)) is.news_are, ap size is.first)
+left_on places level outer news (inr (inr (inr is))) = omega (arith, ap (λ ls. left_in (levels_of ls)) is.news_are, ap size is.first)
+
+-- Where a step is made no path ends at the end of all.
+no_end : (places : List Place) (level : LevelView) (outer news : List LevelView) → Advances places level outer news → AreGoingOn Ends (level.trees ∷ levels_of outer) level.trees level.views
+no_end places level outer news is stands None ends = ends
+no_end places level outer news (inl is) stands (Some place) ends =
+    not_outermost (levels_of is.below) (subst (λ o. level.trees ∷ levels_of o ≡ end ∷ []) is.outer_is ends.1)
+  where
+    not_outermost : (below : List Forest) → level.trees ∷ is.next.trees ∷ below ≡ end ∷ [] → ⊥
+    not_outermost below e = cc e
+no_end places level outer news (inr (inl is)) stands (Some place) ends = let none : level.trees ≡ end = cc ends.1 in cc (sym is.first ∙ none)
+no_end places level outer news (inr (inr (inl is))) stands (Some place) ends = let none : level.trees ≡ end = cc ends.1 in cc (sym is.first ∙ none)
+no_end places level outer news (inr (inr (inr is))) stands (Some place) ends = let none : level.trees ≡ end = cc ends.1 in cc (sym is.first ∙ none)
+
+-- What asks for nothing is no end.
+asks_inside : (it : Ask) (trees : Forest) → asks_nothing it trees ≡ true → is_leave it ≡ true → ⊥
+asks_inside (ask.take which) trees none leave = cc leave
+asks_inside (ask.same its) trees none leave = cc leave
+asks_inside (ask.enter kind) trees none leave = cc leave
+asks_inside ask.leave trees none leave = cc none
+
+no_end_at_once : (levels : List Forest) (trees : Forest) (views : List View) → AreGoingAtOnce Ends levels trees views
+no_end_at_once levels trees views stands place none ends = asks_inside (ask_of place.atom) trees none ends.0
+
+module _ (places : List Place) (starts : List ℕ) (input : Forest) where
+  -- so many tokens stand before where paths stop
+  abbrev pub Comes : (at : ℕ) → Type 0
+  Comes at = (left : ℕ) × (at + left ≡ size input) × ((left ≡ size input) ⊎ ((path : List ℕ) × StopsAll places left starts input path))
+
+  -- what the threads of the levels tell, where some came up to a flat place
+  pub record AreTold (at : ℕ) (levels : List LevelView) : Type 0 where
+    pub whole : Told places Ends (ReadsAll places starts input) [] (configs_of levels)
+    pub stops : (left : ℕ) → at + left < size input → Told places (AreLeft left) (StopsAll places left starts input) [] (configs_of levels)
+    pub comes : Comes at
+    pub counted : AreCounted (size input) levels
+    pub behind : at + left_in (levels_of levels) ≤ size input
+
+  -- the threads that stand are where paths came to
+  abbrev pub IsUpTo : (at : ℕ) → LevelView → (outer : List LevelView) → Type 0
+  IsUpTo at level outer = Stands level.trees level.views → at + left_in (levels_of (level ∷ outer)) ≡ size input
+
+  -- those of the innermost level
+  abbrev pub AreUpTo : (at : ℕ) → List LevelView → Type 0
+  AreUpTo at [] = Unit {0}
+  AreUpTo at (level ∷ outer) = IsUpTo at level outer
+
+  module _ (at : ℕ) (level : LevelView) (outer : List LevelView) where
+    -- One that stands leads to where it stands.
+    has_path : (left : ℕ) → left ≡ left_in (levels_of (level ∷ outer)) → Stands level.trees level.views
+        → (path : List ℕ) × Has places (AreLeft left) (configs_of (level ∷ outer)) path
+    has_path left is stands = by level.views stands
+      where
+        levels : List Forest
+        levels = level.trees ∷ levels_of outer
+
+        by : (views : List View) → Stands level.trees views → (path : List ℕ) × Has places (AreLeft left) (threads levels views ++ configs_of outer) path
+        by [] stands = absurd stands
+        by (view ∷ views) (inl here) = (
+          view.trace,
+          inl (
+            [],
+            sym (append-nil view.trace),
+            subst (λ ls. left ≡ left_in ls) (sym (here_is level.trees view.wait (levels_of outer) here)) is,
+          ),
+        )
+        by (view ∷ views) (inr stands) = let found = by views stands in (found.0, inr found.1)
+
+    -- So paths come to where one stands.
+    pub told_here : (here : ℕ) → here ≡ level.until - size level.trees → Stands level.trees level.views → AreTold at (level ∷ outer)
+        → AreTold here (level ∷ outer) × IsUpTo here level outer
+    told_here here is stands told = (
+      record {
+        whole = told.whole;
+        stops = λ left less. told.stops left (omega (arith, less, same, told.behind));
+        comes = (left, same, comes);
+        counted = told.counted;
+        behind = omega (arith, same);
+      },
+      λ s. same,
+    )
+      where
+        left : ℕ
+        left = size level.trees + left_in (levels_of outer)
+
+        same : here + left ≡ size input
+        same = omega (arith, is, told.counted.0, told.counted.1)
+
+        path : at + left < size input → (path : List ℕ) × StopsAll places left starts input path
+        path less = let found = has_path left refl stands in (found.0, (told.stops left less).old_sound found.0 found.1)
+
+        before : at + left ≡ size input → (left ≡ size input) ⊎ ((path : List ℕ) × StopsAll places left starts input path)
+        before equal =
+            let alike : told.comes.0 ≡ left = omega (arith, equal, told.comes.1) in
+            subst (λ n. (n ≡ size input) ⊎ ((path : List ℕ) × StopsAll places n starts input path)) alike told.comes.2
+
+        comes : (left ≡ size input) ⊎ ((path : List ℕ) × StopsAll places left starts input path)
+        comes = by (less_or_not (at + left) (size input))
+          where
+            by : (at + left < size input) ⊎ (size input ≤ at + left) → (left ≡ size input) ⊎ ((path : List ℕ) × StopsAll places left starts input path)
+            by (inl less) = inr (path less)
+            by (inr more) = before (omega (arith, more, told.behind))
+
+    -- Up to where they are, paths do not stop.
+    no_stop : IsUpTo at level outer → (left : ℕ) → at + left < size input → AreGoingOn (AreLeft left) (level.trees ∷ levels_of outer) level.trees level.views
+    no_stop up left less stands place is = omega (arith, up stands, less, is)
+
+    module _ (told : AreTold at (level ∷ outer)) (up : IsUpTo at level outer) where
+      -- The same is told where threads were settled.
+      pub told_calm : (views : List View) → IsSettledBy places level.trees level.views views
+          → AreTold at (record { trees = level.trees; until = level.until; views = views } ∷ outer) × IsUpTo at (record { trees = level.trees; until = level.until; views = views }) outer
+      told_calm views by = (
+        record {
+          whole =
+              subst (λ vs. Told places Ends (ReadsAll places starts input) [] (threads levels vs ++ configs_of outer)) (sym by.same)
+              (told_settled places Ends (ReadsAll places starts input) level.trees (levels_of outer) by.count level.views (configs_of outer) (no_end_at_once levels level.trees level.views) told.whole);
+          stops = λ left less.
+              subst (λ vs. Told places (AreLeft left) (StopsAll places left starts input) [] (threads levels vs ++ configs_of outer)) (sym by.same)
+              (told_settled places (AreLeft left) (StopsAll places left starts input) level.trees (levels_of outer) by.count level.views (configs_of outer)
+              (λ stands place none. no_stop up left less stands (Some place)) (told.stops left less));
+          comes = told.comes;
+          counted = told.counted;
+          behind = told.behind;
+        },
+        λ stands. up (stands_settled level.trees places by.count level.views (subst (Stands level.trees) by.same stands)),
+      )
+        where
+          levels : List Forest
+          levels = level.trees ∷ levels_of outer
+
+      -- And behind a step.
+      pub told_on : (news : List LevelView) → AreSettled places level.trees level.views → Advances places level outer news → AreTold at news
+      told_on news calm is =
+          record {
+            whole = told_advances places Ends (ReadsAll places starts input) level outer news calm (no_end places level outer news is) is told.whole;
+            stops = λ left less. told_advances places (AreLeft left) (StopsAll places left starts input) level outer news calm (no_stop up left less) is (told.stops left less);
+            comes = told.comes;
+            counted = counted_on places (size input) level outer news is told.counted;
+            behind = omega (arith, told.behind, left_on places level outer news is);
+          }
+
+      -- At the end of the outermost level the choice says what is wanted.
+      pub says_ended : (log : List Turn) (its : List Thread) → AreSettled places level.trees level.views → IsEndedWith level outer (views_of log its)
+          → Says places (ReadsAll places starts input) log (choice_of places choice.Nothing its)
+      says_ended log its calm is =
+          says places (ReadsAll places starts input) log its level.trees is.is_ended (subst (AreSettled places level.trees) (sym is.views_are) calm)
+          (subst (λ vs. Told places Ends (ReadsAll places starts input) [] (threads (level.trees ∷ []) vs ++ [])) (sym is.views_are)
+          (subst (λ ls. Told places Ends (ReadsAll places starts input) [] (configs_of (level ∷ ls))) is.is_outermost told.whole))
+
+      -- No path goes on from there.
+      pub stopped_ended : (views : List View) → IsEndedWith level outer views → AreStopped (λ left. StopsAll places left starts input) (size input) at
+      stopped_ended views is =
+          record {
+            left = told.comes.0;
+            place = told.comes.1;
+            comes = told.comes.2;
+            least = λ other less path stops. none other (omega (arith, less, told.comes.1)) path ((told.stops other (omega (arith, less, told.comes.1))).whole path stops);
+          }
+        where
+          some : (left : ℕ) → at + left < size input → Stands level.trees level.views → ⊥
+          some left less stands = omega (arith, less, up stands, ap size is.is_ended, ap (λ o. left_in (levels_of o)) is.is_outermost)
+
+          stands_there : (view : View) → is_here level.trees view.wait ≡ true
+          stands_there view = ended_here level.trees view.wait is.is_ended
+            where
+              ended_here : (trees : Forest) (n : ℕ) → trees ≡ end → is_here trees n ≡ true
+              ended_here trees n ended = subst (λ t. is_here t n ≡ true) (sym ended) refl
+
+          stand : (views : List View) → views ≡ [] ⊎ Stands level.trees views
+          stand [] = inl refl
+          stand (view ∷ views) = inr (inl (stands_there view))
+
+          none_has : (left : ℕ) (views : List View) → views ≡ [] → (path : List ℕ) → Has places (AreLeft left) (threads (level.trees ∷ levels_of outer) views ++ []) path → ⊥
+          none_has left [] e path h = h
+          none_has left (view ∷ views) e path h = cc e
+
+          none_many : (left : ℕ) (views : List View) → views ≡ [] → HasMany places (AreLeft left) (threads (level.trees ∷ levels_of outer) views ++ []) → ⊥
+          none_many left [] e h = h
+          none_many left (view ∷ views) e h = cc e
+
+          none : (left : ℕ) → at + left < size input → (path : List ℕ)
+              → (Has places (AreLeft left) [] path ⊎ Has places (AreLeft left) (configs_of (level ∷ outer)) path)
+              ⊎ (HasMany places (AreLeft left) [] ⊎ HasMany places (AreLeft left) (configs_of (level ∷ outer))) → ⊥
+          none left less path w = by (stand level.views) w
+            where
+              by : level.views ≡ [] ⊎ Stands level.trees level.views
+                  → (Has places (AreLeft left) [] path ⊎ Has places (AreLeft left) (configs_of (level ∷ outer)) path)
+                  ⊎ (HasMany places (AreLeft left) [] ⊎ HasMany places (AreLeft left) (configs_of (level ∷ outer))) → ⊥
+              by (inr stands) w = some left less stands
+              by (inl empty) (inl (inl h)) = h
+              by (inl empty) (inl (inr h)) =
+                  none_has left level.views empty path
+                  (subst (λ o. Has places (AreLeft left) (threads (level.trees ∷ levels_of outer) level.views ++ configs_of o) path) is.is_outermost h)
+              by (inl empty) (inr (inl m)) = m
+              by (inl empty) (inr (inr m)) =
+                  none_many left level.views empty
+                  (subst (λ o. HasMany places (AreLeft left) (threads (level.trees ∷ levels_of outer) level.views ++ configs_of o)) is.is_outermost m)
+
+  -- Where no level is left no path is.
+  pub none_told : (at : ℕ) → AreTold at [] → (path : List ℕ) → ReadsAll places starts input path → ⊥
+  none_told at told path w = none (told.whole.whole path w)
+    where
+      none : (Has places Ends [] path ⊎ Has places Ends [] path) ⊎ (HasMany places Ends [] ⊎ HasMany places Ends []) → ⊥
+      none (inl (inl h)) = h
+      none (inl (inr h)) = h
+      none (inr (inl m)) = m
+      none (inr (inr m)) = m
+
+  -- And none stops.
+  pub stopped_nowhere : (at : ℕ) → AreTold at [] → AreStopped (λ left. StopsAll places left starts input) (size input) at
+  stopped_nowhere at told =
+      record {
+        left = told.comes.0;
+        place = told.comes.1;
+        comes = told.comes.2;
+        least = λ other less path stops. none other path ((told.stops other (omega (arith, less, told.comes.1))).whole path stops);
+      }
+    where
+      none : (left : ℕ) (path : List ℕ) → (Has places (AreLeft left) [] path ⊎ Has places (AreLeft left) [] path) ⊎ (HasMany places (AreLeft left) [] ⊎ HasMany places (AreLeft left) []) → ⊥
+      none left path (inl (inl h)) = h
+      none left path (inl (inr h)) = h
+      none left path (inr (inl m)) = m
+      none left path (inr (inr m)) = m
+
+  -- What the choice says is what was found.
+  pub finds : (log : Vec Turn Global) (at : ℕ) (it : Choice) → Says places (ReadsAll places starts input) log.items it
+      → AreStopped (λ left. StopsAll places left starts input) (size input) at
+      → Finds (ReadsAll places starts input) (λ left. StopsAll places left starts input) (size input) (found_of it log at)
+  finds log at choice.Nothing says stopped = (says, stopped)
+  finds log at (choice.One last) says stopped = says
+  finds log at choice.Many says stopped = says
+
+-- Where a thread stands the place before what is left is reached, and else none is.
+pub reached_is : (log : List Turn) (trees : Forest) (here so_far : ℕ) (its : List Thread)
+    → (Stands trees (views_of log its) × (reached trees here so_far its ≡ here)) ⊎ ((Stands trees (views_of log its) → ⊥) × (reached trees here so_far its ≡ so_far))
+reached_is log trees here so_far [] = inr (λ s. s, refl)
+reached_is log trees here so_far (it ∷ others) = by (is_here trees it.wait) refl (reached_is log trees here so_far others)
+  where
+    by : (b : Bool) → is_here trees it.wait ≡ b
+        → (Stands trees (views_of log others) × (reached trees here so_far others ≡ here)) ⊎ ((Stands trees (views_of log others) → ⊥) × (reached trees here so_far others ≡ so_far))
+        → (Stands trees (view_of log it ∷ views_of log others) × (cond b here (reached trees here so_far others) ≡ here))
+        ⊎ ((Stands trees (view_of log it ∷ views_of log others) → ⊥) × (cond b here (reached trees here so_far others) ≡ so_far))
+    by true is rest = inl (inl is, refl)
+    by false is (inl (stands, same)) = inl (inr stands, same)
+    by false is (inr (none, same)) = inr (λ s. no s, same)
+      where
+        no : Stands trees (view_of log it ∷ views_of log others) → ⊥
+        no (inl here) = cc (sym is ∙ here)
+        no (inr stands) = none stands
+
+module _ (trees : Forest) (here so_far : ℕ) (its : List Thread) (i : ℕ) (d : Thread) where
+  module _ (lt : i < length its) where
+    begins : drop i its ≡ get_or its i d ∷ drop (i + 1) its
+    begins = drop_more its i d lt
+
+    -- The next thread stands.
+    pub reached_here : is_here trees (get_or its i d).wait ≡ true → reached trees here so_far (drop i its) ≡ here
+    reached_here is =
+        ap (reached trees here so_far) begins
+        ∙ ap (λ b. cond b here (reached trees here so_far (drop (i + 1) its))) is
+
+    -- It does not.
+    pub reached_next : is_here trees (get_or its i d).wait ≡ false → reached trees here so_far (drop i its) ≡ reached trees here so_far (drop (i + 1) its)
+    reached_next is =
+        ap (reached trees here so_far) begins
+        ∙ ap (λ b. cond b here (reached trees here so_far (drop (i + 1) its))) is
+
+  -- None does.
+  pub reached_none : length its ≤ i → reached trees here so_far (drop i its) ≡ so_far
+  reached_none le = ap (reached trees here so_far) (drop_all i its le)
+
+-- At the end of a level each thread is at its place.
+pub here_ended : (trees : Forest) (n : ℕ) → is_end trees ≡ true → is_here trees n ≡ true
+here_ended trees n ended = ap (λ b. b || nat_eq n 0) ended
+
+-- So is one that does not wait.
+pub here_now : (trees : Forest) (n : ℕ) → nat_eq n 0 ≡ true → is_here trees n ≡ true
+here_now trees n now = by (is_end trees) (nat_eq n 0) now
+  where
+    by : (a b : Bool) → b ≡ true → (a || b) ≡ true
+    by true b t = refl
+    by false b t = t
+
+-- One that waits before a tree is not.
+pub not_here : (trees : Forest) (n : ℕ) → is_end trees ≡ false → nat_eq n 0 ≡ false → is_here trees n ≡ false
+not_here trees n more waits = ap₂ (λ a b. a || b) more waits

@@ -1,0 +1,124 @@
+-- Edges that lead on, and the places of a pattern where they stand.
+use Rattle.std.proofs.Common.{◌≡◌, inl, inr, ◌+◌, ℕ, suc, zero, true, List, [], ◌∷◌, ◌++◌, length, Some, None, refl, ap, sym, subst, arith}
+use Rattle.std.specs.Prelude.{◌⊎◌, slice_get, Option}
+use Rattle.tt.specs.Forest.{Forest, end}
+use Rattle.mbe_matcher.specs.declared.places.Place.{Place}
+use Rattle.mbe_matcher.specs.Compiled.{Stop, IsStop, Stand}
+use Rattle.mbe_matcher.specs.Paths.{shift}
+use Rattle.mbe_matcher.specs.Places.{Passes, onward, OnEdge, Ends, Goes, GoesOn, Reads, is_leave}
+
+module _ (places : List Place) where
+  pub stand_left : (at : ℕ) (xs ys : List Stop) → Stand places at (xs ++ ys) → Stand places at xs
+  stand_left at [] ys all = tt
+  stand_left at (x ∷ xs) ys all = (all.0, stand_left (suc at) xs ys all.1)
+
+  pub stand_right : (at to : ℕ) (xs ys : List Stop) → to ≡ at + length xs → Stand places at (xs ++ ys) → Stand places to ys
+  stand_right at to [] ys is all = let same : at ≡ to = omega (arith, is) in subst (λ n. Stand places n ys) same all
+  stand_right at to (x ∷ xs) ys is all = stand_right (suc at) to xs ys (omega (arith, is)) all.1
+
+  module _ (levels : List Forest) (at : ℕ) (stop : Stop) (stands : IsStop (slice_get places at) stop) where
+    -- At the end of all a path ends, and only there.
+    pub ends_by : is_leave stop.asked ≡ true → levels ≡ end ∷ [] → Reads places at levels []
+    ends_by leave ended = by (slice_get places at) stands
+      where
+        by : (place : Option Place) → IsStop place stop → Ends place levels
+        by None is = absurd is
+        by (Some place) is = (subst (λ a. is_leave a ≡ true) (sym is.0) leave, ended)
+
+    pub ended_by : Ends (slice_get places at) levels → (is_leave stop.asked ≡ true) × (levels ≡ end ∷ [])
+    ended_by ends = by (slice_get places at) stands ends
+      where
+        by : (place : Option Place) → IsStop place stop → Ends place levels → (is_leave stop.asked ≡ true) × (levels ≡ end ∷ [])
+        by None is e = absurd is
+        by (Some place) is e = (subst (λ a. is_leave a ≡ true) is.0 e.0, e.1)
+
+module _ (places : List Place) (Last : Option Place → List Forest → Type 0) where
+  -- the path leads on by one of the edges, to where that holds
+  abbrev pub Via : (edges : List ℕ) → (levels : List Forest) → (path : List ℕ) → Type 0
+  Via edges levels [] = ⊥
+  Via edges levels (turn ∷ more) = OnEdge turn edges (λ to. Goes places Last to levels more)
+
+  module _ (levels : List Forest) where
+    -- By the first of some edges.
+    pub via_left : (xs ys path : List ℕ) → Via xs levels path → Via (xs ++ ys) levels path
+    via_left xs ys [] v = absurd v
+    via_left xs ys (turn ∷ more) v = by xs turn v
+      where
+        by : (xs : List ℕ) (turn : ℕ) → OnEdge turn xs (λ to. Goes places Last to levels more) → OnEdge turn (xs ++ ys) (λ to. Goes places Last to levels more)
+        by [] turn on = absurd on
+        by (x ∷ xs) zero on = on
+        by (x ∷ xs) (suc turn) on = by xs turn on
+
+    -- By the others.
+    pub via_right : (xs ys path : List ℕ) → Via ys levels path → Via (xs ++ ys) levels (shift (length xs) path)
+    via_right xs ys [] v = absurd v
+    via_right xs ys (turn ∷ more) v = by xs
+      where
+        by : (xs : List ℕ) → OnEdge (length xs + turn) (xs ++ ys) (λ to. Goes places Last to levels more)
+        by [] = let same : turn ≡ 0 + turn = omega arith in subst (λ n. OnEdge n ys (λ to. Goes places Last to levels more)) same v
+        by (x ∷ xs) =
+            let next : suc (length xs + turn) ≡ suc (length xs) + turn = omega arith in
+            subst (λ n. OnEdge n (x ∷ (xs ++ ys)) (λ to. Goes places Last to levels more)) next (by xs)
+
+    -- By one of both.
+    pub via_split : (xs ys path : List ℕ) → Via (xs ++ ys) levels path
+        → Via xs levels path ⊎ ((rest : List ℕ) × (path ≡ shift (length xs) rest) × Via ys levels rest)
+    via_split xs ys [] v = absurd v
+    via_split xs ys (turn ∷ more) v = found (by xs turn v)
+      where
+        found : OnEdge turn xs (λ to. Goes places Last to levels more)
+            ⊎ ((ahead : ℕ) × (turn ≡ length xs + ahead) × OnEdge ahead ys (λ to. Goes places Last to levels more))
+            → Via xs levels (turn ∷ more) ⊎ ((rest : List ℕ) × (turn ∷ more ≡ shift (length xs) rest) × Via ys levels rest)
+        found (inl on) = inl on
+        found (inr (ahead, is, on)) = inr (ahead ∷ more, ap (λ n. n ∷ more) is, on)
+
+        by : (xs : List ℕ) (turn : ℕ) → OnEdge turn (xs ++ ys) (λ to. Goes places Last to levels more)
+            → OnEdge turn xs (λ to. Goes places Last to levels more)
+            ⊎ ((ahead : ℕ) × (turn ≡ length xs + ahead) × OnEdge ahead ys (λ to. Goes places Last to levels more))
+        by [] turn on = inr (turn, omega arith, on)
+        by (x ∷ xs) zero on = inl on
+        by (x ∷ xs) (suc turn) on =
+            elim (by xs turn on) [
+              | inl l ↦ inl l
+              | inr (ahead, is, r) ↦ inr (ahead, omega (arith, is), r)
+            ]
+
+    -- No edge leads on.
+    pub via_none : (path : List ℕ) → Via [] levels path → ⊥
+    via_none [] v = v
+    via_none (turn ∷ more) v = v
+
+    -- The only edge does.
+    pub via_one : (to : ℕ) (path : List ℕ) → Via (to ∷ []) levels path → (more : List ℕ) × (path ≡ 0 ∷ more) × Goes places Last to levels more
+    via_one to [] v = absurd v
+    via_one to (zero ∷ more) v = (more, refl, v)
+    via_one to (suc turn ∷ more) v = absurd v
+
+    module _ (at : ℕ) (stop : Stop) (stands : IsStop (slice_get places at) stop) where
+      -- What a place asks is there, and an edge of it leads on.
+      pub goes_by : (path : List ℕ) → Passes stop.asked levels → Via stop.edges (onward stop.asked levels) path → Goes places Last at levels path
+      goes_by [] passes v = absurd v
+      goes_by (turn ∷ more) passes v = by (slice_get places at) stands
+        where
+          by : (place : Option Place) → IsStop place stop → GoesOn place levels turn (λ to further. Goes places Last to further more)
+          by None is = absurd is
+          by (Some place) is = (
+            subst (λ a. Passes a levels) (sym is.0) passes,
+            subst (λ a. OnEdge turn place.edges.items (λ to. Goes places Last to (onward a levels) more)) (sym is.0)
+                (subst (λ e. OnEdge turn e (λ to. Goes places Last to (onward stop.asked levels) more)) (sym is.1) v),
+          )
+
+      -- So it is where the path does not end.
+      pub comes_by : (path : List ℕ) → Goes places Last at levels path
+          → ((path ≡ []) × Last (slice_get places at) levels) ⊎ (Passes stop.asked levels × Via stop.edges (onward stop.asked levels) path)
+      comes_by [] last = inl (refl, last)
+      comes_by (turn ∷ more) goes = by (slice_get places at) stands goes
+        where
+          by : (place : Option Place) → IsStop place stop → GoesOn place levels turn (λ to further. Goes places Last to further more)
+              → ((turn ∷ more ≡ []) × Last (slice_get places at) levels) ⊎ (Passes stop.asked levels × Via stop.edges (onward stop.asked levels) (turn ∷ more))
+          by None is g = absurd is
+          by (Some place) is g = inr (
+            subst (λ a. Passes a levels) is.0 g.0,
+            subst (λ e. OnEdge turn e (λ to. Goes places Last to (onward stop.asked levels) more)) is.1
+                (subst (λ a. OnEdge turn place.edges.items (λ to. Goes places Last to (onward a levels) more)) is.0 g.1),
+          )

@@ -1,0 +1,14 @@
+-- What was cut, and what is left of the pattern.
+use Rattle.std.proofs.Common.{map}
+use Rattle.tt.specs.Iters.{rest_of}
+use Rattle.mbe_matcher.specs.Cutting.{levels_left}
+use Rattle.mbe_matcher.specs.Pieces.{bit_of}
+use Rattle.mbe_pattern.specs.Spelling.{pattern_of}
+use Rattle.mbe_matcher.proofs.CutWhole.{Cut, work_of}
+use Rattle.mbe_matcher.proofs.cutting.cut.Given as goal
+
+abbrev pub invariant-loop-level : goal.invariant-loop-level
+invariant-loop-level l = Cut (pattern_of (rest_of l.fn.pattern)) (map bit_of l.cutting.pieces.items) l.cutting.count (levels_left l.cutting.levels.items)
+
+abbrev pub decreases-loop-level : goal.decreases-loop-level
+decreases-loop-level l = work_of (levels_left l.cutting.levels.items)

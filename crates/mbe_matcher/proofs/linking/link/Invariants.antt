@@ -1,0 +1,11 @@
+-- What is left makes of what was made what the whole makes of nothing.
+use Rattle.std.proofs.Common.{◌≡◌, length, map}
+use Rattle.mbe_matcher.specs.Linking.{made_of, made_by, nothing_made}
+use Rattle.mbe_matcher.specs.Pieces.{bit_of}
+use Rattle.mbe_matcher.proofs.linking.link.Given as goal
+
+abbrev pub invariant-loop-piece : goal.invariant-loop-piece
+invariant-loop-piece l = made_of (map bit_of l.pieces.items) (made_by l.linked) ≡ made_of (map bit_of l.fn.pieces.items) nothing_made
+
+abbrev pub decreases-loop-piece : goal.decreases-loop-piece
+decreases-loop-piece l = length l.pieces.items

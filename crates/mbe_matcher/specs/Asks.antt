@@ -1,0 +1,21 @@
+-- What a place of a pattern asks of an input.
+use Rattle.std.specs.Prelude.{List}
+use Rattle.tt.specs.Types.DelimiterKind.{DelimiterKind}
+use Rattle.tt.specs.Types.Leaf.{Leaf}
+use Rattle.mbe_pattern.specs.declared.pattern.Variable.{Variable}
+use Rattle.mbe_matcher.specs.declared.places.Atom.{Atom}
+use Rattle.mbe_matcher.specs.declared.places.Atom.TheVariants as atom
+
+-- what a variable takes, a token of these leaves, a subtree of a kind, or the end of a subtree
+pub data Ask : Type 0 where
+  take : Variable → Ask
+  same : List Leaf → Ask
+  enter : DelimiterKind → Ask
+  leave : Ask
+
+-- what an atom asks
+abbrev pub ask_of : Atom → Ask
+ask_of (atom.Take which) = take which
+ask_of (atom.Same its) = same its.items
+ask_of (atom.Enter kind) = enter kind
+ask_of atom.Leave = leave

@@ -1,0 +1,155 @@
+-- What a fragment takes.
+use Rattle.std.specs.Prelude.{ℕ, zero, suc, List, Bool, true, false, ◌&&◌, ◌||◌, not, Option, None, Some, bytes_eq, codes, is_some, if◌then◌else◌}
+use Rattle.tt.specs.Expectations.{first_leaf_as, as_literal, as_ident_or_underscore, unless_underscore}
+use Rattle.tt.specs.Forest.{Forest, end, leaf, node}
+use Rattle.tt.specs.Gluing.{after_trees}
+use Rattle.tt.specs.Literal.{kind_of}
+use Rattle.tt.specs.Moves.{after_tree}
+use Rattle.tt.specs.Siblings.{is_end}
+use Rattle.tt.specs.Types.DelimiterKind.{DelimiterKind}
+use Rattle.tt.specs.Types.DelimiterKind.TheVariants as delimited
+use Rattle.tt.specs.Types.Ident.{Ident}
+use Rattle.tt.specs.Types.IdentIsRaw.{IdentIsRaw}
+use Rattle.tt.specs.Types.IdentIsRaw.TheVariants.{No, Yes}
+use Rattle.tt.specs.Types.LitKind.{LitKind}
+use Rattle.tt.specs.Types.LitKind.TheVariants as literal
+use Rattle.tt.specs.Types.Leaf.{Leaf}
+use Rattle.tt.specs.Types.Leaf.TheVariants as leaf_of
+use Rattle.mbe_matcher.specs.GrammarReach.{grammar_reach}
+use Rattle.mbe_pattern.specs.declared.pattern.Fragment.{Fragment}
+use Rattle.mbe_pattern.specs.declared.pattern.Fragment.TheVariants as fragment
+use Rattle.mbe_pattern.specs.Spelling.{is_parenthesis}
+use Rattle.mbe_pattern.specs.Units.{is_at_ident, is_at_punct, unit_size}
+
+-- a literal, or a truth value, stands first
+abbrev pub is_at_literal : Forest → Bool
+is_at_literal trees = is_some (first_leaf_as as_literal trees)
+
+-- a kind of numbers
+abbrev pub is_number_kind : LitKind → Bool
+is_number_kind literal.Byte = false
+is_number_kind literal.Char = false
+is_number_kind literal.Integer = true
+is_number_kind literal.Float = true
+is_number_kind literal.Str = false
+is_number_kind (literal.StrRaw hashes) = false
+is_number_kind literal.ByteStr = false
+is_number_kind (literal.ByteStrRaw hashes) = false
+is_number_kind literal.CStr = false
+is_number_kind (literal.CStrRaw hashes) = false
+is_number_kind (literal.Err fault) = false
+
+-- a number
+abbrev pub is_number : Leaf → Bool
+is_number (leaf_of.Literal it) = is_number_kind (kind_of it)
+is_number (leaf_of.Punct it) = false
+is_number (leaf_of.Ident it) = false
+
+-- a number stands first
+abbrev pub is_at_number : Forest → Bool
+is_at_number end = false
+is_at_number (leaf it rest) = is_number it
+is_at_number (node delimiter children rest) = false
+
+-- a `-` and a number stand first
+abbrev pub is_at_negative : Forest → Bool
+is_at_negative trees = is_at_punct (codes "-") trees && is_at_number (after_tree trees)
+
+-- how many trees a literal is
+abbrev pub literal_size : Forest → ℕ
+literal_size trees = if is_at_negative trees then 2 else 1
+
+-- a `'` and an ident stand first
+abbrev pub is_at_lifetime : Forest → Bool
+is_at_lifetime trees = is_at_punct (codes "'") trees && is_at_ident (after_tree trees)
+
+-- a subtree in braces stands first
+abbrev pub is_brace : DelimiterKind → Bool
+is_brace delimited.Parenthesis = false
+is_brace delimited.Brace = true
+is_brace delimited.Bracket = false
+is_brace delimited.Invisible = false
+is_brace delimited.InvisibleOpaque = false
+
+abbrev pub is_at_block : Forest → Bool
+is_at_block end = false
+is_at_block (leaf it rest) = false
+is_at_block (node delimiter children rest) = is_brace delimiter.kind
+
+-- the ident of that text stands first, and is not raw
+abbrev pub is_word : (text : List ℕ) → IdentIsRaw → List ℕ → Bool
+is_word text No its = bytes_eq its text
+is_word text Yes its = false
+
+abbrev pub is_word_from : (text : List ℕ) → Option Ident → Bool
+is_word_from text None = false
+is_word_from text (Some it) = is_word text it.is_raw it.sym
+
+abbrev pub is_at_word : (text : List ℕ) → Forest → Bool
+is_at_word text trees = is_word_from text (first_leaf_as as_ident_or_underscore trees)
+
+-- `in` and what is behind it, or `crate`, `self` or `super` alone
+abbrev pub is_scope : (inside : Forest) → Bool
+is_scope inside =
+    is_at_word (codes "in") inside
+    || ((is_at_word (codes "crate") inside || (is_at_word (codes "self") inside || is_at_word (codes "super") inside)) && is_end (after_tree inside))
+
+-- parentheses that hold that stand first
+abbrev pub is_at_scope : Forest → Bool
+is_at_scope end = false
+is_at_scope (leaf it rest) = false
+is_at_scope (node delimiter children rest) = is_parenthesis delimiter.kind && is_scope children
+
+-- how many trees a visibility is: `pub` and such parentheses, or `pub`, or none
+abbrev pub visibility_size : Forest → ℕ
+visibility_size trees = if is_at_word (codes "pub") trees then (if is_at_scope (after_tree trees) then 2 else 1) else 0
+
+-- the fragment takes what stands first: an ident other than `_`; a literal, a truth value, or a number behind `-`; a lifetime; a
+-- subtree in braces; a visibility, or nothing where none stands; any token or subtree; or what Rust's grammar does
+abbrev pub takes : Fragment → Forest → Bool
+takes fragment.Ident trees = is_some (unless_underscore (first_leaf_as as_ident_or_underscore trees))
+takes fragment.Literal trees = is_at_literal trees || is_at_negative trees
+takes fragment.Lifetime trees = is_at_lifetime trees
+takes fragment.Block trees = is_at_block trees
+takes fragment.Vis trees = true
+takes fragment.Tt trees = not (is_end trees)
+takes (fragment.Grammar which) trees = is_some (grammar_reach which trees)
+
+-- it takes nothing of them
+abbrev pub takes_nothing : Fragment → Forest → Bool
+takes_nothing fragment.Ident trees = false
+takes_nothing fragment.Literal trees = false
+takes_nothing fragment.Lifetime trees = false
+takes_nothing fragment.Block trees = false
+takes_nothing fragment.Vis trees = not (is_at_word (codes "pub") trees)
+takes_nothing fragment.Tt trees = false
+takes_nothing (fragment.Grammar which) trees = false
+
+-- that number, or one
+abbrev pub or_one : Option ℕ → ℕ
+or_one None = 1
+or_one (Some n) = n
+
+-- how many trees that is
+abbrev pub reach : Fragment → Forest → ℕ
+reach fragment.Ident trees = 1
+reach fragment.Literal trees = literal_size trees
+reach fragment.Lifetime trees = 2
+reach fragment.Block trees = 1
+reach fragment.Vis trees = visibility_size trees
+reach fragment.Tt trees = unit_size trees
+reach (fragment.Grammar which) trees = or_one (grammar_reach which trees)
+
+-- so many trees at the front, if there are as many
+abbrev pub front_trees : ℕ → Forest → Forest
+front_trees zero trees = end
+front_trees (suc n) end = end
+front_trees (suc n) (leaf it rest) = leaf it (front_trees n rest)
+front_trees (suc n) (node delimiter children rest) = node delimiter children (front_trees n rest)
+
+-- the trees that the fragment takes, and those behind them
+abbrev pub taken : Fragment → Forest → Forest
+taken which trees = front_trees (reach which trees) trees
+
+abbrev pub left_by : Fragment → Forest → Forest
+left_by which trees = after_trees (reach which trees) trees

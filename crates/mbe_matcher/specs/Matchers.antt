@@ -1,0 +1,17 @@
+-- Which matcher is that of a pattern.
+use Rattle.std.specs.Prelude.{◌≡◌, suc, length, map}
+use Rattle.mbe_matcher.specs.declared.matcher.Matcher.{Matcher}
+use Rattle.mbe_matcher.specs.Compiled.{Stand, place_count, all_stops, starts_of}
+use Rattle.mbe_matcher.specs.Grouping.{variables_of}
+use Rattle.mbe_pattern.specs.Patterns.{Pattern, IsFull}
+use Rattle.mbe_matcher.specs.Stepping.{where_of}
+use Rattle.mbe_matcher.specs.Steps.{steps_of}
+
+-- a matcher of the pattern, each repetition of which holds a tree at least
+pub record IsMatcherOf (pattern : Pattern) (matcher : Matcher) : Type 0 where
+  pub full : IsFull pattern
+  pub count : length matcher.places.items ≡ suc (place_count pattern)
+  pub stand : Stand matcher.places.items 0 (all_stops pattern)
+  pub starts : matcher.starts.items ≡ starts_of pattern
+  pub steps : matcher.steps.items ≡ steps_of pattern
+  pub variables : map where_of matcher.binders.items ≡ variables_of pattern 1

@@ -1,0 +1,110 @@
+-- Places of a pattern, and their paths through an input.
+use Rattle.std.specs.Prelude.{◌≡◌, ◌+◌, ℕ, zero, suc, Bool, true, false, List, [], ◌∷◌, length, Option, None, Some, slice_get}
+use Rattle.tt.specs.Forest.{Forest, end, size}
+use Rattle.tt.specs.Gluing.{after_trees}
+use Rattle.tt.specs.Moves.{after_tree}
+use Rattle.tt.specs.Siblings.{children_of}
+use Rattle.mbe_matcher.specs.declared.places.Place.{Place}
+use Rattle.mbe_matcher.specs.Asks.{Ask, ask_of}
+use Rattle.mbe_matcher.specs.Asks as ask
+use Rattle.mbe_matcher.specs.Fragments.{takes, reach}
+use Rattle.mbe_pattern.specs.declared.pattern.Variable.{Variable}
+use Rattle.mbe_pattern.specs.Units.{IsUnitLike, IsNodeOf}
+
+-- what is left of the innermost level
+abbrev pub front : List Forest → Forest
+front [] = end
+front (trees ∷ outer) = trees
+
+-- the innermost level is at its end
+abbrev pub IsEnded : List Forest → Type 0
+IsEnded [] = ⊥
+IsEnded (trees ∷ outer) = trees ≡ end
+
+-- the variable takes what stands first in the innermost level
+abbrev pub TakesFront : Variable → List Forest → Type 0
+TakesFront which [] = ⊥
+TakesFront which (trees ∷ outer) = takes which.fragment trees ≡ true
+
+-- what is asked of the levels that are left, the innermost first, is there
+abbrev pub Passes : Ask → List Forest → Type 0
+Passes (ask.take which) levels = TakesFront which levels
+Passes (ask.same its) levels = IsUnitLike its (front levels)
+Passes (ask.enter kind) levels = IsNodeOf kind (front levels)
+Passes ask.leave levels = IsEnded levels
+
+-- the levels behind so many trees
+abbrev pub passed : ℕ → List Forest → List Forest
+passed n [] = []
+passed n (trees ∷ outer) = after_trees n trees ∷ outer
+
+-- the levels in the first tree
+abbrev pub entered : List Forest → List Forest
+entered [] = []
+entered (trees ∷ outer) = children_of trees ∷ after_tree trees ∷ outer
+
+-- the levels outside
+abbrev pub left : List Forest → List Forest
+left [] = []
+left (trees ∷ outer) = outer
+
+-- the levels behind what was asked
+abbrev pub onward : Ask → List Forest → List Forest
+onward (ask.take which) levels = passed (reach which.fragment (front levels)) levels
+onward (ask.same its) levels = passed (length its) levels
+onward (ask.enter kind) levels = entered levels
+onward ask.leave levels = left levels
+
+-- the edge of that number leads to where this holds
+abbrev pub OnEdge : (turn : ℕ) → (edges : List ℕ) → (ℕ → Type 0) → Type 0
+OnEdge turn [] P = ⊥
+OnEdge zero (to ∷ others) P = P to
+OnEdge (suc turn) (to ∷ others) P = OnEdge turn others P
+
+-- it is the end of a subtree, or of all
+abbrev pub is_leave : Ask → Bool
+is_leave (ask.take which) = false
+is_leave (ask.same its) = false
+is_leave (ask.enter kind) = false
+is_leave ask.leave = true
+
+-- the path ends here: no level is left
+abbrev pub Ends : Option Place → (levels : List Forest) → Type 0
+Ends None levels = ⊥
+Ends (Some place) levels = (is_leave (ask_of place.atom) ≡ true) × (levels ≡ end ∷ [])
+
+-- what the place asks is there, and the edge leads to where this holds of the levels behind it
+abbrev pub GoesOn : Option Place → (levels : List Forest) → (turn : ℕ) → (ℕ → List Forest → Type 0) → Type 0
+GoesOn None levels turn P = ⊥
+GoesOn (Some place) levels turn P = Passes (ask_of place.atom) levels × OnEdge turn place.edges.items (λ to. P to (onward (ask_of place.atom) levels))
+
+-- the path, of the numbers of edges, leads from a place before levels to where this holds of a place and the levels that are left
+abbrev pub Goes : (places : List Place) → (Last : Option Place → List Forest → Type 0) → (at : ℕ) → (levels : List Forest) → (path : List ℕ) → Type 0
+Goes places Last at levels [] = Last (slice_get places at) levels
+Goes places Last at levels (turn ∷ path) = GoesOn (slice_get places at) levels turn (λ to further. Goes places Last to further path)
+
+-- it does from one of the places where the pattern starts
+abbrev pub GoesAll : (places : List Place) → (Last : Option Place → List Forest → Type 0) → (starts : List ℕ) → (input : Forest) → (path : List ℕ) → Type 0
+GoesAll places Last starts input [] = ⊥
+GoesAll places Last starts input (turn ∷ path) = OnEdge turn starts (λ to. Goes places Last to (input ∷ []) path)
+
+-- the path leads from a place through all that is left of the levels
+abbrev pub Reads : (places : List Place) → (at : ℕ) → (levels : List Forest) → (path : List ℕ) → Type 0
+Reads places = Goes places Ends
+
+-- it leads through all of an input
+abbrev pub ReadsAll : (places : List Place) → (starts : List ℕ) → (input : Forest) → (path : List ℕ) → Type 0
+ReadsAll places = GoesAll places Ends
+
+-- how many tokens are left of the levels
+abbrev pub left_in : List Forest → ℕ
+left_in [] = 0
+left_in (trees ∷ outer) = size trees + left_in outer
+
+-- so many are left, whatever the place
+abbrev pub AreLeft : (left : ℕ) → Option Place → List Forest → Type 0
+AreLeft left place levels = left ≡ left_in levels
+
+-- the path leads from a start to where so many are left
+abbrev pub StopsAll : (places : List Place) → (left : ℕ) → (starts : List ℕ) → (input : Forest) → (path : List ℕ) → Type 0
+StopsAll places left = GoesAll places (AreLeft left)

@@ -1,0 +1,90 @@
+-- The steps that are made of pieces, from the last.
+use Rattle.std.specs.Prelude.{ℕ, List, [], ◌∷◌, length, reverse, map}
+use Rattle.mbe_pattern.specs.declared.pattern.Variable.{Variable}
+use Rattle.mbe_matcher.specs.declared.steps.Binder.{Binder}
+use Rattle.mbe_matcher.specs.declared.steps.End.{End}
+use Rattle.mbe_matcher.specs.declared.steps.Step.{Step}
+use Rattle.mbe_matcher.specs.declared.steps.Step.TheVariants as step
+use Rattle.mbe_matcher.specs.declared.steps.Stepped.{Stepped}
+use Rattle.mbe_matcher.specs.Asks.{Ask}
+use Rattle.mbe_matcher.specs.Asks as ask
+use Rattle.mbe_matcher.specs.Grouping.{Where}
+use Rattle.mbe_matcher.specs.Linking.{again_from}
+use Rattle.mbe_pattern.specs.Patterns.{may_be_more}
+use Rattle.mbe_matcher.specs.Pieces.{Bit, begin, close, place}
+use Rattle.mbe_matcher.specs.Steps.{with_begin}
+
+-- steps that were made, the repetitions whose beginning is still to come, the innermost first, and variables
+pub record Taken : Type 0 where
+  pub steps : List Step
+  pub ends : List End
+  pub variables : List Where
+
+-- the step of what a place asks
+abbrev pub step_of : Ask → Step
+step_of (ask.take which) = step.Take which.fragment
+step_of (ask.same its) = step.Pass (length its)
+step_of (ask.enter kind) = step.Enter
+step_of ask.leave = step.Leave
+
+-- the number of a repetition
+abbrev pub number_of : End → ℕ
+number_of it = it.behind
+
+-- a variable, before its step
+abbrev pub bound_with : Variable → Taken → Taken
+bound_with it taken =
+    record {
+      steps = taken.steps;
+      ends = taken.ends;
+      variables = record { variable = it; number = length taken.steps; nest = map number_of (reverse taken.ends) } ∷ taken.variables;
+    }
+
+-- the step of a place, and its variable
+abbrev pub with_step : Step → Taken → Taken
+with_step it taken = record { steps = it ∷ taken.steps; ends = taken.ends; variables = taken.variables }
+
+abbrev pub placed_with : Ask → Taken → Taken
+placed_with (ask.take it) taken = with_step (step.Take it.fragment) (bound_with it taken)
+placed_with (ask.same its) taken = with_step (step.Pass (length its)) taken
+placed_with (ask.enter kind) taken = with_step step.Enter taken
+placed_with ask.leave taken = with_step step.Leave taken
+
+-- what a variable of a matcher stands for
+abbrev pub where_of : Binder → Where
+where_of it = record { variable = record { name = it.name; fragment = it.fragment }; number = it.number; nest = it.nest.items }
+
+-- the beginning of the innermost repetition that is open
+abbrev pub with_beginning : List End → Taken → Taken
+with_beginning [] taken = taken
+with_beginning (it ∷ others) taken = record { steps = with_begin it.ways it.separator it.behind taken.steps; ends = others; variables = taken.variables }
+
+-- the end of a repetition, into which so many edges lead, and to another round of which so many
+abbrev pub closed_with : (ways separator again : ℕ) → Taken → Taken
+closed_with ways separator again taken =
+    record {
+      steps = step.Close again ∷ taken.steps;
+      ends = record { ways = ways; separator = separator; behind = length taken.steps } ∷ taken.ends;
+      variables = taken.variables;
+    }
+
+-- one piece more, from the last
+abbrev pub taken_with : Bit → Taken → Taken
+taken_with (place at asked) taken = placed_with asked taken
+taken_with begin taken = with_beginning taken.ends taken
+taken_with (close at separator kind its) taken =
+    closed_with (length its) (length separator) (length (again_from at separator (may_be_more kind) its)) taken
+
+-- all of them
+abbrev pub taken_of : List Bit → Taken → Taken
+taken_of [] taken = taken
+taken_of (it ∷ others) taken = taken_with it (taken_of others taken)
+
+-- none was made
+abbrev pub nothing_taken : Taken
+nothing_taken = record { steps = []; ends = []; variables = [] }
+
+-- what was made, of which the last stands last
+abbrev pub taken_by : Stepped → Taken
+taken_by stepped =
+    record { steps = reverse stepped.steps.items; ends = reverse stepped.ends.items; variables = map where_of (reverse stepped.binders.items) }

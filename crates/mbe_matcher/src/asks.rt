@@ -1,0 +1,215 @@
+//! What stands first among trees: the tokens of a pattern, and what its fragments take.
+ghost use Rattle.std.specs.Prelude.{◌≡◌, ◌↔◌, IfOk, IsTrue};
+ghost use Rattle.tt.specs.Iters.{rest_of};
+ghost use Rattle.tt.specs.Moves.{after_tree};
+ghost use Rattle.mbe_grammar.specs.Fragments.{Reaches};
+ghost use Rattle.mbe_matcher.specs.Fragments.{is_at_number, is_at_negative, is_at_lifetime, is_at_block, is_at_word, is_scope, is_at_scope, visibility_size, literal_size, takes, takes_nothing, reach};
+ghost use Rattle.mbe_matcher.specs.GrammarReach.{grammar_reach};
+ghost use Rattle.mbe_pattern.specs.Units.{is_at_ident, unit_size, IsSameLeaf, IsLeafLike, AreLeavesLike};
+
+use mbe_grammar::reach as reach_by_grammar;
+use mbe_pattern::{Fragment, GrammarFragment, unit_size};
+use std::alloc::{AllocError, Global};
+use tt::{DelimiterKind, IdentIsRaw, Leaf, LitKind, TtElement, TtIter};
+
+/// Whether the leaves are the same, spans and spacing put aside.
+pub(crate) fn is_same_leaf(leaf: &Leaf, other: &Leaf) -> bool
+    ensures { IsTrue result ↔ IsSameLeaf leaf.now other.now }
+{
+    match (leaf, other) {
+        (Leaf::Literal(left), Leaf::Literal(right)) => {
+            left.kind() == right.kind()
+                && left.text() == right.text()
+                && left.suffix() == right.suffix()
+        }
+        (Leaf::Punct(left), Leaf::Punct(right)) => left.char == right.char,
+        (Leaf::Ident(left), Leaf::Ident(right)) => {
+            left.sym == right.sym && left.is_raw == right.is_raw
+        }
+        _ => false,
+    }
+}
+
+// Takes the next tree: whether it is such a leaf.
+fn passes_leaf(leaf: &Leaf, trees: &mut TtIter<'_>) -> bool
+    ensures answer { IsTrue result ↔ IsLeafLike leaf.now (rest_of trees.old) }
+    ensures rest { rest_of trees.new ≡ after_tree (rest_of trees.old) }
+{
+    match trees.expect_leaf() {
+        Ok(other) => is_same_leaf(leaf, &other),
+        Err(()) => false,
+    }
+}
+
+/// Whether the first trees are such leaves, one by one.
+pub(crate) fn are_leaves_like(leaves: &[Leaf], mut trees: TtIter<'_>) -> bool
+    ensures { IsTrue result ↔ AreLeavesLike leaves.now (rest_of trees.entry) }
+{
+    for leaf in leaves {
+        if !passes_leaf(leaf, &mut trees) {
+            return false;
+        }
+    }
+    true
+}
+
+// Whether a number stands first.
+fn is_at_number(mut trees: TtIter<'_>) -> bool
+    ensures { result ≡ is_at_number (rest_of trees.entry) }
+{
+    match trees.next() {
+        Some(TtElement::Leaf(Leaf::Literal(literal))) => matches!(
+            literal.kind(),
+            LitKind::Integer | LitKind::Float,
+        ),
+        _ => false,
+    }
+}
+
+// Whether a `-` and a number stand first.
+fn is_at_negative(mut trees: TtIter<'_>) -> bool
+    ensures { result ≡ is_at_negative (rest_of trees.entry) }
+{
+    trees.expect_char('-').is_ok() && is_at_number(trees)
+}
+
+// Whether a `'` and an ident stand first.
+fn is_at_lifetime(mut trees: TtIter<'_>) -> bool
+    ensures { result ≡ is_at_lifetime (rest_of trees.entry) }
+{
+    trees.expect_char('\'').is_ok() && trees.expect_ident_or_underscore().is_ok()
+}
+
+// Whether a subtree in braces stands first.
+fn is_at_block(mut trees: TtIter<'_>) -> bool
+    ensures { result ≡ is_at_block (rest_of trees.entry) }
+{
+    match trees.next() {
+        Some(TtElement::Subtree(header, _)) => header.delimiter.kind == DelimiterKind::Brace,
+        _ => false,
+    }
+}
+
+// Whether the ident of that text stands first, and is not raw.
+fn is_at_word(mut trees: TtIter<'_>, text: &str) -> bool
+    ensures { result ≡ is_at_word text.now (rest_of trees.entry) }
+{
+    match trees.expect_ident_or_underscore() {
+        Ok(ident) => match ident.is_raw {
+            IdentIsRaw::No => ident.sym.as_str() == text,
+            IdentIsRaw::Yes => false,
+        },
+        Err(()) => false,
+    }
+}
+
+// Whether they are `in` and what is behind it, or `crate`, `self` or `super` alone.
+fn is_scope(mut trees: TtIter<'_>) -> bool
+    ensures { result ≡ is_scope (rest_of trees.entry) }
+{
+    if is_at_word(trees.remaining().iter(), "in") {
+        return true;
+    }
+    let is_root = is_at_word(trees.remaining().iter(), "crate")
+        || is_at_word(trees.remaining().iter(), "self")
+        || is_at_word(trees.remaining().iter(), "super");
+    trees.next();
+    is_root && trees.is_empty()
+}
+
+// Whether parentheses that hold that stand first.
+fn is_at_scope(mut trees: TtIter<'_>) -> bool
+    ensures { result ≡ is_at_scope (rest_of trees.entry) }
+{
+    match trees.next() {
+        Some(TtElement::Subtree(header, inside)) => {
+            header.delimiter.kind == DelimiterKind::Parenthesis && is_scope(inside)
+        }
+        _ => false,
+    }
+}
+
+// How many trees a visibility is: `pub` and such parentheses, or `pub`, or none.
+fn visibility_size(mut trees: TtIter<'_>) -> usize
+    ensures { result ≡ visibility_size (rest_of trees.entry) }
+{
+    if !is_at_word(trees.remaining().iter(), "pub") {
+        return 0;
+    }
+    trees.next();
+    if is_at_scope(trees) { 2 } else { 1 }
+}
+
+/// How many trees the fragment of Rust's grammar takes, if it takes what stands first. It is refused only where memory is.
+pub(crate) fn grammar_reach(
+    alloc: Global,
+    fragment: GrammarFragment,
+    trees: TtIter<'_>,
+) -> Result<Option<usize>, AllocError>
+    ensures reaches { IfOk result (λ count. Reaches fragment (rest_of trees.entry) count) }
+    ensures told { IfOk result (λ count. count ≡ grammar_reach fragment (rest_of trees.entry)) }
+{
+    reach_by_grammar(alloc, fragment, trees)
+}
+
+/// Whether the fragment takes what stands first. It is refused only where memory is.
+pub(crate) fn takes(
+    alloc: Global,
+    fragment: Fragment,
+    mut trees: TtIter<'_>,
+) -> Result<bool, AllocError>
+    ensures { IfOk result (λ answer. answer ≡ takes fragment (rest_of trees.entry)) }
+{
+    match fragment {
+        Fragment::Ident => Ok(trees.expect_ident().is_ok()),
+        Fragment::Literal => {
+            let ahead = trees.remaining().iter();
+            Ok(trees.expect_literal().is_ok() || is_at_negative(ahead))
+        }
+        Fragment::Lifetime => Ok(is_at_lifetime(trees)),
+        Fragment::Block => Ok(is_at_block(trees)),
+        Fragment::Vis => Ok(true),
+        Fragment::Tt => Ok(!trees.is_empty()),
+        Fragment::Grammar(which) => Ok(grammar_reach(alloc, which, trees)?.is_some()),
+    }
+}
+
+/// Whether it takes nothing of them.
+pub(crate) fn takes_nothing(fragment: Fragment, trees: TtIter<'_>) -> bool
+    ensures { result ≡ takes_nothing fragment (rest_of trees.entry) }
+{
+    match fragment {
+        Fragment::Vis => !is_at_word(trees, "pub"),
+        Fragment::Ident
+        | Fragment::Literal
+        | Fragment::Lifetime
+        | Fragment::Block
+        | Fragment::Tt
+        | Fragment::Grammar(_) => false,
+    }
+}
+
+// How many trees a literal is.
+fn literal_size(trees: TtIter<'_>) -> usize
+    ensures { result ≡ literal_size (rest_of trees.entry) }
+{
+    if is_at_negative(trees) { 2 } else { 1 }
+}
+
+/// How many trees it takes. It is refused only where memory is.
+pub(crate) fn reach(
+    alloc: Global,
+    fragment: Fragment,
+    trees: TtIter<'_>,
+) -> Result<usize, AllocError>
+    ensures { IfOk result (λ count. count ≡ reach fragment (rest_of trees.entry)) }
+{
+    match fragment {
+        Fragment::Ident | Fragment::Block => Ok(1),
+        Fragment::Literal => Ok(literal_size(trees)),
+        Fragment::Lifetime => Ok(2),
+        Fragment::Vis => Ok(visibility_size(trees)),
+        Fragment::Tt => Ok(unit_size(trees)),
+        Fragment::Grammar(which) => Ok(grammar_reach(alloc, which, trees)?.unwrap_or(1)),
+    }
+}

@@ -1,0 +1,151 @@
+//! What an input binds, where it is an instance of a pattern in one way.
+ghost use Rattle.std.specs.Prelude.{◌≡◌, ◌<◌, ◌++◌, ◌∷◌, [], map, IfOk, OnOk, reverse};
+ghost use Rattle.tt.specs.Iters.{rest_of};
+ghost use Rattle.tt.specs.Views.{trees_of};
+ghost use Rattle.mbe_matcher.specs.Ends.{counted_on, ends_with, sums};
+ghost use Rattle.mbe_matcher.specs.Grouping.{taken_by, counts_by};
+ghost use Rattle.mbe_matcher.specs.Marks.{note_of};
+ghost use Rattle.mbe_pattern.specs.Patterns.{Pattern, IsFull};
+ghost use Rattle.mbe_matcher.specs.Steps.{steps_of};
+ghost use Rattle.mbe_matcher.specs.Threads.{path_to, earlier};
+ghost use Rattle.mbe_matcher.specs.Told.{Tells, TellsPaths};
+
+use crate::reading::Paths;
+use crate::steps::Step;
+use crate::threads::Turn;
+use crate::walking::{Mark, marks_along};
+use std::alloc::{AllocError, Global};
+use tt::{TokenTreesView, TtIter};
+
+/// What the one reading of an input binds.
+#[derive(Drop)]
+pub struct Binding<'i> {
+    marks: Vec<Mark<'i>>,
+}
+
+/// In how many ways an input is an instance of a pattern.
+#[derive(Drop)]
+pub enum Found<'i> {
+    /// In none: the pattern, read as far as it goes, stops at that flat place, which tells how many tokens stand before it.
+    Nothing(usize),
+    /// In one and no other, which binds this.
+    One(Binding<'i>),
+    /// In two different ones, and maybe more.
+    Many,
+}
+
+impl<'i> Binding<'i> {
+    /// What is bound, one thing after the other, in the order of the input.
+    pub fn marks(&self) -> &[Mark<'i>]
+        ensures { result.now ≡ self.now.marks.items }
+    {
+        &self.marks
+    }
+
+    /// The trees that the variable of that number took, each time.
+    ///
+    /// Time is in proportion to the length of the input. It is refused only where memory is.
+    pub fn trees(&self, alloc: Global, number: usize) -> Result<Vec<TokenTreesView<'i>>, AllocError>
+        ensures { IfOk result (λ trees. map trees_of trees.items ≡ taken_by number (map note_of self.now.marks.items)) }
+    {
+        let mut trees = Vec::new(alloc);
+        for mark in &self.marks {
+            add_taken(mark, number, &mut trees)?;
+        }
+        Ok(trees)
+    }
+
+    /// How many rounds the repetition of that number had up to the end of each time, so how many rounds all times before had too: the
+    /// rounds of one time are those from the end before it on.
+    ///
+    /// Time is in proportion to the length of the input. It is refused only where memory is.
+    pub fn ends(&self, alloc: Global, number: usize) -> Result<Vec<usize>, AllocError>
+        ensures { IfOk result (λ ends. ends.items ≡ sums 0 (counts_by number 0 (map note_of self.now.marks.items))) }
+    {
+        let mut ends = Vec::new(alloc);
+        let mut so_far = 0;
+        for mark in &self.marks {
+            so_far = count_on(mark, number, so_far, &mut ends)?;
+        }
+        Ok(ends)
+    }
+}
+
+// Adds the trees of a mark that tells what the variable of that number took.
+fn add_taken<'i>(
+    mark: &Mark<'i>,
+    number: usize,
+    trees: &mut Vec<TokenTreesView<'i>>,
+) -> Result<(), AllocError>
+    ensures { OnOk result (map trees_of trees.new.items ≡ map trees_of trees.old.items ++ taken_by number (note_of mark.now ∷ [])) }
+{
+    match mark {
+        Mark::Took(other, view) if *other == number => Ok(trees.push(*view)?),
+        Mark::Took(..) | Mark::Round(_) | Mark::Over(_) => Ok(()),
+    }
+}
+
+// Counts a round of the repetition of that number, or adds how many were counted where it has no further round: how many are then.
+fn count_on(
+    mark: &Mark<'_>,
+    number: usize,
+    so_far: usize,
+    ends: &mut Vec<usize>,
+) -> Result<usize, AllocError>
+    requires { so_far < 18446744073709551615 }
+    ensures count { IfOk result (λ next. next ≡ counted_on number so_far (note_of mark.now)) }
+    ensures ends { OnOk result (ends.new.items ≡ ends.old.items ++ ends_with number so_far (note_of mark.now) []) }
+{
+    match mark {
+        Mark::Round(other) if *other == number => Ok(so_far + 1),
+        Mark::Over(other) if *other == number => {
+            ends.push(so_far)?;
+            Ok(so_far)
+        }
+        Mark::Took(..) | Mark::Round(_) | Mark::Over(_) => Ok(so_far),
+    }
+}
+
+// The turn before one of that number, or none where the log is not in order.
+fn earlier(turn: Turn, number: usize) -> usize
+    ensures { result ≡ earlier turn number }
+{
+    if turn.before < number { turn.before } else { 0 }
+}
+
+// The path up to a turn, the last turn first.
+fn path_back(alloc: Global, log: &[Turn], last: Turn) -> Result<Vec<usize>, AllocError>
+    ensures { IfOk result (λ path. reverse path.items ≡ path_to log.now last) }
+{
+    let mut path = Vec::new(alloc);
+    path.push(last.edge)?;
+    let mut number = last.before;
+    while number > 0 {
+        let Some(turn) = log.get(number - 1) else {
+            return Ok(path);
+        };
+        path.push(turn.edge)?;
+        number = earlier(*turn, number);
+    }
+    Ok(path)
+}
+
+/// What is found of an input, by the paths that lead through it and the steps of the pattern.
+pub(crate) fn found_by<'i>(
+    alloc: Global,
+    steps: &[Step],
+    paths: Paths,
+    input: TtIter<'i>,
+) -> Result<Found<'i>, AllocError>
+    ensures { IfOk result (λ found. (pattern : Pattern) → IsFull pattern → steps.now ≡ steps_of pattern → TellsPaths pattern (rest_of input.entry) paths → Tells pattern (rest_of input.entry) found) }
+{
+    match paths {
+        Paths::Nothing(at) => Ok(Found::Nothing(at)),
+        Paths::One(log, last) => {
+            let path = path_back(alloc, &log, last)?;
+            let marks = marks_along(alloc, steps, path, input)?;
+            Ok(Found::One(Binding { marks }))
+        }
+        Paths::Many => Ok(Found::Many),
+    }
+}

@@ -1,0 +1,162 @@
+//! Places of pieces: from the last, each place is given the places that may come behind it.
+ghost use Rattle.std.specs.Prelude.{◌≡◌, IfOk, map};
+ghost use Rattle.mbe_matcher.specs.Linking.{made_with, made_of, nothing_made, made_by, again_from};
+ghost use Rattle.mbe_matcher.specs.Pieces.{bit_of, place, begin, close};
+ghost use Rattle.mbe_matcher.specs.Asks.{ask_of};
+ghost use Rattle.mbe_pattern.specs.Patterns.{may_be_more};
+
+use crate::pieces::Piece;
+use crate::places::{Atom, Place};
+use mbe_pattern::{RepeatKind, Tail};
+use std::alloc::{AllocError, Global};
+
+/// A repetition whose beginning is still to come: where a round may begin, its kind, and what comes behind it.
+#[derive(Drop)]
+pub(crate) struct Frame {
+    entries: Vec<usize>,
+    kind: RepeatKind,
+    over: Vec<usize>,
+}
+
+/// The places so far, the last first, where what is before them may go on, and the repetitions that are open.
+#[derive(Drop)]
+pub(crate) struct Linked {
+    pub(crate) places: Vec<Place>,
+    pub(crate) edges: Vec<usize>,
+    frames: Vec<Frame>,
+}
+
+// Where a round may be followed by another.
+fn again(alloc: Global, at: usize, tail: &Tail, entries: &[usize]) -> Result<Vec<usize>, AllocError>
+    ensures { IfOk result (λ edges. edges.items ≡ again_from at tail.now.separator.items (may_be_more tail.now.kind) entries.now) }
+{
+    let mut edges = Vec::new(alloc);
+    match tail.kind {
+        RepeatKind::ZeroOrOne => {}
+        RepeatKind::ZeroOrMore | RepeatKind::OneOrMore => {
+            if tail.separator.is_empty() {
+                edges.extend_from_slice(entries)?;
+            } else {
+                edges.push(at)?;
+            }
+        }
+    }
+    Ok(edges)
+}
+
+impl Linked {
+    // One piece more, from the last.
+    fn add(self, alloc: Global, piece: Piece) -> Result<Linked, AllocError>
+        ensures { IfOk result (λ linked. made_by linked ≡ made_with (bit_of piece) (made_by self)) }
+    {
+        match piece {
+            Piece::Place(at, atom) => self.add_place(alloc, at, atom),
+            Piece::Begin => self.begin(),
+            Piece::Close(at, tail, entries) => self.close(alloc, at, tail, entries),
+        }
+    }
+
+    // A place, whose edges lead to where what is behind it may go on.
+    fn add_place(self, alloc: Global, at: usize, atom: Atom) -> Result<Linked, AllocError>
+        ensures { IfOk result (λ linked. made_by linked ≡ made_with (place at (ask_of atom)) (made_by self)) }
+    {
+        let Linked {
+            mut places,
+            edges,
+            frames,
+        } = self;
+        places.push(Place { atom, edges })?;
+        let mut edges = Vec::new(alloc);
+        edges.push(at)?;
+        Ok(Linked {
+            places,
+            edges,
+            frames,
+        })
+    }
+
+    // The beginning of a repetition.
+    fn begin(self) -> Result<Linked, AllocError>
+        ensures { IfOk result (λ linked. made_by linked ≡ made_with begin (made_by self)) }
+    {
+        let Linked {
+            places,
+            edges,
+            mut frames,
+        } = self;
+        match frames.pop() {
+            None => Ok(Linked {
+                places,
+                edges,
+                frames,
+            }),
+            Some(frame) => {
+                let mut edges = frame.entries;
+                match frame.kind {
+                    RepeatKind::OneOrMore => {}
+                    RepeatKind::ZeroOrMore | RepeatKind::ZeroOrOne => {
+                        edges.extend_from_slice(&frame.over)?;
+                    }
+                }
+                Ok(Linked {
+                    places,
+                    edges,
+                    frames,
+                })
+            }
+        }
+    }
+
+    // The end of a repetition: its separator has a place, if there is one.
+    fn close(
+        self,
+        alloc: Global,
+        at: usize,
+        tail: Tail,
+        entries: Vec<usize>,
+    ) -> Result<Linked, AllocError>
+        ensures { IfOk result (λ linked. made_by linked ≡ made_with (close at tail.separator.items tail.kind entries.items) (made_by self)) }
+    {
+        let Linked {
+            mut places,
+            edges: over,
+            mut frames,
+        } = self;
+        let mut edges = again(alloc, at, &tail, &entries)?;
+        edges.extend_from_slice(&over)?;
+        let Tail { separator, kind } = tail;
+        if !separator.is_empty() {
+            let mut rounds = Vec::new(alloc);
+            rounds.extend_from_slice(&entries)?;
+            places.push(Place {
+                atom: Atom::Same(separator),
+                edges: rounds,
+            })?;
+        }
+        frames.push(Frame {
+            entries,
+            kind,
+            over,
+        })?;
+        Ok(Linked {
+            places,
+            edges,
+            frames,
+        })
+    }
+}
+
+/// The places that are made of pieces, the first first, and where they may begin.
+pub(crate) fn link(alloc: Global, mut pieces: Vec<Piece>) -> Result<Linked, AllocError>
+    ensures { IfOk result (λ linked. made_by linked ≡ made_of (map bit_of pieces.items) nothing_made) }
+{
+    let mut linked = Linked {
+        places: Vec::new(alloc),
+        edges: Vec::new(alloc),
+        frames: Vec::new(alloc),
+    };
+    while let Some(piece) = pieces.pop() {
+        linked = linked.add(alloc, piece)?;
+    }
+    Ok(linked)
+}

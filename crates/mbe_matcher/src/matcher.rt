@@ -1,0 +1,82 @@
+//! The matcher of a pattern, by which any number of inputs is read.
+ghost use Rattle.std.specs.Prelude.{◌≡◌, None, IfOk, IfErr};
+ghost use Rattle.tt.specs.Iters.{rest_of};
+ghost use Rattle.mbe_matcher.specs.Told.{Tells};
+ghost use Rattle.mbe_matcher.specs.Matchers.{IsMatcherOf};
+ghost use Rattle.mbe_pattern.specs.Faults.{pattern_fault, IsPatternError};
+ghost use Rattle.mbe_pattern.specs.Patterns.{Pattern};
+ghost use Rattle.mbe_pattern.specs.Spelling.{pattern_of};
+
+use crate::binding::{Found, found_by};
+use crate::cutting::cut;
+use crate::linking::{Linked, link};
+use crate::places::Place;
+use crate::reading::read_all;
+use crate::steps::{Binder, Step, Stepped, step_by_step};
+use mbe_pattern::{PatternError, judge};
+use std::alloc::{AllocError, Global};
+use tt::TtIter;
+
+/// A pattern that is ready to read inputs.
+#[derive(Drop)]
+pub struct Matcher {
+    places: Vec<Place>,
+    starts: Vec<usize>,
+    steps: Vec<Step>,
+    binders: Vec<Binder>,
+}
+
+impl Matcher {
+    /// The matcher of the pattern that the trees spell: `$name:fragment` is a variable, `$( .. )` with a separator, if there is one,
+    /// and `*`, `+` or `?` a repetition, and all else stands for itself, `$crate` too.
+    ///
+    /// Time and memory are in proportion to the pattern, and to how many places may come behind each of its parts. It is refused
+    /// with the first fault in reading order, where the pattern has one, and where memory is.
+    pub fn new(alloc: Global, pattern: TtIter<'_>) -> Result<Matcher, PatternError>
+        ensures ok { IfOk result (IsMatcherOf (pattern_of (rest_of pattern.entry))) }
+        ensures sound { IfOk result (λ _. pattern_fault (rest_of pattern.entry) ≡ None) }
+        ensures err { IfErr result (IsPatternError (rest_of pattern.entry)) }
+    {
+        judge(alloc, pattern.remaining().iter())?;
+        let pieces = cut(alloc, pattern)?;
+        let Stepped {
+            mut steps,
+            mut binders,
+            ..
+        } = step_by_step(alloc, &pieces)?;
+        steps.reverse();
+        binders.reverse();
+        let Linked {
+            mut places,
+            edges: starts,
+            ..
+        } = link(alloc, pieces)?;
+        places.reverse();
+        Ok(Matcher {
+            places,
+            starts,
+            steps,
+            binders,
+        })
+    }
+
+    /// The variables of the pattern, in reading order.
+    pub fn binders(&self) -> &[Binder]
+        ensures { result.now ≡ self.now.binders.items }
+    {
+        &self.binders
+    }
+
+    /// In how many ways the input is an instance of the pattern: in none, with the flat place where it stops, in one and no other,
+    /// with what it binds, or in two and maybe more.
+    ///
+    /// Time is in proportion to the length of the input times the number of edges that are taken at a tree, and memory to how many
+    /// places are passed. A fragment of Rust's grammar is asked at each tree before which a thread wants it, and looks ahead as far as it
+    /// reaches. It is refused only where memory is.
+    pub fn read<'i>(&self, alloc: Global, input: TtIter<'i>) -> Result<Found<'i>, AllocError>
+        ensures { IfOk result (λ found. (pattern : Pattern) → IsMatcherOf pattern self.now → Tells pattern (rest_of input.entry) found) }
+    {
+        let paths = read_all(alloc, &self.places, &self.starts, input.remaining().iter())?;
+        found_by(alloc, &self.steps, paths, input)
+    }
+}

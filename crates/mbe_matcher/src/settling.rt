@@ -1,0 +1,140 @@
+//! Threads at places that ask for nothing go on, before a tree is passed.
+ghost use Rattle.std.specs.Prelude.{◌≡◌, ◌⊎◌, ◌≤◌, ℕ, List, true, false, OnOk, IfOk, MatchOption, length, slice_get};
+ghost use Rattle.tt.specs.Iters.{rest_of};
+ghost use Rattle.mbe_matcher.specs.Settling.{is_here, asks_nothing_at, goes_at_once, AreSettled, settled_one, settled_all, settled, IsSettledBy};
+ghost use Rattle.mbe_matcher.specs.Threads.{edges_of, view_of, views_of, AreWithin, IsGrown};
+ghost use Rattle.mbe_matcher.specs.declared.threads.Turn.{Turn as OneTurn};
+
+use crate::asks::takes_nothing;
+use crate::places::{Atom, Place};
+use crate::threads::{Thread, Turn, add, spread_to};
+use std::alloc::{AllocError, Global};
+use tt::TtIter;
+
+// The edges of a place at which a thread goes on at once, where it waits for so many of these trees.
+fn edges_at_once<'p>(
+    places: &'p [Place],
+    trees: &TtIter<'_>,
+    at: usize,
+    wait: usize,
+) -> Option<&'p [usize]>
+    ensures { MatchOption result (goes_at_once places.now (rest_of trees.now) at wait ≡ false) (λ edges. (goes_at_once places.now (rest_of trees.now) at wait ≡ true) × (edges.now ≡ edges_of (slice_get places.now at))) }
+{
+    if wait > 0 && !trees.is_empty() {
+        return None;
+    }
+    let place = places.get(at)?;
+    match &place.atom {
+        Atom::Take(variable) => {
+            if takes_nothing(variable.fragment, trees.remaining().iter()) {
+                Some(&place.edges)
+            } else {
+                None
+            }
+        }
+        Atom::Same(_) | Atom::Enter(_) | Atom::Leave => None,
+    }
+}
+
+// Whether none of the threads goes on at once.
+fn are_settled(places: &[Place], trees: &TtIter<'_>, threads: &[Thread]) -> bool
+    ensures { result ≡ true → (log : List OneTurn) → AreSettled places.now (rest_of trees.now) (views_of log threads.now) }
+{
+    for thread in threads {
+        if edges_at_once(places, trees, thread.at, thread.wait).is_some() {
+            return false;
+        }
+    }
+    true
+}
+
+// Adds what a thread comes to: one behind each edge of its place where it goes on at once, and else itself.
+fn settle_one(
+    places: &[Place],
+    trees: &TtIter<'_>,
+    thread: Thread,
+    log: &mut Vec<Turn>,
+    next: &mut Vec<Thread>,
+) -> Result<(), AllocError>
+    requires own { thread.last.before ≤ length log.old.items }
+    requires within { AreWithin log.old.items next.old.items }
+    ensures adds { OnOk result (views_of log.new.items next.new.items ≡ settled_one places.now (rest_of trees.now) (view_of log.old.items thread) (views_of log.old.items next.old.items)) }
+    ensures grown { OnOk result (IsGrown log.old.items log.new.items) }
+    ensures now_within { OnOk result (AreWithin log.new.items next.new.items) }
+{
+    match edges_at_once(places, trees, thread.at, thread.wait) {
+        None => add(next, thread),
+        Some(edges) => {
+            log.push(thread.last)?;
+            spread_to(edges, 0, thread.is_many, log.len(), next)
+        }
+    }
+}
+
+// Adds what each of the threads comes to.
+fn settle_all(
+    places: &[Place],
+    trees: &TtIter<'_>,
+    threads: &[Thread],
+    log: &mut Vec<Turn>,
+    next: &mut Vec<Thread>,
+) -> Result<(), AllocError>
+    requires own { AreWithin log.old.items threads.now }
+    requires within { AreWithin log.old.items next.old.items }
+    ensures adds { OnOk result (views_of log.new.items next.new.items ≡ settled_all places.now (rest_of trees.now) (views_of log.old.items threads.now) (views_of log.old.items next.old.items)) }
+    ensures grown { OnOk result (IsGrown log.old.items log.new.items) }
+    ensures now_within { OnOk result (AreWithin log.new.items next.new.items) }
+{
+    for thread in threads {
+        settle_one(places, trees, *thread, log, next)?;
+    }
+    Ok(())
+}
+
+// The threads, where they went on some times, until none does so at once, or as often as there are places.
+fn settle_some(
+    alloc: Global,
+    places: &[Place],
+    trees: &TtIter<'_>,
+    threads: Vec<Thread>,
+    log: &mut Vec<Turn>,
+) -> Result<Vec<Thread>, AllocError>
+    requires own { AreWithin log.old.items threads.items }
+    ensures settled { IfOk result (λ next. (count : ℕ) × (views_of log.new.items next.items ≡ settled places.now (rest_of trees.now) count (views_of log.old.items threads.items)) × (AreSettled places.now (rest_of trees.now) (views_of log.new.items next.items) ⊎ (length places.now ≤ count))) }
+    ensures grown { OnOk result (IsGrown log.old.items log.new.items) }
+    ensures now_within { IfOk result (λ next. AreWithin log.new.items next.items) }
+{
+    let mut current = threads;
+    for _ in 0..places.len() {
+        if are_settled(places, trees, &current) {
+            return Ok(current);
+        }
+        let mut next = Vec::new(alloc);
+        settle_all(places, trees, &current, log, &mut next)?;
+        current = next;
+    }
+    Ok(current)
+}
+
+/// The threads before these trees, of which none is at a place that asks for nothing of them: from such places they go on.
+///
+/// Where the places are those of a pattern, a path passes fewer than twice as many places at once.
+pub(crate) fn settle(
+    alloc: Global,
+    places: &[Place],
+    trees: &TtIter<'_>,
+    threads: Vec<Thread>,
+    log: &mut Vec<Turn>,
+) -> Result<Vec<Thread>, AllocError>
+    requires own { AreWithin log.old.items threads.items }
+    ensures settled { IfOk result (λ next. IsSettledBy places.now (rest_of trees.now) (views_of log.old.items threads.items) (views_of log.new.items next.items)) }
+    ensures grown { OnOk result (IsGrown log.old.items log.new.items) }
+    ensures now_within { IfOk result (λ next. AreWithin log.new.items next.items) }
+{
+    if are_settled(places, trees, &threads) {
+        return Ok(threads);
+    }
+    let once = settle_some(alloc, places, trees, threads, log)?;
+    let twice = settle_some(alloc, places, trees, once, log)?;
+    Ok(twice)
+}

@@ -1,0 +1,200 @@
+//! A pattern as the steps of a walk through it.
+ghost use Rattle.std.specs.Prelude.{◌≡◌, IfOk, OnOk, map, drop, length};
+ghost use Rattle.mbe_matcher.specs.Asks.{ask_of};
+ghost use Rattle.mbe_matcher.specs.Linking.{again_from};
+ghost use Rattle.mbe_matcher.specs.Marks.{pass_count};
+ghost use Rattle.mbe_pattern.specs.Patterns.{may_be_more};
+ghost use Rattle.mbe_matcher.specs.Pieces.{bit_of};
+ghost use Rattle.mbe_matcher.specs.Stepping.{number_of, step_of, bound_with, placed_with, taken_with, closed_with, with_beginning, taken_of, taken_by, nothing_taken};
+
+use crate::pieces::Piece;
+use crate::places::Atom;
+use mbe_pattern::{Fragment, RepeatKind, Tail, Variable};
+use std::alloc::{AllocError, Global};
+use tt::Symbol;
+
+/// A step of a walk through a pattern.
+#[derive(Clone, Copy)]
+pub(crate) enum Step {
+    /// The fragment takes what stands first.
+    Take(Fragment),
+    /// So many trees of a token are passed.
+    Pass(usize),
+    /// A subtree is entered.
+    Enter,
+    /// A subtree, or all, is at its end.
+    Leave,
+    /// A repetition: how many edges lead into it, how many steps a first round passes, and how many the repetition is.
+    Begin(usize, usize, usize),
+    /// The end of a round: how many edges lead to another.
+    Close(usize),
+}
+
+/// A repetition whose beginning is still to come: how many edges lead into it, the length of its separator, and how many steps
+/// stand behind it.
+#[derive(Clone, Copy)]
+pub(crate) struct End {
+    ways: usize,
+    separator: usize,
+    behind: usize,
+}
+
+/// A variable of a pattern: its name, if it has one, what it takes, its number, and those of the repetitions that it stands in, the
+/// outermost first.
+#[derive(Drop)]
+pub struct Binder {
+    pub name: Option<Symbol>,
+    pub fragment: Fragment,
+    pub number: usize,
+    pub nest: Vec<usize>,
+}
+
+/// The steps and the variables so far, the last first, and the repetitions that are open.
+#[derive(Drop)]
+pub(crate) struct Stepped {
+    pub(crate) steps: Vec<Step>,
+    ends: Vec<End>,
+    pub(crate) binders: Vec<Binder>,
+}
+
+// The step of a place.
+fn step_of(atom: &Atom) -> Step
+    ensures { result ≡ step_of (ask_of atom.now) }
+{
+    match atom {
+        Atom::Take(variable) => Step::Take(variable.fragment),
+        Atom::Same(leaves) => Step::Pass(leaves.len()),
+        Atom::Enter(_) => Step::Enter,
+        Atom::Leave => Step::Leave,
+    }
+}
+
+// How many edges lead to another round.
+fn again_count(tail: &Tail, entries: &[usize], at: usize) -> usize
+    ensures { result ≡ length (again_from at tail.now.separator.items (may_be_more tail.now.kind) entries.now) }
+{
+    match tail.kind {
+        RepeatKind::ZeroOrOne => 0,
+        RepeatKind::ZeroOrMore | RepeatKind::OneOrMore => {
+            if tail.separator.is_empty() {
+                entries.len()
+            } else {
+                1
+            }
+        }
+    }
+}
+
+// How many steps a separator of so many leaves is.
+fn pass_count(separator: usize) -> usize
+    ensures { result ≡ pass_count separator }
+{
+    if separator > 0 { 1 } else { 0 }
+}
+
+// A name once more.
+fn name_again(name: &Option<Symbol>) -> Result<Option<Symbol>, AllocError>
+    ensures { IfOk result (λ again. again ≡ name.now) }
+{
+    match name {
+        None => Ok(None),
+        Some(text) => Ok(Some(text.clone()?)),
+    }
+}
+
+// The numbers of the repetitions that are open, the outermost first.
+fn nest_of(alloc: Global, ends: &[End]) -> Result<Vec<usize>, AllocError>
+    ensures { IfOk result (λ nest. nest.items ≡ map number_of ends.now) }
+{
+    let mut nest = Vec::new(alloc);
+    for end in ends {
+        nest.push(end.behind)?;
+    }
+    Ok(nest)
+}
+
+impl Stepped {
+    // A variable, before its step.
+    fn bind(&mut self, alloc: Global, variable: &Variable) -> Result<(), AllocError>
+        ensures { OnOk result (taken_by self.new ≡ bound_with variable.now (taken_by self.old)) }
+    {
+        Ok(
+            self.binders.push(Binder {
+                name: name_again(&variable.name)?,
+                fragment: variable.fragment,
+                number: self.steps.len(),
+                nest: nest_of(alloc, &self.ends)?,
+            })?,
+        )
+    }
+
+    // A place.
+    fn place(&mut self, alloc: Global, atom: &Atom) -> Result<(), AllocError>
+        ensures { OnOk result (taken_by self.new ≡ placed_with (ask_of atom.now) (taken_by self.old)) }
+    {
+        if let Atom::Take(variable) = atom {
+            self.bind(alloc, variable)?;
+        }
+        Ok(self.steps.push(step_of(atom))?)
+    }
+
+    // The beginning of the innermost repetition that is open.
+    fn begin(&mut self) -> Result<(), AllocError>
+        ensures { OnOk result (taken_by self.new ≡ with_beginning (taken_by self.old).ends (taken_by self.old)) }
+    {
+        let Some(end) = self.ends.pop() else {
+            return Ok(());
+        };
+        if end.separator > 0 {
+            self.steps.push(Step::Pass(end.separator))?;
+        }
+        let size = self.steps.len().saturating_sub(end.behind);
+        Ok(
+            self.steps
+                .push(Step::Begin(end.ways, pass_count(end.separator), size))?,
+        )
+    }
+
+    // The end of a repetition.
+    fn close(&mut self, ways: usize, separator: usize, again: usize) -> Result<(), AllocError>
+        ensures { OnOk result (taken_by self.new ≡ closed_with ways separator again (taken_by self.old)) }
+    {
+        self.ends.push(End {
+            ways,
+            separator,
+            behind: self.steps.len(),
+        })?;
+        Ok(self.steps.push(Step::Close(again))?)
+    }
+
+    // One piece more, from the last.
+    fn add(&mut self, alloc: Global, piece: &Piece) -> Result<(), AllocError>
+        ensures { OnOk result (taken_by self.new ≡ taken_with (bit_of piece.now) (taken_by self.old)) }
+    {
+        match piece {
+            Piece::Place(_, atom) => self.place(alloc, atom),
+            Piece::Begin => self.begin(),
+            Piece::Close(at, tail, entries) => {
+                let again = again_count(tail, entries, *at);
+                self.close(entries.len(), tail.separator.len(), again)
+            }
+        }
+    }
+}
+
+/// The steps and the variables that are made of pieces, the last first.
+pub(crate) fn step_by_step(alloc: Global, pieces: &[Piece]) -> Result<Stepped, AllocError>
+    ensures { IfOk result (λ stepped. taken_by stepped ≡ taken_of (map bit_of pieces.now) nothing_taken) }
+{
+    let mut stepped = Stepped {
+        steps: Vec::new(alloc),
+        ends: Vec::new(alloc),
+        binders: Vec::new(alloc),
+    };
+    let mut left = pieces.len();
+    while left > 0 {
+        left -= 1;
+        stepped.add(alloc, &pieces[left])?;
+    }
+    Ok(stepped)
+}

@@ -1,0 +1,203 @@
+//! Threads: the places at which the paths through an input are.
+ghost use Rattle.std.specs.Prelude.{◌≡◌, ◌≤◌, IfOk, OnOk, length, MatchOption};
+ghost use Rattle.mbe_matcher.specs.Aheads.{IsAheadIn};
+ghost use Rattle.mbe_matcher.specs.Asks.{ask_of};
+ghost use Rattle.mbe_matcher.specs.Threads.{threads_meet, thread_added, threads_spread, view_of, views_of, AreWithin, IsGrown, IsMoved, wait_of, is_waiting, threads_waited, StepsOn, Steps, AllStep};
+
+use crate::ahead::Ahead;
+use crate::places::{Atom, Place};
+use std::alloc::{AllocError, Global};
+use tt::DelimiterKind;
+
+/// A turn of a path: the number of the edge that it takes, and that of the turn before it. Turns are numbered from 1, and 0 is
+/// none.
+#[derive(Clone, Copy)]
+pub(crate) struct Turn {
+    pub(crate) edge: usize,
+    pub(crate) before: usize,
+}
+
+/// The place of a path, how many trees are passed before it stands there, whether other paths lead there too, and its last turn.
+#[derive(Clone, Copy)]
+pub(crate) struct Thread {
+    pub(crate) at: usize,
+    pub(crate) wait: usize,
+    pub(crate) is_many: bool,
+    pub(crate) last: Turn,
+}
+
+/// How an input goes on.
+#[derive(Drop)]
+pub(crate) enum Move<'i> {
+    /// The first tree is passed.
+    Passes(Ahead<'i>),
+    /// A subtree of that kind is entered.
+    Enters(DelimiterKind),
+    /// The subtree is at its end.
+    Ends,
+}
+
+// Where what the atom asks is there: for how many trees behind the first a thread then waits.
+fn moved(alloc: Global, by: &Move<'_>, atom: &Atom) -> Result<Option<usize>, AllocError>
+    requires { IsAheadIn by.now }
+    ensures { IfOk result (λ found. MatchOption found (IsMoved by.now (ask_of atom.now) → ⊥) (λ wait. IsMoved by.now (ask_of atom.now) × (wait ≡ wait_of by.now (ask_of atom.now)))) }
+{
+    match (by, atom) {
+        (Move::Passes(ahead), Atom::Take(variable)) => ahead.wait_behind(alloc, variable.fragment),
+        (Move::Passes(ahead), Atom::Same(leaves)) => {
+            if ahead.is_unit_like(leaves) {
+                Ok(Some(leaves.len().saturating_sub(1)))
+            } else {
+                Ok(None)
+            }
+        }
+        (Move::Enters(kind), Atom::Enter(other)) if *kind == *other => Ok(Some(0)),
+        (Move::Ends, Atom::Leave) => Ok(Some(0)),
+        _ => Ok(None),
+    }
+}
+
+// Whether both come to one place at one tree.
+fn meet(thread: Thread, other: Thread) -> bool
+    ensures { result ≡ threads_meet thread other }
+{
+    thread.at == other.at && thread.wait == other.wait
+}
+
+/// Adds a thread; one that it meets stands for both.
+pub(crate) fn add(threads: &mut Vec<Thread>, thread: Thread) -> Result<(), AllocError>
+    ensures { OnOk result (threads.new.items ≡ thread_added thread threads.old.items) }
+{
+    for i in 0..threads.len() {
+        let other = threads[i];
+        if meet(other, thread) {
+            threads[i] = Thread {
+                is_many: true,
+                ..other
+            };
+            return Ok(());
+        }
+    }
+    threads.push(thread)?;
+    Ok(())
+}
+
+// Adds a thread behind each of the edges, behind the turn of that number.
+pub(crate) fn spread_to(
+    edges: &[usize],
+    wait: usize,
+    is_many: bool,
+    before: usize,
+    threads: &mut Vec<Thread>,
+) -> Result<(), AllocError>
+    ensures { OnOk result (threads.new.items ≡ threads_spread wait is_many before 0 edges.now threads.old.items) }
+{
+    for (edge, to) in edges.iter().enumerate() {
+        let last = Turn { edge, before };
+        let next = Thread {
+            at: *to,
+            wait,
+            is_many,
+            last,
+        };
+        add(threads, next)?;
+    }
+    Ok(())
+}
+
+// Adds what comes of a thread that is at its place, as the input goes on.
+fn step_on(
+    alloc: Global,
+    places: &[Place],
+    thread: Thread,
+    by: &Move<'_>,
+    log: &mut Vec<Turn>,
+    next: &mut Vec<Thread>,
+) -> Result<(), AllocError>
+    requires ahead { IsAheadIn by.now }
+    requires own { thread.last.before ≤ length log.old.items }
+    requires within { AreWithin log.old.items next.old.items }
+    ensures steps { OnOk result (StepsOn places.now by.now (view_of log.old.items thread) (views_of log.old.items next.old.items) (views_of log.new.items next.new.items)) }
+    ensures grown { OnOk result (IsGrown log.old.items log.new.items) }
+    ensures now_within { OnOk result (AreWithin log.new.items next.new.items) }
+{
+    let Some(place) = places.get(thread.at) else {
+        return Ok(());
+    };
+    let Some(wait) = moved(alloc, by, &place.atom)? else {
+        return Ok(());
+    };
+    log.push(thread.last)?;
+    spread_to(&place.edges, wait, thread.is_many, log.len(), next)
+}
+
+// Whether the thread is not at its place yet. At the end of a subtree none waits.
+fn is_waiting(by: &Move<'_>, wait: usize) -> bool
+    ensures { result ≡ is_waiting by.now wait }
+{
+    match by {
+        Move::Passes(_) | Move::Enters(_) => wait > 0,
+        Move::Ends => false,
+    }
+}
+
+// Adds a thread that waits, one tree nearer, where a tree is passed.
+fn step_nearer(thread: Thread, by: &Move<'_>, next: &mut Vec<Thread>) -> Result<(), AllocError>
+    ensures { OnOk result (next.new.items ≡ threads_waited by.now thread next.old.items) }
+{
+    match by {
+        Move::Passes(_) => add(
+            next,
+            Thread {
+                wait: thread.wait.saturating_sub(1),
+                ..thread
+            },
+        ),
+        Move::Enters(_) | Move::Ends => Ok(()),
+    }
+}
+
+// Adds what comes of a thread, as the input goes on.
+fn step_one(
+    alloc: Global,
+    places: &[Place],
+    thread: Thread,
+    by: &Move<'_>,
+    log: &mut Vec<Turn>,
+    next: &mut Vec<Thread>,
+) -> Result<(), AllocError>
+    requires ahead { IsAheadIn by.now }
+    requires own { thread.last.before ≤ length log.old.items }
+    requires within { AreWithin log.old.items next.old.items }
+    ensures steps { OnOk result (Steps places.now by.now (view_of log.old.items thread) (views_of log.old.items next.old.items) (views_of log.new.items next.new.items)) }
+    ensures grown { OnOk result (IsGrown log.old.items log.new.items) }
+    ensures now_within { OnOk result (AreWithin log.new.items next.new.items) }
+{
+    if is_waiting(by, thread.wait) {
+        step_nearer(thread, by, next)
+    } else {
+        step_on(alloc, places, thread, by, log, next)
+    }
+}
+
+// Adds what comes of each of the threads, as the input goes on.
+pub(crate) fn step_all(
+    alloc: Global,
+    places: &[Place],
+    threads: &[Thread],
+    by: &Move<'_>,
+    log: &mut Vec<Turn>,
+    next: &mut Vec<Thread>,
+) -> Result<(), AllocError>
+    requires ahead { IsAheadIn by.now }
+    requires own { AreWithin log.old.items threads.now }
+    requires within { AreWithin log.old.items next.old.items }
+    ensures steps { OnOk result (AllStep places.now by.now (views_of log.old.items threads.now) (views_of log.old.items next.old.items) (views_of log.new.items next.new.items)) }
+    ensures grown { OnOk result (IsGrown log.old.items log.new.items) }
+    ensures now_within { OnOk result (AreWithin log.new.items next.new.items) }
+{
+    for thread in threads {
+        step_one(alloc, places, *thread, by, log, next)?;
+    }
+    Ok(())
+}

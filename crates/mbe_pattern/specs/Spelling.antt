@@ -1,0 +1,189 @@
+-- What pattern trees spell.
+use Rattle.std.specs.Prelude.{◌==◌, ◌-◌, not, ℕ, suc, zero, Bool, true, false, List, [], ◌∷◌, length, Option, None, Some, option_map, codes, bytes_eq, if◌then◌else◌}
+use Rattle.tt.specs.Expectations.{first_leaf_as, as_ident_or_underscore}
+use Rattle.tt.specs.Forest.{Forest, end, leaf, node}
+use Rattle.tt.specs.Gluing.{after_trees}
+use Rattle.tt.specs.Moves.{after_tree}
+use Rattle.tt.specs.Types.DelimiterKind.{DelimiterKind}
+use Rattle.tt.specs.Types.DelimiterKind.TheVariants as delimited
+use Rattle.tt.specs.Types.Ident.{Ident}
+use Rattle.tt.specs.Types.IdentIsRaw.{IdentIsRaw}
+use Rattle.tt.specs.Types.IdentIsRaw.TheVariants.{No, Yes}
+use Rattle.tt.specs.Types.Leaf.{Leaf}
+use Rattle.tt.specs.Types.Leaf.TheVariants as leaf_of
+use Rattle.mbe_pattern.specs.declared.pattern.Fragment.{Fragment}
+use Rattle.mbe_pattern.specs.declared.pattern.Fragment.TheVariants as fragment
+use Rattle.mbe_pattern.specs.declared.pattern.GrammarFragment.{GrammarFragment}
+use Rattle.mbe_pattern.specs.declared.pattern.GrammarFragment.TheVariants as grammar
+use Rattle.mbe_pattern.specs.declared.pattern.RepeatKind.{RepeatKind}
+use Rattle.mbe_pattern.specs.declared.pattern.RepeatKind.TheVariants as repeat
+use Rattle.mbe_pattern.specs.declared.pattern.Variable.{Variable}
+use Rattle.mbe_pattern.specs.Patterns.{Pattern, inner_part}
+use Rattle.mbe_pattern.specs.Patterns as pattern
+use Rattle.mbe_pattern.specs.Units.{is_at_punct, unit_from, first_unit}
+
+-- the leaf is the punct `$`
+abbrev pub is_dollar : Leaf → Bool
+is_dollar (leaf_of.Literal it) = false
+is_dollar (leaf_of.Punct it) = it.char == 36
+is_dollar (leaf_of.Ident it) = false
+
+-- the fragment of Rust's grammar that has that name
+abbrev pub grammar_named : List ℕ → Option GrammarFragment
+grammar_named text =
+    if bytes_eq text (codes "expr") then Some grammar.Expr
+    else (if bytes_eq text (codes "expr_2021") then Some grammar.Expr2021
+    else (if bytes_eq text (codes "ty") then Some grammar.Ty
+    else (if bytes_eq text (codes "pat") then Some grammar.Pat
+    else (if bytes_eq text (codes "pat_param") then Some grammar.PatParam
+    else (if bytes_eq text (codes "path") then Some grammar.Path
+    else (if bytes_eq text (codes "stmt") then Some grammar.Stmt
+    else (if bytes_eq text (codes "item") then Some grammar.Item else (if bytes_eq text (codes "meta") then Some grammar.Meta else None))))))))
+
+-- the fragment of that name
+abbrev pub fragment_named : List ℕ → Option Fragment
+fragment_named text =
+    if bytes_eq text (codes "ident") then Some fragment.Ident
+    else (if bytes_eq text (codes "literal") then Some fragment.Literal
+    else (if bytes_eq text (codes "lifetime") then Some fragment.Lifetime
+    else (if bytes_eq text (codes "block") then Some fragment.Block
+    else (if bytes_eq text (codes "vis") then Some fragment.Vis
+    else (if bytes_eq text (codes "tt") then Some fragment.Tt else option_map fragment.Grammar (grammar_named text))))))
+
+-- the fragment that an ident names, raw or not
+abbrev pub fragment_from : Option Ident → Option Fragment
+fragment_from None = None
+fragment_from (Some it) = fragment_named it.sym
+
+abbrev pub fragment_in : Forest → Option Fragment
+fragment_in siblings = fragment_from (first_leaf_as as_ident_or_underscore siblings)
+
+-- the name that an ident gives, raw or not: `_` gives none
+abbrev pub name_of : Ident → Option (List ℕ)
+name_of it = if bytes_eq it.sym (codes "_") then None else Some it.sym
+
+-- a variable has an ident, a colon and a fragment
+abbrev pub variable_from : Option Ident → (colon : Bool) → Option Fragment → Option Variable
+variable_from None colon kind = None
+variable_from (Some it) false kind = None
+variable_from (Some it) true None = None
+variable_from (Some it) true (Some kind) = Some (record { name = name_of it; fragment = kind })
+
+-- the variable whose `$` stands before these siblings
+abbrev pub variable_in : Forest → Option Variable
+variable_in siblings =
+    variable_from (first_leaf_as as_ident_or_underscore siblings) (is_at_punct (codes ":") (after_tree siblings)) (fragment_in (after_tree (after_tree siblings)))
+
+-- the kind of repetition that a character tells
+abbrev pub repeat_kind_of : ℕ → Option RepeatKind
+repeat_kind_of char =
+    if char == 42 then Some repeat.ZeroOrMore
+    else (if char == 43 then Some repeat.OneOrMore else (if char == 63 then Some repeat.ZeroOrOne else None))
+
+-- the kind that a token tells, where it is one punct
+abbrev pub as_repeat_kind : List Leaf → Option RepeatKind
+as_repeat_kind [] = None
+as_repeat_kind (leaf_of.Literal it ∷ others) = None
+as_repeat_kind (leaf_of.Ident it ∷ others) = None
+as_repeat_kind (leaf_of.Punct it ∷ []) = repeat_kind_of it.char
+as_repeat_kind (leaf_of.Punct it ∷ second ∷ others) = None
+
+-- what stands behind what a repetition holds: a separator or none, and its kind
+pub record Tail : Type 0 where
+  pub separator : List Leaf
+  pub kind : RepeatKind
+
+-- the tail of that separator
+abbrev pub tail_with : (separator : List Leaf) → Option RepeatKind → Option Tail
+tail_with separator None = None
+tail_with separator (Some it) = Some (record { separator = separator; kind = it })
+
+-- a token is a separator unless it is `$`
+abbrev pub is_separator : List Leaf → Bool
+is_separator [] = false
+is_separator (it ∷ others) = not (is_dollar it)
+
+-- a kind that stands first, or else a separator and a kind
+abbrev pub tail_from : Option RepeatKind → (token : List Leaf) → (siblings : Forest) → Option Tail
+tail_from (Some it) token siblings = Some (record { separator = []; kind = it })
+tail_from None token siblings = if is_separator token then tail_with token (as_repeat_kind (first_unit (after_trees (length token) siblings))) else None
+
+-- the tail that stands first, if one does
+abbrev pub tail_in : Forest → Option Tail
+tail_in siblings = tail_from (as_repeat_kind (first_unit siblings)) (first_unit siblings) siblings
+
+-- how many trees it is
+abbrev pub tail_length : Tail → ℕ
+tail_length it = suc (length it.separator)
+
+-- parentheses
+abbrev pub is_parenthesis : DelimiterKind → Bool
+is_parenthesis delimited.Parenthesis = true
+is_parenthesis delimited.Brace = false
+is_parenthesis delimited.Bracket = false
+is_parenthesis delimited.Invisible = false
+is_parenthesis delimited.InvisibleOpaque = false
+
+-- parentheses and a tail, if they stand first
+abbrev pub repetition_in : Forest → Option Tail
+repetition_in end = None
+repetition_in (leaf it rest) = None
+repetition_in (node delimiter children rest) = if is_parenthesis delimiter.kind then tail_in rest else None
+
+-- the plain ident `crate` stands first
+abbrev pub is_crate : IdentIsRaw → List ℕ → Bool
+is_crate No text = bytes_eq text (codes "crate")
+is_crate Yes text = false
+
+abbrev pub is_crate_from : Option Ident → Bool
+is_crate_from None = false
+is_crate_from (Some it) = is_crate it.is_raw it.sym
+
+abbrev pub is_crate_in : Forest → Bool
+is_crate_in siblings = is_crate_from (first_leaf_as as_ident_or_underscore siblings)
+
+-- what a `$` begins
+pub data Sign : Type 0 where
+  variable : Variable → Sign
+  repetition : Tail → Sign
+  crate_root : Sign
+  nothing : Sign
+
+-- a repetition, and else `$crate`, and else a variable, and else nothing
+abbrev pub sign_from : Option Tail → (crate_there : Bool) → Option Variable → Sign
+sign_from (Some tail) crate_there found = repetition tail
+sign_from None true found = crate_root
+sign_from None false (Some found) = variable found
+sign_from None false None = nothing
+
+-- what a `$` before these siblings begins
+abbrev pub sign_in : Forest → Sign
+sign_in siblings = sign_from (repetition_in siblings) (is_crate_in siblings) (variable_in siblings)
+
+-- how many trees belong to it: a name, a colon and a fragment, or parentheses and a tail
+abbrev pub sign_length : Sign → ℕ
+sign_length (variable it) = 3
+sign_length (repetition tail) = suc (tail_length tail)
+sign_length crate_root = 0
+sign_length nothing = 0
+
+-- the part that a `$` begins, before what is behind; where it begins nothing it stands for itself
+abbrev pub part_of : Leaf → Sign → (held others : Pattern) → Pattern
+part_of it (variable found) held others = pattern.variable found others
+part_of it (repetition tail) held others = pattern.repetition held tail.separator tail.kind others
+part_of it crate_root held others = pattern.token (it ∷ []) others
+part_of it nothing held others = pattern.token (it ∷ []) others
+
+-- the pattern that trees spell behind so many of them, which belong to a part before
+abbrev pub pattern_behind : ℕ → Forest → Pattern
+pattern_behind passed end = pattern.nothing
+pattern_behind zero (leaf it rest) =
+    if is_dollar it then part_of it (sign_in rest) (inner_part (pattern_behind zero rest)) (pattern_behind (sign_length (sign_in rest)) rest)
+    else pattern.token (first_unit (leaf it rest)) (pattern_behind (unit_from it rest - 1) rest)
+pattern_behind zero (node delimiter children rest) = pattern.subtree delimiter.kind (pattern_behind zero children) (pattern_behind zero rest)
+pattern_behind (suc passed) (leaf it rest) = pattern_behind passed rest
+pattern_behind (suc passed) (node delimiter children rest) = pattern_behind passed rest
+
+-- the pattern that trees spell
+abbrev pub pattern_of : Forest → Pattern
+pattern_of trees = pattern_behind zero trees

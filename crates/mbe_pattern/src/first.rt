@@ -1,0 +1,107 @@
+//! A pattern's trees, part by part, with the places of what a `$` begins.
+ghost use Rattle.std.specs.Prelude.{◌≡◌, ◌-◌, true, IfOk};
+ghost use Rattle.tt.specs.Forest.{leaf, size};
+ghost use Rattle.tt.specs.Iters.{rest_of};
+ghost use Rattle.mbe_pattern.specs.Judging.{IsFirst};
+ghost use Rattle.mbe_pattern.specs.Placed.{fault_in, placed_until};
+ghost use Rattle.mbe_pattern.specs.Spelling.{is_dollar};
+
+use crate::error::PatternError;
+use crate::pattern::Variable;
+use crate::signs::{Sign, Tail, is_dollar, pass, sign_in};
+use crate::units::unit_size;
+use std::alloc::{AllocError, Global};
+use tt::{DelimiterKind, Leaf, TtElement, TtIter};
+
+/// The part of a pattern that comes first. A variable and a repetition have the flat place of their `$`, and what a subtree or a
+/// repetition holds has the one behind its last token.
+#[derive(Drop)]
+pub(crate) enum First<'p> {
+    /// There is none.
+    End,
+    Variable(usize, Variable),
+    /// A `$` that begins nothing, and what is wrong with it.
+    Wrong(PatternError, Leaf),
+    Token,
+    Subtree(DelimiterKind, TtIter<'p>, usize),
+    Repetition(usize, TtIter<'p>, usize, Tail),
+}
+
+// What is wrong with a `$` at that place that begins nothing, behind which the siblings stand.
+fn fault_in(at: usize, mut siblings: TtIter<'_>) -> PatternError
+    ensures { result ≡ fault_in at (rest_of siblings.entry) }
+{
+    if siblings.expect_ident_or_underscore().is_err() || siblings.expect_char(':').is_err() {
+        return PatternError::BeginsNothing(at);
+    }
+    match siblings.expect_ident_or_underscore() {
+        Ok(_) => PatternError::UnknownFragment(at),
+        Err(()) => PatternError::BeginsNothing(at),
+    }
+}
+
+// The flat place before these trees, where behind the last of them is that one.
+fn place_before(until: usize, trees: &TtIter<'_>) -> usize
+    ensures { result ≡ until - size (rest_of trees.now) }
+{
+    until.saturating_sub(trees.remaining().len())
+}
+
+// The part that a `$` begins, behind which the siblings stand, which end before that flat place.
+fn signed_first<'p>(
+    alloc: Global,
+    until: usize,
+    dollar: Leaf,
+    siblings: &mut TtIter<'p>,
+) -> Result<First<'p>, AllocError>
+    requires { is_dollar dollar ≡ true }
+    ensures { IfOk result (λ part. IsFirst (placed_until until (leaf dollar (rest_of siblings.old))) part (placed_until until (rest_of siblings.new))) }
+{
+    let at = place_before(until, siblings).saturating_sub(1);
+    match sign_in(alloc, siblings.remaining().iter())? {
+        Sign::Variable(variable) => {
+            pass(siblings, 3);
+            Ok(First::Variable(at, variable))
+        }
+        Sign::Repetition(tail) => match siblings.expect_subtree() {
+            Ok((_, inner)) => {
+                let inside = place_before(until, siblings);
+                siblings.next();
+                pass(siblings, tail.separator.len());
+                Ok(First::Repetition(at, inner, inside, tail))
+            }
+            Err(()) => unreachable!(),
+        },
+        Sign::CrateRoot => Ok(First::Token),
+        Sign::Nothing => {
+            let fault = fault_in(at, siblings.remaining().iter());
+            Ok(First::Wrong(fault, dollar))
+        }
+    }
+}
+
+/// The first part of the pattern that these trees spell, which end before that flat place. It is passed.
+pub(crate) fn next_first<'p>(
+    alloc: Global,
+    until: usize,
+    trees: &mut TtIter<'p>,
+) -> Result<First<'p>, AllocError>
+    ensures { IfOk result (λ part. IsFirst (placed_until until (rest_of trees.old)) part (placed_until until (rest_of trees.new))) }
+{
+    let before = trees.remaining().iter();
+    match trees.next() {
+        None => Ok(First::End),
+        Some(TtElement::Subtree(header, inner)) => {
+            let inside = place_before(until, trees);
+            Ok(First::Subtree(header.delimiter.kind, inner, inside))
+        }
+        Some(TtElement::Leaf(leaf)) => {
+            if is_dollar(&leaf) {
+                let part = signed_first(alloc, until, leaf, trees)?;
+                return Ok(part);
+            }
+            pass(trees, unit_size(before).saturating_sub(1));
+            Ok(First::Token)
+        }
+    }
+}

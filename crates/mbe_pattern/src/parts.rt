@@ -1,0 +1,85 @@
+//! A pattern's trees, part by part.
+ghost use Rattle.std.specs.Prelude.{◌≡◌, ◌≤◌, ◌+◌, ◌∷◌, [], true, IfOk};
+ghost use Rattle.tt.specs.Forest.{leaf, size};
+ghost use Rattle.tt.specs.Iters.{rest_of};
+ghost use Rattle.mbe_pattern.specs.Signs.{IsPart, held_size, AreLess};
+ghost use Rattle.mbe_pattern.specs.Spelling.{is_dollar, pattern_of};
+
+use crate::pattern::Variable;
+use crate::signs::{Sign, Tail, first_unit, is_dollar, pass, sign_in};
+use std::alloc::{AllocError, Global};
+use tt::{DelimiterKind, Leaf, TtElement, TtIter};
+
+/// The part of a pattern that comes first.
+#[derive(Drop)]
+pub enum Part<'p> {
+    /// There is none.
+    End,
+    /// A variable: `$name:fragment`.
+    Variable(Variable),
+    /// The leaves of a token. A `$` that begins nothing is one.
+    Token(Vec<Leaf>),
+    /// A subtree of that kind, and what it holds.
+    Subtree(DelimiterKind, TtIter<'p>),
+    /// What a repetition holds, and what stands behind that.
+    Repetition(TtIter<'p>, Tail),
+}
+
+// A token of one leaf.
+fn one_leaf(alloc: Global, leaf: Leaf) -> Result<Vec<Leaf>, AllocError>
+    ensures { IfOk result (λ leaves. leaves.items ≡ leaf ∷ []) }
+{
+    let mut leaves = Vec::new(alloc);
+    leaves.push(leaf)?;
+    Ok(leaves)
+}
+
+// The part that a `$` begins, behind which the siblings stand.
+fn signed_part<'p>(
+    alloc: Global,
+    dollar: Leaf,
+    siblings: &mut TtIter<'p>,
+) -> Result<Part<'p>, AllocError>
+    requires { is_dollar dollar ≡ true }
+    ensures part { IfOk result (λ part. IsPart (pattern_of (leaf dollar (rest_of siblings.old))) part (pattern_of (rest_of siblings.new))) }
+    ensures less { IfOk result (λ part. held_size part + size (rest_of siblings.new) ≤ size (rest_of siblings.old)) }
+{
+    match sign_in(alloc, siblings.remaining().iter())? {
+        Sign::Variable(variable) => {
+            pass(siblings, 3);
+            Ok(Part::Variable(variable))
+        }
+        Sign::Repetition(tail) => match siblings.expect_subtree() {
+            Ok((_, inner)) => {
+                siblings.next();
+                pass(siblings, tail.separator.len());
+                Ok(Part::Repetition(inner, tail))
+            }
+            Err(()) => unreachable!(),
+        },
+        Sign::CrateRoot | Sign::Nothing => Ok(Part::Token(one_leaf(alloc, dollar)?)),
+    }
+}
+
+/// The first part of the pattern that these trees spell, which is passed. It is refused only where memory is.
+pub fn next_part<'p>(alloc: Global, trees: &mut TtIter<'p>) -> Result<Part<'p>, AllocError>
+    ensures part { IfOk result (λ part. IsPart (pattern_of (rest_of trees.old)) part (pattern_of (rest_of trees.new))) }
+    ensures less { IfOk result (λ part. AreLess part (held_size part + size (rest_of trees.new)) (size (rest_of trees.old))) }
+{
+    let before = trees.remaining().iter();
+    match trees.next() {
+        None => Ok(Part::End),
+        Some(TtElement::Subtree(header, inner)) => {
+            Ok(Part::Subtree(header.delimiter.kind, inner))
+        }
+        Some(TtElement::Leaf(leaf)) => {
+            if is_dollar(&leaf) {
+                let part = signed_part(alloc, leaf, trees)?;
+                return Ok(part);
+            }
+            let token = first_unit(alloc, before)?;
+            pass(trees, token.len().saturating_sub(1));
+            Ok(Part::Token(token))
+        }
+    }
+}

@@ -1,0 +1,106 @@
+-- A template is filled from its first part to its last.
+use Rattle.std.proofs.Common.{◌≡◌, true, List, [], ◌∷◌, map, reverse, None, refl, ap, ap₂, sym, subst, ◌∙◌, arith}
+use Rattle.tt.specs.Building.{lowest, bottom, built, empty_builder, tokens_held, IsAbove, IsOpen}
+use Rattle.tt.specs.TreeFault.{under}
+use Rattle.tt.specs.Types.Delimiter.{Delimiter}
+use Rattle.tt.specs.Types.Span.{Span}
+use Rattle.tt.specs.Types.TtFault.{TtFault}
+use Rattle.tt.specs.Types.TtFault.TheVariants as limit
+use Rattle.mbe_matcher.specs.Bindings.{Binding}
+use Rattle.mbe_rules.specs.declared.fill_error.FillError.{FillError}
+use Rattle.mbe_rules.specs.declared.fill_error.FillError.TheVariants as refusal
+use Rattle.mbe_rules.specs.declared.filling.Filling.{Filling}
+use Rattle.mbe_rules.specs.declared.parts.Part.{Part}
+use Rattle.mbe_rules.specs.declared.taken.Round.{Round}
+use Rattle.mbe_rules.specs.Filling.{Filled, filled, in_round}
+use Rattle.mbe_rules.specs.Parts.{Bit, bit_of, bits_of}
+use Rattle.mbe_rules.specs.Results.{IsToldOf, IsFillError}
+use Rattle.mbe_rules.specs.Rounds.{bound_in}
+use Rattle.mbe_rules.specs.Standing.{AreLevels, IsAt, IsStop}
+use Rattle.mbe_rules.specs.Templates.{Template, nothing, use_of, token, subtree, repetition}
+use Rattle.mbe_rules.specs.Wholes.{are_whole, whole_of}
+use Rattle.mbe_rules.specs.Writing.{Closing, last, Level, end_of, Written, written_by, finished}
+use Rattle.mbe_rules.proofs.Going.{level_of}
+use Rattle.mbe_rules.proofs.Wholeness.{parts_are}
+
+-- what is written where all is filled
+abbrev pub written_of : Filled → Written
+written_of it = record { stack = lowest it.trees; fault = it.fault }
+
+-- Where no round is begun, all is bound as it is.
+nothing_begun : (binding : Binding) → binding ≡ map (in_round (bound_in [])) binding
+nothing_begun [] = refl
+nothing_begun (it ∷ others) = ap (λ l. it ∷ l) (nothing_begun others)
+
+-- the one level that is left at first
+abbrev pub first_level : List Part → Binding → Level
+first_level parts binding = level_of (whole_of parts) binding last
+
+-- At first it stands in that.
+pub starts : (parts : List Part) (binding : Binding) (it : Filling) (delimiter : Delimiter) → are_whole parts ≡ true → it.builder ≡ empty_builder delimiter
+    → it.rounds.items ≡ [] → it.closes.items ≡ [] → IsAt (map bit_of parts) binding (first_level parts binding ∷ []) it (map bit_of parts)
+starts parts binding it delimiter whole builder rounds closes =
+    record {
+      stand =
+          subst (λ l. AreLevels (map bit_of parts) binding (first_level parts binding ∷ []) l (reverse it.closes.items) (map bit_of parts)) (sym (ap reverse rounds))
+          (subst (λ l. AreLevels (map bit_of parts) binding (first_level parts binding ∷ []) [] l (map bit_of parts)) (sym (ap reverse closes))
+          ([], parts_are parts whole, nothing_begun binding, (refl, (refl, refl, refl))));
+      few = omega (arith, ap (λ b. tokens_held b.stack) builder);
+    }
+
+pub starts_whole : (parts : List Part) (binding : Binding) (it : Filling) (delimiter : Delimiter) → it.builder ≡ empty_builder delimiter
+    → finished (first_level parts binding ∷ []) (written_by it) ≡ written_of (filled (whole_of parts) binding)
+starts_whole parts binding it delimiter builder = ap (λ b. finished (first_level parts binding ∷ []) (record { stack = b.stack; fault = None })) builder
+
+-- At last no level is left.
+none_left : (template : Template) (closing : Closing) (behind : List Bit) → [] ≡ bits_of template (end_of closing ∷ behind) → ⊥
+none_left nothing closing behind is = cc is
+none_left (use_of at variable others) closing behind is = cc is
+none_left (token it others) closing behind is = cc is
+none_left (subtree delimiter inner others) closing behind is = cc is
+none_left (repetition at inner separator kind others) closing behind is = cc is
+
+pub ends : (bits : List Bit) (whole : Binding) (levels : List Level) (rounds : List Round) (closes : List Span) → AreLevels bits whole levels rounds closes [] → levels ≡ []
+ends bits whole [] rounds closes stand = refl
+ends bits whole (level ∷ outer) rounds closes (behind, is, bound, more) = absurd (none_left level.rest level.closing behind is)
+
+-- So all is written.
+pub ends_whole : (it : Filling) (levels : List Level) (all : Filled) → levels ≡ [] → finished levels (written_by it) ≡ written_of all → written_by it ≡ written_of all
+ends_whole it levels all none is = sym (ap (λ l. finished l (written_by it)) none) ∙ is
+
+pub not_open : (it : Filling) (all : Filled) → written_by it ≡ written_of all → IsOpen it.builder → ⊥
+not_open it all is above = subst IsAbove (ap (λ w. w.stack) is) above
+
+-- What is built is the tree.
+pub built_is : (it : Filling) (all : Filled) (delimiter : Delimiter) → written_by it ≡ written_of all → it.builder.top ≡ delimiter → built it.builder ≡ under delimiter all.trees
+built_is it all delimiter is top = ap₂ (λ d w. under d (bottom w.stack)) top is
+
+-- Each limit is told of all that there is.
+pub told_all : (it : Filled) (fault : TtFault) → None ≡ it.fault → IsToldOf it fault
+told_all it limit.Memory none = tt
+told_all it limit.TooManyTokens none = tt
+told_all it limit.NotOneSubtree none = sym none
+told_all it limit.NoSuchPlace none = sym none
+told_all it limit.NotALeaf none = sym none
+told_all it limit.SuffixTooLong none = sym none
+told_all it limit.BadScan none = sym none
+told_all it limit.TooManySpanParts none = sym none
+told_all it limit.TooManySymbols none = sym none
+told_all it limit.TooManyBytes none = sym none
+told_all it limit.PointsSpent none = sym none
+
+-- What stops it is what is wrong.
+pub stop_told : (delimiter : Delimiter) (it : Filled) (error : FillError) → IsStop (written_of it) error → IsFillError delimiter it error
+stop_told delimiter it (refusal.LengthsDiffer at) stop = stop
+stop_told delimiter it (refusal.NoRound at) stop = stop
+stop_told delimiter it (refusal.Tree limit.Memory) stop = (tt, tt)
+stop_told delimiter it (refusal.Tree limit.TooManyTokens) stop = (tt, stop)
+stop_told delimiter it (refusal.Tree limit.NotOneSubtree) stop = absurd stop
+stop_told delimiter it (refusal.Tree limit.NoSuchPlace) stop = absurd stop
+stop_told delimiter it (refusal.Tree limit.NotALeaf) stop = absurd stop
+stop_told delimiter it (refusal.Tree limit.SuffixTooLong) stop = absurd stop
+stop_told delimiter it (refusal.Tree limit.BadScan) stop = absurd stop
+stop_told delimiter it (refusal.Tree limit.TooManySpanParts) stop = absurd stop
+stop_told delimiter it (refusal.Tree limit.TooManySymbols) stop = absurd stop
+stop_told delimiter it (refusal.Tree limit.TooManyBytes) stop = absurd stop
+stop_told delimiter it (refusal.Tree limit.PointsSpent) stop = absurd stop

@@ -1,0 +1,134 @@
+-- How a template that is partly filled goes on, part by part.
+use Rattle.std.proofs.Common.{◌≡◌, ◌<◌, ℕ, List, [], ◌∷◌, refl, ap, ap₂, ◌∙◌, arith}
+use Rattle.std.specs.Prelude.{slice_get}
+use Rattle.tt.specs.Building.{Stack, above, append}
+use Rattle.tt.specs.Forest.{end, leaf}
+use Rattle.tt.specs.Types.Delimiter.{Delimiter}
+use Rattle.tt.specs.Types.Leaf.{Leaf}
+use Rattle.tt.specs.Types.Span.{Span}
+use Rattle.mbe_matcher.specs.Bindings.{Binding}
+use Rattle.mbe_rules.specs.declared.taken.Round.{Round}
+use Rattle.mbe_rules.specs.Filling.{all_filled, in_subtree, filled, trees_placed}
+use Rattle.mbe_rules.specs.Parts.{Bit, uses, same, enter, leave, bits_of}
+use Rattle.mbe_rules.specs.Standing.{bound_here, IsEnd, AreLevels}
+use Rattle.mbe_rules.specs.Templates.{Template, nothing, use_of, token, subtree, repetition}
+use Rattle.mbe_rules.specs.Working.{work_of}
+use Rattle.mbe_rules.specs.Writing.{Closing, last, shut, again, Level, end_of, write, behind_end, finished}
+use Rattle.mbe_rules.proofs.Writes.{sound, write_both}
+
+-- a level
+abbrev pub level_of : Template → Binding → Closing → Level
+level_of rest binding closing = record { rest = rest; binding = binding; closing = closing }
+
+-- it goes on to other levels, where that was done to what was written
+pub record Next (bits : List Bit) (whole : Binding) (levels : List Level) (rounds : List Round) (closes : List Span) (left : List Bit) (change : Stack → Stack) : Type 0 where
+  pub news : List Level
+  pub stand : AreLevels bits whole news rounds closes left
+  pub same : (stack : Stack) → finished levels (sound stack) ≡ finished news (sound (change stack))
+  pub less : work_of news < work_of levels
+
+module _ (bits : List Bit) (whole : Binding) (outer : List Level) (rounds : List Round) (closes : List Span) (binding : Binding) (closing : Closing) (behind left : List Bit)
+    (bound : binding ≡ bound_here whole rounds)
+    (ends : IsEnd bits whole (λ more others. AreLevels bits whole outer more others behind) closing rounds closes behind) where
+  -- what is left of the level then
+  stand_on : (others : Template) → left ≡ bits_of others (end_of closing ∷ behind) → AreLevels bits whole (level_of others binding closing ∷ outer) rounds closes left
+  stand_on others is = (behind, is, bound, ends)
+
+  -- A use, where it comes first.
+  use_next : (at variable : ℕ) (rest : Template) → uses at variable ∷ left ≡ bits_of rest (end_of closing ∷ behind)
+      → Next bits whole (level_of rest binding closing ∷ outer) rounds closes left (append (trees_placed (slice_get (bound_here whole rounds) variable)))
+  use_next at variable nothing is = absurd (by closing is)
+    where
+      by : (closing : Closing) → uses at variable ∷ left ≡ end_of closing ∷ behind → ⊥
+      by last is = cc is
+      by (shut span) is = cc is
+      by (again body separator kind n others) is = cc is
+  use_next at variable (use_of there which others) is =
+      record {
+        news = level_of others binding closing ∷ outer;
+        stand = stand_on others (cc is);
+        same =
+            λ stack. ap (λ w. finished outer (behind_end closing w)) (write_both (all_filled (trees_placed (slice_get binding which))) (filled others binding) (sound stack))
+            ∙ ap₂ (λ b v. finished outer (behind_end closing (write (filled others binding) (sound (append (trees_placed (slice_get b v)) stack))))) bound same_variable;
+        less = omega arith;
+      }
+    where
+      same_variable : which ≡ variable
+      same_variable = cc is
+  use_next at variable (token it others) is = absurd (cc is)
+  use_next at variable (subtree delimiter inner others) is = absurd (cc is)
+  use_next at variable (repetition there inner separator kind others) is = absurd (cc is)
+
+  -- A token.
+  token_next : (it : Leaf) (rest : Template) → same it ∷ left ≡ bits_of rest (end_of closing ∷ behind)
+      → Next bits whole (level_of rest binding closing ∷ outer) rounds closes left (append (leaf it end))
+  token_next it nothing is = absurd (by closing is)
+    where
+      by : (closing : Closing) → same it ∷ left ≡ end_of closing ∷ behind → ⊥
+      by last is = cc is
+      by (shut span) is = cc is
+      by (again body separator kind n others) is = cc is
+  token_next it (use_of there which others) is = absurd (cc is)
+  token_next it (token other others) is =
+      record {
+        news = level_of others binding closing ∷ outer;
+        stand = stand_on others (cc is);
+        same =
+            λ stack. ap (λ w. finished outer (behind_end closing w)) (write_both (all_filled (leaf other end)) (filled others binding) (sound stack))
+            ∙ ap (λ l. finished outer (behind_end closing (write (filled others binding) (sound (append (leaf l end) stack))))) same_leaf;
+        less = omega arith;
+      }
+    where
+      same_leaf : other ≡ it
+      same_leaf = cc is
+  token_next it (subtree delimiter inner others) is = absurd (cc is)
+  token_next it (repetition there inner separator kind others) is = absurd (cc is)
+
+  -- A subtree begins.
+  enter_next : (delimiter : Delimiter) (rest : Template) → enter delimiter ∷ left ≡ bits_of rest (end_of closing ∷ behind)
+      → Next bits whole (level_of rest binding closing ∷ outer) rounds (delimiter.close ∷ closes) left (λ stack. above stack delimiter.kind delimiter.open_span end)
+  enter_next delimiter nothing is = absurd (by closing is)
+    where
+      by : (closing : Closing) → enter delimiter ∷ left ≡ end_of closing ∷ behind → ⊥
+      by last is = cc is
+      by (shut span) is = cc is
+      by (again body separator kind n others) is = cc is
+  enter_next delimiter (use_of there which others) is = absurd (cc is)
+  enter_next delimiter (token other others) is = absurd (cc is)
+  enter_next delimiter (subtree other inner others) is =
+      record {
+        news = level_of inner binding (shut delimiter.close) ∷ level_of others binding closing ∷ outer;
+        stand =
+            (bits_of others (end_of closing ∷ behind), (λ i. held i), bound, (closes, refl, (behind, refl, bound, ends)));
+        same =
+            λ stack. ap (λ w. finished outer (behind_end closing w)) (write_both (in_subtree other (filled inner binding)) (filled others binding) (sound stack))
+            ∙ ap (λ d. finished outer (behind_end closing (write (filled others binding) (write (in_subtree d (filled inner binding)) (sound stack))))) same_delimiter;
+        less = omega arith;
+      }
+    where
+      same_delimiter : other ≡ delimiter
+      same_delimiter = cc is
+
+      held : left ≡ bits_of inner (leave ∷ bits_of others (end_of closing ∷ behind))
+      held = cc is
+  enter_next delimiter (repetition there inner separator kind others) is = absurd (cc is)
+
+-- what is said of the levels, where that part comes first
+module _ (bits : List Bit) (whole : Binding) (rounds : List Round) (closes : List Span) (left : List Bit) where
+  pub goes_use : (at variable : ℕ) (levels : List Level) → AreLevels bits whole levels rounds closes (uses at variable ∷ left)
+      → Next bits whole levels rounds closes left (append (trees_placed (slice_get (bound_here whole rounds) variable)))
+  goes_use at variable [] stand = absurd (cc stand.2)
+  goes_use at variable (level ∷ outer) (behind, is, bound, ends) =
+      use_next bits whole outer rounds closes level.binding level.closing behind left bound ends at variable level.rest is
+
+  pub goes_token : (it : Leaf) (levels : List Level) → AreLevels bits whole levels rounds closes (same it ∷ left)
+      → Next bits whole levels rounds closes left (append (leaf it end))
+  goes_token it [] stand = absurd (cc stand.2)
+  goes_token it (level ∷ outer) (behind, is, bound, ends) =
+      token_next bits whole outer rounds closes level.binding level.closing behind left bound ends it level.rest is
+
+  pub goes_enter : (delimiter : Delimiter) (levels : List Level) → AreLevels bits whole levels rounds closes (enter delimiter ∷ left)
+      → Next bits whole levels rounds (delimiter.close ∷ closes) left (λ stack. above stack delimiter.kind delimiter.open_span end)
+  goes_enter delimiter [] stand = absurd (cc stand.2)
+  goes_enter delimiter (level ∷ outer) (behind, is, bound, ends) =
+      enter_next bits whole outer rounds closes level.binding level.closing behind left bound ends delimiter level.rest is

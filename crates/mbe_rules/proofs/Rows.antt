@@ -1,0 +1,236 @@
+-- Worked templates: each holds by computation.
+use Rattle.std.proofs.Common.{◌≡◌, ℕ, List, [], ◌∷◌, Option, None, Some, codes, refl}
+use Rattle.tt.specs.Forest.{Forest, end, leaf, node, join}
+use Rattle.tt.specs.Types.DelimiterKind.TheVariants.{Parenthesis, Brace, InvisibleOpaque}
+use Rattle.tt.specs.Types.IdentIsRaw.TheVariants.{Yes}
+use Rattle.tt.specs.Types.Leaf.TheVariants as leaf_of
+use Rattle.tt.specs.Types.Spacing.TheVariants.{Alone, Joint}
+use Rattle.tt_base.specs.Token.{delimiter}
+use Rattle.tt_base.proofs.Samples.{span, punct, ident, subtree}
+use Rattle.mbe_pattern.specs.declared.pattern.Fragment.TheVariants as fragment
+use Rattle.mbe_pattern.specs.declared.pattern.GrammarFragment.{GrammarFragment}
+use Rattle.mbe_pattern.specs.declared.pattern.GrammarFragment.TheVariants as grammar
+use Rattle.mbe_pattern.specs.declared.pattern.RepeatKind.TheVariants as repeat
+use Rattle.mbe_pattern.specs.declared.pattern.Variable.{Variable}
+use Rattle.mbe_matcher.specs.Bindings.{Bound, one, none, first, Named, Binding}
+use Rattle.mbe_matcher.specs.Grouping.{Where}
+use Rattle.mbe_rules.specs.declared.error.TemplateError.{TemplateError}
+use Rattle.mbe_rules.specs.declared.error.TemplateError.TheVariants as error
+use Rattle.mbe_rules.specs.Faults.{template_fault}
+use Rattle.mbe_rules.specs.Filling.{Filled, all_filled, filled, lengths_differ, no_round}
+use Rattle.mbe_rules.specs.Parts.{all_bits, uses, same, begin, close, leave}
+use Rattle.mbe_rules.specs.Spelling.{template_of}
+use Rattle.mbe_rules.specs.Templates.{Template, nothing, use_of, token, subtree as held_by, repetition}
+
+-- small trees: an ident, puncts that stand alone or joint, before others
+abbrev word : List ℕ → Forest → Forest
+word text rest = leaf (ident text) rest
+
+abbrev raw_word : List ℕ → Forest → Forest
+raw_word text rest = leaf (leaf_of.Ident (record { sym = text; span = span 0 1; is_raw = Yes })) rest
+
+abbrev alone : ℕ → Forest → Forest
+alone char rest = leaf (punct char Alone) rest
+
+-- `$( .. )` before others
+abbrev rounds : Forest → Forest → Forest
+rounds inside rest = alone 36 (join (subtree Parenthesis inside) rest)
+
+-- the names `x`, `y` and `z`
+abbrev x : List ℕ
+x = codes "x"
+
+abbrev y : List ℕ
+y = codes "y"
+
+abbrev z : List ℕ
+z = codes "z"
+
+-- a variable without a name
+abbrev nameless : Variable
+nameless = record { name = None; fragment = fragment.Tt }
+
+-- variables of those names, in no repetition, in one, and in two; and one without a name
+abbrev variable : List ℕ → List ℕ → Where
+variable name nest = record { variable = record { name = Some name; fragment = fragment.Tt }; number = 0; nest = nest }
+
+abbrev variables : List Where
+variables = record { variable = nameless; number = 0; nest = [] } ∷ variable x [] ∷ variable y (1 ∷ []) ∷ variable z (1 ∷ 2 ∷ []) ∷ []
+
+-- `$x` is a use, and `$r#x` too.
+use_spelled : template_of variables (alone 36 (word x (alone 59 end))) ≡ use_of 0 1 (token (punct 59 Alone) nothing)
+use_spelled = refl
+
+raw_spelled : template_of variables (alone 36 (raw_word x end)) ≡ use_of 0 1 nothing
+raw_spelled = refl
+
+-- `$a`, `$crate` and `$_` stay as they are, and so does a `$` at the end.
+abbrev dollar_leaf : Template → Template
+dollar_leaf others = token (punct 36 Alone) others
+
+unknown_stays : template_of variables (alone 36 (word (codes "a") end)) ≡ dollar_leaf (token (ident (codes "a")) nothing)
+unknown_stays = refl
+
+crate_stays : template_of variables (alone 36 (word (codes "crate") end)) ≡ dollar_leaf (token (ident (codes "crate")) nothing)
+crate_stays = refl
+
+underscore_stays : template_of variables (alone 36 (word (codes "_") end)) ≡ dollar_leaf (token (ident (codes "_")) nothing)
+underscore_stays = refl
+
+last_stays : template_of variables (alone 36 end) ≡ dollar_leaf nothing
+last_stays = refl
+
+-- `$$x` is `$`, and a use.
+second_used : template_of variables (alone 36 (alone 36 (word x end))) ≡ dollar_leaf (use_of 1 1 nothing)
+second_used = refl
+
+-- `$($y),*` and `$($y)+`; `$($y)` is no repetition, and neither is `$[$y]*`.
+list_spelled : template_of variables (rounds (alone 36 (word y end)) (alone 44 (alone 42 (word x end))))
+    ≡ repetition 0 (use_of 2 2 nothing) (punct 44 Alone ∷ []) repeat.ZeroOrMore (token (ident x) nothing)
+list_spelled = refl
+
+more_spelled : template_of variables (rounds (alone 36 (word y end)) (alone 43 end))
+    ≡ repetition 0 (use_of 2 2 nothing) [] repeat.OneOrMore nothing
+more_spelled = refl
+
+no_tail : template_of variables (rounds (alone 36 (word y end)) end)
+    ≡ dollar_leaf (held_by (delimiter Parenthesis (span 0 1) (span 1 1)) (use_of 2 2 nothing) nothing)
+no_tail = refl
+
+brace_stays : template_of variables (alone 36 (join (subtree Brace end) (alone 42 end)))
+    ≡ dollar_leaf (held_by (delimiter Brace (span 0 1) (span 1 1)) nothing (token (punct 42 Alone) nothing))
+brace_stays = refl
+
+-- Its parts.
+list_parts : all_bits (template_of variables (rounds (alone 36 (word y end)) (alone 44 (alone 42 (word x end)))))
+    ≡ begin 0 ∷ uses 2 2 ∷ close (punct 44 Alone ∷ []) repeat.ZeroOrMore ∷ same (ident x) ∷ leave ∷ []
+list_parts = refl
+
+-- what is wrong with trees as a template
+abbrev fault_of : Forest → Option TemplateError
+fault_of trees = template_fault variables (template_of variables trees)
+
+-- `$x` may stand in any repetitions in which another repeats; `$y` in none repeats still, and so does `$z` in one.
+fine : fault_of (rounds (alone 36 (word x (alone 36 (word y end)))) (alone 42 end)) ≡ None
+fine = refl
+
+repeats_still : fault_of (alone 36 (word x (alone 36 (word y end)))) ≡ Some (error.StillRepeats 2)
+repeats_still = refl
+
+inner_repeats_still : fault_of (rounds (alone 36 (word z end)) (alone 42 end)) ≡ Some (error.StillRepeats 2)
+inner_repeats_still = refl
+
+-- `$($x)*` and `$( )*` have nothing that repeats, and in `$($($y)*)*` the inner one has not.
+nothing_repeats : fault_of (rounds (alone 36 (word x end)) (alone 42 end)) ≡ Some (error.NothingRepeats 0)
+nothing_repeats = refl
+
+empty_repeats : fault_of (rounds end (alone 42 end)) ≡ Some (error.NothingRepeats 0)
+empty_repeats = refl
+
+inner_nothing : fault_of (rounds (rounds (alone 36 (word y end)) (alone 42 end)) (alone 42 end)) ≡ Some (error.NothingRepeats 2)
+inner_nothing = refl
+
+-- The first counts: a repetition before what it holds, and what it holds before what is behind.
+outer_first : fault_of (rounds (rounds end (alone 42 end)) (alone 42 (alone 36 (word y end)))) ≡ Some (error.NothingRepeats 0)
+outer_first = refl
+
+inner_first : fault_of (rounds (alone 36 (word z end)) (alone 42 (alone 36 (word y end)))) ≡ Some (error.StillRepeats 2)
+inner_first = refl
+
+-- What stands before it is counted at any depth, with brackets and tails.
+behind_subtree : fault_of (join (subtree Parenthesis (word x end)) (word x (alone 36 (word y end)))) ≡ Some (error.StillRepeats 3)
+behind_subtree = refl
+
+behind_repetition : fault_of (rounds (alone 36 (word y end)) (alone 44 (alone 42 (alone 36 (word y end))))) ≡ Some (error.StillRepeats 6)
+behind_repetition = refl
+
+-- what is bound: `a` to `$x`, trees to `$y` in two rounds, and to `$z` in two rounds, of which the second has none inside
+abbrev a_tree : Forest
+a_tree = word (codes "a") end
+
+abbrev b_tree : Forest
+b_tree = word (codes "b") end
+
+abbrev bind : List ℕ → Bound → Named
+bind name bound = record { variable = record { name = Some name; fragment = fragment.Tt }; bound = bound }
+
+abbrev binding : Binding
+binding =
+    record { variable = nameless; bound = one b_tree } ∷ bind x (one a_tree) ∷ bind y (first (one a_tree) (first (one b_tree) none))
+    ∷ bind z (first (first (one a_tree) none) (first none none)) ∷ []
+
+-- what becomes of trees
+abbrev becomes : Binding → Forest → Filled
+becomes bound trees = filled (template_of variables trees) bound
+
+-- `$x;`, `$($y),*` and `$($x $y)*`
+use_filled : becomes binding (alone 36 (word x (alone 59 end))) ≡ all_filled (word (codes "a") (alone 59 end))
+use_filled = refl
+
+list_filled : becomes binding (rounds (alone 36 (word y end)) (alone 44 (alone 42 end))) ≡ all_filled (word (codes "a") (alone 44 (word (codes "b") end)))
+list_filled = refl
+
+outer_filled : becomes binding (rounds (alone 36 (word x (alone 36 (word y end)))) (alone 42 end))
+    ≡ all_filled (word (codes "a") (word (codes "a") (word (codes "a") (word (codes "b") end))))
+outer_filled = refl
+
+-- `$($y $($z)*)*`: `$y` is there in each round, and `$z` in the first.
+nested_filled : becomes binding (rounds (alone 36 (word y (rounds (alone 36 (word z end)) (alone 42 end)))) (alone 42 end))
+    ≡ all_filled (word (codes "a") (word (codes "a") (word (codes "b") end)))
+nested_filled = refl
+
+-- Where `+` wants a round there must be one; and `$y` and `$z` must have as many.
+abbrev empty : Binding
+empty = record { variable = nameless; bound = one b_tree } ∷ bind x (one a_tree) ∷ bind y none ∷ bind z (first none none) ∷ []
+
+none_wanted : becomes empty (rounds (alone 36 (word y end)) (alone 43 end)) ≡ record { trees = end; fault = Some (no_round 0) }
+none_wanted = refl
+
+none_there : becomes empty (rounds (alone 36 (word y end)) (alone 42 end)) ≡ all_filled end
+none_there = refl
+
+lengths_apart : becomes empty (rounds (alone 36 (word y (rounds (alone 36 (word z end)) (alone 42 end)))) (alone 42 end)) ≡ record { trees = end; fault = Some (lengths_differ 0) }
+lengths_apart = refl
+
+-- Before a `$` no punct stands as one with what comes behind, and neither does the last one of a separator or of what is bound; others do.
+abbrev joint : ℕ → Forest → Forest
+joint char rest = leaf (punct char Joint) rest
+
+before_use : template_of variables (joint 60 (alone 36 (word x end))) ≡ token (punct 60 Alone) (use_of 1 1 nothing)
+before_use = refl
+
+before_punct : template_of variables (joint 58 (alone 58 end)) ≡ token (punct 58 Joint) (token (punct 58 Alone) nothing)
+before_punct = refl
+
+joint_separator : template_of variables (rounds (alone 36 (word y end)) (joint 61 (joint 62 (alone 42 end))))
+    ≡ repetition 0 (use_of 2 2 nothing) (punct 61 Joint ∷ punct 62 Alone ∷ []) repeat.ZeroOrMore nothing
+joint_separator = refl
+
+joint_bound : filled (use_of 0 0 (token (punct 61 Alone) nothing)) (bind x (one (joint 61 (joint 62 end))) ∷ []) ≡ all_filled (joint 61 (alone 62 (alone 61 end)))
+joint_bound = refl
+
+-- What a fragment of Rust's grammar took: an expression of more than one token stands as one opaque subtree, which has the spans of its
+-- ends. One of a single token stands as it is, and so does a path.
+abbrev bound_as : GrammarFragment → Forest → Binding
+bound_as which trees = record { variable = record { name = Some x; fragment = fragment.Grammar which }; bound = one trees } ∷ []
+
+-- `a + b`, where `a` and `b` have these spans
+abbrev sum : Forest
+sum = leaf (leaf_of.Ident (record { sym = codes "a"; span = span 0 1; is_raw = Yes })) (alone 43 (leaf (leaf_of.Ident (record { sym = codes "b"; span = span 4 5; is_raw = Yes })) end))
+
+sum_bound : filled (use_of 0 0 nothing) (bound_as grammar.Expr sum)
+    ≡ all_filled (node (record { open_span = span 0 1; close = span 4 5; kind = InvisibleOpaque }) sum end)
+sum_bound = refl
+
+sum_again : filled (use_of 0 0 nothing) (bound_as grammar.Pat (node (delimiter InvisibleOpaque (span 0 1) (span 4 5)) sum end))
+    ≡ all_filled (node (delimiter InvisibleOpaque (span 0 1) (span 4 5)) sum end)
+sum_again = refl
+
+token_bound : filled (use_of 0 0 nothing) (bound_as grammar.Ty (word (codes "a") end)) ≡ all_filled (word (codes "a") end)
+token_bound = refl
+
+dots_bound : filled (use_of 0 0 nothing) (bound_as grammar.PatParam (joint 46 (alone 46 end))) ≡ all_filled (joint 46 (alone 46 end))
+dots_bound = refl
+
+path_bound : filled (use_of 0 0 nothing) (bound_as grammar.Path sum) ≡ all_filled sum
+path_bound = refl

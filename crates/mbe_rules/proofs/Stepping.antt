@@ -1,0 +1,193 @@
+-- Where each part of a template leads, and why it is refused.
+use Rattle.std.proofs.Common.{◌≡◌, ◌+◌, ◌<◌, ◌≤◌, ℕ, suc, List, [], ◌∷◌, ◌++◌, drop, reverse, Some, Ok, Err, inl, inr, refl, ap, sym, subst, ◌∙◌, arith}
+use Rattle.std.proofs.lemmas.List.{reverse-append}
+use Rattle.std.specs.Prelude.{slice_get}
+use Rattle.tt.specs.Building.{Stack, above, append, close_innermost, tokens_held}
+use Rattle.tt.specs.Forest.{end, leaf, size}
+use Rattle.tt.specs.Siblings.{leaves}
+use Rattle.tt.specs.Stored.{most_tokens}
+use Rattle.tt.specs.Types.Delimiter.{Delimiter}
+use Rattle.tt.specs.Types.Leaf.{Leaf}
+use Rattle.tt.specs.Types.Span.{Span}
+use Rattle.tt.specs.Types.TtFault.{TtFault}
+use Rattle.mbe_pattern.specs.declared.pattern.RepeatKind.{RepeatKind}
+use Rattle.mbe_matcher.specs.Bindings.{Binding}
+use Rattle.mbe_rules.specs.declared.fill_error.FillError.TheVariants as error
+use Rattle.mbe_rules.specs.declared.filling.Filling.{Filling}
+use Rattle.mbe_rules.specs.declared.taken.Round.{Round}
+use Rattle.mbe_rules.specs.Counting.{behind_close, round_error}
+use Rattle.mbe_rules.specs.Filling.{FillFault, lengths_differ, no_round, trees_placed}
+use Rattle.mbe_rules.specs.Parts.{Bit, uses, same, enter, leave, begin, close}
+use Rattle.mbe_rules.specs.Standing.{AreLevels, IsAt, Goes, Grows, IsWant, Enters, AreClosed, Leaves, IsStop, bound_here}
+use Rattle.mbe_rules.specs.Writing.{Level, written_by, finished}
+use Rattle.mbe_rules.proofs.Going.{Next, goes_use, goes_token, goes_enter}
+use Rattle.mbe_rules.proofs.Repeating.{asked, goes_leave_all, goes_leave, goes_none, goes_begin, goes_nowhere, goes_last, goes_again}
+use Rattle.tt_base.proofs.Appending.{held-append, held-close}
+use Rattle.mbe_rules.proofs.Writes.{sound, held_less}
+
+module _ (bits : List Bit) (whole : Binding) (levels : List Level) (left : List Bit) where
+  -- It goes on so.
+  goes_on : (old new : Filling) (rounds : List Round) (closes : List Span) (change : Stack → Stack) → Next bits whole levels rounds closes left change
+      → reverse new.rounds.items ≡ rounds → reverse new.closes.items ≡ closes → new.builder.stack ≡ change old.builder.stack
+      → tokens_held new.builder.stack ≤ most_tokens → new.builder.top ≡ old.builder.top → Goes bits whole levels old new left
+  goes_on old new rounds closes change next r c s few top =
+      record {
+        news = next.news;
+        stands =
+            record {
+              stand = subst (λ l. AreLevels bits whole next.news l (reverse new.closes.items) left) (sym r) (subst (λ l. AreLevels bits whole next.news rounds l left) (sym c) next.stand);
+              few = few;
+            };
+        same = ap (λ k. finished next.news (sound k)) s ∙ sym (next.same old.builder.stack);
+        less = next.less;
+        top = top;
+      }
+
+  -- Or so many tokens more are refused.
+  want_stops : (old : Filling) (rounds : List Round) (closes : List Span) (behind : List Bit) (change : Stack → Stack) (more : ℕ) (fault : TtFault)
+      → Next bits whole levels rounds closes behind change → tokens_held (change old.builder.stack) ≡ tokens_held old.builder.stack + more → IsWant more old fault
+      → IsStop (finished levels (written_by old)) (error.Tree fault)
+  want_stops old rounds closes behind change more fault next held (inl e) = subst (λ f. IsStop (finished levels (written_by old)) (error.Tree f)) (sym e) tt
+  want_stops old rounds closes behind change more fault next held (inr (e, many)) =
+      let past : most_tokens < tokens_held (finished levels (written_by old)).stack = omega (
+        arith,
+        many,
+        held,
+        held_less next.news (sound (change old.builder.stack)),
+        ap (λ w. tokens_held w.stack) (next.same old.builder.stack),
+      ) in
+      subst (λ f. IsStop (finished levels (written_by old)) (error.Tree f)) (sym e) past
+
+  module _ (old : Filling) where
+    -- the rounds and the subtrees that are open
+    abbrev pub rounds : List Round
+    rounds = reverse old.rounds.items
+
+    abbrev pub closes : List Span
+    closes = reverse old.closes.items
+
+    -- A use.
+    pub use_steps : (new : Filling) (at variable : ℕ) → IsAt bits whole levels old (uses at variable ∷ left)
+        → Grows (trees_placed (slice_get (bound_here whole rounds) variable)) old new → Goes bits whole levels old new left
+    use_steps new at variable is grows =
+        let trees = trees_placed (slice_get (bound_here whole rounds) variable) in
+        goes_on old new rounds closes (append trees) (goes_use bits whole rounds closes left at variable levels is.stand)
+        (ap (λ r. reverse r.items) grows.rounds) (ap (λ r. reverse r.items) grows.closes) grows.stack (grows.few is.few) grows.top
+
+    pub use_stops : (at variable : ℕ) (fault : TtFault) → IsAt bits whole levels old (uses at variable ∷ left)
+        → IsWant (size (trees_placed (slice_get (bound_here whole rounds) variable))) old fault → IsStop (finished levels (written_by old)) (error.Tree fault)
+    use_stops at variable fault is want =
+        let trees = trees_placed (slice_get (bound_here whole rounds) variable) in
+        want_stops old rounds closes left (append trees) (size trees) fault (goes_use bits whole rounds closes left at variable levels is.stand) (held-append trees old.builder.stack) want
+
+    -- A token.
+    pub token_steps : (new : Filling) (it : Leaf) → IsAt bits whole levels old (same it ∷ left) → Grows (leaf it end) old new → Goes bits whole levels old new left
+    token_steps new it is grows =
+        goes_on old new rounds closes (append (leaf it end)) (goes_token bits whole rounds closes left it levels is.stand)
+        (ap (λ r. reverse r.items) grows.rounds) (ap (λ r. reverse r.items) grows.closes) grows.stack (grows.few is.few) grows.top
+
+    pub token_stops : (it : Leaf) (fault : TtFault) → IsAt bits whole levels old (same it ∷ left) → IsWant 1 old fault
+        → IsStop (finished levels (written_by old)) (error.Tree fault)
+    token_stops it fault is want =
+        want_stops old rounds closes left (append (leaf it end)) 1 fault (goes_token bits whole rounds closes left it levels is.stand) (held-append (leaf it end) old.builder.stack) want
+
+    -- A subtree begins.
+    pub enter_steps : (new : Filling) (delimiter : Delimiter) → IsAt bits whole levels old (enter delimiter ∷ left) → Enters delimiter old new
+        → Goes bits whole levels old new left
+    enter_steps new delimiter is enters =
+        goes_on old new rounds (delimiter.close ∷ closes) (λ stack. above stack delimiter.kind delimiter.open_span end)
+        (goes_enter bits whole rounds closes left delimiter levels is.stand)
+        (ap (λ r. reverse r.items) enters.rounds) (ap reverse enters.closes ∙ reverse-append old.closes.items (delimiter.close ∷ []))
+        (ap (λ b. b.stack) enters.builder) (omega (arith, ap (λ b. tokens_held b.stack) enters.builder, enters.room)) (ap (λ b. b.top) enters.builder)
+
+    pub enter_stops : (delimiter : Delimiter) (fault : TtFault) → IsAt bits whole levels old (enter delimiter ∷ left) → IsWant 1 old fault
+        → IsStop (finished levels (written_by old)) (error.Tree fault)
+    enter_stops delimiter fault is want =
+        want_stops old rounds (delimiter.close ∷ closes) left (λ stack. above stack delimiter.kind delimiter.open_span end) 1 fault
+        (goes_enter bits whole rounds closes left delimiter levels is.stand) (omega arith) want
+
+    -- A subtree ends, or all.
+    pub leave_steps : (new : Filling) → IsAt bits whole levels old (leave ∷ left) → Leaves old new → Goes bits whole levels old new left
+    leave_steps new is leaves = by closes refl leaves
+      where
+        by : (spans : List Span) → closes ≡ spans → AreClosed spans old new → Goes bits whole levels old new left
+        by [] none (builder, same_rounds, no_closes) =
+            goes_on old new rounds [] (λ stack. stack) (goes_leave_all bits whole rounds left levels (subst (λ l. AreLevels bits whole levels rounds l (leave ∷ left)) none is.stand))
+            (ap (λ r. reverse r.items) same_rounds) (ap reverse no_closes) (ap (λ b. b.stack) builder)
+            (omega (arith, ap (λ b. tokens_held b.stack) builder, is.few)) (ap (λ b. b.top) builder)
+        by (span ∷ more) some (stack, top, same_rounds, same_closes) =
+            goes_on old new rounds more (close_innermost span)
+            (goes_leave bits whole rounds left span more levels (subst (λ l. AreLevels bits whole levels rounds l (leave ∷ left)) some is.stand))
+            (ap (λ r. reverse r.items) same_rounds) same_closes stack
+            (omega (arith, ap tokens_held stack, held-close span old.builder.stack, is.few)) top
+
+    -- A repetition begins, and has no round.
+    pub none_steps : (new : Filling) (at : ℕ) → IsAt bits whole levels old (begin at ∷ left) → asked at (bound_here whole rounds) left ≡ Ok 0 → new ≡ old
+        → Goes bits whole levels old new (behind_close 0 left)
+    none_steps new at is told unchanged =
+        let next = goes_none bits whole rounds left closes at levels is.stand told in
+        record {
+          news = next.news;
+          stands = subst (λ f. IsAt bits whole next.news f (behind_close 0 left)) (sym unchanged) (record { stand = next.stand; few = is.few });
+          same = ap (λ f. finished next.news (written_by f)) unchanged ∙ sym (next.same old.builder.stack);
+          less = next.less;
+          top = ap (λ f. f.builder.top) unchanged;
+        }
+
+    -- It has some.
+    pub begin_steps : (new : Filling) (at n body : ℕ) → IsAt bits whole levels old (begin at ∷ left) → asked at (bound_here whole rounds) left ≡ Ok (suc n)
+        → drop body bits ≡ left → new.builder ≡ old.builder → new.closes ≡ old.closes
+        → new.rounds.items ≡ old.rounds.items ++ record { body = body; done = 0; last = n } ∷ []
+        → Goes bits whole levels old new left
+    begin_steps new at n body is told here builder same_closes same_rounds =
+        let it : Round = record { body = body; done = 0; last = n } in
+        goes_on old new (it ∷ rounds) closes (λ stack. stack) (goes_begin bits whole rounds left closes at n body levels is.stand told here)
+        (ap reverse same_rounds ∙ reverse-append old.rounds.items (it ∷ [])) (ap (λ r. reverse r.items) same_closes) (ap (λ b. b.stack) builder)
+        (omega (arith, ap (λ b. tokens_held b.stack) builder, is.few)) (ap (λ b. b.top) builder)
+
+    -- It is not told how many.
+    pub begin_stops : (at : ℕ) (fault : FillFault) → IsAt bits whole levels old (begin at ∷ left) → asked at (bound_here whole rounds) left ≡ Err fault
+        → IsStop (finished levels (written_by old)) (round_error fault)
+    begin_stops at fault is told =
+        let (first, held) = goes_nowhere bits whole rounds left closes at fault old.builder.stack levels is.stand told in
+        by fault first (omega (arith, held, is.few))
+      where
+        by : (fault : FillFault) → (finished levels (written_by old)).fault ≡ Some fault → tokens_held (finished levels (written_by old)).stack ≤ most_tokens
+            → IsStop (finished levels (written_by old)) (round_error fault)
+        by (lengths_differ there) first few = (first, few)
+        by (no_round there) first few = (first, few)
+
+-- A round ends.
+module _ (bits : List Bit) (whole : Binding) (levels : List Level) (left : List Bit) (old : Filling) (separator : List Leaf) (kind : RepeatKind)
+    (before : List Round) (it : Round) (was : old.rounds.items ≡ before ++ it ∷ [])
+    (is : IsAt bits whole levels old (close separator kind ∷ left)) where
+  -- the levels, with that round
+  stand : AreLevels bits whole levels (it ∷ reverse before) (reverse old.closes.items) (close separator kind ∷ left)
+  stand = subst (λ l. AreLevels bits whole levels l (reverse old.closes.items) (close separator kind ∷ left)) (ap reverse was ∙ reverse-append before (it ∷ [])) is.stand
+
+  -- It is the last one.
+  pub last_steps : (new : Filling) → it.last ≤ it.done → new.builder ≡ old.builder → new.closes ≡ old.closes → new.rounds.items ≡ before
+      → Goes bits whole levels old new left
+  last_steps new past builder same_closes same_rounds =
+      goes_on bits whole levels left old new (reverse before) (reverse old.closes.items) (λ stack. stack)
+      (goes_last bits whole left (reverse old.closes.items) separator kind it (reverse before) levels stand past)
+      (ap reverse same_rounds) (ap (λ r. reverse r.items) same_closes) (ap (λ b. b.stack) builder)
+      (omega (arith, ap (λ b. tokens_held b.stack) builder, is.few)) (ap (λ b. b.top) builder)
+
+  -- There is another.
+  pub again_steps : (new : Filling) → it.done < it.last → new.builder.stack ≡ append (leaves separator) old.builder.stack → new.builder.top ≡ old.builder.top
+      → (tokens_held old.builder.stack ≤ most_tokens → tokens_held new.builder.stack ≤ most_tokens) → new.closes ≡ old.closes
+      → new.rounds.items ≡ before ++ record { body = it.body; done = suc it.done; last = it.last } ∷ []
+      → Goes bits whole levels old new (drop it.body bits)
+  again_steps new within stack top few same_closes same_rounds =
+      let next : Round = record { body = it.body; done = suc it.done; last = it.last } in
+      goes_on bits whole levels (drop it.body bits) old new (next ∷ reverse before) (reverse old.closes.items) (append (leaves separator))
+      (goes_again bits whole left (reverse old.closes.items) separator kind it (reverse before) levels stand within)
+      (ap reverse same_rounds ∙ reverse-append before (next ∷ [])) (ap (λ r. reverse r.items) same_closes) stack (few is.few) top
+
+  -- The separator is refused.
+  pub again_stops : (fault : TtFault) → it.done < it.last → IsWant (size (leaves separator)) old fault → IsStop (finished levels (written_by old)) (error.Tree fault)
+  again_stops fault within want =
+      want_stops bits whole levels left old (record { body = it.body; done = suc it.done; last = it.last } ∷ reverse before) (reverse old.closes.items) (drop it.body bits)
+      (append (leaves separator)) (size (leaves separator)) fault (goes_again bits whole left (reverse old.closes.items) separator kind it (reverse before) levels stand within)
+      (held-append (leaves separator) old.builder.stack) want

@@ -1,0 +1,67 @@
+-- What a macro expands an input to.
+use Rattle.std.specs.Prelude.{◌≡◌, ◌⊎◌, ℕ, suc, max, List, [], ◌∷◌}
+use Rattle.tt.specs.Forest.{Forest}
+use Rattle.tt.specs.Types.TtFault.TheVariants.{Memory}
+use Rattle.mbe_matcher.specs.Bindings.{binding_of}
+use Rattle.mbe_matcher.specs.Fronts.{StopsAt}
+use Rattle.mbe_matcher.specs.Matchers.{IsMatcherOf}
+use Rattle.mbe_matcher.specs.Readings.{Reading, IsNoInstance, IsReadBy, IsAmbiguous}
+use Rattle.mbe_rules.specs.declared.fill_error.FillError.{FillError}
+use Rattle.mbe_rules.specs.declared.fill_error.FillError.TheVariants.{Tree}
+use Rattle.mbe_rules.specs.Filling.{Filled, filled}
+use Rattle.mbe_rules.specs.Results.{IsTemplate, IsFilled, IsFillError}
+use Rattle.mbe_rules.specs.declared.arm.Answer.{Answer}
+use Rattle.mbe_rules.specs.declared.arm.Answer.TheVariants as answer
+use Rattle.mbe_rules.specs.declared.arm.Arm as rust
+use Rattle.mbe_rules.specs.declared.rules_error.ExpandError.{ExpandError}
+use Rattle.mbe_rules.specs.declared.macro_rules.Expansion.{Expansion}
+use Rattle.mbe_rules.specs.declared.macro_rules.Expansion.TheVariants as expansion
+use Rattle.mbe_rules.specs.Arms.{Arm, variables}
+
+-- the arm is made ready to read inputs and to write
+pub record IsMade (arm : Arm) (it : rust.Arm) : Type 0 where
+  pub matcher : IsMatcherOf arm.pattern it.matcher
+  pub template : IsTemplate (variables arm.pattern) arm.template it.template
+  pub delimiter : it.delimiter ≡ arm.delimiter
+
+abbrev pub AreMade : List Arm → List rust.Arm → Type 0
+AreMade [] [] = Unit {0}
+AreMade [] (it ∷ others) = ⊥
+AreMade (arm ∷ more) [] = ⊥
+AreMade (arm ∷ more) (it ∷ others) = IsMade arm it × AreMade more others
+
+-- what the arm writes where an input is read so
+abbrev pub written : Arm → Reading → Filled
+written arm reading = filled arm.template (binding_of arm.pattern reading)
+
+-- what the arm makes of an input: nothing, where it is no instance of the pattern, which stops there; it is said where there are two readings;
+-- or the template, filled with what the one reading binds
+abbrev pub IsAnswer : Arm → (input : Forest) → Answer → Type 0
+IsAnswer arm input (answer.NoMatch at) = IsNoInstance arm.pattern input × StopsAt arm.pattern input at
+IsAnswer arm input answer.Ambiguous = IsAmbiguous arm.pattern input
+IsAnswer arm input (answer.Tree tree) = (reading : Reading) × IsReadBy arm.pattern input reading × IsFilled arm.delimiter (written arm reading) tree
+
+-- why it makes nothing of it: memory is refused, or the template is not filled with what the one reading binds
+abbrev pub IsRefusal : Arm → (input : Forest) → FillError → Type 0
+IsRefusal arm input (Tree Memory) = Unit {0}
+IsRefusal arm input error = (reading : Reading) × IsReadBy arm.pattern input reading × IsFillError arm.delimiter (written arm reading) error
+
+-- the answer of the first arm of whose pattern the input is an instance, where the first of these has that number, and the arms before them
+-- came up to a flat place; where there is no such arm, the farthest place is told
+abbrev pub IsExpansion : List Arm → (number farthest : ℕ) → (input : Forest) → Expansion → Type 0
+IsExpansion [] number farthest input (expansion.NoMatch at) = at ≡ farthest
+IsExpansion [] number farthest input (expansion.Ambiguous arm) = ⊥
+IsExpansion [] number farthest input (expansion.Tree tree) = ⊥
+IsExpansion (arm ∷ others) number farthest input result =
+    ((at : ℕ) × IsAnswer arm input (answer.NoMatch at) × IsExpansion others (suc number) (max farthest at) input result) ⊎ IsOf result
+  where
+    IsOf : Expansion → Type 0
+    IsOf (expansion.NoMatch at) = ⊥
+    IsOf (expansion.Ambiguous which) = (which ≡ number) × IsAnswer arm input answer.Ambiguous
+    IsOf (expansion.Tree tree) = IsAnswer arm input (answer.Tree tree)
+
+-- why that arm has none
+abbrev pub IsExpandError : List Arm → (number : ℕ) → (input : Forest) → ExpandError → Type 0
+IsExpandError [] number input error = ⊥
+IsExpandError (arm ∷ others) number input error =
+    (IsNoInstance arm.pattern input × IsExpandError others (suc number) input error) ⊎ ((error.arm ≡ number) × IsRefusal arm input error.fault)

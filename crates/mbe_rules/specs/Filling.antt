@@ -1,0 +1,142 @@
+-- What becomes of a template under a binding.
+use Rattle.std.specs.Prelude.{ℕ, zero, suc, Bool, true, false, List, [], ◌∷◌, ◌++◌, map, Option, None, Some, Result, Ok, Err, nat_eq, slice_get, if◌then◌else◌}
+use Rattle.tt.specs.Forest.{Forest, end, leaf, node, join}
+use Rattle.tt.specs.Siblings.{leaves}
+use Rattle.tt.specs.Types.Delimiter.{Delimiter}
+use Rattle.mbe_pattern.specs.declared.pattern.Fragment.{Fragment}
+use Rattle.mbe_pattern.specs.declared.pattern.RepeatKind.{RepeatKind}
+use Rattle.mbe_pattern.specs.declared.pattern.RepeatKind.TheVariants as repeat
+use Rattle.mbe_matcher.specs.Bindings.{Bound, one, none, first, Named, Binding}
+use Rattle.mbe_rules.specs.Placing.{placed}
+use Rattle.mbe_rules.specs.Templates.{Template, nothing, use_of, token, subtree, repetition}
+
+-- why a template cannot be filled, at the flat place of a repetition's `$`: one of its variables has more rounds than another, or none is
+-- where one has to be
+pub data FillFault : Type 0 where
+  lengths_differ : (at : ℕ) → FillFault
+  no_round : (at : ℕ) → FillFault
+
+-- what was filled up to the first fault, if there is one
+pub record Filled : Type 0 where
+  pub trees : Forest
+  pub fault : Option FillFault
+
+-- the variables that it uses, at any depth
+abbrev pub used_in : Template → List ℕ
+used_in nothing = []
+used_in (use_of at variable others) = variable ∷ used_in others
+used_in (token it others) = used_in others
+used_in (subtree delimiter inner others) = used_in inner ++ used_in others
+used_in (repetition at inner separator kind others) = used_in inner ++ used_in others
+
+-- the number of rounds
+abbrev pub round_count : Bound → ℕ
+round_count (one trees) = 0
+round_count none = 0
+round_count (first it others) = suc (round_count others)
+
+-- the numbers of rounds of those variables that have rounds, or none
+abbrev pub count_in : Bound → List ℕ
+count_in (one trees) = []
+count_in none = 0 ∷ []
+count_in (first this others) = suc (round_count others) ∷ []
+
+abbrev pub count_of : Option Named → List ℕ
+count_of None = []
+count_of (Some it) = count_in it.bound
+
+abbrev pub counts_of : Binding → List ℕ → List ℕ
+counts_of binding [] = []
+counts_of binding (variable ∷ others) = count_of (slice_get binding variable) ++ counts_of binding others
+
+-- all are that number
+abbrev pub are_all : ℕ → List ℕ → Bool
+are_all n [] = true
+are_all n (m ∷ others) = if nat_eq m n then are_all n others else false
+
+-- that many rounds, unless none is where one has to be
+abbrev pub enough : (at : ℕ) → RepeatKind → ℕ → Result ℕ FillFault
+enough at repeat.ZeroOrMore n = Ok n
+enough at repeat.ZeroOrOne n = Ok n
+enough at repeat.OneOrMore zero = Err (no_round at)
+enough at repeat.OneOrMore (suc n) = Ok (suc n)
+
+-- how often a repetition is filled: as often as all its variables have rounds
+abbrev pub rounds_of : (at : ℕ) → RepeatKind → List ℕ → Result ℕ FillFault
+rounds_of at kind [] = Ok 0
+rounds_of at kind (n ∷ others) = if are_all n others then enough at kind n else Err (lengths_differ at)
+
+-- what is bound in the first round, and in the others; what is bound outside is in each of them
+abbrev pub first_of : Bound → Bound
+first_of (one trees) = one trees
+first_of none = none
+first_of (first it others) = it
+
+abbrev pub others_of : Bound → Bound
+others_of (one trees) = one trees
+others_of none = none
+others_of (first it others) = others
+
+abbrev pub in_round : (Bound → Bound) → Named → Named
+in_round f it = record { variable = it.variable; bound = f it.bound }
+
+-- the trees of a use
+abbrev pub trees_in : Bound → Forest
+trees_in (one trees) = trees
+trees_in none = end
+trees_in (first this others) = end
+
+abbrev pub trees_used : Option Named → Forest
+trees_used None = end
+trees_used (Some it) = trees_in it.bound
+
+-- the fragment of its variable
+abbrev pub fragment_of : Option Named → Option Fragment
+fragment_of None = None
+fragment_of (Some it) = Some it.variable.fragment
+
+-- those that stand in its place
+abbrev pub trees_placed : Option Named → Forest
+trees_placed it = placed (fragment_of it) (trees_used it)
+
+-- trees, and no fault
+abbrev pub all_filled : Forest → Filled
+all_filled trees = record { trees = trees; fault = None }
+
+-- the one, and then the other if the one has no fault
+abbrev pub then_if : (fault : Option FillFault) → Forest → Filled → Filled
+then_if None trees others = record { trees = join trees others.trees; fault = others.fault }
+then_if (Some fault) trees others = record { trees = trees; fault = Some fault }
+
+abbrev pub and_then : Filled → Filled → Filled
+and_then it others = then_if it.fault it.trees others
+
+-- so many rounds, each with a separator before it
+abbrev pub more_rounds : (fill : Binding → Filled) → (separator : Forest) → ℕ → Binding → Filled
+more_rounds fill separator zero binding = all_filled end
+more_rounds fill separator (suc n) binding =
+    and_then (all_filled separator) (and_then (fill (map (in_round first_of) binding)) (more_rounds fill separator n (map (in_round others_of) binding)))
+
+-- so many rounds, with separators between them
+abbrev pub filled_rounds : (fill : Binding → Filled) → (separator : Forest) → ℕ → Binding → Filled
+filled_rounds fill separator zero binding = all_filled end
+filled_rounds fill separator (suc n) binding =
+    and_then (fill (map (in_round first_of) binding)) (more_rounds fill separator n (map (in_round others_of) binding))
+
+-- the rounds, if it is told how many there are
+abbrev pub filled_if : (fill : Binding → Filled) → (separator : Forest) → Result ℕ FillFault → Binding → Filled
+filled_if fill separator (Err fault) binding = record { trees = end; fault = Some fault }
+filled_if fill separator (Ok n) binding = filled_rounds fill separator n binding
+
+-- a subtree round what was filled
+abbrev pub in_subtree : Delimiter → Filled → Filled
+in_subtree delimiter it = record { trees = node delimiter it.trees end; fault = it.fault }
+
+-- the template in which each use is replaced, and each repetition filled once for each round
+abbrev pub filled : Template → Binding → Filled
+filled nothing binding = all_filled end
+filled (use_of at variable others) binding = and_then (all_filled (trees_placed (slice_get binding variable))) (filled others binding)
+filled (token it others) binding = and_then (all_filled (leaf it end)) (filled others binding)
+filled (subtree delimiter inner others) binding = and_then (in_subtree delimiter (filled inner binding)) (filled others binding)
+filled (repetition at inner separator kind others) binding =
+    and_then (filled_if (filled inner) (leaves separator) (rounds_of at kind (counts_of binding (used_in inner))) binding) (filled others binding)

@@ -1,0 +1,11 @@
+-- What was read of a template, as its definitions have it.
+use Rattle.mbe_pattern.specs.Signs.{tail_of}
+use Rattle.mbe_rules.specs.declared.first.Mark.{Mark}
+use Rattle.mbe_rules.specs.declared.first.Mark.TheVariants as mark
+use Rattle.mbe_rules.specs.Spelling as spelling
+
+-- what a `$` begins
+abbrev pub mark_of : Mark → spelling.Mark
+mark_of (mark.Use variable) = spelling.use_of variable
+mark_of (mark.Repetition tail) = spelling.repetition (tail_of tail)
+mark_of mark.Nothing = spelling.nothing

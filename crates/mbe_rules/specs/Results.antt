@@ -1,0 +1,46 @@
+-- When trees are a template, and which it is.
+use Rattle.std.specs.Prelude.{◌≡◌, ◌≤◌, List, map, None, Some}
+use Rattle.tt.specs.Forest.{Root, size}
+use Rattle.tt.specs.Stored.{most_tokens}
+use Rattle.tt.specs.TreeFault.{IsTreeFault, under}
+use Rattle.tt.specs.Types.Delimiter.{Delimiter}
+use Rattle.tt.specs.Types.TtFault.{TtFault}
+use Rattle.tt.specs.Types.TtFault.TheVariants as limit
+use Rattle.mbe_matcher.specs.Grouping.{Where}
+use Rattle.mbe_rules.specs.declared.error.TemplateError.{TemplateError}
+use Rattle.mbe_rules.specs.declared.error.TemplateError.TheVariants as error
+use Rattle.mbe_rules.specs.declared.template.Template as rust
+use Rattle.mbe_rules.specs.declared.fill_error.FillError.{FillError}
+use Rattle.mbe_rules.specs.declared.fill_error.FillError.TheVariants as refusal
+use Rattle.mbe_rules.specs.Faults.{template_fault}
+use Rattle.mbe_rules.specs.Filling.{Filled, lengths_differ, no_round}
+use Rattle.mbe_rules.specs.Parts.{bit_of, all_bits}
+use Rattle.mbe_rules.specs.Templates.{Template}
+
+-- the parts are those of the template, in which nothing is wrong
+pub record IsTemplate (variables : List Where) (template : Template) (it : rust.Template) : Type 0 where
+  pub parts : map bit_of it.parts.items ≡ all_bits template
+  pub sound : template_fault variables template ≡ None
+
+-- why it is refused: memory is, or that is its first fault
+abbrev pub IsTemplateError : List Where → Template → TemplateError → Type 0
+IsTemplateError variables template error.Memory = Unit {0}
+IsTemplateError variables template (error.StillRepeats at) = template_fault variables template ≡ Some (error.StillRepeats at)
+IsTemplateError variables template (error.NothingRepeats at) = template_fault variables template ≡ Some (error.NothingRepeats at)
+
+-- the tree is all that was filled, under that delimiter
+pub record IsFilled (delimiter : Delimiter) (it : Filled) (tree : Root) : Type 0 where
+  pub sound : it.fault ≡ None
+  pub is : tree ≡ under delimiter it.trees
+
+-- a limit is told of all that there is to fill, but for that of tokens
+abbrev pub IsToldOf : Filled → TtFault → Type 0
+IsToldOf it limit.Memory = Unit {0}
+IsToldOf it limit.TooManyTokens = Unit {0}
+IsToldOf it other = it.fault ≡ None
+
+-- why there is no such tree: that is the first fault, or what was filled up to it is past a limit, or memory is refused
+abbrev pub IsFillError : Delimiter → Filled → FillError → Type 0
+IsFillError delimiter it (refusal.LengthsDiffer at) = (it.fault ≡ Some (lengths_differ at)) × (size it.trees ≤ most_tokens)
+IsFillError delimiter it (refusal.NoRound at) = (it.fault ≡ Some (no_round at)) × (size it.trees ≤ most_tokens)
+IsFillError delimiter it (refusal.Tree fault) = IsToldOf it fault × IsTreeFault (under delimiter it.trees) fault

@@ -1,0 +1,91 @@
+-- What template trees spell.
+use Rattle.std.specs.Prelude.{◌-◌, ℕ, zero, suc, Bool, true, false, List, [], ◌∷◌, Option, None, Some, if◌then◌else◌}
+use Rattle.std.specs.List.{position}
+use Rattle.tt.specs.Building.{leaf_alone}
+use Rattle.tt.specs.Expectations.{first_leaf_as, as_ident_or_underscore, unless_underscore}
+use Rattle.tt.specs.Forest.{Forest, end, leaf, node, size}
+use Rattle.tt.specs.Types.Ident.{Ident}
+use Rattle.tt.specs.Types.Leaf.{Leaf}
+use Rattle.mbe_matcher.specs.Bindings.{is_name}
+use Rattle.mbe_matcher.specs.Grouping.{Where}
+use Rattle.mbe_pattern.specs.Spelling.{Tail, tail_length, repetition_in, is_crate_in, is_dollar}
+use Rattle.mbe_rules.specs.Templates.{Template, inner_part}
+use Rattle.mbe_rules.specs.Templates as template
+
+-- it is the variable of that name
+abbrev pub has_name : List ℕ → Where → Bool
+has_name text it = is_name text it.variable.name
+
+-- the place of the first variable that an ident names, raw or not
+abbrev pub variable_from : List Where → Option Ident → Option ℕ
+variable_from variables None = None
+variable_from variables (Some it) = position (has_name it.sym) variables
+
+abbrev pub variable_in : List Where → Forest → Option ℕ
+variable_in variables siblings = variable_from variables (unless_underscore (first_leaf_as as_ident_or_underscore siblings))
+
+-- what a `$` begins in a template
+pub data Mark : Type 0 where
+  use_of : ℕ → Mark
+  repetition : Tail → Mark
+  nothing : Mark
+
+-- a repetition, and else a use of a variable, if it is not `$crate`, and else nothing
+abbrev pub mark_from : Option Tail → (crate_there : Bool) → Option ℕ → Mark
+mark_from (Some tail) crate_there found = repetition tail
+mark_from None true found = nothing
+mark_from None false (Some variable) = use_of variable
+mark_from None false None = nothing
+
+-- what a `$` before these siblings begins
+abbrev pub mark_in : List Where → Forest → Mark
+mark_in variables siblings = mark_from (repetition_in siblings) (is_crate_in siblings) (variable_in variables siblings)
+
+-- how many trees belong to it: a name, or parentheses and a tail
+abbrev pub mark_length : Mark → ℕ
+mark_length (use_of variable) = 1
+mark_length (repetition tail) = suc (tail_length tail)
+mark_length nothing = 0
+
+-- leaves of which the last does not stand as one with what comes behind
+abbrev pub last_alone : List Leaf → List Leaf
+last_alone [] = []
+last_alone (it ∷ []) = leaf_alone it ∷ []
+last_alone (it ∷ next ∷ others) = it ∷ last_alone (next ∷ others)
+
+-- a `$` stands first
+abbrev pub is_dollar_in : Forest → Bool
+is_dollar_in end = false
+is_dollar_in (leaf it rest) = is_dollar it
+is_dollar_in (node delimiter children rest) = false
+
+-- a leaf before trees: before a `$`, in whose place other trees may come, it does not stand as one with what comes behind
+abbrev pub seamed : Leaf → Forest → Leaf
+seamed it rest = if is_dollar_in rest then leaf_alone it else it
+
+-- the part that a `$` at that flat place begins, before what is behind; where it begins nothing it stands for itself
+abbrev pub part_of : (at : ℕ) → Leaf → Mark → (held others : Template) → Template
+part_of at it (use_of variable) held others = template.use_of at variable others
+part_of at it (repetition tail) held others = template.repetition at held (last_alone tail.separator) tail.kind others
+part_of at it nothing held others = template.token it others
+
+-- the template that trees spell behind so many of them, which belong to a part before; behind the last of all is that flat place
+abbrev pub template_behind : List Where → (until : ℕ) → (passed : ℕ) → Forest → Template
+template_behind variables until passed end = template.nothing
+template_behind variables until zero (leaf it rest) =
+    if is_dollar it
+    then part_of (until - size (leaf it rest)) it (mark_in variables rest) (inner_part (template_behind variables until zero rest))
+    (template_behind variables until (mark_length (mark_in variables rest)) rest)
+    else template.token (seamed it rest) (template_behind variables until zero rest)
+template_behind variables until zero (node delimiter children rest) =
+    template.subtree delimiter (template_behind variables (until - size rest) zero children) (template_behind variables until zero rest)
+template_behind variables until (suc passed) (leaf it rest) = template_behind variables until passed rest
+template_behind variables until (suc passed) (node delimiter children rest) = template_behind variables until passed rest
+
+-- the template that trees spell which end before that flat place
+abbrev pub template_until : List Where → (until : ℕ) → Forest → Template
+template_until variables until trees = template_behind variables until zero trees
+
+-- the template that trees spell, with those variables
+abbrev pub template_of : List Where → Forest → Template
+template_of variables trees = template_until variables (size trees) trees

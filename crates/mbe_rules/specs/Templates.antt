@@ -1,0 +1,43 @@
+-- What a template is.
+use Rattle.std.specs.Prelude.{◌+◌, ◌-◌, ℕ, zero, Option, None, Some, List, length, slice_get}
+use Rattle.tt.specs.Types.Delimiter.{Delimiter}
+use Rattle.tt.specs.Types.Leaf.{Leaf}
+use Rattle.mbe_pattern.specs.declared.pattern.RepeatKind.{RepeatKind}
+use Rattle.mbe_matcher.specs.Grouping.{Where}
+
+-- a template: uses of a pattern's variables, each by its place among them, tokens, subtrees, and repetitions of a template, whose rounds
+-- have a token between them as a separator, or nothing; a use and a repetition have the flat place of their `$`
+pub data Template : Type 0 where
+  nothing : Template
+  use_of : (at variable : ℕ) → Template → Template
+  token : Leaf → Template → Template
+  subtree : Delimiter → Template → Template → Template
+  repetition : (at : ℕ) → Template → (separator : List Leaf) → RepeatKind → Template → Template
+
+-- what the first part holds
+abbrev pub inner_part : Template → Template
+inner_part nothing = nothing
+inner_part (use_of at variable others) = nothing
+inner_part (token it others) = nothing
+inner_part (subtree delimiter inner others) = inner
+inner_part (repetition at inner separator kind others) = inner
+
+-- in how many repetitions of its pattern a variable stands
+abbrev pub depth_in : Option Where → ℕ
+depth_in None = zero
+depth_in (Some it) = length it.nest
+
+abbrev pub depth_of : List Where → (variable : ℕ) → ℕ
+depth_of variables variable = depth_in (slice_get variables variable)
+
+-- the greater: the one, and by how much the other is more
+abbrev pub greater : ℕ → ℕ → ℕ
+greater a b = a + (b - a)
+
+-- in how many repetitions those variables stand that the template uses, at most
+abbrev pub deepest : List Where → Template → ℕ
+deepest variables nothing = zero
+deepest variables (use_of at variable others) = greater (depth_of variables variable) (deepest variables others)
+deepest variables (token it others) = deepest variables others
+deepest variables (subtree delimiter inner others) = greater (deepest variables inner) (deepest variables others)
+deepest variables (repetition at inner separator kind others) = greater (deepest variables inner) (deepest variables others)

@@ -1,0 +1,105 @@
+//! One arm of a macro.
+ghost use Rattle.std.specs.Prelude.{◌≡◌, IfOk, IfErr};
+ghost use Rattle.tt.specs.Forest.{Forest};
+ghost use Rattle.tt.specs.Iters.{rest_of};
+ghost use Rattle.mbe_rules.specs.Arms.{Arm as ArmOf, IsArm, IsBehind};
+ghost use Rattle.mbe_rules.specs.Expansions.{IsMade, IsAnswer, IsRefusal};
+ghost use Rattle.mbe_rules.specs.ArmFaults.{place, body_fault, arm_fault, IsArmFault};
+
+use crate::arrow::{ARROW_LEN, is_arrow_in, is_punct_in};
+use crate::rules_error::ArmFault;
+use crate::fill_error::FillError;
+use crate::template::Template;
+use mbe_matcher::{Found, Matcher};
+use mbe_pattern::pass;
+use std::alloc::Global;
+use tt::{Delimiter, TopSubtree, TtIter};
+
+/// An arm: a pattern that is ready to read inputs, and a template under a delimiter.
+#[derive(Drop)]
+pub(crate) struct Arm {
+    pub(crate) matcher: Matcher,
+    pub(crate) template: Template,
+    pub(crate) delimiter: Delimiter,
+}
+
+/// What an arm makes of an input.
+#[derive(Drop)]
+pub(crate) enum Answer {
+    /// The input is no instance of its pattern, which stops at that flat place.
+    NoMatch(usize),
+    /// It is one by different readings.
+    Ambiguous,
+    Tree(TopSubtree),
+}
+
+// The flat place before these trees, where behind the last of them is that one.
+fn place(until: usize, trees: &TtIter<'_>) -> usize
+    ensures { result ≡ place until (rest_of trees.now) }
+{
+    until.saturating_sub(trees.remaining().len())
+}
+
+impl Arm {
+    // The arm with which the trees begin, which is passed.
+    fn read(alloc: Global, until: usize, trees: &mut TtIter<'_>) -> Result<Arm, ArmFault>
+        ensures ok { IfOk result (λ it. (arm : ArmOf) × IsArm (rest_of trees.old) arm (rest_of trees.new) × IsMade arm it) }
+        ensures err { IfErr result (IsArmFault (body_fault until (rest_of trees.old))) }
+    {
+        let at = place(until, trees);
+        let Ok((_, pattern)) = trees.expect_subtree() else {
+            return Err(ArmFault::NoPattern(at));
+        };
+        let matcher = Matcher::new(alloc, pattern)?;
+        if !is_arrow_in(trees.remaining().iter()) {
+            return Err(ArmFault::NoArrow(place(until, trees)));
+        }
+        pass(trees, ARROW_LEN);
+        let at = place(until, trees);
+        let Ok((header, template)) = trees.expect_subtree() else {
+            return Err(ArmFault::NoTemplate(at));
+        };
+        let template = Template::new(alloc, matcher.binders(), template)?;
+        Ok(Arm {
+            matcher,
+            template,
+            delimiter: header.delimiter,
+        })
+    }
+
+    /// The arm with which the trees begin, and `;` behind it, if it stands there. Both are passed.
+    pub(crate) fn next_in(
+        alloc: Global,
+        until: usize,
+        trees: &mut TtIter<'_>,
+    ) -> Result<Arm, ArmFault>
+        ensures ok { IfOk result (λ it. (arm : ArmOf) × (rest : Forest) × IsArm (rest_of trees.old) arm rest × IsBehind rest (rest_of trees.new) × IsMade arm it) }
+        ensures err { IfErr result (IsArmFault (arm_fault until (rest_of trees.old))) }
+    {
+        let arm = Arm::read(alloc, until, trees)?;
+        if is_punct_in(trees.remaining().iter(), ';') {
+            pass(trees, 1);
+            return Ok(arm);
+        }
+        if trees.remaining().is_empty() {
+            return Ok(arm);
+        }
+        Err(ArmFault::NoSemicolon(place(until, trees)))
+    }
+
+    /// What it makes of an input.
+    pub(crate) fn expand(&self, alloc: Global, input: TtIter<'_>) -> Result<Answer, FillError>
+        ensures ok { IfOk result (λ answer. (arm : ArmOf) → IsMade arm self.now → IsAnswer arm (rest_of input.entry) answer) }
+        ensures err { IfErr result (λ error. (arm : ArmOf) → IsMade arm self.now → IsRefusal arm (rest_of input.entry) error) }
+    {
+        let binding = match self.matcher.read(alloc, input)? {
+            Found::Nothing(at) => return Ok(Answer::NoMatch(at)),
+            Found::Many => return Ok(Answer::Ambiguous),
+            Found::One(binding) => binding,
+        };
+        let tree = self
+            .template
+            .fill(alloc, self.matcher.binders(), binding, self.delimiter)?;
+        Ok(Answer::Tree(tree))
+    }
+}

@@ -1,0 +1,90 @@
+//! How often a repetition of a template is filled.
+ghost use Rattle.std.specs.Prelude.{◌≡◌, Ok, Err, drop, map, IfOk, IfErr};
+ghost use Rattle.mbe_matcher.specs.Bindings.{Binding};
+ghost use Rattle.mbe_rules.specs.declared.counting.Count.TheVariants.{Unknown};
+ghost use Rattle.mbe_rules.specs.Counting.{counted_with, counted_all, rounds_by, counts_seen, uses_before, kind_before, behind_close, round_error};
+ghost use Rattle.mbe_rules.specs.Filling.{FillFault, counts_of};
+ghost use Rattle.mbe_rules.specs.Parts.{bit_of};
+ghost use Rattle.mbe_rules.specs.Rounds.{AreTaken, binding_in, dones, seen_as};
+
+use crate::fill_error::FillError;
+use crate::parts::Part;
+use crate::taken::{Round, Seen, Taken, seen_in};
+use mbe_pattern::RepeatKind;
+
+/// How many rounds some variables have: none of them has rounds, all have so many, or some have more than others.
+#[derive(Clone, Copy)]
+pub(crate) enum Count {
+    Unknown,
+    Same(usize),
+    Differ,
+}
+
+/// What was seen of a repetition: the rounds of its variables, its kind, and the index of the part behind it.
+#[derive(Clone, Copy)]
+pub(crate) struct Scanned {
+    pub(crate) count: Count,
+    pub(crate) kind: RepeatKind,
+    pub(crate) behind: usize,
+}
+
+impl Count {
+    // A variable more, of which that is seen.
+    fn with(self, seen: Seen<'_>) -> Count
+        ensures { result ≡ counted_all (counts_seen (seen_as seen.entry)) self }
+    {
+        match (seen, self) {
+            (Seen::Trees(_), count) => count,
+            (Seen::Rounds(rounds), Count::Unknown) => Count::Same(rounds),
+            (Seen::Rounds(rounds), Count::Same(others)) if rounds == others => Count::Same(others),
+            (Seen::Rounds(_), _) => Count::Differ,
+        }
+    }
+}
+
+/// What is seen of a repetition in whose first round that part stands, where those rounds are round it.
+pub(crate) fn scan(parts: &[Part], taken: &[Taken<'_>], rounds: &[Round], body: usize) -> Scanned
+    ensures count { (binding : Binding) → AreTaken binding taken.now → result.count ≡ counted_all (counts_of (binding_in (dones rounds.now) binding) (uses_before 0 (map bit_of (drop body parts.now)))) Unknown }
+    ensures kind { result.kind ≡ kind_before 0 (map bit_of (drop body parts.now)) }
+    ensures behind { map bit_of (drop result.behind parts.now) ≡ behind_close 0 (map bit_of (drop body parts.now)) }
+{
+    let mut count = Count::Unknown;
+    let mut open: usize = 0;
+    let mut at = body;
+    while let Some(part) = parts.get(at) {
+        at += 1;
+        match part {
+            Part::Use(_, number) => count = count.with(seen_in(taken, *number, rounds)),
+            Part::Begin(_) => open += 1,
+            Part::Close(tail) => {
+                if open == 0 {
+                    return Scanned {
+                        count,
+                        kind: tail.kind,
+                        behind: at,
+                    };
+                }
+                open -= 1;
+            }
+            Part::Token(_) | Part::Enter(_) | Part::Leave => {}
+        }
+    }
+    Scanned {
+        count,
+        kind: RepeatKind::ZeroOrMore,
+        behind: at,
+    }
+}
+
+/// How often the repetition is filled whose `$` stands at that flat place.
+pub(crate) fn rounds_by(at: usize, kind: RepeatKind, count: Count) -> Result<usize, FillError>
+    ensures ok { IfOk result (λ n. rounds_by at kind count ≡ Ok n) }
+    ensures err { IfErr result (λ error. (fault : FillFault) × (rounds_by at kind count ≡ Err fault) × (error ≡ round_error fault)) }
+{
+    match (count, kind) {
+        (Count::Unknown, _) => Ok(0),
+        (Count::Same(0), RepeatKind::OneOrMore) => Err(FillError::NoRound(at)),
+        (Count::Same(rounds), _) => Ok(rounds),
+        (Count::Differ, _) => Err(FillError::LengthsDiffer(at)),
+    }
+}

@@ -1,0 +1,41 @@
+//! Why trees are no template.
+ghost use Rattle.std.specs.Prelude.{◌≡◌};
+
+use std::alloc::{AllocError, AllocFailed};
+use thiserror::Error;
+
+/// Why trees are no template.
+#[derive(Debug, Clone, Copy, PartialEq, Eq, Error)]
+pub enum TemplateError {
+    /// A variable is used in fewer repetitions than it stands in in its pattern. The number is the flat place of the `$` of the use:
+    /// how many tokens stand before it, at any depth.
+    #[error("the variable repeats still")]
+    StillRepeats(usize),
+    /// A repetition uses no variable that stands in more repetitions than there are round it, so none tells how many rounds it has.
+    /// The number is the flat place of its `$`.
+    #[error("nothing repeats in the repetition")]
+    NothingRepeats(usize),
+    /// Memory was refused.
+    #[error("out of memory")]
+    Memory,
+}
+
+impl From<AllocError> for TemplateError {
+    ghost use Rattle.mbe_rules.specs.declared.error.TemplateError.TheVariants.{Memory};
+
+    ghost from_gives = { λ _ fault. fault ≡ Memory };
+
+    fn from(_error: AllocError) -> TemplateError {
+        TemplateError::Memory
+    }
+}
+
+impl<T: Drop> From<AllocFailed<T>> for TemplateError {
+    ghost use Rattle.mbe_rules.specs.declared.error.TemplateError.TheVariants.{Memory};
+
+    ghost from_gives = { λ _ fault. fault ≡ Memory };
+
+    fn from(_failed: AllocFailed<T>) -> TemplateError {
+        TemplateError::Memory
+    }
+}

@@ -1,0 +1,141 @@
+//! A template's trees, part by part.
+ghost use Rattle.std.specs.Prelude.{◌≡◌, ◌-◌, ◌∷◌, [], true, map, IfOk};
+ghost use Rattle.std.specs.List.{position};
+ghost use Rattle.tt.specs.Forest.{leaf, size};
+ghost use Rattle.tt.specs.Iters.{rest_of};
+ghost use Rattle.mbe_pattern.specs.Spelling.{is_dollar};
+ghost use Rattle.mbe_matcher.specs.Stepping.{where_of};
+ghost use Rattle.mbe_rules.specs.Spelling.{template_until, has_name, variable_in, mark_in};
+ghost use Rattle.mbe_rules.specs.Stepping.{IsFirst};
+ghost use Rattle.mbe_rules.specs.Marks.{mark_of};
+
+use crate::seams::{last_alone, seamed};
+use mbe_matcher::Binder;
+use mbe_pattern::{Tail, is_crate_in, is_dollar, pass, repetition_in};
+use std::alloc::{AllocError, Global};
+use tt::{Delimiter, Leaf, Symbol, TtElement, TtIter};
+
+/// The part of a template that comes first. A use and a repetition have the flat place of their `$`, and what a subtree or a repetition
+/// holds has the one behind its last token.
+#[derive(Drop)]
+pub(crate) enum First<'t> {
+    /// There is none.
+    End,
+    Use(usize, usize),
+    Token(Leaf),
+    Subtree(Delimiter, TtIter<'t>, usize),
+    Repetition(usize, TtIter<'t>, usize, Tail),
+}
+
+/// What a `$` begins.
+#[derive(Drop)]
+pub(crate) enum Mark {
+    Use(usize),
+    Repetition(Tail),
+    Nothing,
+}
+
+// Whether it is the variable of that name.
+fn has_name(binder: &Binder, name: &Symbol) -> bool
+    ensures { result ≡ has_name name.now (where_of binder.now) }
+{
+    match &binder.name {
+        Some(other) => name.as_str() == other.as_str(),
+        None => false,
+    }
+}
+
+// The index of the first variable of that name.
+fn named(binders: &[Binder], name: &Symbol) -> Option<usize>
+    ensures { result ≡ position (has_name name.now) (map where_of binders.now) }
+{
+    binders.iter().position(|binder| has_name(binder, name))
+}
+
+// The index of the first variable whose name stands first.
+fn variable_in(binders: &[Binder], mut siblings: TtIter<'_>) -> Option<usize>
+    ensures { result ≡ variable_in (map where_of binders.now) (rest_of siblings.entry) }
+{
+    let ident = siblings.expect_ident().ok()?;
+    named(binders, &ident.sym)
+}
+
+// What a `$` before these siblings begins.
+fn mark_in(alloc: Global, binders: &[Binder], siblings: TtIter<'_>) -> Result<Mark, AllocError>
+    ensures { IfOk result (λ mark. mark_of mark ≡ mark_in (map where_of binders.now) (rest_of siblings.entry)) }
+{
+    if let Some(tail) = repetition_in(alloc, siblings.remaining().iter())? {
+        return Ok(Mark::Repetition(tail));
+    }
+    if is_crate_in(siblings.remaining().iter()) {
+        return Ok(Mark::Nothing);
+    }
+    match variable_in(binders, siblings) {
+        Some(number) => Ok(Mark::Use(number)),
+        None => Ok(Mark::Nothing),
+    }
+}
+
+// The flat place before these trees, where behind the last of them is that one.
+fn place_before(until: usize, trees: &TtIter<'_>) -> usize
+    ensures { result ≡ until - size (rest_of trees.now) }
+{
+    until.saturating_sub(trees.remaining().len())
+}
+
+// The part that a `$` begins, behind which the siblings stand, which end before that flat place.
+fn marked_part<'t>(
+    alloc: Global,
+    binders: &[Binder],
+    until: usize,
+    dollar: Leaf,
+    siblings: &mut TtIter<'t>,
+) -> Result<First<'t>, AllocError>
+    requires { is_dollar dollar ≡ true }
+    ensures { IfOk result (λ part. IsFirst (map where_of binders.now) (template_until (map where_of binders.now) until (leaf dollar (rest_of siblings.old))) part (template_until (map where_of binders.now) until (rest_of siblings.new))) }
+{
+    let at = place_before(until, siblings).saturating_sub(1);
+    match mark_in(alloc, binders, siblings.remaining().iter())? {
+        Mark::Use(number) => {
+            siblings.next();
+            Ok(First::Use(at, number))
+        }
+        Mark::Repetition(tail) => match siblings.expect_subtree() {
+            Ok((_, inner)) => {
+                let inside = place_before(until, siblings);
+                siblings.next();
+                pass(siblings, tail.separator.len());
+                let separator = last_alone(tail.separator)?;
+                let kind = tail.kind;
+                Ok(First::Repetition(at, inner, inside, Tail { separator, kind }))
+            }
+            Err(()) => unreachable!(),
+        },
+        Mark::Nothing => Ok(First::Token(dollar)),
+    }
+}
+
+/// The first part of the template that these trees spell, which end before that flat place. It is passed.
+pub(crate) fn next_part<'t>(
+    alloc: Global,
+    binders: &[Binder],
+    until: usize,
+    trees: &mut TtIter<'t>,
+) -> Result<First<'t>, AllocError>
+    ensures { IfOk result (λ part. IsFirst (map where_of binders.now) (template_until (map where_of binders.now) until (rest_of trees.old)) part (template_until (map where_of binders.now) until (rest_of trees.new))) }
+{
+    match trees.next() {
+        None => Ok(First::End),
+        Some(TtElement::Subtree(header, inner)) => {
+            let inside = place_before(until, trees);
+            Ok(First::Subtree(header.delimiter, inner, inside))
+        }
+        Some(TtElement::Leaf(leaf)) => {
+            if is_dollar(&leaf) {
+                let part = marked_part(alloc, binders, until, leaf, trees)?;
+                return Ok(part);
+            }
+            Ok(First::Token(seamed(leaf, trees.remaining().iter())))
+        }
+    }
+}

@@ -1,0 +1,77 @@
+//! Why trees are no macro, and why one does not expand.
+ghost use Rattle.std.specs.Prelude.{◌≡◌};
+ghost use Rattle.mbe_pattern.specs.declared.error.PatternError.{PatternError};
+ghost use Rattle.mbe_rules.specs.declared.error.TemplateError.{TemplateError};
+ghost use Rattle.mbe_rules.specs.ArmFaults.{of_pattern, of_template};
+ghost use Rattle.mbe_rules.specs.declared.rules_error.ArmFault.TheVariants.{Memory};
+
+use crate::error::TemplateError;
+use crate::fill_error::FillError;
+use mbe_pattern::PatternError;
+use std::alloc::{AllocError, AllocFailed};
+use thiserror::Error;
+
+/// What is wrong with an arm. A number is a flat place: how many tokens stand before what is meant, at any depth, among the trees of all
+/// arms; in the faults of a pattern or a template it is counted from the beginning of that.
+#[derive(Debug, Clone, Copy, PartialEq, Eq, Error)]
+pub enum ArmFault {
+    /// No subtree stands where a pattern should.
+    #[error("there is no pattern")]
+    NoPattern(usize),
+    /// The pattern has a fault.
+    #[error("{0}")]
+    Pattern(PatternError),
+    /// `=>` does not stand behind the pattern.
+    #[error("there is no `=>` behind the pattern")]
+    NoArrow(usize),
+    /// No subtree stands where a template should.
+    #[error("there is no template")]
+    NoTemplate(usize),
+    /// The template has a fault.
+    #[error("{0}")]
+    Template(TemplateError),
+    /// Behind the template stands neither the end nor `;`.
+    #[error("there is no `;` behind the template")]
+    NoSemicolon(usize),
+    /// Memory was refused.
+    #[error("out of memory")]
+    Memory,
+}
+
+/// Why trees are no macro: the number of the arm, from 0, and what is wrong with it.
+#[derive(Debug, Clone, Copy, PartialEq, Eq, Error)]
+#[error("arm {arm}: {fault}")]
+pub struct RulesError {
+    pub arm: usize,
+    pub fault: ArmFault,
+}
+
+/// Why a macro does not expand an input: the number of the arm that took it, from 0, and why its template is not filled.
+#[derive(Debug, Clone, Copy, PartialEq, Eq, Error)]
+#[error("arm {arm}: {fault}")]
+pub struct ExpandError {
+    pub arm: usize,
+    pub fault: FillError,
+}
+
+impl From<PatternError> for ArmFault {
+    ghost from_gives = { λ error fault. fault ≡ of_pattern error };
+
+    fn from(error: PatternError) -> ArmFault {
+        match error {
+            PatternError::Memory => ArmFault::Memory,
+            other => ArmFault::Pattern(other),
+        }
+    }
+}
+
+impl From<TemplateError> for ArmFault {
+    ghost from_gives = { λ error fault. fault ≡ of_template error };
+
+    fn from(error: TemplateError) -> ArmFault {
+        match error {
+            TemplateError::Memory => ArmFault::Memory,
+            other => ArmFault::Template(other),
+        }
+    }
+}

@@ -1,0 +1,80 @@
+//! Templates of macros.
+ghost use Rattle.std.specs.Prelude.{◌≡◌, true, map, IfOk, IfErr};
+ghost use Rattle.tt.specs.Iters.{rest_of};
+ghost use Rattle.tt.specs.Stored.{IsWithinLimits};
+ghost use Rattle.mbe_matcher.specs.Grouping.{binding_by};
+ghost use Rattle.mbe_matcher.specs.Marks.{note_of};
+ghost use Rattle.mbe_matcher.specs.Stepping.{where_of};
+ghost use Rattle.mbe_rules.specs.Filling.{filled};
+ghost use Rattle.mbe_rules.specs.Spelling.{template_of};
+ghost use Rattle.mbe_rules.specs.Templates.{Template as IsOf};
+ghost use Rattle.mbe_rules.specs.Wholes.{are_whole};
+
+use crate::cutting::cut;
+use crate::error::TemplateError;
+use crate::fill_error::FillError;
+use crate::filling::filled;
+use crate::judging::fault_of;
+use crate::parts::Part;
+use mbe_matcher::{Binder, Binding};
+use std::alloc::Global;
+use tt::{Delimiter, TopSubtree, TtIter};
+
+/// What a macro writes: uses of a pattern's variables, tokens, subtrees and repetitions.
+#[derive(Drop)]
+pub struct Template {
+    parts: Vec<Part>,
+    ghost whole: { are_whole parts.items ≡ true },
+}
+
+impl Template {
+    ghost use Rattle.mbe_rules.specs.Results.{IsTemplate, IsTemplateError, IsFilled, IsFillError};
+
+    /// The template that the trees spell, where a pattern has these variables: `$name` is a use of the first variable of that name,
+    /// raw or not, `$( .. )` with a separator, if there is one, and `*`, `+` or `?` a repetition, and all else stands for itself,
+    /// `$crate` and a `$` before a name that no variable has, too.
+    ///
+    /// Time is in proportion to the number of trees times that of the variables, and memory to the number of trees. It is refused
+    /// with the first fault in reading order, where it has one, and where memory is.
+    pub fn new(
+        alloc: Global,
+        binders: &[Binder],
+        trees: TtIter<'_>,
+    ) -> Result<Template, TemplateError>
+        ensures ok { IfOk result (IsTemplate (map where_of binders.now) (template_of (map where_of binders.now) (rest_of trees.entry))) }
+        ensures err { IfErr result (IsTemplateError (map where_of binders.now) (template_of (map where_of binders.now) (rest_of trees.entry))) }
+    {
+        let parts = cut(alloc, binders, trees)?;
+        match fault_of(alloc, binders, &parts)? {
+            Some(fault) => Err(fault),
+            None => Ok(Template { parts }),
+        }
+    }
+
+    /// What the template becomes where an input binds that: each use is replaced by what is bound to its variable, and each repetition is
+    /// filled as often as its variables have rounds, with its separator between them. The variables are those that it was made for.
+    ///
+    /// Time and memory are in proportion to what is written, to the marks of what is bound times the number of variables, and to the
+    /// parts of repetitions, each time that one is begun. It is refused with the first fault, by the order in which it is filled, or
+    /// with the limit that the tree is past, and where memory is.
+    pub fn fill(
+        &self,
+        alloc: Global,
+        binders: &[Binder],
+        binding: Binding<'_>,
+        delimiter: Delimiter,
+    ) -> Result<TopSubtree, FillError>
+        ensures ok { IfOk result (λ tree. (template : IsOf) → IsTemplate (map where_of binders.now) template self.now → IsFilled delimiter (filled template (binding_by (map where_of binders.now) (map note_of binding.entry.marks.items))) tree) }
+        ensures limits { IfOk result (λ tree. IsWithinLimits tree) }
+        ensures err { IfErr result (λ error. (template : IsOf) → IsTemplate (map where_of binders.now) template self.now → IsFillError delimiter (filled template (binding_by (map where_of binders.now) (map note_of binding.entry.marks.items))) error) }
+    {
+        filled(alloc, &self.parts, binders, binding, delimiter)
+    }
+
+    /// The parts of the template, in reading order, and the end of all.
+    pub fn parts(&self) -> &[Part]
+        ensures { result.now ≡ self.now.parts.items }
+    {
+        &self.parts
+    }
+}

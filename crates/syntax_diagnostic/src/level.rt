@@ -1,0 +1,36 @@
+//! How grave it is what is told.
+ghost use Rattle.std.specs.Prelude.{◌≡◌};
+ghost use Rattle.syntax_diagnostic.specs.Level.{colour_of, word_of};
+
+use crate::paint::Colour;
+
+/// How grave it is what is told.
+#[derive(Debug, Clone, Copy, PartialEq, Eq)]
+pub enum Level {
+    /// Something is wrong.
+    Error,
+    /// Something is left as it is.
+    Warning,
+}
+
+impl Level {
+    /// The word that a message begins with.
+    pub(crate) fn word(self) -> &'static str
+        ensures { result.now ≡ word_of self }
+    {
+        match self {
+            Level::Error => "error",
+            Level::Warning => "warning",
+        }
+    }
+
+    /// The colour of that, and of the mark.
+    pub(crate) fn colour(self) -> Colour
+        ensures { result ≡ colour_of self }
+    {
+        match self {
+            Level::Error => Colour::Red,
+            Level::Warning => Colour::Yellow,
+        }
+    }
+}

@@ -1,0 +1,158 @@
+//! What is written of a place in a text.
+ghost use Rattle.std.specs.Prelude.{◌≡◌, ◌++◌, IfOk, OnOk, codes, replicate, string_bytes};
+ghost use Rattle.syntax_diagnostic.specs.Spot.{arrow_line, bar, head_lines, line, margin, marked_line, number_text, number_width, source_line, spot_text};
+
+use crate::mark::add_indent;
+use crate::paint::{Colour, Style, add_painted};
+use crate::place::Place;
+use std::alloc::{AllocError, Global};
+
+/// A place in a text.
+#[derive(Clone, Copy)]
+pub struct Spot<'a> {
+    /// What the text is called.
+    pub file: &'a str,
+    /// The place in it.
+    pub place: Place,
+    /// The text of that line, without what ends it.
+    pub line: &'a str,
+}
+
+/// How many columns the number of a line takes.
+pub(crate) fn number_width(alloc: Global, number: usize) -> Result<usize, AllocError>
+    ensures { IfOk result (λ width. width ≡ number_width number) }
+{
+    let digits = number.to_string(alloc)?;
+    Ok(digits.len())
+}
+
+/// So many spaces are added.
+pub(crate) fn add_spaces(text: &mut String, count: usize) -> Result<(), AllocError>
+    ensures { OnOk result (string_bytes text.new ≡ string_bytes text.old ++ replicate count 32) }
+{
+    for _ in 0..count {
+        text.push_str(" ")?;
+    }
+    Ok(())
+}
+
+/// A line is added.
+pub(crate) fn add_line(text: &mut String, words: &str) -> Result<(), AllocError>
+    ensures { OnOk result (string_bytes text.new ≡ string_bytes text.old ++ line words.now) }
+{
+    text.push_str(words)?;
+    text.push_str("\n")
+}
+
+// The line that tells the place is added; the numbers of lines take that many columns.
+fn add_arrow(
+    text: &mut String,
+    style: Style,
+    width: usize,
+    spot: &Spot<'_>,
+) -> Result<(), AllocError>
+    ensures { OnOk result (string_bytes text.new ≡ string_bytes text.old ++ arrow_line style width spot.now) }
+{
+    add_spaces(text, width)?;
+    add_painted(text, style, Colour::Blue, "-->")?;
+    text.push_str(" ")?;
+    text.push_str(spot.file)?;
+    text.push_str(":")?;
+    let place = spot.place;
+    write!(text, "{place}")?;
+    text.push_str("\n")
+}
+
+// The bar behind a number is added.
+fn add_bar(text: &mut String, style: Style) -> Result<(), AllocError>
+    ensures { OnOk result (string_bytes text.new ≡ string_bytes text.old ++ bar style) }
+{
+    text.push_str(" ")?;
+    add_painted(text, style, Colour::Blue, "|")
+}
+
+// A bar with no number before it is added.
+fn add_margin(text: &mut String, style: Style, width: usize) -> Result<(), AllocError>
+    ensures { OnOk result (string_bytes text.new ≡ string_bytes text.old ++ margin style width) }
+{
+    add_spaces(text, width)?;
+    add_bar(text, style)
+}
+
+// The number of a line is added.
+fn add_number(
+    text: &mut String,
+    alloc: Global,
+    style: Style,
+    width: usize,
+    number: usize,
+) -> Result<(), AllocError>
+    ensures { OnOk result (string_bytes text.new ≡ string_bytes text.old ++ number_text style width number) }
+{
+    let digits = number.to_string(alloc)?;
+    add_painted(text, style, Colour::Blue, digits.as_str())?;
+    add_spaces(text, width.saturating_sub(digits.len()))
+}
+
+// The line of the text is added.
+fn add_source(
+    text: &mut String,
+    alloc: Global,
+    style: Style,
+    width: usize,
+    spot: &Spot<'_>,
+) -> Result<(), AllocError>
+    ensures { OnOk result (string_bytes text.new ≡ string_bytes text.old ++ source_line style width spot.now) }
+{
+    add_number(text, alloc, style, width, spot.place.line)?;
+    add_bar(text, style)?;
+    text.push_str(" ")?;
+    add_line(text, spot.line)
+}
+
+// The mark under it is added.
+fn add_mark(
+    text: &mut String,
+    style: Style,
+    colour: Colour,
+    width: usize,
+    spot: &Spot<'_>,
+) -> Result<(), AllocError>
+    ensures { OnOk result (string_bytes text.new ≡ string_bytes text.old ++ marked_line style colour width spot.now) }
+{
+    add_margin(text, style, width)?;
+    text.push_str(" ")?;
+    add_indent(text, spot.line, spot.place.column)?;
+    add_painted(text, style, colour, "^")?;
+    text.push_str("\n")
+}
+
+// The lines above that of the text are added.
+fn add_head(
+    text: &mut String,
+    style: Style,
+    width: usize,
+    spot: &Spot<'_>,
+) -> Result<(), AllocError>
+    ensures { OnOk result (string_bytes text.new ≡ string_bytes text.old ++ head_lines style width spot.now) }
+{
+    add_arrow(text, style, width, spot)?;
+    add_margin(text, style, width)?;
+    text.push_str("\n")
+}
+
+/// What is written of a place is added; the numbers of lines take that many columns.
+pub(crate) fn add_spot(
+    text: &mut String,
+    alloc: Global,
+    style: Style,
+    colour: Colour,
+    width: usize,
+    spot: &Spot<'_>,
+) -> Result<(), AllocError>
+    ensures { OnOk result (string_bytes text.new ≡ string_bytes text.old ++ spot_text style colour width spot.now) }
+{
+    add_head(text, style, width, spot)?;
+    add_source(text, alloc, style, width, spot)?;
+    add_mark(text, style, colour, width, spot)
+}

@@ -1,0 +1,158 @@
+//! A text in which other texts take the place of parts of it.
+ghost use Rattle.std.specs.Prelude.{◌≡◌, ◌≤◌, IfOk, OnOk, MatchBool, MatchOption, take, drop, slice_get, length, ◌-◌, string_bytes};
+ghost use Rattle.syntax_edit.specs.Texts.{is_apart, is_separator, is_sign, may_touch, wants_space, joined, IsRange};
+
+use std::alloc::{AllocError, Global};
+
+/// What is written so far, and the source that is left.
+#[derive(Drop)]
+pub struct Output<'t> {
+    text: String,
+    rest: &'t str,
+    /// The byte at which that begins.
+    at: usize,
+}
+
+// Whether a token ends before the byte, and one begins behind it, whatever stands around.
+fn is_apart(byte: u8) -> bool
+    ensures { result ≡ is_apart byte }
+{
+    matches!(
+        byte,
+        b' ' | b'\t' | b'\n' | b'\r' | b'(' | b')' | b'[' | b']' | b'{' | b'}'
+    )
+}
+
+// Whether it is a comma or a semicolon.
+fn is_separator(byte: u8) -> bool
+    ensures { result ≡ is_separator byte }
+{
+    matches!(byte, b',' | b';')
+}
+
+// Whether it is a punct.
+fn is_sign(byte: u8) -> bool
+    ensures { result ≡ is_sign byte }
+{
+    matches!(
+        byte,
+        b',' | b';'
+            | b'.'
+            | b':'
+            | b'@'
+            | b'#'
+            | b'~'
+            | b'?'
+            | b'$'
+            | b'='
+            | b'!'
+            | b'<'
+            | b'>'
+            | b'-'
+            | b'&'
+            | b'|'
+            | b'+'
+            | b'*'
+            | b'/'
+            | b'^'
+            | b'%'
+    )
+}
+
+// Whether tokens of which one ends with a byte, and the other begins with one, stay as they are where they touch.
+fn may_touch(last: u8, first: u8) -> bool
+    ensures { result ≡ may_touch last first }
+{
+    if is_apart(last) || is_apart(first) {
+        return true;
+    }
+    if is_separator(first) && !is_sign(last) {
+        return true;
+    }
+    is_separator(last) && !is_sign(first) && first != b'\''
+}
+
+// Whether a space stands between two texts.
+fn wants_space(before: &str, behind: &str) -> bool
+    ensures { result ≡ wants_space (slice_get before.now (length before.now - 1)) (slice_get behind.now 0) }
+{
+    let Some(last) = before.as_bytes().last() else {
+        return false;
+    };
+    let Some(first) = behind.as_bytes().first() else {
+        return false;
+    };
+    !may_touch(*last, *first)
+}
+
+// Adds a text, behind a space where their tokens could become one, or a punct joint.
+fn push_apart(text: &mut String, more: &str) -> Result<(), AllocError>
+    ensures { OnOk result (string_bytes text.new ≡ joined (string_bytes text.old) more.now) }
+{
+    if wants_space(text.as_str(), more) {
+        text.push(' ')?;
+    }
+    text.push_str(more)
+}
+
+// What stands before a range of a text and behind it, if it is one.
+fn cut(text: &str, start: usize, end: usize) -> Option<(&str, &str)>
+    ensures { MatchOption result (IsRange text.now start end → ⊥) (λ parts. IsRange text.now start end × (parts.0.now ≡ take start text.now) × (parts.1.now ≡ drop end text.now)) }
+{
+    if end < start {
+        return None;
+    }
+    let (before, _) = text.split_at_checked(start)?;
+    let (_, behind) = text.split_at_checked(end)?;
+    Some((before, behind))
+}
+
+impl<'t> Output<'t> {
+    ghost use Rattle.syntax_edit.specs.Texts.{begun, writing_of, replaced, finished, FitsIn};
+
+    /// Nothing of that source.
+    pub fn new(alloc: Global, source: &'t str) -> Output<'t>
+        ensures { writing_of result ≡ begun source.entry.now }
+    {
+        Output {
+            text: String::new(alloc),
+            rest: source,
+            at: 0,
+        }
+    }
+
+    // What is left of the source before a range and behind it, if it is left.
+    fn cut(&self, start: usize, end: usize) -> Option<(&'t str, &'t str)>
+        ensures { MatchOption result (FitsIn start end (writing_of self.now) → ⊥) (λ parts. FitsIn start end (writing_of self.now) × (parts.0.now ≡ take (start - self.now.at) self.now.rest.now) × (parts.1.now ≡ drop (end - self.now.at) self.now.rest.now)) }
+    {
+        let start = start.checked_sub(self.at)?;
+        let end = end.checked_sub(self.at)?;
+        cut(self.rest, start, end)
+    }
+
+    /// Writes the source up to the bytes from a place to another, and that text in place of them: whether they are left of the source.
+    /// Where they are not, nothing is written.
+    pub fn replace(&mut self, start: usize, end: usize, other: &str) -> Result<bool, AllocError>
+        ensures { IfOk result (λ fits. MatchBool fits
+            (FitsIn start end (writing_of self.old) × (writing_of self.new ≡ replaced (record { start = start; end = end; text = other.now }) (writing_of self.old)))
+            ((FitsIn start end (writing_of self.old) → ⊥) × (self.new ≡ self.old))) }
+    {
+        let Some((before, behind)) = self.cut(start, end) else {
+            return Ok(false);
+        };
+        push_apart(&mut self.text, before)?;
+        push_apart(&mut self.text, other)?;
+        self.rest = behind;
+        self.at = end;
+        Ok(true)
+    }
+
+    /// All of it.
+    pub fn finish(mut self) -> Result<String, AllocError>
+        ensures { IfOk result (λ text. string_bytes text ≡ finished (writing_of self.entry)) }
+    {
+        let rest = self.rest;
+        push_apart(&mut self.text, rest)?;
+        Ok(self.text)
+    }
+}

@@ -1,0 +1,14 @@
+use Rattle.std.proofs.Common.{◌≡◌, ◌≤◌, length}
+use denote.Text.{Utf8}
+use denote.Shadow.{shadow}
+use Rattle.std.specs.Str.{chars}
+use Rattle.syntax_lex.specs.Class.{passes}
+use Rattle.syntax_lex.specs.Front.{behind}
+use Rattle.syntax_lex.proofs.runs.past_each.Given as goal
+
+abbrev pub invariant-loop-c : goal.invariant-loop-c
+invariant-loop-c l =
+    shadow (Utf8 l.rest) × (behind (passes l.class) (chars l.rest) ≡ behind (passes l.class) (chars l.fn.text)) × (length l.rest ≤ length l.fn.text)
+
+abbrev pub decreases-loop-c : goal.decreases-loop-c
+decreases-loop-c l = length l.rest

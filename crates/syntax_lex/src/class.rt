@@ -1,0 +1,100 @@
+//! Classes of characters. Unicode's tables are asked only beyond ASCII.
+ghost use Rattle.std.specs.Prelude.{◌≡◌};
+ghost use Rattle.syntax_lex.specs.Class.{is_whitespace, is_id_start, is_id_continue, is_emoji_mark, is_decimal, is_hex, is_odd_rest, passes};
+
+/// Whether a character is white space: `Pattern_White_Space` of Unicode.
+#[inline(always)]
+pub fn is_whitespace(c: char) -> bool
+    ensures { result ≡ is_whitespace c }
+{
+    matches!(
+        c,
+        '\u{9}'..='\u{d}' | ' ' | '\u{85}' | '\u{200e}' | '\u{200f}' | '\u{2028}' | '\u{2029}'
+    )
+}
+
+/// Whether an identifier may begin with a character: `XID_Start` of Unicode, or `_`.
+#[inline(always)]
+pub fn is_id_start(c: char) -> bool
+    ensures { result ≡ is_id_start c }
+{
+    if c.is_ascii() {
+        c.is_ascii_alphabetic() | (c == '_')
+    } else {
+        unicode_ident::is_xid_start(c)
+    }
+}
+
+/// Whether an identifier may go on with a character: `XID_Continue` of Unicode.
+#[inline(always)]
+pub fn is_id_continue(c: char) -> bool
+    ensures { result ≡ is_id_continue c }
+{
+    if c.is_ascii() {
+        c.is_ascii_alphabetic() || (c.is_ascii_digit() || c == '_')
+    } else {
+        unicode_ident::is_xid_continue(c)
+    }
+}
+
+/// Whether a character is an emoji beyond ASCII, which identifiers of other languages have.
+#[inline(always)]
+pub fn is_emoji_mark(c: char) -> bool
+    ensures { result ≡ is_emoji_mark c }
+{
+    !c.is_ascii() && ucd_emoji::is_emoji(c)
+}
+
+// Whether an identifier with emoji may go on with a character.
+fn is_odd_rest(c: char) -> bool
+    ensures { result ≡ is_odd_rest c }
+{
+    is_id_continue(c) | is_emoji_mark(c) | (c == '\u{200d}')
+}
+
+/// Whether a character is one of `0` to `9`.
+#[inline(always)]
+pub fn is_decimal(c: char) -> bool
+    ensures { result ≡ is_decimal c }
+{
+    matches!(c, '0'..='9')
+}
+
+/// Whether a character is a digit of base 16.
+#[inline(always)]
+pub fn is_hex(c: char) -> bool
+    ensures { result ≡ is_hex c }
+{
+    matches!(c, '0'..='9' | 'a'..='f' | 'A'..='F')
+}
+
+/// What the characters of a run have in common.
+#[derive(Clone, Copy)]
+pub enum CharClass {
+    Whitespace,
+    IdContinue,
+    /// What an identifier with emoji goes on with.
+    OddRest,
+    Underscore,
+    /// Digits and `_`.
+    DecimalPart,
+    /// Digits of base 16 and `_`.
+    HexPart,
+}
+
+impl CharClass {
+    /// Whether a character is of the class.
+    #[inline(always)]
+    pub fn passes(self, c: char) -> bool
+        ensures { result ≡ passes self c }
+    {
+        match self {
+            CharClass::Whitespace => is_whitespace(c),
+            CharClass::IdContinue => is_id_continue(c),
+            CharClass::OddRest => is_odd_rest(c),
+            CharClass::Underscore => c == '_',
+            CharClass::DecimalPart => is_decimal(c) | (c == '_'),
+            CharClass::HexPart => is_hex(c) | (c == '_'),
+        }
+    }
+}

@@ -1,0 +1,6 @@
+use Rattle.std.proofs.Common.{◌≡◌, ◌||◌, ◌==◌, drop}
+use Rattle.std.specs.List.{list_any}
+use Rattle.syntax_parse.proofs.inside.has_null.Given as goal
+
+abbrev pub invariant-loop-byte : goal.invariant-loop-byte
+invariant-loop-byte l = (l.found || list_any (λ byte. byte == 0) (drop l.byte-index l.fn.text)) ≡ list_any (λ byte. byte == 0) l.fn.text

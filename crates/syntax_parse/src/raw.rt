@@ -1,0 +1,62 @@
+//! What is wrong with raw literals and raw names.
+ghost use Rattle.std.specs.Prelude.{◌≡◌, drop};
+ghost use Rattle.syntax_lex.specs.Closing.{hashes_of};
+ghost use Rattle.syntax_parse.specs.RawLiteral.{raw_fault};
+ghost use Rattle.syntax_parse.specs.RawName.{is_never_raw, raw_name_fault};
+
+use crate::fault::BadToken;
+use tt_base::IdentIsRaw;
+
+/// What stands behind so many letters.
+pub fn behind_letters(letters: usize, text: &str) -> &[u8]
+    ensures { result.now ≡ drop letters text.now }
+{
+    let start = letters.min(text.len());
+    &text.as_bytes()[start..]
+}
+
+// How many hashes stand in front.
+fn hashes_of(text: &[u8]) -> usize
+    ensures { result ≡ hashes_of text.now }
+{
+    for (i, byte) in text.iter().enumerate() {
+        if *byte != b'#' {
+            return i;
+        }
+    }
+    text.len()
+}
+
+/// Why a raw literal is not valid, of which this stands behind its letters.
+pub fn raw_fault(text: &[u8]) -> BadToken
+    ensures { result ≡ raw_fault text.now }
+{
+    let hashes = hashes_of(text);
+    if text.get(hashes).copied() != Some(b'"') {
+        return BadToken::RawWithoutQuote;
+    }
+    if hashes > 255 {
+        BadToken::TooManyHashes
+    } else {
+        BadToken::UnterminatedLiteral
+    }
+}
+
+// Whether a name is never raw.
+fn is_never_raw(name: &str) -> bool
+    ensures { result ≡ is_never_raw name.now }
+{
+    matches!(name, "_" | "crate" | "self" | "super" | "Self")
+}
+
+/// What is wrong with a raw name of this text.
+pub fn raw_name_fault(text: &str) -> Option<BadToken>
+    ensures { result ≡ raw_name_fault text.now }
+{
+    let (_, name) = IdentIsRaw::split_from_symbol(text);
+    if is_never_raw(name) {
+        Some(BadToken::NeverRaw)
+    } else {
+        None
+    }
+}

@@ -1,0 +1,157 @@
+//! What a token is to a tree.
+ghost use Rattle.std.specs.Prelude.{◌≡◌, drop, is_none};
+ghost use Rattle.syntax_parse.specs.RawLiteral.{raw_fault};
+ghost use Rattle.syntax_parse.specs.Role.{comment_role, float_role, literal_role, or_leaf, role_in, role_of, with_inside};
+
+use crate::bracket::Bracket;
+use crate::fault::BadToken;
+use crate::inside::{block_fault, line_fault, literal_fault};
+use crate::leaves::behind_apostrophe;
+use crate::raw::{behind_letters, raw_fault, raw_name_fault};
+use syntax_lex::{Base, LiteralKind, TokenKind};
+
+/// What a token is to a tree.
+#[derive(Debug, Clone, Copy, PartialEq, Eq)]
+pub enum Role {
+    /// It is not valid.
+    Bad(BadToken),
+    /// It stands in no tree: white space, or a comment that documents nothing.
+    Nothing,
+    /// It opens a subtree.
+    Opens(Bracket),
+    /// It closes a subtree.
+    Closes(Bracket),
+    /// It stands for leaves.
+    Leaf,
+}
+
+// A leaf, or what is wrong with it.
+fn or_leaf(bad: bool, why: BadToken) -> Role
+    ensures { result ≡ or_leaf bad why }
+{
+    if bad { Role::Bad(why) } else { Role::Leaf }
+}
+
+// What a comment is, by whether it documents something.
+fn comment_role(documents: bool) -> Role
+    ensures { result ≡ comment_role documents }
+{
+    if documents { Role::Leaf } else { Role::Nothing }
+}
+
+// What a float is: a leaf where a digit follows its `e`, and it is written in base ten.
+fn float_role(base: Base, empty_exponent: bool) -> Role
+    ensures { result ≡ float_role base empty_exponent }
+{
+    match base {
+        Base::Decimal => or_leaf(empty_exponent, BadToken::EmptyExponent),
+        _ => {
+            if empty_exponent {
+                Role::Bad(BadToken::EmptyExponent)
+            } else {
+                Role::Bad(BadToken::FloatOfAnotherBase)
+            }
+        }
+    }
+}
+
+// A leaf where a raw literal has its hashes; else what is wrong behind so many letters.
+fn raw_role(n_hashes: Option<u8>, letters: usize, text: &str) -> Role
+    ensures { result ≡ or_leaf (is_none n_hashes) (raw_fault (drop letters text.now)) }
+{
+    match n_hashes {
+        Some(_) => Role::Leaf,
+        None => Role::Bad(raw_fault(behind_letters(letters, text))),
+    }
+}
+
+// What a literal is: a leaf where it is closed, and has digits where it should have some.
+fn literal_role(kind: LiteralKind, text: &str) -> Role
+    ensures { result ≡ literal_role kind text.now }
+{
+    match kind {
+        LiteralKind::Int { empty_int, .. } => or_leaf(empty_int, BadToken::NoDigits),
+        LiteralKind::Float {
+            base,
+            empty_exponent,
+        } => float_role(base, empty_exponent),
+        LiteralKind::Char { terminated }
+        | LiteralKind::Byte { terminated }
+        | LiteralKind::Str { terminated }
+        | LiteralKind::ByteStr { terminated }
+        | LiteralKind::CStr { terminated } => or_leaf(!terminated, BadToken::UnterminatedLiteral),
+        LiteralKind::RawStr { n_hashes } => raw_role(n_hashes, 1, text),
+        LiteralKind::RawByteStr { n_hashes } | LiteralKind::RawCStr { n_hashes } => {
+            raw_role(n_hashes, 2, text)
+        }
+    }
+}
+
+// What a token of a kind is to a tree, whatever is in its text, in edition 2024.
+fn role_of(kind: TokenKind) -> Role
+    ensures { result ≡ role_of kind }
+{
+    match kind {
+        TokenKind::LineComment { doc_style } => comment_role(doc_style.is_some()),
+        TokenKind::BlockComment {
+            doc_style,
+            terminated,
+        } => {
+            if terminated {
+                comment_role(doc_style.is_some())
+            } else {
+                Role::Bad(BadToken::UnterminatedComment)
+            }
+        }
+        TokenKind::Whitespace => Role::Nothing,
+        TokenKind::InvalidIdent => Role::Bad(BadToken::InvalidIdent),
+        TokenKind::UnknownPrefix => Role::Bad(BadToken::UnknownPrefix),
+        TokenKind::UnknownPrefixLifetime => Role::Bad(BadToken::UnknownPrefix),
+        TokenKind::GuardedStrPrefix => Role::Bad(BadToken::GuardedPrefix),
+        TokenKind::Unknown => Role::Bad(BadToken::UnknownCharacter),
+        TokenKind::Lifetime { starts_with_number } => {
+            or_leaf(starts_with_number, BadToken::LifetimeBeginsWithDigit)
+        }
+        TokenKind::OpenParen => Role::Opens(Bracket::Parenthesis),
+        TokenKind::CloseParen => Role::Closes(Bracket::Parenthesis),
+        TokenKind::OpenBrace => Role::Opens(Bracket::Brace),
+        TokenKind::CloseBrace => Role::Closes(Bracket::Brace),
+        TokenKind::OpenBracket => Role::Opens(Bracket::Square),
+        TokenKind::CloseBracket => Role::Closes(Bracket::Square),
+        _ => Role::Leaf,
+    }
+}
+
+// A leaf with nothing wrong inside of it.
+fn with_inside(role: Role, inside: Option<BadToken>) -> Role
+    ensures { result ≡ with_inside role inside }
+{
+    match (role, inside) {
+        (Role::Leaf, Some(why)) => Role::Bad(why),
+        _ => role,
+    }
+}
+
+/// What a token with this text is to a tree.
+pub fn role_in(kind: TokenKind, text: &str) -> Role
+    ensures { result ≡ role_in kind text.now }
+{
+    match kind {
+        TokenKind::Literal { kind, suffix_start } => with_inside(
+            literal_role(kind, text),
+            literal_fault(kind, suffix_start, text),
+        ),
+        TokenKind::LineComment {
+            doc_style: Some(style),
+        } => with_inside(role_of(kind), line_fault(style, text)),
+        TokenKind::BlockComment {
+            doc_style: Some(style),
+            ..
+        } => with_inside(role_of(kind), block_fault(style, text)),
+        TokenKind::RawIdent => with_inside(Role::Leaf, raw_name_fault(text)),
+        TokenKind::RawLifetime => {
+            with_inside(Role::Leaf, raw_name_fault(behind_apostrophe(text)))
+        }
+        _ => role_of(kind),
+    }
+}

@@ -1,0 +1,63 @@
+-- The Rust text of trees.
+use Rattle.std.specs.Prelude.{ℕ, Bool, true, false, ◌==◌, List, [], ◌∷◌, ◌++◌, if◌then◌else◌}
+use Rattle.tt_base.specs.Forest.{Forest}
+use Rattle.tt_base.specs.LeafText.{leaf_text}
+use Rattle.tt_base.specs.Literal.{kind_of}
+use Rattle.tt_base.specs.TreeText.{closing_text, is_alone, opening_text, space_if}
+use Rattle.tt_base.specs.declared.leaf.Leaf.{Leaf}
+use Rattle.tt_base.specs.declared.leaf.Leaf.TheVariants as leaf_of
+use Rattle.tt_base.specs.declared.literal.LitKind.{LitKind}
+use Rattle.tt_base.specs.declared.literal.LitKind.TheVariants as lit
+use Rattle.tt_base.specs.declared.punct.Spacing.{Spacing}
+use Rattle.syntax_parse.specs.Role.{kind_of as delimiter_of}
+use Rattle.syntax_unparse.specs.Marks.{Mark, word, opening, closing, marks}
+use Rattle.syntax_unparse.specs.declared.behind.Behind.{Behind}
+use Rattle.syntax_unparse.specs.declared.behind.Behind.TheVariants.{Opening, Apart, Joint, Slash, Pound, Quote}
+
+-- what stands behind a punct: a `'` touches what follows, and so does a punct that is joint or joint hidden
+abbrev pub behind_punct : (char : ℕ) → Spacing → Behind
+behind_punct char spacing =
+    if char == 39 then Quote
+    else (if is_alone spacing then Apart
+    else (if char == 47 then Slash
+    else (if char == 35 then Pound else Joint)))
+
+-- what stands behind a leaf
+abbrev pub behind_leaf : Leaf → Behind
+behind_leaf (leaf_of.Punct punct) = behind_punct punct.char punct.spacing
+behind_leaf (leaf_of.Literal literal) = Apart
+behind_leaf (leaf_of.Ident ident) = Apart
+
+-- whether a literal's text may begin with a double quote
+abbrev pub is_string_kind : LitKind → Bool
+is_string_kind lit.Str = true
+is_string_kind (lit.Err unit) = true
+is_string_kind _ = false
+
+-- whether a leaf's text may begin with a double quote
+abbrev pub is_string : Leaf → Bool
+is_string (leaf_of.Literal literal) = is_string_kind (kind_of literal)
+is_string (leaf_of.Punct punct) = false
+is_string (leaf_of.Ident ident) = false
+
+-- whether a space stands before a leaf
+abbrev pub wants_space : Behind → Leaf → Bool
+wants_space Apart it = true
+wants_space Pound it = is_string it
+wants_space _ it = false
+
+-- whether a space stands before an opening bracket
+abbrev pub opens_apart : Behind → Bool
+opens_apart Apart = true
+opens_apart _ = false
+
+-- the text of marks behind what was written last: a space before each where one stands, and none before a closing bracket
+abbrev pub written : Behind → List Mark → List ℕ
+written behind [] = []
+written behind (word at it ∷ rest) = (space_if (wants_space behind it) ++ leaf_text it) ++ written (behind_leaf it) rest
+written behind (opening pair ∷ rest) = (space_if (opens_apart behind) ++ opening_text (delimiter_of pair)) ++ written Opening rest
+written behind (closing pair ∷ rest) = closing_text (delimiter_of pair) ++ written Apart rest
+
+-- the Rust text of trees
+abbrev pub text_of : Forest → List ℕ
+text_of trees = written Opening (marks 0 trees)

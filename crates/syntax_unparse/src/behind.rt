@@ -1,0 +1,88 @@
+//! What may stand behind what was written last.
+ghost use Rattle.std.specs.Prelude.{◌≡◌, ◌↔◌, IsTrue};
+ghost use Rattle.syntax_unparse.specs.Text.{behind_leaf, behind_punct, is_string, wants_space, opens_apart};
+ghost use Rattle.syntax_unparse.specs.Writable.{MayEnd};
+
+use tt_base::{Leaf, LitKind, Spacing};
+
+/// What was written last, as far as it matters to what is written next.
+#[derive(Debug, Clone, Copy, PartialEq, Eq)]
+pub enum Behind {
+    /// Nothing, or an opening bracket: what follows touches it.
+    Opening,
+    /// What a space follows, where no closing bracket does: a leaf, or a closing bracket.
+    Apart,
+    /// A punct that what follows touches.
+    Joint,
+    /// A `/` that what follows touches.
+    Slash,
+    /// A `#` that what follows touches, but for a string.
+    Pound,
+    /// The `'` of a lifetime.
+    Quote,
+}
+
+// What stands behind a punct.
+fn behind_punct(char: char, spacing: Spacing) -> Behind
+    ensures { result ≡ behind_punct char spacing }
+{
+    if char == '\'' {
+        return Behind::Quote;
+    }
+    if matches!(spacing, Spacing::Alone) {
+        return Behind::Apart;
+    }
+    if char == '/' {
+        return Behind::Slash;
+    }
+    if char == '#' {
+        Behind::Pound
+    } else {
+        Behind::Joint
+    }
+}
+
+/// What stands behind a leaf.
+pub fn behind_leaf(leaf: &Leaf) -> Behind
+    ensures { result ≡ behind_leaf leaf.now }
+{
+    match leaf {
+        Leaf::Punct(punct) => behind_punct(punct.char, punct.spacing),
+        Leaf::Literal(_) | Leaf::Ident(_) => Behind::Apart,
+    }
+}
+
+// Whether a leaf's text may begin with a double quote.
+fn is_string(leaf: &Leaf) -> bool
+    ensures { result ≡ is_string leaf.now }
+{
+    match leaf {
+        Leaf::Literal(literal) => matches!(literal.kind(), LitKind::Str | LitKind::Err(_)),
+        Leaf::Punct(_) | Leaf::Ident(_) => false,
+    }
+}
+
+/// Whether a space stands before a leaf.
+pub fn wants_space(behind: Behind, leaf: &Leaf) -> bool
+    ensures { result ≡ wants_space behind leaf.now }
+{
+    match behind {
+        Behind::Apart => true,
+        Behind::Pound => is_string(leaf),
+        _ => false,
+    }
+}
+
+/// Whether a space stands before an opening bracket.
+pub fn opens_apart(behind: Behind) -> bool
+    ensures { result ≡ opens_apart behind }
+{
+    matches!(behind, Behind::Apart)
+}
+
+/// Whether a bracket may follow, or the end.
+pub fn may_end(behind: Behind) -> bool
+    ensures { IsTrue result ↔ MayEnd behind }
+{
+    !matches!(behind, Behind::Quote)
+}

@@ -1,0 +1,38 @@
+//! Laws of the definitions that the contracts cite: each is the contract of a function that does nothing.
+ghost use Rattle.std.specs.Prelude.{◌≡◌, List, ℕ};
+ghost use Rattle.tt_base.specs.Forest.{Forest, Root};
+ghost use Rattle.tt_base.specs.TreeText.{display};
+ghost use Rattle.tt_base.specs.declared.span.SpanPart.{SpanPart};
+ghost use Rattle.syntax_parse.specs.Parsed.{IsParse};
+ghost use Rattle.syntax_parse.specs.Refusal.{IsFaultOf};
+ghost use Rattle.syntax_parse.specs.Spelled.{spelled};
+ghost use Rattle.syntax_parse.specs.declared.fault.SyntaxFault.{SyntaxFault};
+ghost use Rattle.syntax_unparse.specs.Displayed.{IsDisplayed};
+ghost use Rattle.syntax_unparse.specs.Marks.{marks};
+ghost use Rattle.syntax_unparse.specs.Settled.{ReadsBack, settled, sorts};
+ghost use Rattle.syntax_unparse.specs.Text.{text_of};
+ghost use Rattle.syntax_unparse.specs.Writable.{IsWritable};
+ghost use Rattle.syntax_unparse.specs.declared.behind.Behind.TheVariants.{Opening};
+
+/// What is written of trees that can be written has only valid tokens, its brackets match, and its pieces are the settled
+/// leaves and brackets of the trees.
+pub fn reads_back()
+    ensures { (trees : Forest) → IsWritable trees → ReadsBack trees (text_of trees) }
+{}
+
+/// So what is read of such a text is spelled by the settled leaves and brackets of the trees, places put aside.
+pub fn read_as_settled()
+    ensures { (trees : Forest) → (text : List ℕ) → (part : SpanPart) → (root : Root) → ReadsBack trees text → IsParse part text root
+        → sorts (spelled root.children) ≡ settled (marks 0 trees) }
+{}
+
+/// And no fault of syntax is found in it.
+pub fn no_syntax_fault()
+    ensures { (trees : Forest) → (text : List ℕ) → (fault : SyntaxFault) → ReadsBack trees text → IsFaultOf text fault → ⊥ }
+{}
+
+/// The text is that of Display where each subtree has brackets, no `'` is alone, and no string stands behind a `#` that is
+/// joint or joint hidden.
+pub fn as_displayed()
+    ensures { (trees : Forest) → IsDisplayed Opening trees → text_of trees ≡ display trees }
+{}

@@ -1,0 +1,221 @@
+//! Trees as Rust text. What is left of each subtree that was entered is kept in memory, so a tree may be as deep as that holds.
+ghost use Rattle.std.specs.Prelude.{◌≡◌, ◌+◌, ◌<◌, ◌≤◌, ◌^◌, ◌++◌, [], ◌∷◌, IfOk, IfErr, OnOk, string_bytes, length};
+ghost use Rattle.tt_base.specs.LeafText.{ident_text, leaf_text};
+ghost use Rattle.syntax_unparse.specs.Marks.{closes, opens, word};
+ghost use Rattle.syntax_unparse.specs.Settled.{ReadsBack};
+ghost use Rattle.syntax_unparse.specs.Text.{text_of};
+ghost use Rattle.syntax_unparse.specs.Writable.{IsWritable, IsWriteFault, MayEnd};
+ghost use Rattle.syntax_unparse.specs.Writing.{IsFaultAtEnd, IsFaultBefore, Writes};
+ghost use Rattle.tt_view.specs.Views.{trees_of};
+
+use crate::behind::{Behind, behind_leaf, may_end, opens_apart, wants_space};
+use crate::brackets::brackets_of;
+use crate::fault::WriteFault;
+use crate::reads::{may_follow, reads_alone};
+use std::alloc::{AllocError, Global};
+use syntax_lex::MOST_TEXT_BYTES;
+use syntax_parse::Bracket;
+use tt_base::{Ident, IdentIsRaw, Leaf};
+use tt_view::text::{closing, opening, space};
+use tt_view::{TokenTreesView, TtElement, TtIter};
+
+// What was written last: the place of the last leaf, and what may follow.
+#[derive(Clone, Copy)]
+struct Last {
+    at: usize,
+    behind: Behind,
+}
+
+// What is left of a subtree that was entered, and the brackets that it is written in.
+#[derive(Drop)]
+struct Level<'a> {
+    rest: TtIter<'a>,
+    brackets: Option<Bracket>,
+}
+
+// Adds an ident.
+fn write_ident(text: &mut String, ident: &Ident) -> Result<(), AllocError>
+    ensures { OnOk result (string_bytes text.new ≡ string_bytes text.old ++ ident_text ident.now) }
+{
+    text.push_str(ident.is_raw.as_str())?;
+    text.push_str(ident.sym.as_str())
+}
+
+// The text of the leaf, in the place of what stood there.
+fn put_text(text: &mut String, leaf: &Leaf) -> Result<(), AllocError>
+    ensures { OnOk result (string_bytes text.new ≡ leaf_text leaf.now) }
+{
+    text.clear();
+    match leaf {
+        Leaf::Literal(literal) => write!(text, "{literal}"),
+        Leaf::Punct(punct) => text.push(punct.char),
+        Leaf::Ident(ident) => write_ident(text, ident),
+    }
+}
+
+// The text of the leaf: of a plain ident as it stands, and else put in the room.
+fn text_in<'a>(room: &'a mut String, leaf: &'a Leaf) -> Result<&'a str, AllocError>
+    ensures { IfOk result (λ text. text.now ≡ leaf_text leaf.now) }
+{
+    if let Leaf::Ident(
+        Ident {
+            sym,
+            is_raw: IdentIsRaw::No,
+            ..
+        },
+    ) = leaf
+    {
+        return Ok(sym.as_str());
+    }
+    put_text(room, leaf)?;
+    Ok(room.as_str())
+}
+
+// Adds the leaf behind what was written last, if both can be written; `room` is for its text.
+#[tactic(auto, using(crate::proofs::WriteFacts::writes_leaf, crate::proofs::WriteFacts::leaf_within))]
+fn write_leaf(
+    alloc: Global,
+    text: &mut String,
+    room: &mut String,
+    last: Last,
+    at: usize,
+    leaf: &Leaf,
+) -> Result<Last, WriteFault>
+    ensures ok { IfOk result (λ next. Writes (string_bytes text.old) last (word at leaf.now ∷ []) (string_bytes text.new) next) }
+    ensures err { IfErr result (IsFaultBefore last (word at leaf.now ∷ [])) }
+{
+    let leaf_text = text_in(room, leaf)?;
+    if leaf_text.len() >= MOST_TEXT_BYTES {
+        return Err(WriteFault::TooLong);
+    }
+    if !may_follow(alloc, last.behind, leaf)? {
+        return Err(WriteFault::NotWritable { at: last.at });
+    }
+    if !reads_alone(alloc, leaf_text, leaf)? {
+        return Err(WriteFault::NotWritable { at });
+    }
+    text.push_str(space(wants_space(last.behind, leaf)))?;
+    text.push_str(leaf_text)?;
+    Ok(Last {
+        at,
+        behind: behind_leaf(leaf),
+    })
+}
+
+// Adds what opens a subtree, if something does.
+fn write_opening(
+    text: &mut String,
+    last: Last,
+    brackets: Option<Bracket>,
+) -> Result<Last, WriteFault>
+    ensures ok { IfOk result (λ next. Writes (string_bytes text.old) last (opens brackets) (string_bytes text.new) next) }
+    ensures err { IfErr result (IsFaultBefore last (opens brackets)) }
+{
+    let Some(bracket) = brackets else {
+        return Ok(last);
+    };
+    if !may_end(last.behind) {
+        return Err(WriteFault::NotWritable { at: last.at });
+    }
+    text.push_str(space(opens_apart(last.behind)))?;
+    text.push_str(opening(bracket.kind()))?;
+    Ok(Last {
+        at: last.at,
+        behind: Behind::Opening,
+    })
+}
+
+// Adds what closes a subtree, if something does.
+fn write_closing(
+    text: &mut String,
+    last: Last,
+    brackets: Option<Bracket>,
+) -> Result<Last, WriteFault>
+    ensures ok { IfOk result (λ next. Writes (string_bytes text.old) last (closes brackets) (string_bytes text.new) next) }
+    ensures err { IfErr result (IsFaultBefore last (closes brackets)) }
+{
+    let Some(bracket) = brackets else {
+        return Ok(last);
+    };
+    if !may_end(last.behind) {
+        return Err(WriteFault::NotWritable { at: last.at });
+    }
+    text.push_str(closing(bracket.kind()))?;
+    Ok(Last {
+        at: last.at,
+        behind: Behind::Apart,
+    })
+}
+
+// The text, where all is written.
+fn ended(text: String, last: Last) -> Result<String, WriteFault>
+    ensures ok { IfOk result (λ all. (string_bytes all ≡ string_bytes text) × (2 ^ 32 ≤ 1 + length (string_bytes text) → ⊥) × MayEnd last.behind) }
+    ensures err { IfErr result (IsFaultAtEnd (string_bytes text) last) }
+{
+    if !may_end(last.behind) {
+        return Err(WriteFault::NotWritable { at: last.at });
+    }
+    if text.len() >= MOST_TEXT_BYTES {
+        return Err(WriteFault::TooLong);
+    }
+    Ok(text)
+}
+
+/// The Rust text of trees: that of Display, but for subtrees without brackets and for what would not read back so. An opaque
+/// subtree has parentheses where it holds two trees or more; `'` touches its name; a `#` stands apart from a string.
+pub fn rust_text(alloc: Global, trees: TokenTreesView<'_>) -> Result<String, WriteFault>
+    ensures text { IfOk result (λ text. string_bytes text ≡ text_of (trees_of trees.entry)) }
+    ensures writable { IfOk result (λ _. IsWritable (trees_of trees.entry)) }
+    ensures back { IfOk result (λ text. ReadsBack (trees_of trees.entry) (string_bytes text)) }
+    ensures short { IfOk result (λ text. 1 + length (string_bytes text) < 2 ^ 32) }
+    ensures err { IfErr result (IsWriteFault (trees_of trees.entry)) }
+{
+    let tokens = trees.len();
+    let mut text = String::new(alloc);
+    let mut room = String::new(alloc);
+    let mut last = Last {
+        at: 0,
+        behind: Behind::Opening,
+    };
+    let mut at = 0;
+    let mut level = Level {
+        rest: trees.iter(),
+        brackets: None,
+    };
+    // what is left of those round it, the innermost last
+    let mut outer = Vec::new(alloc);
+    'tokens: loop {
+        match level.rest.next() {
+            Some(TtElement::Leaf(leaf)) => {
+                last = write_leaf(alloc, &mut text, &mut room, last, at, &leaf)?;
+                at += 1;
+            }
+            Some(TtElement::Subtree(subtree, children)) => {
+                let brackets = brackets_of(alloc, subtree.delimiter.kind, &children)?;
+                last = write_opening(&mut text, last, brackets)?;
+                at += 1;
+                outer.push(level)?;
+                level = Level {
+                    rest: children,
+                    brackets,
+                };
+            }
+            None => {
+                last = write_closing(&mut text, last, level.brackets)?;
+                let Some(round) = outer.pop() else {
+                    return ended(text, last);
+                };
+                level = round;
+            }
+        }
+    }
+}
+
+/// Whether trees can be written: with the fault that `rust_text` has, where it has one.
+pub fn is_writable(alloc: Global, trees: TokenTreesView<'_>) -> Result<(), WriteFault>
+    ensures ok { OnOk result (IsWritable (trees_of trees.entry)) }
+    ensures err { IfErr result (IsWriteFault (trees_of trees.entry)) }
+{
+    rust_text(alloc, trees)?;
+    Ok(())
+}

@@ -1,0 +1,13 @@
+//! Worked rows on lines and runs, by the calls of `app_language` and `app_console`: known values beside what the calls give.
+#![tactic(auto)]
+
+#[cfg(test)]
+mod bad_lines;
+#[cfg(test)]
+mod fakes;
+#[cfg(test)]
+mod good_lines;
+#[cfg(test)]
+mod holds;
+#[cfg(test)]
+mod runs;

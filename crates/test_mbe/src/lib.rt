@@ -1,0 +1,25 @@
+//! Worked rows on macros, by the calls of `mbe_grammar`, `mbe_matcher` and `mbe_rules`.
+#![tactic(auto)]
+
+#[cfg(test)]
+mod filled;
+#[cfg(test)]
+mod fragments;
+#[cfg(test)]
+mod macros;
+#[cfg(test)]
+mod pattern_faults;
+#[cfg(test)]
+mod reach;
+#[cfg(test)]
+mod reaches;
+#[cfg(test)]
+mod reaches_by_name;
+#[cfg(test)]
+mod templates;
+#[cfg(test)]
+mod texts;
+#[cfg(test)]
+mod ways;
+#[cfg(test)]
+mod written;

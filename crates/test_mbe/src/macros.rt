@@ -1,0 +1,299 @@
+//! Macros, each with an input and what comes of it, and trees that are no macro.
+use crate::texts::{holds, tree_of};
+use crate::written::written;
+use mbe_pattern::PatternError;
+use mbe_rules::{ArmFault, Expansion, FillError, MacroRules, TemplateError};
+use std::alloc::Global;
+use std::test::Fail;
+
+// What comes of an input, as a text: its tokens, or that no arm takes it and where the farthest stops, that the one of that number takes it in two ways, or that it
+// is not filled.
+fn told(alloc: Global, arms: &str, input: &str) -> Option<String> {
+    let arms = tree_of(alloc, arms)?;
+    let input = tree_of(alloc, input)?;
+    let rules = MacroRules::new(alloc, arms.token_trees().iter()).ok()?;
+    match rules.expand(alloc, input.token_trees().iter()) {
+        Ok(Expansion::Tree(tree)) => written(alloc, &tree),
+        Ok(Expansion::NoMatch(at)) => numbered(alloc, "no match ", at),
+        Ok(Expansion::Ambiguous(arm)) => numbered(alloc, "ambiguous ", arm),
+        Err(error) => match error.fault {
+            FillError::LengthsDiffer(_) => numbered(alloc, "lengths ", error.arm),
+            FillError::NoRound(_) => numbered(alloc, "no round ", error.arm),
+            FillError::Tree(_) => None,
+        },
+    }
+}
+
+// A word, and a small number.
+fn numbered(alloc: Global, word: &str, number: usize) -> Option<String> {
+    let mut text = String::new(alloc);
+    text.push_str(word).ok()?;
+    text.push(char::from_digit(u32::try_from(number).ok()?, 10)?)
+        .ok()?;
+    Some(text)
+}
+
+// The first arm that takes the input answers, in the brackets of its template; where it takes it in two ways, no later one does; nor
+// where its template is not filled. A list, a tail, words that are not variables, and macros of the forms that people write: a map, a
+// count by recursion, an enum with a visibility and values, lists in lists, a loop with its lifetime, a macro handed on.
+const EXPANSIONS: [(&str, &str, &str); 25] = [
+    ("() => {}", "", "{0"),
+    ("() => {a};", "", "{1a "),
+    ("[] => (a b)", "", "(2a b "),
+    ("() => {}", "a", "no match 0"),
+    ("(a) => {1}; (b) => [2]", "b", "[12 "),
+    ("($x:tt) => {1}; (a) => {2}", "a", "{11 "),
+    ("(a) => {2}; ($x:tt) => {1}", "a", "{12 "),
+    ("(a) => {2}; ($x:tt) => {1}", "c", "{11 "),
+    ("(a) => {2}; ($x:tt) => {1}", "c c", "no match 1"),
+    (
+        "(a b c) => {}; (a b) => {}; (d) => {}",
+        "a b d",
+        "no match 2",
+    ),
+    (
+        "($($x:tt)* $($y:tt)*) => {1}; ($z:tt) => {2}",
+        "a",
+        "ambiguous 0",
+    ),
+    ("(b) => {1}; ($(a)? $(a)?) => {2}", "a", "ambiguous 1"),
+    ("($($x:tt)* end) => {$($x)*}", "a end b end", "{3a end b "),
+    (
+        "($($x:ident)* ; $($y:ident)*) => {$($x $y)*}",
+        "a b ; c",
+        "lengths 0",
+    ),
+    ("(b) => {}; ($($x:ident)*) => {$($x)+}", "", "no round 1"),
+    (
+        "($($k:ident => $v:tt),* $(,)?) => {$($k = $v;)*}",
+        "a => 1, b => [c],",
+        "{9a = 1 ; b = [1c ; ",
+    ),
+    (
+        "(@sum) => {0}; (@sum $h:literal $($t:literal)*) => {$h + m!(@sum $($t)*)}",
+        "@sum 1 2 3",
+        "{91 + m ! (4@ sum 2 3 ",
+    ),
+    ("(0: $n:ident) => {$crate::$n}", "0: f", "{5$ crate : : f "),
+    ("($($n:ident)|+) => {$(#[$n])+}", "a | b", "{6# [1a # [1b "),
+    (
+        "() => {Map::new()}; ($($k:tt => $v:tt),+ $(,)?) => {{ let mut m = Map::new(); $(m.insert($k, $v);)+ m }}",
+        "1 => 2, 3 => 4",
+        "{s{rlet mut m = Map : : new (0; m . insert (31 , 2 ; m . insert (33 , 4 ; m ",
+    ),
+    (
+        "() => {0}; ($h:tt $($t:tt)*) => {1 + count!($($t)*)}",
+        "a b c",
+        "{71 + count ! (2b c ",
+    ),
+    (
+        "($v:vis enum $n:ident {$($x:ident $(= $d:literal)?),* $(,)?}) => {$v enum $n {$($x $(= $d)?),*}}",
+        "pub enum E { A = -1, B, }",
+        "{apub enum E {6A = - 1 , B ",
+    ),
+    (
+        "($([$($x:literal),*]),*) => {[$([$($x),*]),*]}",
+        "[1, 2], [], [3]",
+        "{a[9[31 , 2 , [0, [13 ",
+    ),
+    (
+        "($l:lifetime : $b:block) => {$l : loop $b}",
+        "'a: { x }",
+        "{6' a : loop {1x ",
+    ),
+    (
+        "($m:ident ! ($($a:tt)*)) => {$m!(begin $($a)*)}",
+        "f!(1, 2)",
+        "{7f ! (4begin 1 , 2 ",
+    ),
+];
+
+// What a fragment of Rust's grammar took: an expression, a type or a pattern of more than one token stands as one subtree, others stand
+// as the trees that they are.
+const PIECES: [(&str, &str, &str); 10] = [
+    ("($e:expr) => {$e * 2}", "a + b", "{6<3a + b * 2 "),
+    ("($e:expr) => {$e * 2}", "a", "{3a * 2 "),
+    (
+        "($($e:expr),* $(,)?) => {[$($e),*]}",
+        "1 + 2, f(x),",
+        "{a[9<31 + 2 , <3f (1x ",
+    ),
+    ("($t:ty) => {Vec<$t>}", "&'a u8", "{8Vec < <4& ' a u8 > "),
+    (
+        "($p:pat) => {match x {$p => 1}}",
+        "Some(1) | None",
+        "{cmatch x {9<5Some (11 | None = > 1 ",
+    ),
+    ("($p:pat) => {[$p, x]}", "..", "{5[4. . , x "),
+    ("($p:path) => {$p::new()}", "a::b", "{8a : : b : : new (0"),
+    (
+        "($($i:item)*) => {mod m {$($i)*}}",
+        "struct A; fn f() {}",
+        "{amod m {7struct A ; fn f (0{0",
+    ),
+    (
+        "($(#[$m:meta])* struct $n:ident;) => {$(#[$m])* enum $n {}}",
+        "#[a] #[b = 1] struct S;",
+        "{b# [1a # [3b = 1 enum S {0",
+    ),
+    (
+        "($($s:stmt;)*) => {{$($s;)*}}",
+        "let a = 1; f();",
+        "{9{8let a = 1 ; f (0; ",
+    ),
+];
+
+// What comes of what comes of an input, by other arms.
+fn told_again(alloc: Global, arms: &str, input: &str, others: &str) -> Option<String> {
+    let arms = tree_of(alloc, arms)?;
+    let input = tree_of(alloc, input)?;
+    let rules = MacroRules::new(alloc, arms.token_trees().iter()).ok()?;
+    let Ok(Expansion::Tree(middle)) = rules.expand(alloc, input.token_trees().iter()) else {
+        return None;
+    };
+    let others = tree_of(alloc, others)?;
+    let rules = MacroRules::new(alloc, others.token_trees().iter()).ok()?;
+    match rules.expand(alloc, middle.token_trees().iter()) {
+        Ok(Expansion::Tree(tree)) => written(alloc, &tree),
+        _ => None,
+    }
+}
+
+// What stands as one is taken as one: by `tt`, and by its own fragment, which then writes it as it is, or as a part of more.
+const AGAIN: [(&str, &str, &str, &str); 5] = [
+    (
+        "($e:expr) => {$e * 2}",
+        "a + b",
+        "($x:tt * $y:tt) => {$y $x}",
+        "{52 <3a + b ",
+    ),
+    (
+        "($e:expr) => {$e * 2}",
+        "a + b",
+        "($e:expr) => {$e;}",
+        "{8<6<3a + b * 2 ; ",
+    ),
+    (
+        "($e:expr) => {$e}",
+        "a + b",
+        "($e:expr) => {$e;}",
+        "{5<3a + b ; ",
+    ),
+    (
+        "($t:ty) => {Vec<$t>}",
+        "&'a u8",
+        "(Vec<$t:ty>) => {$t}",
+        "{5<4& ' a u8 ",
+    ),
+    (
+        "($p:pat) => {$p = x}",
+        "A | B",
+        "($p:pat_param = x) => {$p}",
+        "{4<3A | B ",
+    ),
+];
+
+fn are_taken_as_one(alloc: Global) -> bool {
+    for (arms, input, others, wanted) in &AGAIN {
+        match told_again(alloc, arms, input, others) {
+            Some(text) if text.as_str() == *wanted => {}
+            _ => return false,
+        }
+    }
+    true
+}
+
+fn are_expanded(alloc: Global, rows: &[(&str, &str, &str)]) -> bool {
+    for (arms, input, wanted) in rows {
+        match told(alloc, arms, input) {
+            Some(text) if text.as_str() == *wanted => {}
+            _ => return false,
+        }
+    }
+    true
+}
+
+// The kind of a fault, and its place.
+fn kind_of(fault: ArmFault) -> (&'static str, usize) {
+    match fault {
+        ArmFault::NoPattern(at) => ("no pattern", at),
+        ArmFault::Pattern(error) => pattern_kind(error),
+        ArmFault::NoArrow(at) => ("no arrow", at),
+        ArmFault::NoTemplate(at) => ("no template", at),
+        ArmFault::Template(TemplateError::StillRepeats(at)) => ("still repeats", at),
+        ArmFault::Template(TemplateError::NothingRepeats(at)) => ("nothing repeats", at),
+        ArmFault::NoSemicolon(at) => ("no semicolon", at),
+        ArmFault::Template(TemplateError::Memory) | ArmFault::Memory => ("memory", 0),
+    }
+}
+
+// The same of a pattern's.
+fn pattern_kind(error: PatternError) -> (&'static str, usize) {
+    match error {
+        PatternError::BeginsNothing(at) => ("begins nothing", at),
+        PatternError::UnknownFragment(at) => ("unknown", at),
+        PatternError::NameTwice(at) => ("twice", at),
+        PatternError::NeedlessSeparator(at) => ("separator", at),
+        PatternError::EmptyRepetition(at) => ("empty", at),
+        PatternError::Memory => ("memory", 0),
+    }
+}
+
+// What is wrong, with the number of the arm and the place: among all trees what is wrong with the form of an arm, and in a pattern or a
+// template what is wrong with that. A pattern's fault comes before that of the arrow behind it.
+const FAULTS: [(&str, usize, &str, usize); 17] = [
+    ("", 0, "no pattern", 0),
+    (";", 0, "no pattern", 0),
+    ("a", 0, "no pattern", 0),
+    ("(a b)", 0, "no arrow", 3),
+    ("(a b) = > {}", 0, "no arrow", 3),
+    ("(a b) == {}", 0, "no arrow", 3),
+    ("(a b) -> {}", 0, "no arrow", 3),
+    ("(a b) =>", 0, "no template", 5),
+    ("(a b) => c", 0, "no template", 5),
+    ("() => {} () => {}", 0, "no semicolon", 4),
+    ("() => {}, () => {}", 0, "no semicolon", 4),
+    ("() => {};;", 1, "no pattern", 5),
+    ("() => {}; (a $) => {}", 1, "begins nothing", 1),
+    ("() => {}; ($x:tt $x:tt) b", 1, "twice", 4),
+    ("(a) => {}; ($x:exp) => {}", 1, "unknown", 0),
+    ("($($x:tt)*) => {a $x} b", 0, "still repeats", 1),
+    ("(a) => {$(b)*}", 0, "nothing repeats", 0),
+];
+
+// Whether that is wrong.
+fn has_fault(alloc: Global, arms: &str, arm: usize, kind: &str, place: usize) -> Option<bool> {
+    let arms = tree_of(alloc, arms)?;
+    let error = MacroRules::new(alloc, arms.token_trees().iter()).err()?;
+    let (is, at) = kind_of(error.fault);
+    Some((error.arm == arm) & (is == kind) & (at == place))
+}
+
+fn are_faults(alloc: Global) -> bool {
+    for (arms, arm, kind, place) in &FAULTS {
+        if has_fault(alloc, arms, *arm, kind, *place) != Some(true) {
+            return false;
+        }
+    }
+    true
+}
+
+#[test]
+fn macros_expand(rt: HostRuntime) -> Result<(), Fail> {
+    holds(are_expanded(rt.alloc(), &EXPANSIONS))
+}
+
+#[test]
+fn pieces_of_rust_stand_as_they_were_bound(rt: HostRuntime) -> Result<(), Fail> {
+    holds(are_expanded(rt.alloc(), &PIECES))
+}
+
+#[test]
+fn what_stands_as_one_is_taken_as_one(rt: HostRuntime) -> Result<(), Fail> {
+    holds(are_taken_as_one(rt.alloc()))
+}
+
+#[test]
+fn the_first_fault_is_told_with_its_arm(rt: HostRuntime) -> Result<(), Fail> {
+    holds(are_faults(rt.alloc()))
+}

@@ -1,0 +1,91 @@
+//! Calls of a cursor that enter subtrees.
+use std::alloc::Global;
+use test_sweep::{Call, When, braces, header, judge, tree_of};
+use tt::buffer::Cursor;
+use tt::{TokenTree, TtFault};
+
+// How deep the subtrees stand in one another.
+const DEPTH: u32 = 20;
+
+/// How that call of the group ended, made at each place on the way into subtrees that stand in one another.
+pub fn judged<R: Print>(rt: &R, alloc: Global, call: &str) -> Result<&'static str, TtFault> {
+    let both = match call {
+        "bump" => false,
+        "bump_or_end" => true,
+        _ => return Err(TtFault::NoSuchPlace),
+    };
+    let list = nest(alloc)?;
+    let tree = tree_of(alloc, nest(alloc)?)?;
+    Ok(walked(rt, both, &list, tree.as_token_trees().cursor(alloc)))
+}
+
+// The same of a cursor in front of that list.
+fn walked<R: Print>(rt: &R, both: bool, list: &[TokenTree], cursor: Cursor<'_>) -> &'static str {
+    let mut call = Walking {
+        both,
+        list,
+        cursor,
+        passed: 0,
+    };
+    judge(rt, &mut call)
+}
+
+// Braces in one another.
+fn nest(alloc: Global) -> Result<Vec<TokenTree>, TtFault> {
+    let mut list = Vec::new(alloc);
+    for level in 0..DEPTH {
+        list.push(header(braces(), DEPTH - 1 - level))?;
+    }
+    Ok(list)
+}
+
+// A walk into all subtrees of a list, and how many it has entered.
+#[derive(Drop)]
+struct Walking<'a> {
+    // whether it leaves subtrees too, as `bump_or_end` does
+    both: bool,
+    list: &'a [TokenTree],
+    cursor: Cursor<'a>,
+    passed: usize,
+}
+
+impl Call for Walking<'_> {
+    fn make(&mut self) -> Result<bool, TtFault> {
+        for _ in self.passed..self.list.len() {
+            if !self.is_here() {
+                return Ok(false);
+            }
+            self.go_on()?;
+            self.passed = self.passed.saturating_add(1);
+        }
+        Ok(true)
+    }
+
+    fn is_left(&self, when: When) -> Result<bool, TtFault> {
+        let (cursor, passed) = (&self.cursor, self.passed);
+        match when {
+            When::Refused => {
+                Ok(self.is_here() && !cursor.eof() && cursor.is_root() == (passed == 0))
+            }
+            When::Done => Ok(passed == self.list.len() && cursor.token_tree().is_none()),
+        }
+    }
+}
+
+impl Walking<'_> {
+    // Whether the cursor stands at the first token that was not passed.
+    fn is_here(&self) -> bool {
+        self.cursor.token_tree().as_ref() == self.list.get(self.passed)
+    }
+
+    // Goes one place on.
+    fn go_on(&mut self) -> Result<(), TtFault> {
+        if self.both {
+            return self.cursor.bump_or_end();
+        }
+        if self.cursor.token_tree().is_some() {
+            return self.cursor.bump();
+        }
+        Ok(())
+    }
+}

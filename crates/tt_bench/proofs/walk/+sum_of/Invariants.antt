@@ -1,4 +1,0 @@
-use Rattle.tt_bench.proofs.walk.+sum_of.Given as goal
-
-abbrev pub decreases-sum_of : goal.decreases-sum_of
-decreases-sum_of g l = l.levels

@@ -1,5 +1,0 @@
-use Rattle.tt_c.proofs.Written.{is_text}
-use Rattle.tt_c.proofs.text.text_of_tree.Goals as goal
-
-pub returns-in-Ok-clause-ok : goal.returns-in-Ok-clause-ok
-returns-in-Ok-clause-ok c = is_text _ _ _ c.token_trees.ensures c.in-Ok.ensures.text c.in-Ok.ensures.writable c.in-Ok.ensures.back

@@ -1,3 +1,0 @@
-pub mod Adding
-pub mod Rows
-pub mod Telling

@@ -1,3 +1,0 @@
--- Items and statements under conditions.
-pub mod Parts
-pub mod Spreads

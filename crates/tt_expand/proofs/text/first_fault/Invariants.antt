@@ -1,7 +1,0 @@
--- All before are warnings.
-use Rattle.std.proofs.Common.{◌≡◌, drop}
-use Rattle.tt_expand.specs.Expansion.{first_fault}
-use Rattle.tt_expand.proofs.text.first_fault.Given as goal
-
-abbrev pub invariant-loop-place : goal.invariant-loop-place
-invariant-loop-place l = first_fault l.findings ≡ first_fault (drop l.place l.findings)

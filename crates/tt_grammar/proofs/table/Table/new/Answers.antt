@@ -1,6 +1,0 @@
--- Nothing is known of them.
-use Rattle.tt_grammar.proofs.NothingKnown.{nothing_known}
-use Rattle.tt_grammar.proofs.table.Table.new.Goals as goal
-
-pub invariant_of-result : goal.invariant_of-result
-invariant_of-result c = record { good = c.requires.good; right = nothing_known c.args.rules.now c.args.rules.now 0 }

@@ -1,8 +1,0 @@
--- Rust's grammar as a table.
-use Rattle.std.specs.Prelude.{List}
-use Rattle.tt_grammar.specs.declared.rule.Rule.{Rule}
-use Rattle.tt_grammar.specs.declared.rust.TheConstants.{RULES}
-
--- the rules, as the code has them
-abbrev pub rust_rules : List Rule
-rust_rules = RULES

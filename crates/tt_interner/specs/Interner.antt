@@ -1,9 +1,0 @@
--- What a contract sees of an interner.
-use Rattle.std.specs.Prelude.{ℕ, List}
-use Rattle.std.specs.declared.cmp.PartialEq.{Ghosts as Equality}
-use Rattle.std.specs.declared.hash.Hash.{Ghosts as Hashing}
-use Rattle.tt_interner.specs.declared.Interner.{Interner}
-
--- each value, in the order of places, beside its number of uses
-abbrev pub entries_of : {T : Type 0} {equality : Equality T} {hashing : Hashing T} → Interner T equality hashing → List (T × ℕ)
-entries_of it = it.entries.entries

@@ -1,5 +1,0 @@
--- What stands among siblings, as far as macros are asked for.
-pub mod Attributes
-pub mod Items
-pub mod Keywords
-pub mod Positions

@@ -1,6 +1,0 @@
-use Rattle.std.proofs.Common.{take}
-use Rattle.tt_language.specs.Reading.{Lacks}
-use Rattle.tt_language.proofs.command.word.first_word.Given as goal
-
-abbrev pub invariant-loop-i : goal.invariant-loop-i
-invariant-loop-i l = Lacks 32 (take l.i l.text)

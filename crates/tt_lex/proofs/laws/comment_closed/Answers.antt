@@ -1,5 +1,0 @@
-use Rattle.tt_lex.proofs.CommentFacts.{comment_closed}
-use Rattle.tt_lex.proofs.laws.comment_closed.Goals as goal
-
-pub returns : goal.returns
-returns c = comment_closed

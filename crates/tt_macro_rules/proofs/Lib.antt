@@ -1,2 +1,0 @@
-pub mod Expanding
-pub mod Reading

@@ -1,5 +1,0 @@
-use Rattle.tt_round_trip.proofs.ReadCuts.{token_alone}
-use Rattle.tt_round_trip.proofs.laws.token_alone.Goals as goal
-
-pub returns : goal.returns
-returns c = token_alone

@@ -1,2 +1,0 @@
--- What can be written of what was read.
-pub mod Whole

@@ -1,4 +1,0 @@
-//! What was read of a Rust text can be written.
-#![tactic(auto)]
-
-pub mod laws;

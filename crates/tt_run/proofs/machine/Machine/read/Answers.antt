@@ -1,8 +1,0 @@
-use Rattle.std.proofs.Common.{inl, subst}
-use Rattle.tt_run.specs.Reading.{line_part}
-use Rattle.tt_text.specs.Parsed.{IsParse}
-use Rattle.tt_run.proofs.machine.Machine.read.Goals as goal
-
-pub returns-in-Ok : goal.returns-in-Ok
-returns-in-Ok c =
-    inl (inl (c.in-Ok.tree, subst (λ text. IsParse line_part text c.in-Ok.tree) c.as_str.ensures c.in-Ok.ensures.ok, c.ok.ensures, c.put.ensures))

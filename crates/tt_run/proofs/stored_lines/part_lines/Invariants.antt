@@ -1,8 +1,0 @@
-use Rattle.std.proofs.Common.{◌≡◌, ◌++◌, drop}
-use Rattle.std.specs.Prelude.{string_bytes}
-use Rattle.tt.specs.Stored.{packed}
-use Rattle.tt_run.specs.ViewText.{listed, part_text}
-use Rattle.tt_run.proofs.stored_lines.part_lines.Given as goal
-
-abbrev pub invariant-loop-part : goal.invariant-loop-part
-invariant-loop-part l = string_bytes l.text ++ listed part_text (drop l.part-index (packed l.tree).parts) ≡ listed part_text (packed l.tree).parts

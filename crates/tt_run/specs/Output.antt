@@ -1,9 +1,0 @@
--- What a writer and the bytes before it say together.
-use Rattle.std.specs.Prelude.{ℕ, List, Option}
-use Rattle.std.specs.Io.KnownBytes.{append_known}
-use Rattle.tt_run.specs.declared.noted.Noted.{Noted}
-use Rattle.tt_run.specs.Noted.{noted_inner}
-
--- all that was told: what the writer took, and then what is pending
-abbrev pub text_told : {W : Type 0} → (W → Option (List ℕ)) → Noted W → List ℕ → Option (List ℕ)
-text_told contents writer pending = append_known (contents (noted_inner writer)) pending

@@ -1,6 +1,0 @@
-use Rattle.std.proofs.Common.{◌≡◌, ◌||◌, ◌==◌, drop}
-use Rattle.std.specs.List.{list_any}
-use Rattle.tt_text.proofs.inside.has_null.Given as goal
-
-abbrev pub invariant-loop-byte : goal.invariant-loop-byte
-invariant-loop-byte l = (l.found || list_any (λ byte. byte == 0) (drop l.byte-index l.fn.text)) ≡ list_any (λ byte. byte == 0) l.fn.text

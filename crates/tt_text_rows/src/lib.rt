@@ -1,5 +1,0 @@
-//! Worked rows on Rust texts as trees, by the calls of `tt_text`.
-#![tactic(auto)]
-
-#[cfg(test)]
-mod rows;

@@ -1,5 +1,0 @@
-use Rattle.tt_unparse.proofs.DisplayFacts.{as_displayed}
-use Rattle.tt_unparse.proofs.laws.as_displayed.Goals as goal
-
-pub returns : goal.returns
-returns c = as_displayed

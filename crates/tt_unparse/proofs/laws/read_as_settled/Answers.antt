@@ -1,5 +1,0 @@
-use Rattle.tt_unparse.proofs.Readings.{read_as_settled}
-use Rattle.tt_unparse.proofs.laws.read_as_settled.Goals as goal
-
-pub returns : goal.returns
-returns c = read_as_settled
