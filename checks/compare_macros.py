@@ -140,7 +140,7 @@ def main():
             example = random_macros.example(seed)
             if example is not None:
                 arms, given, _ = example
-                ran = subprocess.run([asked.program, "show"], input=f"{arms}\x01{given}", capture_output=True, text=True, check=False)
+                ran = subprocess.run([asked.program, "macros", "show"], input=f"{arms}\x01{given}", capture_output=True, text=True, check=False)
                 made[seed] = (told(arms), given, ran.stdout.removesuffix("\n") if ran.returncode == 0 else ran.stderr)
         with tempfile.TemporaryDirectory() as room:
             said = answers(asked.rustc, Path(room), made)

@@ -96,7 +96,7 @@ fn main() {
     let mut text = String::new();
     std::io::stdin().read_to_string(&mut text).unwrap();
     let mut out = std::io::BufWriter::new(std::io::stdout().lock());
-    if args[1] == "show" {
+    if args[2] == "show" {
         for one in text.split('\u{1}') {
             let mut place = 0u64;
             each(one, |token| {
@@ -108,7 +108,7 @@ fn main() {
         return;
     }
     let mut count = 0u64;
-    for _ in 0..args[2].parse::<u32>().unwrap() {
+    for _ in 0..args[3].parse::<u32>().unwrap() {
         each(&text, |_| count += 1);
     }
     writeln!(out, "{count}").unwrap();
@@ -144,7 +144,7 @@ def output(*command, text=None):
 
 def tokens(program, texts):
     """The lines of tokens of each text."""
-    shown = output(program, "show", text=BETWEEN_TEXTS.join(texts)).split("--\n")
+    shown = output(program, "tokens", "show", text=BETWEEN_TEXTS.join(texts)).split("--\n")
     if len(shown) != len(texts) + 1:
         sys.exit(f"{program} told {len(shown) - 1} texts of {len(texts)}")
     return shown[:-1]
@@ -267,7 +267,7 @@ def tell_characters(judge):
 def user_seconds(program, text, rounds):
     """The processor time that a program takes which reads the text's tokens so many times."""
     before = resource.getrusage(resource.RUSAGE_CHILDREN).ru_utime
-    output(program, "time", str(rounds), text=text)
+    output(program, "tokens", "time", str(rounds), text=text)
     return resource.getrusage(resource.RUSAGE_CHILDREN).ru_utime - before
 
 

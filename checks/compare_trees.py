@@ -252,7 +252,7 @@ def first_difference(ours, theirs):
 
 def ours_of(program, texts):
     """Our trees, or why a text has none."""
-    done = subprocess.run([program, "show"], input=BETWEEN_TEXTS.join(texts).encode(), capture_output=True, check=True)
+    done = subprocess.run([program, "trees", "show"], input=BETWEEN_TEXTS.join(texts).encode(), capture_output=True, check=True)
     shown = done.stdout.decode().split(BETWEEN_TEXTS + "\n")[:-1]
     return [as_rustc(tree) if not tree.startswith("refused") else tree for tree in shown]
 

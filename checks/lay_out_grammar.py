@@ -1,7 +1,7 @@
 #!/usr/bin/env python3
 """Makes the constant of mbe_grammar, and what it is proved to be, from the lines of docs/GRAMMAR.md.
 
-usage: checks/lay_out_grammar.py, and then `rt fmt` in the crate
+usage: checks/lay_out_grammar.py [CRATE], and then `rt fmt` in the crate. CRATE is the folder that it writes to: crates/mbe_grammar if none is given
 
 Each line of a block of that page is `name = expression   # section`. An expression becomes rules in a list, one for each part, where
 equal parts stand once; a mark of each rule says whether it may take nothing, and its rank; and it is known before which kinds of
@@ -9,9 +9,10 @@ units it fails or takes nothing. Written are src/rust.rt, src/rust_known.rt, spe
 """
 import pathlib
 import re
+import sys
 
 TOP = pathlib.Path(__file__).resolve().parent.parent
-CRATE = TOP / "crates/mbe_grammar"
+CRATE = pathlib.Path(sys.argv[1]) if len(sys.argv) > 1 else TOP / "crates/mbe_grammar"
 WIDTH = 126
 
 WORDS = {"self": "SelfValue", "Self": "SelfType", "_": "Underscore", "macro_rules": "MacroRules"}

@@ -253,7 +253,7 @@ def difference(program, seed, kinds):
         return None
     arms, given, wanted = made
     kinds.add(wanted.split(" ")[0] if wanted.split(" ")[0] in STOPS else "tree")
-    ran = subprocess.run([program, "show"], input=f"{arms}\x01{given}", capture_output=True, text=True, check=False)
+    ran = subprocess.run([program, "macros", "show"], input=f"{arms}\x01{given}", capture_output=True, text=True, check=False)
     got = ran.stdout.removesuffix("\n") if ran.returncode == 0 else ran.stderr
     return None if got == wanted else f"{arms!r} makes of {given!r} {got!r}, and not {wanted!r}"
 

@@ -1,49 +1,144 @@
-//! Expands the macro of the text on standard input, to measure that or to show what comes of it:
-//! `bench_texts new|expand ROUNDS < TEXTS`, `bench_texts show < TEXTS`.
-//!
-//! The texts are the arms of the macro and its input, parted by the character U+0001. `new` makes the macro in each round, and
-//! `expand` has it expand the input. They print one line: the nanoseconds of processor time that a round took, and the tokens of
-//! the arms, of the input and of what comes of it. `show` prints what comes of it on one line: its tokens, a bracket with the number of
-//! tokens in it for a subtree, or `no match`, `ambiguous ARM`, `lengths ARM PLACE` or `no round ARM PLACE`.
-#![tactic(auto)]
-
-mod error;
-mod job;
-mod macros;
-mod show;
-mod timing;
-
+//! A macro and an input: how long making the macro or expanding the input takes, or the expansion on a line.
 use crate::error::BenchError;
-use crate::job::Job;
-use crate::macros::Macro;
-use std::io::{BufWriter, Read, Write};
-use std::process::ExitCode;
+use crate::reading::{BETWEEN_TEXTS, tree_of};
+use crate::rounds::nanos_of_round;
+use mbe_rules::{Expansion, FillError, MacroRules};
+use std::alloc::Global;
+use std::io::{BufWriter, Write};
+use std::time::CpuClock;
+use tt::{DelimiterKind, TokenTree, TopSubtree};
 
-fn main(rt: HostRuntime) -> ExitCode {
-    match run(&rt) {
-        Ok(()) => ExitCode::SUCCESS,
-        Err(error) => {
-            let _ = eprintln!(rt; "bench_texts: {error}");
-            ExitCode::FAILURE
+/// What a round does. It lets go of what it makes.
+#[derive(Clone, Copy)]
+pub enum Timing {
+    /// Makes the macro.
+    New,
+    /// Expands the input.
+    Expand,
+}
+
+impl Timing {
+    /// The timing of that name.
+    pub fn named(word: &str) -> Option<Timing> {
+        match word {
+            "new" => Some(Timing::New),
+            "expand" => Some(Timing::Expand),
+            _ => None,
         }
     }
 }
 
-// Does what the arguments ask for.
-fn run(rt: &HostRuntime) -> Result<(), BenchError> {
-    let job = Job::from_args(rt)?;
-    let alloc = rt.alloc();
-    let mut texts = String::new(alloc);
-    rt.stdin().read_to_string(&mut texts)?;
-    let made = Macro::of_texts(alloc, texts.as_str())?;
-    match job {
-        Job::Time(timing, rounds) => {
-            let timed = timing::time(rt, alloc, &made, timing, rounds)?;
-            println!(rt; "{timed}")?;
+// The arms, the macro that they are, and an input.
+#[derive(Drop)]
+struct Macro {
+    arms: TopSubtree,
+    rules: MacroRules,
+    input: TopSubtree,
+}
+
+// The macro of these arms.
+fn rules_of(alloc: Global, arms: &TopSubtree) -> Result<MacroRules, BenchError> {
+    match MacroRules::new(alloc, arms.token_trees().iter()) {
+        Ok(rules) => Ok(rules),
+        Err(error) => Err(BenchError::NoMacro(error)),
+    }
+}
+
+impl Macro {
+    // Of the text of the arms, U+0001, and that of the input.
+    fn of_texts(alloc: Global, texts: &str) -> Result<Macro, BenchError> {
+        let (arms, input) = texts.split_once(BETWEEN_TEXTS).ok_or(BenchError::OneText)?;
+        let arms = tree_of(alloc, arms)?;
+        let input = tree_of(alloc, input)?;
+        let rules = rules_of(alloc, &arms)?;
+        Ok(Macro { arms, rules, input })
+    }
+
+    // The expansion of the input.
+    fn expanded(&self, alloc: Global) -> Result<TopSubtree, BenchError> {
+        match self.rules.expand(alloc, self.input.token_trees().iter()) {
+            Ok(Expansion::Tree(tree)) => Ok(tree),
+            Ok(Expansion::NoMatch(_)) | Ok(Expansion::Ambiguous(_)) => Err(BenchError::NoTree),
+            Err(error) => Err(BenchError::NotExpanded(error)),
         }
-        Job::Show => {
+    }
+
+    // One round.
+    fn round(&self, alloc: Global, timing: Timing) -> Result<(), BenchError> {
+        match timing {
+            Timing::New => {
+                rules_of(alloc, &self.arms)?;
+            }
+            Timing::Expand => {
+                self.expanded(alloc)?;
+            }
+        }
+        Ok(())
+    }
+
+    // Writes the expansion of the input on one line: its tokens, with a bracket and the number of tokens in it for a subtree; or `no match`,
+    // `ambiguous ARM`, `lengths ARM PLACE` or `no round ARM PLACE`.
+    fn show<W: Write>(&self, out: &mut W, alloc: Global) -> Result<(), BenchError> {
+        match self.rules.expand(alloc, self.input.token_trees().iter()) {
+            Ok(Expansion::Tree(tree)) => show_tree(out, &tree)?,
+            Ok(Expansion::NoMatch(at)) => writeln!(out, "no match {at}")?,
+            Ok(Expansion::Ambiguous(arm)) => writeln!(out, "ambiguous {arm}")?,
+            Err(error) => match error.fault {
+                FillError::LengthsDiffer(at) => writeln!(out, "lengths {} {at}", error.arm)?,
+                FillError::NoRound(at) => writeln!(out, "no round {} {at}", error.arm)?,
+                FillError::Tree(_) => return Err(BenchError::NotExpanded(error)),
+            },
+        }
+        Ok(())
+    }
+}
+
+// The bracket that a subtree is written with.
+fn bracket(kind: DelimiterKind) -> char {
+    match kind {
+        DelimiterKind::Parenthesis => '(',
+        DelimiterKind::Brace => '{',
+        DelimiterKind::Bracket => '[',
+        DelimiterKind::Invisible | DelimiterKind::InvisibleOpaque => '<',
+    }
+}
+
+// Writes the tokens of a tree.
+fn show_tree<W: Write>(out: &mut W, tree: &TopSubtree) -> Result<(), BenchError> {
+    let mut tokens = tree.token_trees().iter_flat_tokens();
+    for token in &mut tokens {
+        match token {
+            TokenTree::Leaf(leaf) => write!(out, "{leaf} ")?,
+            TokenTree::Subtree(header) => {
+                let open = bracket(header.delimiter.kind);
+                write!(out, "{open}{} ", header.len)?;
+            }
+        }
+    }
+    writeln!(out)?;
+    Ok(())
+}
+
+/// Times so many rounds and prints a line: the nanoseconds of a round, and the tokens of the arms, of the input and of the expansion. Or shows
+/// the expansion.
+pub fn run(rt: &HostRuntime, texts: &str, job: Option<(Timing, u32)>) -> Result<(), BenchError> {
+    let alloc = rt.alloc();
+    let made = Macro::of_texts(alloc, texts)?;
+    match job {
+        Some((timing, rounds)) => {
+            let output = made.expanded(alloc)?.token_trees().len();
+            let begun = rt.thread_cpu_time()?;
+            for _ in 0..rounds {
+                made.round(alloc, timing)?;
+            }
+            let nanos = nanos_of_round(begun, rt.thread_cpu_time()?, rounds);
+            let arms = made.arms.token_trees().len();
+            let input = made.input.token_trees().len();
+            println!(rt; "{nanos} {arms} {input} {output}")?;
+        }
+        None => {
             let mut out = BufWriter::new(alloc, rt.stdout())?;
-            show::show(&mut out, alloc, &made)?;
+            made.show(&mut out, alloc)?;
             out.flush()?;
         }
     }

@@ -1,47 +1,64 @@
-//! Reads the tokens of the text on standard input, to measure that or to compare them with those of another lexer:
-//! `bench_texts time ROUNDS < TEXT`, `bench_texts show < TEXT`.
-//!
-//! `time` prints one line: the nanoseconds of processor time that a round took, the bytes of the text and its tokens. `show`
-//! prints a line for each token: at which byte it begins, how many it takes, and what it is. The character U+0001 parts a
-//! text from the next one, and `--` is printed behind the tokens of each.
-#![tactic(auto)]
-
-mod error;
-mod job;
-mod show;
-mod timing;
+//! The tokens of a text: how long reading them takes, or each on a line.
+ghost use Rattle.std.specs.Prelude.{◌<◌, ◌^◌, length};
 
 use crate::error::BenchError;
-use crate::job::Job;
-use std::io::{BufWriter, Read, Write};
-use std::process::ExitCode;
+use crate::reading::BETWEEN_TEXTS;
+use crate::rounds::nanos_of_round;
+use std::io::{BufWriter, Write};
+use std::time::CpuClock;
+use syntax_lex::{MOST_TEXT_BYTES, tokenize};
 
-fn main(rt: HostRuntime) -> ExitCode {
-    match run(&rt) {
-        Ok(()) => ExitCode::SUCCESS,
-        Err(error) => {
-            let _ = eprintln!(rt; "bench_texts: {error}");
-            ExitCode::FAILURE
+/// Times so many rounds and prints a line: the nanoseconds of a round, the bytes of the text and its tokens. Or shows the tokens of each
+/// text, a line for each token and a line `--` behind each text.
+pub fn run(rt: &HostRuntime, text: &str, rounds: Option<u32>) -> Result<(), BenchError> {
+    match rounds {
+        Some(rounds) => {
+            if text.len() > MOST_TEXT_BYTES {
+                return Err(BenchError::TooLong);
+            }
+            let begun = rt.thread_cpu_time()?;
+            let mut tokens = 0;
+            for _ in 0..rounds {
+                tokens = count(text);
+            }
+            let nanos = nanos_of_round(begun, rt.thread_cpu_time()?, rounds);
+            let bytes = text.len();
+            println!(rt; "{nanos} {bytes} {tokens}")?;
         }
-    }
-}
-
-// Does what the arguments ask for.
-fn run(rt: &HostRuntime) -> Result<(), BenchError> {
-    let job = Job::from_args(rt)?;
-    let alloc = rt.alloc();
-    let mut text = String::new(alloc);
-    rt.stdin().read_to_string(&mut text)?;
-    match job {
-        Job::Time(rounds) => {
-            let timed = timing::time(rt, text.as_str(), rounds)?;
-            println!(rt; "{timed}")?;
-        }
-        Job::Show => {
-            let mut out = BufWriter::new(alloc, rt.stdout())?;
-            show::show_all(&mut out, text.as_str())?;
+        None => {
+            let mut out = BufWriter::new(rt.alloc(), rt.stdout())?;
+            for part in text.split(BETWEEN_TEXTS) {
+                show(&mut out, part)?;
+                writeln!(out, "--")?;
+            }
             out.flush()?;
         }
+    }
+    Ok(())
+}
+
+// How many tokens a text has.
+fn count(text: &str) -> u64
+    requires { length text.now < 2 ^ 32 }
+{
+    let mut count = 0u64;
+    for _token in tokenize(text) {
+        count = count.wrapping_add(1);
+    }
+    count
+}
+
+// Writes the tokens of a text: at which byte each begins, how many it takes, and its kind.
+fn show<W: Write>(out: &mut W, text: &str) -> Result<(), BenchError> {
+    if text.len() > MOST_TEXT_BYTES {
+        return Err(BenchError::TooLong);
+    }
+    let mut place = 0u64;
+    for token in tokenize(text) {
+        let len = token.len;
+        let kind = token.kind;
+        writeln!(out, "{place} {len} {kind:?}")?;
+        place = place.wrapping_add(len as u64);
     }
     Ok(())
 }

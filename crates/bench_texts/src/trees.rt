@@ -1,49 +1,90 @@
-//! Reads the text on standard input into a tree, to measure that or to compare it with what another reader makes of it:
-//! `bench_texts time|write|display ROUNDS < TEXT`, `bench_texts show < TEXT`.
-//!
-//! `time` prints one line: the nanoseconds of processor time that a round took, the bytes of the text and the tokens of its
-//! tree. So do `write` and `display`, which read it once and write the tree in each round, as Rust text or as Display does.
-//! `show` prints the Debug text of the tree, or why the text has none. The character U+0001 parts a text from the next
-//! one, and a line of it is printed behind each.
-#![tactic(auto)]
-
-mod error;
-mod job;
-mod reading;
-mod show;
-mod timing;
-
+//! The tree of a text: how long reading or writing it takes, or its Debug text.
 use crate::error::BenchError;
-use crate::job::Job;
-use std::io::{BufWriter, Read, Write};
-use std::process::ExitCode;
+use crate::reading::{BETWEEN_TEXTS, read, tree_of};
+use crate::rounds::nanos_of_round;
+use std::alloc::Global;
+use std::io::{BufWriter, Write};
+use std::time::CpuClock;
+use syntax_unparse::rust_text;
+use tt::{TopSubtree, debug_text, display_text};
 
-fn main(rt: HostRuntime) -> ExitCode {
-    match run(&rt) {
-        Ok(()) => ExitCode::SUCCESS,
-        Err(error) => {
-            let _ = eprintln!(rt; "bench_texts: {error}");
-            ExitCode::FAILURE
+/// What a round does. It lets go of what it makes.
+#[derive(Clone, Copy)]
+pub enum Timing {
+    /// Reads the text into a tree.
+    Read,
+    /// Writes its tree as Rust text.
+    Write,
+    /// Writes its tree as Display does.
+    Display,
+}
+
+impl Timing {
+    /// The timing of that name.
+    pub fn named(word: &str) -> Option<Timing> {
+        match word {
+            "time" => Some(Timing::Read),
+            "write" => Some(Timing::Write),
+            "display" => Some(Timing::Display),
+            _ => None,
         }
     }
 }
 
-// Does what the arguments ask for.
-fn run(rt: &HostRuntime) -> Result<(), BenchError> {
-    let job = Job::from_args(rt)?;
+/// Times so many rounds and prints a line: the nanoseconds of a round, the bytes of the text and the tokens of its tree. Or shows the tree of
+/// each text, or why it has none, and a line of U+0001 behind each.
+pub fn run(rt: &HostRuntime, text: &str, job: Option<(Timing, u32)>) -> Result<(), BenchError> {
     let alloc = rt.alloc();
-    let mut text = String::new(alloc);
-    rt.stdin().read_to_string(&mut text)?;
     match job {
-        Job::Time(timing, rounds) => {
-            let timed = timing::time(rt, alloc, text.as_str(), timing, rounds)?;
-            println!(rt; "{timed}")?;
+        Some((timing, rounds)) => {
+            let tree = tree_of(alloc, text)?;
+            let begun = rt.thread_cpu_time()?;
+            for _ in 0..rounds {
+                round(alloc, text, &tree, timing)?;
+            }
+            let nanos = nanos_of_round(begun, rt.thread_cpu_time()?, rounds);
+            let bytes = text.len();
+            let tokens = tree.token_trees().len();
+            println!(rt; "{nanos} {bytes} {tokens}")?;
         }
-        Job::Show => {
+        None => {
             let mut out = BufWriter::new(alloc, rt.stdout())?;
-            show::show_all(&mut out, alloc, text.as_str())?;
+            for part in text.split(BETWEEN_TEXTS) {
+                show(&mut out, alloc, part)?;
+                writeln!(out, "{BETWEEN_TEXTS}")?;
+            }
             out.flush()?;
         }
+    }
+    Ok(())
+}
+
+// One round with the text or with its tree.
+fn round(alloc: Global, text: &str, tree: &TopSubtree, timing: Timing) -> Result<(), BenchError> {
+    match timing {
+        Timing::Read => {
+            tree_of(alloc, text)?;
+            Ok(())
+        }
+        Timing::Write => match rust_text(alloc, tree.token_trees()) {
+            Ok(_text) => Ok(()),
+            Err(fault) => Err(BenchError::NotWritten(fault)),
+        },
+        Timing::Display => {
+            display_text(alloc, tree.token_trees())?;
+            Ok(())
+        }
+    }
+}
+
+// Writes the tree of a text, or why it has none.
+fn show<W: Write>(out: &mut W, alloc: Global, text: &str) -> Result<(), BenchError> {
+    match read(alloc, text) {
+        Ok(tree) => {
+            let shown = debug_text(alloc, tree.token_trees())?;
+            writeln!(out, "{shown}")?;
+        }
+        Err(fault) => writeln!(out, "refused: {fault}")?,
     }
     Ok(())
 }

@@ -10,7 +10,7 @@ use Rattle.tt.specs.Types.Leaf.TheVariants as leaf_of
 use Rattle.expand_items.specs.declared.part.Part.{Part}
 use Rattle.expand_items.specs.Spreads.{before, put_part, spread}
 use Rattle.expand_items.specs.Attributes.{before_if, conditions_of, is_at_attribute, is_at_condition}
-use Rattle.mbe_matcher.specs.Fragments.{front_trees}
+use Rattle.mbe_pattern.specs.Units.{front_trees}
 use Rattle.tt_base.proofs.Appending.{append-end, append-join}
 
 -- no brackets stand there

@@ -11,7 +11,7 @@ use Rattle.expand_items.specs.Attributes.{attributes_len, is_at_attribute, is_at
 use Rattle.expand_items.specs.Items.{Call, calls, item_in}
 use Rattle.expand_items.specs.Positions.{is_bracket}
 use Rattle.expand_items.proofs.Shapes.{call_ends}
-use Rattle.mbe_matcher.specs.Fragments.{front_trees}
+use Rattle.mbe_pattern.specs.Units.{front_trees}
 use Rattle.mbe_pattern.proofs.Passing.{after_end}
 
 -- no brackets stand there

@@ -12,9 +12,8 @@ use Rattle.expand_items.specs.Positions.{is_statement}
 use Rattle.expand_items.specs.declared.position.Position.{Position}
 use Rattle.expand_items.proofs.Attributes.{EndsWithNode, attributes_end}
 use Rattle.expand_items.proofs.Lengths.{call_long, definition_less, less_behind}
-use Rattle.mbe_matcher.specs.Fragments.{front_trees}
+use Rattle.mbe_pattern.specs.Units.{front_trees, is_at_punct}
 use Rattle.mbe_pattern.proofs.Passing.{after_end}
-use Rattle.mbe_pattern.specs.Units.{is_at_punct}
 
 -- it is behind no attributes, if it is there
 abbrev IsBare : Option Call → Type 0

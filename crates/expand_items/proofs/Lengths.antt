@@ -6,8 +6,7 @@ use Rattle.tt.specs.Gluing.{after_trees}
 use Rattle.tt.specs.Moves.{after_tree}
 use Rattle.tt.specs.Types.Ident.{Ident}
 use Rattle.expand_items.specs.Items.{Definition, Call, defines, calls, defined_as, definition_from, definition_in, call_from, call_behind, is_at_colons, is_at_root, call_in, item_from, item_in, name_in}
-use Rattle.mbe_matcher.specs.Fragments.{is_at_word, is_brace}
-use Rattle.mbe_pattern.specs.Units.{is_at_punct}
+use Rattle.mbe_pattern.specs.Units.{is_at_word, is_brace, is_at_punct}
 
 -- it is some trees, if it is there
 abbrev pub IsLong : Option Definition → Type 0

@@ -10,9 +10,8 @@ use Rattle.tt.specs.Types.Ident.{Ident}
 use Rattle.tt.specs.Types.Leaf.TheVariants as leaf_of
 use Rattle.tt.specs.Types.Punct.{Punct}
 use Rattle.expand_items.specs.Items.{Definition, Call, defines, calls, call_from, call_behind, call_in, defined_as, definition_from, definition_in, is_at_colons, is_at_root, item_from, item_in, name_in}
-use Rattle.mbe_matcher.specs.Fragments.{front_trees, is_at_word, is_brace}
+use Rattle.mbe_pattern.specs.Units.{front_trees, is_at_word, is_brace, is_at_punct, unit_size}
 use Rattle.mbe_pattern.proofs.Passing.{after_end}
-use Rattle.mbe_pattern.specs.Units.{is_at_punct, unit_size}
 
 -- a call's subtree is the last of its trees, and stands behind two or more of them
 pub record EndsWithSubtree (trees : Forest) (it : Call) : Type 0 where

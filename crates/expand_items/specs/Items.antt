@@ -16,8 +16,7 @@ use Rattle.expand_items.specs.declared.item.Definition as definition
 use Rattle.expand_items.specs.declared.item.Item as item
 use Rattle.expand_items.specs.declared.item.Item.TheVariants as item_of
 use Rattle.expand_items.specs.Keywords.{is_keyword}
-use Rattle.mbe_matcher.specs.Fragments.{is_at_word, is_brace}
-use Rattle.mbe_pattern.specs.Units.{is_at_punct, unit_size}
+use Rattle.mbe_pattern.specs.Units.{is_at_word, is_brace, is_at_punct, unit_size}
 
 -- a definition of a macro: its name, the trees of its arms under a delimiter, and how many trees it is
 pub record Definition : Type 0 where

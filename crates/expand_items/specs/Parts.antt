@@ -8,8 +8,7 @@ use Rattle.mbe_grammar.specs.Fragments.{Reaches}
 use Rattle.expand_items.specs.Attributes.{attributes_len}
 use Rattle.expand_items.specs.Positions.{is_items}
 use Rattle.expand_items.specs.declared.position.Siblings.{Siblings}
-use Rattle.mbe_matcher.specs.Fragments.{is_at_word}
-use Rattle.mbe_pattern.specs.Units.{is_at_punct}
+use Rattle.mbe_pattern.specs.Units.{is_at_word, is_at_punct}
 use Rattle.mbe_pattern.specs.declared.pattern.GrammarFragment.{GrammarFragment}
 use Rattle.mbe_pattern.specs.declared.pattern.GrammarFragment.TheVariants as fragment
 

@@ -14,9 +14,8 @@ use Rattle.expand_items.specs.declared.position.Head.TheVariants as head
 use Rattle.expand_items.specs.declared.position.Position.{Position}
 use Rattle.expand_items.specs.declared.position.Siblings.{Siblings}
 use Rattle.expand_items.specs.declared.position.Siblings.TheVariants as siblings
-use Rattle.mbe_matcher.specs.Fragments.{is_at_word, is_brace}
+use Rattle.mbe_pattern.specs.Units.{is_at_word, is_brace, is_at_punct}
 use Rattle.mbe_pattern.specs.Spelling.{is_parenthesis}
-use Rattle.mbe_pattern.specs.Units.{is_at_punct}
 
 -- they are statements or items
 abbrev pub is_block : Siblings → Bool

@@ -11,7 +11,7 @@ use Rattle.tt.specs.Types.TtFault.TheVariants as limit
 use Rattle.expand_items.specs.declared.part.Part.{Part}
 use Rattle.expand_items.specs.Parts.{AreParts}
 use Rattle.expand_items.specs.declared.position.Siblings.{Siblings}
-use Rattle.mbe_matcher.specs.Fragments.{front_trees}
+use Rattle.mbe_pattern.specs.Units.{front_trees}
 
 -- a part: an expression stands in braces, so that a condition before it holds for all of it
 abbrev pub put_part : (braces : Delimiter) → (is_expression : Bool) → Forest → Forest

@@ -3,11 +3,10 @@ ghost use Rattle.std.specs.Prelude.{◌≡◌, ◌≤◌, ◌∷◌, [], option_
 ghost use Rattle.tt.specs.Iters.{rest_of};
 ghost use Rattle.tt.specs.Moves.{after_tree};
 ghost use Rattle.expand_items.specs.Items.{name_in, definition_len, defined_as, definition_behind, definition_in, call_behind, is_at_colons, is_at_root, call_in, is_at_sign, may_begin_item, item_in, definition_of, call_of, item_meant};
-ghost use Rattle.mbe_matcher.specs.Fragments.{is_at_word};
-ghost use Rattle.mbe_pattern.specs.Units.{is_at_punct};
+ghost use Rattle.mbe_pattern.specs.Units.{is_at_word, is_at_punct};
 
 use crate::keyword::is_keyword;
-use mbe_pattern::{pass, unit_size};
+use mbe_pattern::{is_at_punct, is_at_word, pass, unit_size};
 use tt::{DelimiterKind, Ident, IdentIsRaw, Leaf, Subtree, TtElement, TtIter};
 
 /// How many trees `::` is.
@@ -47,26 +46,6 @@ pub enum Item<'a> {
     Call(Call<'a>),
     /// Neither: a leaf, a subtree or nothing.
     Other,
-}
-
-/// Whether the ident of that text stands first, and is not raw.
-pub fn is_at_word(mut trees: TtIter<'_>, text: &str) -> bool
-    ensures { result ≡ is_at_word text.now (rest_of trees.entry) }
-{
-    match trees.expect_ident_or_underscore() {
-        Ok(ident) => match ident.is_raw {
-            IdentIsRaw::No => ident.sym.as_str() == text,
-            IdentIsRaw::Yes => false,
-        },
-        Err(()) => false,
-    }
-}
-
-/// Whether a punct of that character stands first.
-pub fn is_at_punct(mut trees: TtIter<'_>, char: char) -> bool
-    ensures { result ≡ is_at_punct (char ∷ []) (rest_of trees.entry) }
-{
-    trees.expect_char(char).is_ok()
 }
 
 // Takes the next tree: an ident that may name a macro.

@@ -12,7 +12,7 @@ mod position;
 mod spread;
 
 pub use attribute::{attributes_len, is_attribute, is_condition, item_at};
-pub use item::{Call, Definition, Item, definition_in, is_at_punct, is_at_word, item_in};
+pub use item::{Call, Definition, Item, definition_in, item_in};
 pub use part::{Part, parts};
 pub use position::{Position, Siblings};
 pub use spread::put_under;

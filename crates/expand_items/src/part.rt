@@ -5,10 +5,9 @@ ghost use Rattle.tt.specs.Views.{trees_of};
 ghost use Rattle.expand_items.specs.Parts.{Takes, is_at_let, statement_len, IsPart, AreParts};
 
 use crate::attribute::attributes_len;
-use crate::item::{is_at_punct, is_at_word};
 use crate::position::Siblings;
 use mbe_grammar::reach;
-use mbe_pattern::{GrammarFragment, pass};
+use mbe_pattern::{GrammarFragment, is_at_punct, is_at_word, pass};
 use std::alloc::{AllocError, Global};
 use tt::{TokenTreesView, TtIter};
 

@@ -5,7 +5,7 @@ ghost use Rattle.expand_items.specs.Positions.{is_block, head_behind, held_by, i
 ghost use Rattle.expand_items.specs.Attributes.{begins_condition};
 
 use crate::attribute::is_condition;
-use crate::item::{is_at_punct, is_at_word};
+use mbe_pattern::{is_at_punct, is_at_word};
 use tt::{DelimiterKind, Ident, IdentIsRaw, Leaf, TtElement, TtIter};
 
 /// What trees are that stand side by side.

@@ -7,27 +7,17 @@ ghost use Rattle.tt.specs.Iters.{rest_of};
 ghost use Rattle.tt.specs.Views.{trees_of};
 ghost use Rattle.expand_items.specs.Spreads.{IsPutUnder, IsWanting, before, put_part, spread};
 ghost use Rattle.expand_items.specs.Attributes.{conditions_of, is_at_condition};
-ghost use Rattle.mbe_matcher.specs.Fragments.{front_trees};
+ghost use Rattle.mbe_pattern.specs.Units.{front_trees};
 
 use crate::attribute::{is_attribute, is_condition};
 use crate::part::{Part, parts};
 use crate::position::Siblings;
-use mbe_pattern::pass;
+use mbe_pattern::take;
 use std::alloc::Global;
 use tt::{Delimiter, DelimiterKind, TokenTreesView, TopSubtreeBuilder, TtFault, TtIter};
 
 /// How many trees an attribute is.
 const ATTRIBUTE_LEN: usize = 2;
-
-// Takes so many trees.
-fn take<'a>(trees: &mut TtIter<'a>, len: usize) -> TokenTreesView<'a>
-    ensures taken { trees_of result ≡ front_trees len (rest_of trees.old) }
-    ensures rest { rest_of trees.new ≡ after_trees len (rest_of trees.old) }
-{
-    let start = trees.savepoint();
-    pass(trees, len);
-    trees.from_savepoint(start)
-}
 
 // Adds an attribute, if it is a condition.
 fn add_condition(

@@ -15,9 +15,8 @@ use Rattle.expand_items.specs.Items.{Call, calls}
 use Rattle.expand_items.specs.Positions.{takes_semicolon}
 use Rattle.expand_items.specs.declared.position.Position.{Position}
 use Rattle.expand_items.specs.declared.position.Siblings.{Siblings}
-use Rattle.mbe_matcher.proofs.FrontTrees.{front_joined}
-use Rattle.mbe_matcher.specs.Fragments.{front_trees}
-use Rattle.mbe_pattern.proofs.Passing.{after_end}
+use Rattle.mbe_pattern.proofs.Passing.{front_joined, after_end}
+use Rattle.mbe_pattern.specs.Units.{front_trees}
 
 -- No trees have no first ones.
 front_end : (n : ℕ) → front_trees n end ≡ end

@@ -22,8 +22,7 @@ use Rattle.expand_items.specs.Attributes.{item_at}
 use Rattle.mbe_pattern.proofs.Passing.{after_end}
 use Rattle.expand_items.specs.Positions.{is_items}
 use Rattle.expand_items.specs.declared.position.Position.{Position}
-use Rattle.mbe_matcher.specs.Fragments.{is_brace}
-use Rattle.mbe_pattern.specs.Units.{is_at_punct}
+use Rattle.mbe_pattern.specs.Units.{is_brace, is_at_punct}
 
 -- A subtree that lies in a text behind a byte closes behind it, and the trees behind the subtree lie there.
 past_subtree : {text : List ℕ} {place to : ℕ} {delimiter : Delimiter} {children rest trees : Forest} → trees ≡ node delimiter children rest → Laid text place trees to

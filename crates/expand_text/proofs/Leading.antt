@@ -24,7 +24,7 @@ use Rattle.expand_text.specs.Walks.{Level, stand_of, past_leaf, past_subtree, pa
 use Rattle.mbe_rules.specs.Arms.{Arm}
 use Rattle.mbe_rules.specs.Expansions.{IsExpansion}
 use Rattle.mbe_rules.specs.declared.macro_rules.Expansion.TheVariants as expansion
-use Rattle.mbe_matcher.specs.Fragments.{front_trees, is_brace}
+use Rattle.mbe_pattern.specs.Units.{front_trees, is_brace}
 
 module _ (setting : Setting) (in_text : Bool) (limit : ℕ) (level : Level) (outer : List Level) (known : Known) where
   -- Past a leaf.

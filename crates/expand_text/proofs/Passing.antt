@@ -24,7 +24,7 @@ use Rattle.expand_text.specs.Walks.{Level, level_of, levels_of, past, past_call,
 use Rattle.expand_text.proofs.Leading.{leads_other, leads_faulty, leads_call, leads_kept}
 use Rattle.expand_items.proofs.Conditions.{call_at_less}
 use Rattle.expand_items.proofs.Lengths.{fewer_behind}
-use Rattle.mbe_matcher.specs.Fragments.{front_trees, is_brace}
+use Rattle.mbe_pattern.specs.Units.{front_trees, is_brace}
 use Rattle.tt.specs.Types.Span.{Span}
 
 module _ (setting : Setting) (in_text : Bool) (limit : ℕ) (old : Walk) (known : Known) (it : Call) (there : IsAtItem (calls it) setting old known) where

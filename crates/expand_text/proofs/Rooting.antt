@@ -15,7 +15,7 @@ use Rattle.tt.specs.Types.TtFault.{TtFault}
 use Rattle.tt.specs.Types.TtIter.{TtIter}
 use Rattle.tt_base.proofs.Appending.{append-end, append-join, held-append, held-close}
 use Rattle.expand_text.specs.declared.root.Level.{Level}
-use Rattle.mbe_matcher.specs.Fragments.{is_at_word}
+use Rattle.mbe_pattern.specs.Units.{is_at_word}
 use Rattle.mbe_pattern.specs.Spelling.{is_dollar}
 use Rattle.expand_text.specs.Roots.{is_crate_root, rooted_leaf, after_leaf, rooted_behind, rooted}
 

@@ -28,9 +28,8 @@ use Rattle.expand_items.specs.Items.{Call, calls, item_in}
 use Rattle.expand_items.specs.Positions.{is_items}
 use Rattle.expand_items.specs.declared.position.Position.{Position}
 use Rattle.mbe_rules.specs.Arms.{Arm}
-use Rattle.mbe_matcher.proofs.FrontTrees.{front_joined}
-use Rattle.mbe_matcher.specs.Fragments.{front_trees, is_brace}
-use Rattle.mbe_pattern.specs.Units.{is_at_punct}
+use Rattle.mbe_pattern.proofs.Passing.{front_joined}
+use Rattle.mbe_pattern.specs.Units.{front_trees, is_brace, is_at_punct}
 use Rattle.laws_round_trip.proofs.CallCuts.{behind_pieces}
 use Rattle.laws_round_trip.specs.Calls.{BeginsCall, EndsCall, IsTaken, IsWoven, ends as woven_end, keeps, gives_way, follows_value, may_begin}
 use Rattle.laws_round_trip.specs.Splices.{Splice, replacement_of, replacements_of}

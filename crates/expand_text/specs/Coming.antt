@@ -22,8 +22,7 @@ use Rattle.expand_text.specs.Standing.{Stand, StandAs, IsKept}
 use Rattle.mbe_rules.specs.Arms.{Arm}
 use Rattle.mbe_rules.specs.Expansions.{IsExpansion}
 use Rattle.mbe_rules.specs.declared.macro_rules.Expansion.TheVariants as expansion
-use Rattle.mbe_matcher.specs.Fragments.{front_trees, is_brace}
-use Rattle.mbe_pattern.specs.Units.{is_at_punct}
+use Rattle.mbe_pattern.specs.Units.{front_trees, is_brace, is_at_punct}
 
 -- the first tree is taken as it is: nothing is expanded any more, or it is one of so many that are, or begins neither a definition nor a call
 abbrev pub IsPlain : Setting → Known → Position → (plain : ℕ) → Forest → Type 0

@@ -11,7 +11,7 @@ use Rattle.expand_text.specs.declared.walk.Walk.{Walk}
 use Rattle.expand_text.specs.Coming.{begin_in, end_in, stand_in, whole_in}
 use Rattle.expand_items.specs.Items.{Call}
 use Rattle.expand_text.specs.Walks.{level_of, past, past_call, stand_of}
-use Rattle.mbe_matcher.specs.Fragments.{front_trees, is_brace}
+use Rattle.mbe_pattern.specs.Units.{front_trees, is_brace}
 
 -- a call that stands first stays as it is, and is passed
 abbrev pub IsStay : Call → (old : Walk) → Event → (new : Walk) → Type 0

@@ -6,7 +6,7 @@ use Rattle.tt.specs.Token.{leaf_span}
 use Rattle.tt.specs.Types.IdentIsRaw.TheVariants.{No}
 use Rattle.tt.specs.Types.Leaf.{Leaf}
 use Rattle.tt.specs.Types.Leaf.TheVariants as leaf_of
-use Rattle.mbe_matcher.specs.Fragments.{is_at_word}
+use Rattle.mbe_pattern.specs.Units.{is_at_word}
 use Rattle.mbe_pattern.specs.Spelling.{is_dollar}
 
 -- a `$`, and behind it `crate`

@@ -15,7 +15,7 @@ use Rattle.expand_text.specs.declared.fault.MacroFault.{MacroFault}
 use Rattle.expand_text.specs.declared.known.Known as known_in_code
 use Rattle.expand_items.specs.declared.position.Position.{Position}
 use Rattle.expand_items.specs.declared.position.Siblings.{Siblings}
-use Rattle.mbe_matcher.specs.Fragments.{front_trees, is_brace}
+use Rattle.mbe_pattern.specs.Units.{front_trees, is_brace}
 use Rattle.expand_text.specs.declared.walk.Event.{Event}
 use Rattle.expand_text.specs.declared.walk.Event.TheVariants as event
 use Rattle.expand_text.specs.declared.walk.Invocation.{Invocation}

@@ -10,8 +10,7 @@ use crate::known::Known;
 use crate::memory::OutOfMemory;
 use crate::setting::Setting;
 use crate::walk::{Event, Invocation, Walk, next};
-use expand_items::Siblings;
-use expand_items::put_under;
+use expand_items::{Siblings, put_under};
 use syntax_edit::start_of;
 use tt::{Delimiter, DelimiterKind, Refused, Span, TopSubtreeBuilder, TtFault, TtIter};
 

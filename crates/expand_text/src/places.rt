@@ -7,8 +7,7 @@ ghost use Rattle.tt.specs.Views.{trees_of};
 ghost use Rattle.expand_text.specs.Places.{byte_at, byte_within, pattern_place, template_place, arm_len, definition_byte};
 
 use mbe_pattern::{PatternError, pass};
-use mbe_rules::TemplateError;
-use mbe_rules::{ArmFault, RulesError};
+use mbe_rules::{ArmFault, RulesError, TemplateError};
 use syntax_edit::start_of;
 use tt::{TokenTreesView, TtIter};
 

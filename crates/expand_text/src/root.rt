@@ -6,8 +6,7 @@ ghost use Rattle.tt.specs.TreeFault.{under, IsTreeFault};
 ghost use Rattle.tt.specs.Views.{trees_of};
 ghost use Rattle.expand_text.specs.Roots.{is_crate_root, rooted_leaf, after_leaf, rooted};
 
-use expand_items::is_at_word;
-use mbe_pattern::is_dollar;
+use mbe_pattern::{is_at_word, is_dollar};
 use std::alloc::{AllocError, Global};
 use tt::{
     Delimiter, Ident, IdentIsRaw, Leaf, Span, Symbol, TokenTreesView, TopSubtree,

@@ -9,15 +9,15 @@ ghost use Rattle.expand_text.specs.Knowing.{Setting as SettingOf, setting_of};
 ghost use Rattle.expand_text.specs.Passing.{IsStay, IsInvoked};
 ghost use Rattle.tt.specs.Gluing.{after_trees};
 ghost use Rattle.expand_text.specs.Walks.{stand_of, level_of, levels_of, past_leaf, past_subtree, past, past_semicolon, begun, entered, IsLeft, IsAtItem, IsFirst, IsWithin, Steps, Goes};
-ghost use Rattle.mbe_matcher.specs.Fragments.{front_trees};
+ghost use Rattle.mbe_pattern.specs.Units.{front_trees};
 
 use crate::calling::{Called, expand_call, is_expanded};
 use crate::defining::read;
 use crate::known::Known;
 use crate::memory::OutOfMemory;
 use crate::setting::Setting;
-use expand_items::{Call, Definition, Item, Position, Siblings, is_at_punct, item_at};
-use mbe_pattern::pass;
+use expand_items::{Call, Definition, Item, Position, Siblings, item_at};
+use mbe_pattern::{is_at_punct, pass, take};
 use std::alloc::{AllocError, Global};
 use syntax_edit::begin_at;
 use tt::{
@@ -156,10 +156,7 @@ impl<'a> Invocation<'a> {
     pub(crate) fn attributes(&self) -> TokenTreesView<'a>
         ensures { trees_of result ≡ (stand_of self.now).attributes }
     {
-        let mut trees = self.whole.iter();
-        let start = trees.savepoint();
-        pass(&mut trees, self.attributes);
-        trees.from_savepoint(start)
+        take(&mut self.whole.iter(), self.attributes)
     }
 
     /// Its trees behind those.

@@ -27,8 +27,7 @@ use Rattle.syntax_edit.proofs.LaidFacts.{laid_behind, laid_order, starts_before}
 use Rattle.syntax_edit.proofs.ParsedOrder.{parsed_laid}
 use Rattle.expand_items.specs.Items.{Definition, Call, definition_from, definition_in, definition_len, defined_as, item_from, call_in, name_in}
 use Rattle.expand_items.specs.Positions.{is_bracket}
-use Rattle.mbe_matcher.specs.Fragments.{is_at_word, is_brace}
-use Rattle.mbe_pattern.specs.Units.{is_at_punct}
+use Rattle.mbe_pattern.specs.Units.{is_at_word, is_brace, is_at_punct}
 use Rattle.syntax_parse.specs.Parsed.{IsParse}
 
 -- What is cut of one list of parts and then another is what is cut of both.

@@ -12,7 +12,6 @@ pub mod Ending
 pub mod FirstThreads
 pub mod FrontCompiling
 pub mod FrontTold
-pub mod FrontTrees
 pub mod Fronts
 pub mod GrammarTaken
 pub mod GroupSteps

@@ -9,9 +9,9 @@ use Rattle.tt.specs.Types.Punct.{Punct}
 use Rattle.mbe_pattern.specs.declared.pattern.Fragment.{Fragment}
 use Rattle.mbe_pattern.specs.declared.pattern.Fragment.TheVariants as fragment
 use Rattle.tt.specs.Types.Leaf.{Leaf}
-use Rattle.mbe_matcher.specs.Fragments.{is_at_negative, is_at_word, is_at_scope, takes_nothing, reach}
+use Rattle.mbe_matcher.specs.Fragments.{is_at_negative, is_at_scope, takes_nothing, reach}
+use Rattle.mbe_pattern.specs.Units.{is_at_word, is_at_ident, unit_from, unit_size, quote, IsUnitLike}
 use Rattle.mbe_matcher.specs.Places.{passed}
-use Rattle.mbe_pattern.specs.Units.{is_at_ident, unit_from, unit_size, quote, IsUnitLike}
 use Rattle.mbe_matcher.proofs.GrammarTaken.{reach_full}
 
 -- it is one at least

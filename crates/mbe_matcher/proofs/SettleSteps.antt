@@ -12,7 +12,8 @@ use Rattle.mbe_matcher.specs.declared.threads.Thread.{Thread}
 use Rattle.mbe_matcher.specs.declared.threads.Turn.{Turn}
 use Rattle.mbe_matcher.specs.Asks.{Ask, ask_of}
 use Rattle.mbe_matcher.specs.Asks as ask
-use Rattle.mbe_matcher.specs.Fragments.{takes, takes_nothing, reach, is_at_word, is_at_scope}
+use Rattle.mbe_matcher.specs.Fragments.{takes, takes_nothing, reach, is_at_scope}
+use Rattle.mbe_pattern.specs.Units.{is_at_word}
 use Rattle.mbe_matcher.specs.Places.{Passes, passed, onward}
 use Rattle.mbe_matcher.specs.Settling.{is_here, asks_nothing, asks_nothing_at, goes_at_once, AreSettled, settled_one, settled_all, settled, IsSettledBy, may_ask_nothing, may_ask_nothing_at, AreBelow, AreRanked}
 use Rattle.mbe_matcher.specs.Threads.{View, view_of, views_of, IsGrown, meet, doubled, added, delayed, turned, spread, edges_of}

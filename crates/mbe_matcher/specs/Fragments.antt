@@ -1,16 +1,11 @@
 -- What a fragment takes.
-use Rattle.std.specs.Prelude.{ℕ, zero, suc, List, Bool, true, false, ◌&&◌, ◌||◌, not, Option, None, Some, bytes_eq, codes, is_some, if◌then◌else◌}
+use Rattle.std.specs.Prelude.{ℕ, Bool, true, false, ◌&&◌, ◌||◌, not, Option, None, Some, codes, is_some, if◌then◌else◌}
 use Rattle.tt.specs.Expectations.{first_leaf_as, as_literal, as_ident_or_underscore, unless_underscore}
 use Rattle.tt.specs.Forest.{Forest, end, leaf, node}
 use Rattle.tt.specs.Gluing.{after_trees}
 use Rattle.tt.specs.Literal.{kind_of}
 use Rattle.tt.specs.Moves.{after_tree}
 use Rattle.tt.specs.Siblings.{is_end}
-use Rattle.tt.specs.Types.DelimiterKind.{DelimiterKind}
-use Rattle.tt.specs.Types.DelimiterKind.TheVariants as delimited
-use Rattle.tt.specs.Types.Ident.{Ident}
-use Rattle.tt.specs.Types.IdentIsRaw.{IdentIsRaw}
-use Rattle.tt.specs.Types.IdentIsRaw.TheVariants.{No, Yes}
 use Rattle.tt.specs.Types.LitKind.{LitKind}
 use Rattle.tt.specs.Types.LitKind.TheVariants as literal
 use Rattle.tt.specs.Types.Leaf.{Leaf}
@@ -19,7 +14,7 @@ use Rattle.mbe_matcher.specs.GrammarReach.{grammar_reach}
 use Rattle.mbe_pattern.specs.declared.pattern.Fragment.{Fragment}
 use Rattle.mbe_pattern.specs.declared.pattern.Fragment.TheVariants as fragment
 use Rattle.mbe_pattern.specs.Spelling.{is_parenthesis}
-use Rattle.mbe_pattern.specs.Units.{is_at_ident, is_at_punct, unit_size}
+use Rattle.mbe_pattern.specs.Units.{is_at_ident, is_at_punct, unit_size, is_at_word, is_brace, front_trees}
 
 -- a literal, or a truth value, stands first
 abbrev pub is_at_literal : Forest → Bool
@@ -63,30 +58,11 @@ literal_size trees = if is_at_negative trees then 2 else 1
 abbrev pub is_at_lifetime : Forest → Bool
 is_at_lifetime trees = is_at_punct (codes "'") trees && is_at_ident (after_tree trees)
 
--- a subtree in braces stands first
-abbrev pub is_brace : DelimiterKind → Bool
-is_brace delimited.Parenthesis = false
-is_brace delimited.Brace = true
-is_brace delimited.Bracket = false
-is_brace delimited.Invisible = false
-is_brace delimited.InvisibleOpaque = false
-
+-- a subtree in braces is first
 abbrev pub is_at_block : Forest → Bool
 is_at_block end = false
 is_at_block (leaf it rest) = false
 is_at_block (node delimiter children rest) = is_brace delimiter.kind
-
--- the ident of that text stands first, and is not raw
-abbrev pub is_word : (text : List ℕ) → IdentIsRaw → List ℕ → Bool
-is_word text No its = bytes_eq its text
-is_word text Yes its = false
-
-abbrev pub is_word_from : (text : List ℕ) → Option Ident → Bool
-is_word_from text None = false
-is_word_from text (Some it) = is_word text it.is_raw it.sym
-
-abbrev pub is_at_word : (text : List ℕ) → Forest → Bool
-is_at_word text trees = is_word_from text (first_leaf_as as_ident_or_underscore trees)
 
 -- `in` and what is behind it, or `crate`, `self` or `super` alone
 abbrev pub is_scope : (inside : Forest) → Bool
@@ -139,13 +115,6 @@ reach fragment.Block trees = 1
 reach fragment.Vis trees = visibility_size trees
 reach fragment.Tt trees = unit_size trees
 reach (fragment.Grammar which) trees = or_one (grammar_reach which trees)
-
--- so many trees at the front, if there are as many
-abbrev pub front_trees : ℕ → Forest → Forest
-front_trees zero trees = end
-front_trees (suc n) end = end
-front_trees (suc n) (leaf it rest) = leaf it (front_trees n rest)
-front_trees (suc n) (node delimiter children rest) = node delimiter children (front_trees n rest)
 
 -- the trees that the fragment takes, and those behind them
 abbrev pub taken : Fragment → Forest → Forest

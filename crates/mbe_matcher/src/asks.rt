@@ -3,43 +3,14 @@ ghost use Rattle.std.specs.Prelude.{◌≡◌, ◌↔◌, IfOk, IsTrue};
 ghost use Rattle.tt.specs.Iters.{rest_of};
 ghost use Rattle.tt.specs.Moves.{after_tree};
 ghost use Rattle.mbe_grammar.specs.Fragments.{Reaches};
-ghost use Rattle.mbe_matcher.specs.Fragments.{is_at_number, is_at_negative, is_at_lifetime, is_at_block, is_at_word, is_scope, is_at_scope, visibility_size, literal_size, takes, takes_nothing, reach};
+ghost use Rattle.mbe_matcher.specs.Fragments.{is_at_number, is_at_negative, is_at_lifetime, is_at_block, is_scope, is_at_scope, visibility_size, literal_size, takes, takes_nothing, reach};
+ghost use Rattle.mbe_pattern.specs.Units.{is_at_word, unit_size, AreLeavesLike};
 ghost use Rattle.mbe_matcher.specs.GrammarReach.{grammar_reach};
-ghost use Rattle.mbe_pattern.specs.Units.{is_at_ident, unit_size, IsSameLeaf, IsLeafLike, AreLeavesLike};
 
 use mbe_grammar::reach as reach_by_grammar;
-use mbe_pattern::{Fragment, GrammarFragment, unit_size};
+use mbe_pattern::{Fragment, GrammarFragment, is_at_word, passes_leaf, unit_size};
 use std::alloc::{AllocError, Global};
-use tt::{DelimiterKind, IdentIsRaw, Leaf, LitKind, TtElement, TtIter};
-
-/// Whether the leaves are the same, spans and spacing put aside.
-pub(crate) fn is_same_leaf(leaf: &Leaf, other: &Leaf) -> bool
-    ensures { IsTrue result ↔ IsSameLeaf leaf.now other.now }
-{
-    match (leaf, other) {
-        (Leaf::Literal(left), Leaf::Literal(right)) => {
-            left.kind() == right.kind()
-                && left.text() == right.text()
-                && left.suffix() == right.suffix()
-        }
-        (Leaf::Punct(left), Leaf::Punct(right)) => left.char == right.char,
-        (Leaf::Ident(left), Leaf::Ident(right)) => {
-            left.sym == right.sym && left.is_raw == right.is_raw
-        }
-        _ => false,
-    }
-}
-
-// Takes the next tree: whether it is such a leaf.
-fn passes_leaf(leaf: &Leaf, trees: &mut TtIter<'_>) -> bool
-    ensures answer { IsTrue result ↔ IsLeafLike leaf.now (rest_of trees.old) }
-    ensures rest { rest_of trees.new ≡ after_tree (rest_of trees.old) }
-{
-    match trees.expect_leaf() {
-        Ok(other) => is_same_leaf(leaf, &other),
-        Err(()) => false,
-    }
-}
+use tt::{DelimiterKind, Leaf, LitKind, TtElement, TtIter};
 
 /// Whether the first trees are such leaves, one by one.
 pub(crate) fn are_leaves_like(leaves: &[Leaf], mut trees: TtIter<'_>) -> bool
@@ -87,19 +58,6 @@ fn is_at_block(mut trees: TtIter<'_>) -> bool
     match trees.next() {
         Some(TtElement::Subtree(header, _)) => header.delimiter.kind == DelimiterKind::Brace,
         _ => false,
-    }
-}
-
-// Whether the ident of that text stands first, and is not raw.
-fn is_at_word(mut trees: TtIter<'_>, text: &str) -> bool
-    ensures { result ≡ is_at_word text.now (rest_of trees.entry) }
-{
-    match trees.expect_ident_or_underscore() {
-        Ok(ident) => match ident.is_raw {
-            IdentIsRaw::No => ident.sym.as_str() == text,
-            IdentIsRaw::Yes => false,
-        },
-        Err(()) => false,
     }
 }
 

@@ -19,6 +19,6 @@ mod walking;
 
 pub use binding::{Binding, Found};
 pub use matcher::Matcher;
-pub use steps::Binder;
 pub use mbe_pattern::{Fragment, GrammarFragment, PatternError, RepeatKind, Variable};
+pub use steps::Binder;
 pub use walking::Mark;

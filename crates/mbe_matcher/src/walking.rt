@@ -5,14 +5,15 @@ ghost use Rattle.tt.specs.Iters.{rest_of};
 ghost use Rattle.tt.specs.Moves.{after_tree};
 ghost use Rattle.tt.specs.Siblings.{children_of};
 ghost use Rattle.tt.specs.Views.{trees_of};
-ghost use Rattle.mbe_matcher.specs.Fragments.{front_trees, reach, taken};
+ghost use Rattle.mbe_matcher.specs.Fragments.{reach, taken};
+ghost use Rattle.mbe_pattern.specs.Units.{front_trees};
 ghost use Rattle.mbe_matcher.specs.Marks.{Note, note_of, taken as taken_note};
 ghost use Rattle.mbe_matcher.specs.Places.{front, passed, entered, left};
 ghost use Rattle.mbe_matcher.specs.Walking.{Notes, started, spot_of, IsWalked, walked_by, forward, begun, begin_notes, closed, close_notes};
 
 use crate::asks::reach;
 use crate::steps::Step;
-use mbe_pattern::{Fragment, pass};
+use mbe_pattern::{Fragment, pass, take};
 use std::alloc::{AllocError, Global};
 use tt::{TokenTreesView, TtElement, TtIter};
 
@@ -38,16 +39,6 @@ pub(crate) struct Walk<'s, 'i> {
     opened: Vec<&'s [Step]>,
     is_back: bool,
     marks: Vec<Mark<'i>>,
-}
-
-// Passes so many trees, which are told.
-fn take<'i>(trees: &mut TtIter<'i>, count: usize) -> TokenTreesView<'i>
-    ensures taken { trees_of result ≡ front_trees count (rest_of trees.old) }
-    ensures rest { rest_of trees.new ≡ after_trees count (rest_of trees.old) }
-{
-    let start = trees.savepoint();
-    pass(trees, count);
-    trees.from_savepoint(start)
 }
 
 // What the fragment takes of the innermost level.

@@ -1,11 +1,12 @@
 -- Trees that are passed one by one, and leaves that are taken so.
 use Rattle.std.proofs.Common.{◌≡◌, ◌+◌, ◌-◌, ◌<◌, ◌≤◌, ℕ, zero, suc, List, [], ◌∷◌, ◌++◌, Some, None, refl, ap, sym, ◌∙◌, arith, append_assoc, append-nil}
 use Rattle.tt.specs.Expectations.{first_leaf_as, as_leaf}
-use Rattle.tt.specs.Forest.{Forest, end, leaf, node, size}
+use Rattle.tt.specs.Forest.{Forest, end, leaf, node, join, size}
 use Rattle.tt.specs.Gluing.{after_trees}
 use Rattle.tt.specs.Moves.{after_tree}
 use Rattle.tt.specs.Types.Leaf.{Leaf}
-use Rattle.mbe_pattern.specs.Units.{front_leaves}
+use Rattle.tt_base.proofs.Joins.{join-cancel}
+use Rattle.mbe_pattern.specs.Units.{front_leaves, front_trees}
 
 -- One tree more is passed.
 pub pass_next : (count i : ℕ) (trees : Forest) → i < count → after_trees (count - i) trees ≡ after_trees (count - (i + 1)) (after_tree trees)
@@ -59,3 +60,14 @@ module _ (count i : ℕ) (trees : Forest) (so_far whole : List Leaf) (before : s
   take_all le =
       let none : count - i ≡ 0 = omega (arith, le) in
       sym (append-nil so_far) ∙ ap (λ l. so_far ++ l) (sym (ap (λ n. front_leaves n trees) none)) ∙ before
+
+-- So many trees at the front, and then the others.
+pub front_joined : (n : ℕ) (trees : Forest) → trees ≡ join (front_trees n trees) (after_trees n trees)
+front_joined zero trees = refl
+front_joined (suc n) end = sym (after_end n)
+front_joined (suc n) (leaf it rest) = ap (leaf it) (front_joined n rest)
+front_joined (suc n) (node delimiter children rest) = ap (node delimiter children) (front_joined n rest)
+
+-- What stands before the others are those.
+pub front_told : (n : ℕ) (trees given : Forest) → join given (after_trees n trees) ≡ trees → given ≡ front_trees n trees
+front_told n trees given is = join-cancel given (front_trees n trees) (after_trees n trees) (is ∙ front_joined n trees)

@@ -1,11 +1,15 @@
 -- Which leaves at the front of trees stand as one token, and when they are those of a pattern.
-use Rattle.std.specs.Prelude.{◌≡◌, ◌==◌, ℕ, zero, suc, Bool, List, [], ◌∷◌, length, is_some, if◌then◌else◌}
+use Rattle.std.specs.Prelude.{◌≡◌, ◌==◌, ℕ, zero, suc, Bool, true, false, List, [], ◌∷◌, length, bytes_eq, Option, None, Some, is_some, if◌then◌else◌}
 use Rattle.tt.specs.Expectations.{first_leaf_as, as_punct, as_ident_or_underscore, is_punct_of}
 use Rattle.tt.specs.Forest.{Forest, end, leaf, node}
 use Rattle.tt.specs.Gluing.{glued_from}
 use Rattle.tt.specs.Moves.{after_tree}
 use Rattle.tt.specs.Literal.{kind_of, text_of, suffix_of}
 use Rattle.tt.specs.Types.DelimiterKind.{DelimiterKind}
+use Rattle.tt.specs.Types.DelimiterKind.TheVariants as delimited
+use Rattle.tt.specs.Types.Ident.{Ident}
+use Rattle.tt.specs.Types.IdentIsRaw.{IdentIsRaw}
+use Rattle.tt.specs.Types.IdentIsRaw.TheVariants.{No, Yes}
 use Rattle.tt.specs.Types.Leaf.{Leaf}
 use Rattle.tt.specs.Types.Leaf.TheVariants as leaf_of
 
@@ -20,6 +24,18 @@ is_at_ident trees = is_some (first_leaf_as as_ident_or_underscore trees)
 -- a punct of that character stands first
 abbrev pub is_at_punct : (chars : List ℕ) → Forest → Bool
 is_at_punct chars trees = is_punct_of chars (first_leaf_as as_punct trees)
+
+-- the ident of that text is first, and is not raw
+abbrev pub is_word : (text : List ℕ) → IdentIsRaw → List ℕ → Bool
+is_word text No its = bytes_eq its text
+is_word text Yes its = false
+
+abbrev pub is_word_from : (text : List ℕ) → Option Ident → Bool
+is_word_from text None = false
+is_word_from text (Some it) = is_word text it.is_raw it.sym
+
+abbrev pub is_at_word : (text : List ℕ) → Forest → Bool
+is_at_word text trees = is_word_from text (first_leaf_as as_ident_or_underscore trees)
 
 -- how many leaves stand as one with a leaf, before these siblings: puncts that are glued, a `'` and its ident, or it alone
 abbrev pub unit_from : Leaf → (behind : Forest) → ℕ
@@ -39,6 +55,13 @@ front_leaves zero trees = []
 front_leaves (suc n) end = []
 front_leaves (suc n) (leaf it rest) = it ∷ front_leaves n rest
 front_leaves (suc n) (node delimiter children rest) = []
+
+-- so many trees at the front, if there are as many
+abbrev pub front_trees : ℕ → Forest → Forest
+front_trees zero trees = end
+front_trees (suc n) end = end
+front_trees (suc n) (leaf it rest) = leaf it (front_trees n rest)
+front_trees (suc n) (node delimiter children rest) = node delimiter children (front_trees n rest)
 
 -- the leaves of the first token; none where there is no leaf
 abbrev pub first_unit : Forest → List Leaf
@@ -76,3 +99,11 @@ abbrev pub IsNodeOf : DelimiterKind → Forest → Type 0
 IsNodeOf kind end = ⊥
 IsNodeOf kind (leaf it rest) = ⊥
 IsNodeOf kind (node delimiter children rest) = delimiter.kind ≡ kind
+
+-- braces
+abbrev pub is_brace : DelimiterKind → Bool
+is_brace delimited.Parenthesis = false
+is_brace delimited.Brace = true
+is_brace delimited.Bracket = false
+is_brace delimited.Invisible = false
+is_brace delimited.InvisibleOpaque = false

@@ -39,16 +39,6 @@ pub fn is_dollar(leaf: &Leaf) -> bool
     }
 }
 
-/// Passes so many trees.
-pub fn pass(trees: &mut TtIter<'_>, count: usize)
-    ensures rest { rest_of trees.new ≡ after_trees count (rest_of trees.old) }
-    ensures less { size (rest_of trees.new) ≤ size (rest_of trees.old) }
-{
-    for _ in 0..count {
-        trees.next();
-    }
-}
-
 // So many leaves at the front, if there are as many.
 fn front_leaves(alloc: Global, count: usize, mut trees: TtIter<'_>) -> Result<Vec<Leaf>, AllocError>
     ensures { IfOk result (λ leaves. leaves.items ≡ front_leaves count (rest_of trees.entry)) }

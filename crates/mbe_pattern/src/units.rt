@@ -1,9 +1,9 @@
 //! Which trees stand as one token.
-ghost use Rattle.std.specs.Prelude.{◌≡◌};
+ghost use Rattle.std.specs.Prelude.{◌≡◌, ◌∷◌, []};
 ghost use Rattle.tt.specs.Iters.{rest_of};
-ghost use Rattle.mbe_pattern.specs.Units.{is_at_ident, unit_from, unit_size};
+ghost use Rattle.mbe_pattern.specs.Units.{is_at_ident, is_at_punct, is_at_word, unit_from, unit_size};
 
-use tt::TtIter;
+use tt::{IdentIsRaw, TtIter};
 
 /// How many trees stand as one at the front: those of a token, or a subtree.
 pub fn unit_size(mut trees: TtIter<'_>) -> usize
@@ -24,4 +24,24 @@ pub fn unit_size(mut trees: TtIter<'_>) -> usize
         },
         Err(()) => 1,
     }
+}
+
+/// Whether the ident of that text is first, and is not raw.
+pub fn is_at_word(mut trees: TtIter<'_>, text: &str) -> bool
+    ensures { result ≡ is_at_word text.now (rest_of trees.entry) }
+{
+    match trees.expect_ident_or_underscore() {
+        Ok(ident) => match ident.is_raw {
+            IdentIsRaw::No => ident.sym.as_str() == text,
+            IdentIsRaw::Yes => false,
+        },
+        Err(()) => false,
+    }
+}
+
+/// Whether a punct of that character is first.
+pub fn is_at_punct(mut trees: TtIter<'_>, char: char) -> bool
+    ensures { result ≡ is_at_punct (char ∷ []) (rest_of trees.entry) }
+{
+    trees.expect_char(char).is_ok()
 }

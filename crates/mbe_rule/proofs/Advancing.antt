@@ -12,7 +12,8 @@ use Rattle.tt.specs.Types.TtIter.{TtIter}
 use Rattle.mbe_rule.specs.declared.matching.Pair.{Pair}
 use Rattle.mbe_rule.specs.declared.matching.Progress.TheVariants as progress
 use Rattle.mbe_rule.specs.declared.variable.Variable.{Variable}
-use Rattle.mbe_rule.specs.Instances.{variable, token, pattern_of, takes, IsLeafLike, IsNodeOf}
+use Rattle.mbe_rule.specs.Instances.{variable, token, pattern_of, takes}
+use Rattle.mbe_pattern.specs.Units.{IsLeafLike, IsNodeOf}
 use Rattle.mbe_rule.specs.Matching.{Matches, trees_bound, PairMatches, pair_trees, Advances}
 use Rattle.mbe_rule.specs.Variables.{variable_at}
 use Rattle.mbe_rule.proofs.Parts.{variable_first, token_first, after_smaller}

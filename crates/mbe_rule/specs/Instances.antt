@@ -4,10 +4,10 @@ use Rattle.tt.specs.Expectations.{first_leaf_as, as_literal, as_ident_or_undersc
 use Rattle.tt.specs.Forest.{Forest, Root, end, leaf, node, join}
 use Rattle.tt.specs.Moves.{after_tree}
 use Rattle.tt.specs.Siblings.{first_tree, children_of, is_end}
-use Rattle.tt.specs.Literal.{kind_of, text_of, suffix_of}
 use Rattle.tt.specs.Types.DelimiterKind.{DelimiterKind}
 use Rattle.tt.specs.Types.Leaf.{Leaf}
 use Rattle.tt.specs.Types.Leaf.TheVariants as leaf_of
+use Rattle.mbe_pattern.specs.Units.{IsLeafLike, IsNodeOf}
 use Rattle.mbe_rule.specs.declared.variable.Name.{Name}
 use Rattle.mbe_rule.specs.declared.variable.Fragment.{Fragment}
 use Rattle.mbe_rule.specs.declared.variable.Fragment.TheVariants as fragment
@@ -44,30 +44,6 @@ abbrev pub takes : Fragment → Forest → Bool
 takes fragment.Ident trees = is_some (unless_underscore (first_leaf_as as_ident_or_underscore trees))
 takes fragment.Literal trees = is_some (first_leaf_as as_literal trees)
 takes fragment.Tt trees = not (is_end trees)
-
--- the leaves are the same, spans and spacing put aside
-abbrev pub IsSameLeaf : Leaf → Leaf → Type 0
-IsSameLeaf (leaf_of.Literal a) (leaf_of.Literal b) = (kind_of a ≡ kind_of b) × (text_of a ≡ text_of b) × (suffix_of a ≡ suffix_of b)
-IsSameLeaf (leaf_of.Literal a) (leaf_of.Punct b) = ⊥
-IsSameLeaf (leaf_of.Literal a) (leaf_of.Ident b) = ⊥
-IsSameLeaf (leaf_of.Punct a) (leaf_of.Literal b) = ⊥
-IsSameLeaf (leaf_of.Punct a) (leaf_of.Punct b) = a.char ≡ b.char
-IsSameLeaf (leaf_of.Punct a) (leaf_of.Ident b) = ⊥
-IsSameLeaf (leaf_of.Ident a) (leaf_of.Literal b) = ⊥
-IsSameLeaf (leaf_of.Ident a) (leaf_of.Punct b) = ⊥
-IsSameLeaf (leaf_of.Ident a) (leaf_of.Ident b) = (a.sym ≡ b.sym) × (a.is_raw ≡ b.is_raw)
-
--- the first tree is a leaf that is the same
-abbrev pub IsLeafLike : Leaf → Forest → Type 0
-IsLeafLike it end = ⊥
-IsLeafLike it (leaf other rest) = IsSameLeaf it other
-IsLeafLike it (node delimiter children rest) = ⊥
-
--- the first tree is a subtree of that kind
-abbrev pub IsNodeOf : DelimiterKind → Forest → Type 0
-IsNodeOf kind end = ⊥
-IsNodeOf kind (leaf it rest) = ⊥
-IsNodeOf kind (node delimiter children rest) = delimiter.kind ≡ kind
 
 -- names, each with the tree that is bound to it
 abbrev pub Binding : Type 0

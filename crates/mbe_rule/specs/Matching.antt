@@ -7,7 +7,8 @@ use Rattle.tt.specs.Siblings.{first_tree, children_of}
 use Rattle.mbe_rule.specs.declared.matching.Pair.{Pair}
 use Rattle.mbe_rule.specs.declared.matching.Progress.{Progress}
 use Rattle.mbe_rule.specs.declared.matching.Progress.TheVariants as progress
-use Rattle.mbe_rule.specs.Instances.{Pattern, nothing, variable, token, subtree, pattern_of, takes, IsLeafLike, IsNodeOf}
+use Rattle.mbe_rule.specs.Instances.{Pattern, nothing, variable, token, subtree, pattern_of, takes}
+use Rattle.mbe_pattern.specs.Units.{IsLeafLike, IsNodeOf}
 
 -- the trees agree with the pattern, whatever is bound
 abbrev pub Matches : Pattern → (input : Forest) → Type 0

@@ -4,10 +4,11 @@ ghost use Rattle.tt.specs.Iters.{rest_of, PassesOne};
 ghost use Rattle.tt.specs.Moves.{after_tree};
 ghost use Rattle.tt.specs.Siblings.{first_tree};
 ghost use Rattle.tt.specs.Views.{trees_of};
-ghost use Rattle.mbe_rule.specs.Instances.{takes, pattern_of, IsSameLeaf, IsLeafLike};
+ghost use Rattle.mbe_rule.specs.Instances.{takes, pattern_of};
 ghost use Rattle.mbe_rule.specs.Matching.{Matches, trees_bound, Advances};
 
 use crate::variable::{Fragment, variable_at};
+use mbe_pattern::passes_leaf;
 use std::alloc::{AllocError, Global};
 use tt::{Leaf, TokenTreesView, TtElement, TtIter};
 
@@ -29,35 +30,6 @@ pub(crate) enum Progress<'p, 'i> {
     Enters(Pair<'p, 'i>),
     /// The input is no instance.
     Differs,
-}
-
-// Whether the leaves are the same, spans and spacing put aside.
-fn is_same_leaf(leaf: &Leaf, other: &Leaf) -> bool
-    ensures { IsTrue result ↔ IsSameLeaf leaf.now other.now }
-{
-    match (leaf, other) {
-        (Leaf::Literal(left), Leaf::Literal(right)) => {
-            left.kind() == right.kind()
-                && left.text() == right.text()
-                && left.suffix() == right.suffix()
-        }
-        (Leaf::Punct(left), Leaf::Punct(right)) => left.char == right.char,
-        (Leaf::Ident(left), Leaf::Ident(right)) => {
-            left.sym == right.sym && left.is_raw == right.is_raw
-        }
-        _ => false,
-    }
-}
-
-// Takes the next tree: whether it is such a leaf.
-fn passes_leaf(leaf: &Leaf, input: &mut TtIter<'_>) -> bool
-    ensures answer { IsTrue result ↔ IsLeafLike leaf.now (rest_of input.old) }
-    ensures rest { rest_of input.new ≡ after_tree (rest_of input.old) }
-{
-    match input.expect_leaf() {
-        Ok(other) => is_same_leaf(leaf, &other),
-        Err(()) => false,
-    }
 }
 
 // Whether the fragment takes the first of these trees.

@@ -7,8 +7,8 @@ ghost use Rattle.mbe_rules.specs.Expansions.{IsMade, IsAnswer, IsRefusal};
 ghost use Rattle.mbe_rules.specs.ArmFaults.{place, body_fault, arm_fault, IsArmFault};
 
 use crate::arrow::{ARROW_LEN, is_arrow_in, is_punct_in};
-use crate::rules_error::ArmFault;
 use crate::fill_error::FillError;
+use crate::rules_error::ArmFault;
 use crate::template::Template;
 use mbe_matcher::{Found, Matcher};
 use mbe_pattern::pass;

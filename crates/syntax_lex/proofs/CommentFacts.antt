@@ -103,3 +103,66 @@ comment_form n (c ∷ e ∷ cs) rest h =
 
 pub comment_closed : (cs rest : List ℕ) → behind_comment 0 cs ≡ (true, rest) → Form 0 cs rest
 comment_closed cs rest h = comment_form 0 cs rest h
+
+-- what is inside behind a mark that opens one more
+inside_opened : (n c e : ℕ) (body : List ℕ) → opens_comment c e ≡ true → IsCommentText n (c ∷ e ∷ body) → IsCommentText (n + 1) body
+inside_opened n c e body o text = record {
+  closes = omega (arith, marks_opens c e body o, text.closes);
+  before = λ front behind is some. omega (arith, marks_opens c e front o, text.before (c ∷ e ∷ front) behind (ap (λ t. c ∷ e ∷ t) is) some);
+}
+
+-- what is inside behind a mark that closes one of those
+inside_closed : (n c e : ℕ) (body : List ℕ) → opens_comment c e ≡ false → closes_comment c e ≡ true → (n ≡ 0 → ⊥) → IsCommentText n (c ∷ e ∷ body) → IsCommentText (n - 1) body
+inside_closed n c e body o k some_open text = record {
+  closes = omega (arith, marks_closes c e body o k, text.closes, positive n some_open);
+  before =
+      λ front behind is some. omega (arith, marks_closes c e front o k, positive n some_open, text.before (c ∷ e ∷ front) behind (ap (λ t. c ∷ e ∷ t) is) some);
+}
+
+-- what is inside behind a character that begins no mark
+inside_other : (n c e : ℕ) (body : List ℕ) → opens_comment c e ≡ false → closes_comment c e ≡ false → IsCommentText n (c ∷ e ∷ body) → IsCommentText n (e ∷ body)
+inside_other n c e body o k text = record { closes = omega (arith, marks_other c e body o k, text.closes); before = go }
+  where
+    go : (front behind : List ℕ) → e ∷ body ≡ front ++ behind → (behind ≡ [] → ⊥) → closed front ≤ opened front + n
+    go [] behind is some = omega arith
+    go (x ∷ front) behind is some =
+        let same : e ≡ x = ap first is in
+        omega (
+          arith,
+          marks_other c x front (ap (λ t. opens_comment c t) (sym same) ∙ o) (ap (λ t. closes_comment c t) (sym same) ∙ k),
+          text.before (c ∷ x ∷ front) behind (ap (λ t. c ∷ t) is) some,
+        )
+
+-- the mark that closes the comment is the last
+nothing_behind : (c e : ℕ) (body : List ℕ) → opens_comment c e ≡ false → closes_comment c e ≡ true → IsCommentText 0 (c ∷ e ∷ body) → body ≡ []
+nothing_behind c e [] o k text = refl
+nothing_behind c e (d ∷ body) o k text =
+    absurd (omega (arith, marks_closes c e [] o k, text.before (c ∷ e ∷ []) (d ∷ body) refl (λ none. omega (arith, ap length none))))
+
+pub comment_inside : (n : ℕ) (body rest : List ℕ) → IsCommentText n body → behind_comment n (body ++ rest) ≡ (true, rest)
+comment_inside n [] rest text = absurd (omega (arith, text.closes))
+comment_inside n (c ∷ []) rest text = absurd (omega (arith, text.closes))
+comment_inside n (c ∷ e ∷ body) rest text =
+    let opening = behind_comment (n + 1) (body ++ rest) in
+    let closing = cond (n == 0) (true, body ++ rest) (behind_comment (n - 1) (body ++ rest)) in
+    let other = behind_comment n (e ∷ (body ++ rest)) in
+    ⊎_elim (λ o. ap (λ b. cond b opening (cond (closes_comment c e) closing other)) o ∙ comment_inside (n + 1) body rest (inside_opened n c e body o text))
+    (λ o.
+    let unopened = ap (λ b. cond b opening (cond (closes_comment c e) closing other)) o in
+    ⊎_elim
+    (λ k.
+    let closes = unopened ∙ ap (λ b. cond b closing other) k in
+    ⊎_elim
+    (λ z.
+    let ended : body ≡ [] = nothing_behind c e body o k (subst (λ m. IsCommentText m (c ∷ e ∷ body)) z text) in
+    closes ∙ ap (λ b. cond b (true, body ++ rest) (behind_comment (n - 1) (body ++ rest))) (eq-eqb n 0 z) ∙ ap (λ t. (true, t ++ rest)) ended)
+    (λ nz.
+    closes ∙ ap (λ b. cond b (true, body ++ rest) (behind_comment (n - 1) (body ++ rest))) (ne_eqb n 0 nz)
+    ∙ comment_inside (n - 1) body rest (inside_closed n c e body o k nz text))
+    (cases_eq n 0))
+    (λ k. unopened ∙ ap (λ b. cond b closing other) k ∙ comment_inside n (e ∷ body) rest (inside_other n c e body o k text))
+    (cases_Bool (closes_comment c e)))
+    (cases_Bool (opens_comment c e))
+
+pub comment_read : (body rest : List ℕ) → IsCommentText 0 body → behind_comment 0 (body ++ rest) ≡ (true, rest)
+comment_read body rest text = comment_inside 0 body rest text

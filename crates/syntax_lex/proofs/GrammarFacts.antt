@@ -1,6 +1,6 @@
 -- A text in quotes is closed exactly where the grammar has it.
 use Rattle.std.proofs.Common.{◌≡◌, ℕ, zero, suc, ◌≤◌, Bool, true, false, ◌&&◌, ◌==◌, cond, nat_le, List, [], ◌∷◌, ◌++◌, replicate, drop, refl, sym, ap, ◌∙◌, ⊎_elim, arith, length, length-append}
-use Rattle.std.proofs.lemmas.Bool.{false≢true, cases_eq, ne_eqb, eq-eqb, cases_Bool, and_parts, eqb-true, leb-true, leb-false}
+use Rattle.std.proofs.lemmas.Bool.{false≢true, and_right, cases_eq, ne_eqb, eq-eqb, cases_Bool, and_parts, eqb-true, le-leb, lt-leb, leb-true, leb-false}
 use Rattle.syntax_lex.specs.Closing.{behind_quote, behind_raw, hashes_of}
 use Rattle.syntax_lex.specs.Front.{first, skip}
 use Rattle.syntax_lex.specs.Grammar.{IsRawText, IsStringText, nothing, plain, escape}
@@ -78,3 +78,28 @@ raw_closed n (c ∷ cs) rest h =
     let f = raw_closed n cs rest k in
     (c ∷ f.0, raw_more n c cs f.0 (34 ∷ (replicate n 35 ++ rest)) ne f.2 f.1, ap (λ t. c ∷ t) f.2))
     (cases_Bool ((c == 34) && nat_le n (hashes_of cs)))
+
+-- a quote ends the hashes in front of it
+hashes_before_quote : (xs ys : List ℕ) → hashes_of (xs ++ 34 ∷ ys) ≡ hashes_of xs
+hashes_before_quote [] ys = refl
+hashes_before_quote (x ∷ xs) ys =
+    ⊎_elim (λ e. hashes_of-hash x (xs ++ 34 ∷ ys) e ∙ ap suc (hashes_before_quote xs ys) ∙ sym (hashes_of-hash x xs e))
+    (λ ne. hashes_of-other x (xs ++ 34 ∷ ys) ne ∙ sym (hashes_of-other x xs ne)) (cases_eq x 35)
+
+-- so many hashes are in front of what follows them, which is left behind them
+hashes_enough : (n : ℕ) (rest : List ℕ) → (n ≤ hashes_of (replicate n 35 ++ rest)) × (drop n (replicate n 35 ++ rest) ≡ rest)
+hashes_enough zero rest = (omega arith, refl)
+hashes_enough (suc n) rest = (omega (arith, (hashes_enough n rest).0), (hashes_enough n rest).1)
+
+pub raw_read : (n : ℕ) (body rest : List ℕ) → IsRawText n body → behind_raw n (body ++ 34 ∷ (replicate n 35 ++ rest)) ≡ (true, rest)
+raw_read n [] rest inside =
+    rw (le-leb n (hashes_of (replicate n 35 ++ rest)) (hashes_enough n rest).0) (ap (λ r. (true, r)) (hashes_enough n rest).1)
+raw_read n (c ∷ cs) rest inside =
+    let tail = replicate n 35 ++ rest in
+    let others : IsRawText n cs = λ front behind is. inside (c ∷ front) behind (ap (λ t. c ∷ t) is) in
+    let goes_on : ((c == 34) && nat_le n (hashes_of (cs ++ 34 ∷ tail))) ≡ false =
+    ⊎_elim
+    (λ e. and_right (c == 34) _ (lt-leb n (hashes_of (cs ++ 34 ∷ tail)) (omega (arith, inside [] cs (ap (λ d. d ∷ cs) e), hashes_before_quote cs tail))))
+    (λ ne. ap (λ b. b && nat_le n (hashes_of (cs ++ 34 ∷ tail))) (ne_eqb c 34 ne))
+    (cases_eq c 34) in
+    rw goes_on (raw_read n cs rest others)

@@ -53,6 +53,6 @@ token_is k n cs rest read len = rw (read, len) refl
 
 -- what the calls of `next` give are the tokens of the text
 pub in_order : (s : Tokenize) (tokens : List Token) → Drains gives s tokens → AreTokensOf tokens (chars s.rest.now)
-in_order s [] (u, (t, same, none)) = ap (λ x. chars x.rest.now) same ∙ none
+in_order s [] (u, (t, same, none)) = ap (λ x. chars x.rest.now) same ∙ none.0
 in_order s (token ∷ tokens) (u, (t, (j, given, others), none)) =
     (given.0, given.1, subst (AreTokensOf tokens) given.2 (in_order j tokens (u, (t, others, none))))

@@ -5,8 +5,8 @@ use Rattle.syntax_lex.specs.Reading.{first_token_of, reading}
 use Rattle.syntax_lex.specs.declared.token.Token.{Token}
 use Rattle.syntax_lex.specs.declared.tokens.Tokenize.{Tokenize}
 
--- the first token of what is left, and then what is left behind it; nothing where nothing is left
+-- the first token of what is left, and then what is left behind it; nothing if nothing is left, and then nothing is left still
 abbrev pub gives : Tokenize → Option Token → Tokenize → Type 0
 gives before token after =
-    MatchOption token (chars before.rest.now ≡ [])
+    MatchOption token ((chars before.rest.now ≡ []) × (chars after.rest.now ≡ []))
     (λ it. (chars before.rest.now ≢ []) × (it ≡ first_token_of (chars before.rest.now)) × (chars after.rest.now ≡ (reading (chars before.rest.now)).1))

@@ -41,10 +41,20 @@ pub fn raw_closed()
     ensures { (n : ℕ) → (cs rest : List ℕ) → behind_raw n cs ≡ (true, rest) → (body : List ℕ) × IsRawText n body × (cs ≡ body ++ 34 ∷ (replicate n 35 ++ rest)) }
 {}
 
+/// A raw text of so many hashes with a quote and the hashes behind it is read as closed, whatever follows.
+pub fn raw_read()
+    ensures { (n : ℕ) → (body rest : List ℕ) → IsRawText n body → behind_raw n (body ++ 34 ∷ (replicate n 35 ++ rest)) ≡ (true, rest) }
+{}
+
 /// Between `/*` and what is left behind a closed comment there is one `*/` more than `/*`, and in no part in front of its end
 /// are there more: so the `/*` at its front taken too, there are as many at its end, and more `/*` before.
 pub fn comment_closed()
     ensures { (cs rest : List ℕ) → behind_comment 0 cs ≡ (true, rest) → (body : List ℕ) × IsCommentText 0 body × (cs ≡ body ++ rest) }
+{}
+
+/// Such a text is read as a closed comment, whatever follows.
+pub fn comment_read()
+    ensures { (body rest : List ℕ) → IsCommentText 0 body → behind_comment 0 (body ++ rest) ≡ (true, rest) }
 {}
 
 /// What the calls of `next` give, up to the first `None`, are the tokens of the text.

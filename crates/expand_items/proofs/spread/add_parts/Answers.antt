@@ -7,7 +7,7 @@ use Rattle.expand_items.specs.declared.part.Part.{Part}
 use Rattle.expand_items.specs.Spreads.{before, put_part, spread}
 use Rattle.expand_items.proofs.spread.add_parts.Goals as goal
 use Rattle.expand_items.specs.Attributes.{conditions_of}
-use Rattle.mbe_matcher.specs.Fragments.{front_trees}
+use Rattle.mbe_pattern.specs.Units.{front_trees}
 
 pub loop-place-preserved : goal.loop-place-preserved
 loop-place-preserved c =

@@ -16,8 +16,8 @@ use Rattle.expand_text.specs.Expanding.{IsAdded}
 use Rattle.expand_text.specs.Knowing.{Setting, IsKnown, setting_of, with_finding}
 use Rattle.expand_text.specs.Macros.{tree_of}
 use Rattle.expand_items.specs.Attributes.{conditions_of}
-use Rattle.mbe_matcher.proofs.FrontTrees.{front_joined}
-use Rattle.mbe_matcher.specs.Fragments.{front_trees}
+use Rattle.mbe_pattern.proofs.Passing.{front_joined}
+use Rattle.mbe_pattern.specs.Units.{front_trees}
 use Rattle.tt_base.proofs.Appending.{append-join}
 use Rattle.expand_text.proofs.Placing.{added_under, built_alone, is_too_large, kept_under}
 use Rattle.expand_text.specs.Outcomes.{nothing, trees_left}

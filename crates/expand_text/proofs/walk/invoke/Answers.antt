@@ -8,8 +8,8 @@ use Rattle.syntax_edit.specs.Places.{begin_at}
 use Rattle.expand_text.specs.Walks.{Level, level_of, past, past_call, past_semicolon}
 use Rattle.expand_items.specs.Items.{Call, call_of}
 use Rattle.expand_items.specs.Positions.{is_statement, siblings_of_call, takes_semicolon}
-use Rattle.mbe_matcher.proofs.FrontTrees.{front_told}
-use Rattle.mbe_matcher.specs.Fragments.{is_brace}
+use Rattle.mbe_pattern.proofs.Passing.{front_told}
+use Rattle.mbe_pattern.specs.Units.{is_brace}
 use Rattle.expand_text.proofs.CallParts.{rest_behind, split_in, stand_same}
 use Rattle.expand_text.proofs.walk.invoke.Goals as goal
 

@@ -4,7 +4,7 @@ use Rattle.expand_text.specs.declared.walk.Event.TheVariants as event
 use Rattle.expand_items.specs.Items.{Definition, definition_of}
 use Rattle.expand_text.specs.Knowing.{setting_of}
 use Rattle.expand_text.specs.Walks.{Level, level_of, past, first_stay, IsNext, Leads, Steps}
-use Rattle.mbe_matcher.specs.Fragments.{front_trees}
+use Rattle.mbe_pattern.specs.Units.{front_trees}
 use Rattle.expand_text.proofs.Leading.{leads_definition}
 use Rattle.expand_items.proofs.Conditions.{definition_at_less}
 use Rattle.expand_text.proofs.walk.next_definition.Goals as goal

@@ -6,7 +6,8 @@ use Rattle.tt.specs.Siblings.{first_tree}
 use Rattle.tt.specs.Types.TtElement.TheVariants as element
 use Rattle.tt.specs.Views.{trees_of}
 use Rattle.mbe_rule.specs.declared.matching.Pair.{Pair}
-use Rattle.mbe_rule.specs.Instances.{takes, IsLeafLike}
+use Rattle.mbe_rule.specs.Instances.{takes}
+use Rattle.mbe_pattern.specs.Units.{IsLeafLike}
 use Rattle.mbe_rule.specs.Variables.{variable_at}
 use Rattle.mbe_rule.proofs.Advancing.{variable_passes, variable_differs, token_passes, token_differs}
 use Rattle.mbe_rule.proofs.matching.advance.Goals as goal

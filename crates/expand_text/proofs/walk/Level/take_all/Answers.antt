@@ -3,8 +3,8 @@ use Rattle.tt.specs.Forest.{join}
 use Rattle.tt.specs.Gluing.{after_trees}
 use Rattle.tt.specs.Iters.{rest_of, saved_of}
 use Rattle.tt.specs.Views.{trees_of}
-use Rattle.mbe_matcher.specs.Fragments.{front_trees}
-use Rattle.mbe_matcher.proofs.FrontTrees.{front_joined, front_told}
+use Rattle.mbe_pattern.specs.Units.{front_trees}
+use Rattle.mbe_pattern.proofs.Passing.{front_joined, front_told}
 use Rattle.expand_text.proofs.walk.Level.take_all.Goals as goal
 
 pub from_savepoint-requires : goal.from_savepoint-requires

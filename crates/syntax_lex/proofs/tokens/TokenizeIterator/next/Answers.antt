@@ -6,7 +6,9 @@ use Rattle.syntax_lex.proofs.TokenFacts.{token_is}
 use Rattle.syntax_lex.proofs.tokens.TokenizeIterator.next.Goals as goal
 
 pub returns-then-is_empty-clause-steps : goal.returns-then-is_empty-clause-steps
-returns-then-is_empty-clause-steps c = chars-empty c.args.self.now.rest.now (eqb-true (length c.args.self.now.rest.now) 0 (sym c.if-is_empty.ensures))
+returns-then-is_empty-clause-steps c =
+    let empty = chars-empty c.args.self.now.rest.now (eqb-true (length c.args.self.now.rest.now) 0 (sym c.if-is_empty.ensures)) in
+    (empty, empty)
 
 pub returns-clause-steps : goal.returns-clause-steps
 returns-clause-steps c = (
