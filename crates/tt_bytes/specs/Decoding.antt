@@ -20,12 +20,13 @@ abbrev pub GivesToken : Tables → Entry → Option TokenTree → Type 0
 GivesToken tables (of_leaf entry) result = GivesLeaf tables entry result
 GivesToken tables (of_header entry) result = GivesSubtree tables entry result
 
--- the numbers of the token stand at an offset, and end at another
+-- the numbers of the token, which are in range, stand at an offset, and end at another
 pub record Stands (tables : Tables) (packed : List ℕ) (offset : ℕ) (it : TokenTree) (next : ℕ) : Type 0 where
   pub entry : Entry
   pub rest : List ℕ
   pub read : entry_at (drop offset packed) ≡ Some (entry, rest)
   pub named : Names tables entry it
+  pub range : TokenInRange it
   pub ends : next + length rest ≡ length packed
   pub some : offset < next
 
@@ -35,9 +36,9 @@ pub data Stand (tables : Tables) (packed : List ℕ) : List TokenTree → (offse
   more : {tokens : List TokenTree} {offset next : ℕ} {it : TokenTree}
       → Stand tables packed tokens offset → Stands tables packed offset it next → Stand tables packed (tokens ++ it ∷ []) next
 
--- no token, with its numbers in range, stands at an offset
+-- no token stands at an offset
 abbrev pub StandsNone : Tables → (packed : List ℕ) → (offset : ℕ) → Type 0
-StandsNone tables packed offset = (it : TokenTree) (next : ℕ) → TokenInRange it → Stands tables packed offset it next → ⊥
+StandsNone tables packed offset = (it : TokenTree) (next : ℕ) → Stands tables packed offset it next → ⊥
 
 -- tokens stand up to an offset before the end, and there none does
 pub record StopsAt (tables : Tables) (packed : List ℕ) (offset : ℕ) : Type 0 where

@@ -1,5 +1,6 @@
 //! The tokens of packed bytes, whatever these are.
 ghost use Rattle.std.specs.Prelude.{◌≡◌, ◌<◌, ◌≤◌, ◌+◌, ◌^◌, length, IfSome, MatchOption, MatchResult, Some};
+ghost use Rattle.tt_base.specs.Fits.{SpanInRange, TokenInRange};
 ghost use Rattle.tt_base.specs.Forest.{Forest, Root, end, only, flat_root};
 ghost use Rattle.tt_base.specs.Moves.{first_token, after_token};
 ghost use Rattle.tt_bytes.specs.Decoding.{GivesToken, Names, Stand, Stands, StandsNone, IsStop};
@@ -9,19 +10,44 @@ ghost use Rattle.tt_tables.specs.TablesOf.{tables_of};
 
 use crate::fault::BytesFault;
 use std::alloc::Global;
-use tt::TokenTree;
+use tt::{Leaf, Span, TokenTree};
 use tt_codec::Entry;
 use tt_tables::Tables;
+
+// Both ends of a span are in range, since its types keep that.
+fn keep_span_in_range(span: &Span)
+    ensures { SpanInRange span.now }
+{
+    let _start = span.range.start().raw();
+    let _end = span.range.end().raw();
+}
+
+// So is all that the bytes of a token rest on.
+fn keep_in_range(token: &TokenTree)
+    ensures { TokenInRange token.now }
+{
+    match token {
+        TokenTree::Leaf(Leaf::Literal(literal)) => keep_span_in_range(literal.span()),
+        TokenTree::Leaf(Leaf::Punct(punct)) => keep_span_in_range(&punct.span),
+        TokenTree::Leaf(Leaf::Ident(ident)) => keep_span_in_range(&ident.span),
+        TokenTree::Subtree(subtree) => {
+            keep_span_in_range(&subtree.delimiter.open_span);
+            keep_span_in_range(&subtree.delimiter.close);
+        }
+    }
+}
 
 // The token that the numbers name.
 fn token_of(tables: Tables<'_>, entry: Entry) -> Option<TokenTree>
     ensures gives { GivesToken (tables_of tables.entry) entry result }
-    ensures only { IfSome result (Names (tables_of tables.entry) entry) }
+    ensures only { IfSome result (λ it. Names (tables_of tables.entry) entry it × TokenInRange it) }
 {
-    match entry {
-        Entry::Leaf(leaf) => tables.leaf(leaf),
-        Entry::Header(header) => tables.subtree(header),
-    }
+    let token = match entry {
+        Entry::Leaf(leaf) => tables.leaf(leaf)?,
+        Entry::Header(header) => tables.subtree(header)?,
+    };
+    keep_in_range(&token);
+    Some(token)
 }
 
 // The token that stands there, and where the next one does.
