@@ -1,5 +1,5 @@
 #!/usr/bin/env python3
-"""Prints a made token tree as `item` lines (docs/LANGUAGE.md): items.py SIZE PROFILE [SEED]
+"""Prints a made token tree as `item` lines (docs/CONSOLE.md): items.py SIZE PROFILE [SEED]
 
 The lines are the same on every machine for a SIZE (tokens, at least 9), a PROFILE and a SEED (1 if
 it is left out).

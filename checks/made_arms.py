@@ -1,4 +1,4 @@
-"""Macros of several arms made by chance, and inputs that an arm may take (docs/LANGUAGE.md, "Macros of several arms")."""
+"""Macros of several arms made by chance, and inputs that an arm may take (docs/CONSOLE.md, "Macros of several arms")."""
 import made_fragments
 import plain_grammar
 from made_values import LITERAL_KINDS, Values

@@ -1,4 +1,4 @@
-"""Macro rules made by chance, and inputs of which most are instances (docs/LANGUAGE.md, "Macros")."""
+"""Macro rules made by chance, and inputs of which most are instances (docs/CONSOLE.md, "Macros")."""
 from made_values import CHARS, LITERAL_KINDS, Values
 from plain_rules import FRAGMENTS, is_dollar, variable_at
 from plain_stored import SPACINGS

@@ -1,4 +1,4 @@
-"""Rust texts of one line, made by chance (docs/LANGUAGE.md)."""
+"""Rust texts of one line, made by chance (docs/CONSOLE.md)."""
 from plain_text import WrongText, tree_of_text
 
 # Tokens, some of which read otherwise where no blank stands behind them.

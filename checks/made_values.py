@@ -1,4 +1,4 @@
-"""Values of commands made by chance (docs/LANGUAGE.md): spans, tokens, trees, those at the ends of forms among them."""
+"""Values of commands made by chance (docs/CONSOLE.md): spans, tokens, trees, those at the ends of forms among them."""
 import random
 
 from plain_stored import DELIMITER_KINDS, SPACINGS

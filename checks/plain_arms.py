@@ -1,4 +1,4 @@
-"""Macros of several arms on plain trees (docs/LANGUAGE.md, "Macros of several arms").
+"""Macros of several arms on plain trees (docs/CONSOLE.md, "Macros of several arms").
 
 Trees are read as units, patterns and templates as parts of plain_macros.py, which tells what comes of an input; that is then
 trees again. How far a fragment of Rust's grammar reaches is told by plain_grammar.py.

@@ -1,4 +1,4 @@
-"""The machine of the language on plain trees (docs/LANGUAGE.md).
+"""The machine of the language on plain trees (docs/CONSOLE.md).
 
 Each command is a method that gives its answer, a list of lines. Nothing is stored or packed: what the program holds in
 bytes and tables is here a tree, a list or a number.

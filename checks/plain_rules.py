@@ -1,4 +1,4 @@
-"""Macro rules on plain trees (docs/LANGUAGE.md, "Macros")."""
+"""Macro rules on plain trees (docs/CONSOLE.md, "Macros")."""
 from plain_trees import Ident, Literal, Punct, Subtree
 
 FRAGMENTS = ("ident", "literal", "tt")

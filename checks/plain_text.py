@@ -1,4 +1,4 @@
-"""A Rust text as token trees (docs/LANGUAGE.md), read in the plainest way, by characters.
+"""A Rust text as token trees (docs/CONSOLE.md), read in the plainest way, by characters.
 
 A text is cut into tokens from left to right, and the first thing that is wrong with one ends it. Nothing here knows
 where the program's own reader cuts.

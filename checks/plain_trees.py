@@ -1,4 +1,4 @@
-"""Token trees as plain values, and how they are shown (docs/LANGUAGE.md, docs/FORMATS.md).
+"""Token trees as plain values, and how they are shown (docs/CONSOLE.md, docs/FORMATS.md).
 
 A tree is a leaf or a Subtree; trees are a tuple of them. Nothing here is ever changed in place.
 """

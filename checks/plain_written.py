@@ -1,4 +1,4 @@
-"""Trees as Rust text (docs/LANGUAGE.md): which leaves can be written, and what is written of them.
+"""Trees as Rust text (docs/CONSOLE.md): which leaves can be written, and what is written of them.
 
 What a leaf's text reads as is asked of plain_text.py.
 """

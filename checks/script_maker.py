@@ -1,4 +1,4 @@
-"""Commands made by chance (docs/LANGUAGE.md): those that a user may send, and some that are refused."""
+"""Commands made by chance (docs/CONSOLE.md): those that a user may send, and some that are refused."""
 import itertools
 
 from made_arms import Arms

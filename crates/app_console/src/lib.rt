@@ -1,6 +1,6 @@
 //! The program `app_console`: reads commands on token trees, one a line, and writes the answers.
 //!
-//! `run` is the loop over lines, `Command` what a line may ask (`docs/LANGUAGE.md`) and `Machine` what the commands work on.
+//! `run` is the loop over lines, `Command` what a line may ask (`docs/CONSOLE.md`) and `Machine` what the commands work on.
 #![tactic(auto)]
 
 mod answer;

@@ -1,5 +1,5 @@
 //! The language of the program `app_console`: which line stands for which command, and how tokens are spelled
-//! (`docs/LANGUAGE.md`).
+//! (`docs/CONSOLE.md`).
 #![tactic(auto)]
 
 mod command;

@@ -1,7 +1,7 @@
 //! Times the calls of `tt`, and an expansion by `mbe_rule`, on one tree or on many in turn:
 //! `bench_store MODE ROUNDS [apart] < ITEMS`.
 //!
-//! Standard input spells the flat lists of the trees one after another, as `item` lines (docs/LANGUAGE.md). The first line
+//! Standard input spells the flat lists of the trees one after another, as `item` lines (docs/CONSOLE.md). The first line
 //! of each list is its top, whose count says how many lines belong to it. Each round works on the next tree, and after the
 //! last one on the first again. The line that is printed has the nanoseconds of all rounds, a sum to know the answers by,
 //! and how many bytes, span parts and symbols are stored for all trees together.

@@ -5,7 +5,7 @@ use std::alloc::Global;
 use std::test::Fail;
 use tt_base::TtFault;
 
-// Lines that are no command, each for one rule of `docs/LANGUAGE.md`: a text for each topic with the number of
+// Lines that are no command, each for one rule of `docs/CONSOLE.md`: a text for each topic with the number of
 // its lines, a line feed between them.
 const BAD_LINES: [(u32, &[u8]); 13] = [
     // No command.

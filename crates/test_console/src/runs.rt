@@ -8,7 +8,7 @@ use std::io::ErrorKind;
 use std::test::Fail;
 use tt_base::TtFault;
 
-// The first run of `docs/LANGUAGE.md`.
+// The first run of `docs/CONSOLE.md`.
 const SCRIPT: &[u8] = b"item sub paren 0:0@0..1#0 0:0@3..4#0 2
 item ident plain 0:0@1..2#0 a
 item punct alone 0:0@2..3#0 ;
