@@ -5,8 +5,7 @@ ghost use Rattle.app_c.specs.Failures.{arm_fault, bad_token, bytes_failure, expa
 use crate::fault::Fault;
 use expand_text::{ExpandTextError, MacroFault};
 use mbe_pattern::PatternError;
-use mbe_rules::{ArmFault, ExpandError, RulesError};
-use mbe_rules::{FillError, TemplateError};
+use mbe_rules::{ArmFault, ExpandError, FillError, RulesError, TemplateError};
 use syntax_parse::{BadToken, SyntaxFault, TextFault};
 use syntax_unparse::WriteFault;
 use tt::TtFault;

@@ -1,8 +1,7 @@
 //! What is said of each fault of a macro, in the words of who wrote it.
 use expand_text::MacroFault;
 use mbe_pattern::PatternError;
-use mbe_rules::{ArmFault, RulesError};
-use mbe_rules::{FillError, TemplateError};
+use mbe_rules::{ArmFault, FillError, RulesError, TemplateError};
 use std::alloc::{AllocError, Global};
 
 // What is wrong with a pattern.

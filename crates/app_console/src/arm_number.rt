@@ -3,8 +3,7 @@ ghost use Rattle.std.specs.Prelude.{◌≡◌};
 ghost use Rattle.app_console.specs.Arms.{pattern_number, template_number, arm_fault_number};
 
 use mbe_pattern::PatternError;
-use mbe_rules::ArmFault;
-use mbe_rules::TemplateError;
+use mbe_rules::{ArmFault, TemplateError};
 
 // The number of a pattern's fault; want of memory has none.
 fn pattern_number(error: PatternError) -> Option<usize>

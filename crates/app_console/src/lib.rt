@@ -1,6 +1,8 @@
-//! The program `app_console`: reads commands on token trees, one a line, and writes the answers.
+//! The library of the console (docs/CONSOLE.md): it reads commands on token trees, one a line, and writes the answers.
 //!
-//! `run` is the loop over lines, `Command` what a line may ask (`docs/CONSOLE.md`) and `Machine` what the commands work on.
+//! `run` reads blocks from a `Noted` reader, cuts them into lines, has `Command::parse_with` of `app_language` parse each, and gives the
+//! command to `Machine::step`, which keeps a list of tokens, a builder and slots of trees. The answers wait in an `Output` until it
+//! is full or the input ends. `Noted` keeps the first error of a stream, so a failing reader or writer ends the run with a status.
 #![tactic(auto)]
 
 mod answer;
@@ -20,8 +22,8 @@ mod view_text;
 mod walk_lines;
 
 pub use answer::Answer;
+pub use app_language::{Command, Slot, View};
 pub use machine::Machine;
 pub use noted::Noted;
 pub use outcome::{End, RunFault};
 pub use session::run;
-pub use app_language::{Command, Slot, View};

@@ -1,5 +1,4 @@
-//! The language of the program `app_console`: which line stands for which command, and how tokens are spelled
-//! (`docs/CONSOLE.md`).
+//! The language of the console (docs/CONSOLE.md): how a line spells a command, and how a token is spelled.
 #![tactic(auto)]
 
 mod command;

@@ -1,5 +1,11 @@
-//! Items and statements among siblings: definitions and calls of macros, where statements and items begin, and which `#[cfg(..)]` they
-//! are under.
+//! Items and statements among siblings: definitions and calls of macros, where statements and items begin, and which
+//! `#[cfg(..)]` they are under.
+//!
+//! A `Position` says what the siblings are (items, statements or neither), whether one may begin at the next tree, what the words since its
+//! beginning say of the braces that follow, and which attributes are in force. `item_in` returns what is first there: a definition, a
+//! call or something else, with its number of trees; `item_at` takes the attributes from the first condition on together with a
+//! call. `parts` splits trees into items or statements by `reach` of `mbe_grammar`, and `put_under` adds them to a builder with the
+//! conditions before each part but the first.
 //!
 //! What contracts speak of is in `specs/` of this crate.
 #![tactic(auto)]

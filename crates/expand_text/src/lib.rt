@@ -1,6 +1,16 @@
-//! Macros of a Rust text, and what its calls of them become.
+//! The macros that a Rust text defines, and the text with its calls of them expanded.
 //!
-//! What contracts speak of stands in `specs/` of this crate.
+//! `expand_text` reads the text into a tree, and `Walk` goes through it with a list of the open subtrees. A definition enters the `Scope`,
+//! in which the last definition of a name wins, and which a subtree cuts back at its end unless it is under `#[macro_use]`.
+//! `expand_call` finds the macro of a call and has `mbe_rules` expand the input. `expand_trees` walks the expansion in the same way
+//! and calls itself for its calls, as deep as the limit at most. At the top, an `Output` of `syntax_edit` copies the text and
+//! replaces each call. `rooted` replaces `$crate` once per definition.
+//!
+//! A definition or call with a fault stays in the text and yields a finding. A call one expansion too deep ends the expansion, since a
+//! macro that calls itself twice would not end in any reasonable time.
+//!
+//! The proofs go level by level (`Ends`, `Leads`), and `Weaving` places the expansions among the pieces of the text, so that the laws of
+//! `laws_round_trip` say how the written text reads.
 #![tactic(auto)]
 
 mod calling;

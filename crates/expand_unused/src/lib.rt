@@ -1,6 +1,7 @@
 //! A text without the macros that it defines and does not need.
 //!
-//! What contracts speak of stands in `specs/` of this crate.
+//! `without_rules` notes which names each definition mentions, keeps the definitions that a call outside of all definitions needs, directly
+//! or through others, and cuts the rest out of the text with the attributes before them.
 #![tactic(auto)]
 
 mod cutting;

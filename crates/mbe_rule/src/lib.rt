@@ -1,9 +1,11 @@
-//! Macros by example: a rule makes of trees that are an instance of its pattern those of its template.
+//! Macros by example with one rule: a pattern without repetitions, and a template.
 //!
-//! In a pattern `$x:ident`, `$x:literal` and `$x:tt` are variables, each of which takes one tree; all else agrees with
-//! itself, spans and spacing put aside. In a template `$x` is a use, and is replaced by the tree that `x` took.
+//! In a pattern `$x:ident`, `$x:literal` and `$x:tt` are variables, each of which takes one tree; a leaf takes an equal leaf, spans and
+//! spacing aside. In a template `$x` is a use, which the tree that `x` took replaces.
 //!
-//! What contracts speak of stands in `specs/` of this crate.
+//! A `Rule` is two views and a set of the pattern's names. `expand` goes through pattern and input side by side with a stack of pairs of
+//! iterators and keeps a view of each tree that a variable takes; then it goes through the template with a stack of iterators
+//! and writes by a `TopSubtreeBuilder`.
 #![tactic(auto)]
 
 mod dollars;

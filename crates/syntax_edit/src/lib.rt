@@ -1,6 +1,10 @@
-//! A text in which other texts take the place of parts of it.
+//! A text in which other texts replace parts of it.
 //!
-//! What contracts speak of stands in `specs/` of this crate, and there also where the trees of a text lie in it.
+//! `Output` copies the text up to a replaced part, adds the replacement with a space on a side at which two tokens would become one, and
+//! goes on behind the part. `parse` reads the tree of a text; `begin_at`, `start_of` and
+//! `end_of` give the bytes of its trees.
+//!
+//! `specs/` also says which bytes of a text its trees are.
 #![tactic(auto)]
 
 mod output;

@@ -14,8 +14,9 @@ use crate::leaves::{behind_apostrophe, punct_char, scan_of, spacing_before, span
 use std::alloc::Global;
 use syntax_lex::{LiteralKind, TokenKind};
 use tt::FlatBuilder;
-use tt_base::Texts;
-use tt_base::{Ident, IdentIsRaw, Leaf, Punct, Spacing, Span, SpanPart, TtFault, token_to_literal};
+use tt_base::{
+    Ident, IdentIsRaw, Leaf, Punct, Spacing, Span, SpanPart, Texts, TtFault, token_to_literal,
+};
 
 /// Puts a leaf at the end.
 #[tactic(auto, using(crate::proofs::StackFacts::adds_leaf, crate::proofs::LimitFacts::leaf_fault))]

@@ -9,8 +9,7 @@ ghost use Rattle.syntax_parse.specs.Spelled.{all_at};
 use crate::add::{add_leaf, add_name, add_punct};
 use syntax_lex::DocStyle;
 use tt::FlatBuilder;
-use tt_base::Texts;
-use tt_base::{DelimiterKind, Leaf, LitKind, Literal, Spacing, Span, TtFault};
+use tt_base::{DelimiterKind, Leaf, LitKind, Literal, Spacing, Span, Texts, TtFault};
 
 // The text behind the signs that open a comment of one line.
 fn behind_line_opening(style: DocStyle, text: &str) -> &str

@@ -11,8 +11,7 @@ use crate::step::take;
 use std::alloc::Global;
 use syntax_lex::{MOST_TEXT_BYTES, Token, TokenKind, first_token};
 use tt::FlatBuilder;
-use tt_base::Texts;
-use tt_base::{DelimSpan, Delimiter, SpanAnchor, SpanPart, SyntaxContext};
+use tt_base::{DelimSpan, Delimiter, SpanAnchor, SpanPart, SyntaxContext, Texts};
 use tt_view::TopSubtree;
 
 // A token of source has more bytes than that on average, white space counted.

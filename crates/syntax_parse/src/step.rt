@@ -15,8 +15,7 @@ use crate::fault::{Open, SyntaxFault};
 use crate::leaves::span_at;
 use crate::role::{Role, role_in};
 use tt::FlatBuilder;
-use tt_base::Texts;
-use tt_base::{SpanPart, TtFault};
+use tt_base::{SpanPart, Texts, TtFault};
 
 /// Takes one token, and puts its pieces at the end of what the builder holds, or says why it cannot stand there.
 pub fn take(

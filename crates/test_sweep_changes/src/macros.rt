@@ -1,6 +1,5 @@
 //! Calls that make a macro of a tree, and use it on another.
-use mbe_rules::FillError;
-use mbe_rules::{ArmFault, Expansion, MacroRules};
+use mbe_rules::{ArmFault, Expansion, FillError, MacroRules};
 use std::alloc::Global;
 use syntax_parse::{TextFault, parse_to_token_tree};
 use test_sweep::{Call, When, judge};

@@ -1,8 +1,8 @@
 //! Calls of a builder that take no memory: they are made with every request refused.
 use crate::alike::close_at;
 use std::alloc::Global;
-use std::fmt::Write;
 use std::fmt;
+use std::fmt::Write;
 use test_sweep::{Call, When, invisible, judge, plus, span};
 use tt::{DelimiterKind, SubtreeBuilderRestorePoint, Symbol, TopSubtreeBuilder, TtFault};
 

@@ -11,8 +11,7 @@ use crate::command::tokens::{character, leaf, token};
 use crate::command::word::{Word, next};
 use crate::digits::Digits;
 use crate::many::Many;
-use tt_base::{Leaf, Symbol, TokenTree, TtFault};
-use tt_base::{Texts, new_symbol};
+use tt_base::{Leaf, Symbol, Texts, TokenTree, TtFault, new_symbol};
 
 /// Values that the pieces behind the first word of a line spell.
 pub trait Part: Sized {

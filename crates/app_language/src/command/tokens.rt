@@ -12,8 +12,9 @@ use crate::command::front::{after_ident, after_lit, after_punct, after_sub};
 use crate::command::numbers::number;
 use crate::command::word::Word;
 use std::str::from_utf8;
-use tt_base::Texts;
-use tt_base::{Delimiter, Ident, Leaf, Literal, Punct, Span, Subtree, Symbol, TokenTree, TtFault};
+use tt_base::{
+    Delimiter, Ident, Leaf, Literal, Punct, Span, Subtree, Symbol, Texts, TokenTree, TtFault,
+};
 
 /// The token that the text spells.
 #[inline(always)]
