@@ -1,8 +1,8 @@
 //! Calls of trees, views, iterators and cursors that take no memory.
 use crate::prepared::Prepared;
 use std::alloc::Global;
-use std::fmt::Write;
 use std::fmt;
+use std::fmt::Write;
 use test_sweep::{plus, span};
 use tt::buffer::Cursor;
 use tt::{Leaf, Span, TokenTreesView, TopSubtree, TransformTtAction, TtElement, TtFault, TtIter};
