@@ -96,13 +96,13 @@ def try_several(files):
     text = "macro_rules! k { ($a:nix) => {}; } k!(1);"
     left = files.made("left", text.encode())
     calls = "".join(
-        f"error: no rule of `m` takes this\n --> {wrong}:{line}:5\n  |\n{line} | m!({line - 1});\n  |     ^\n"
+        f"error: no rule of `m` matches this\n --> {wrong}:{line}:5\n  |\n{line} | m!({line - 1});\n  |     ^\n"
         f"note: `m` is defined here\n --> {wrong}:1:14\n  |\n1 | {DEFINITION.decode()}  |              ^\n\n"
         for line in (2, 3)
     )
     unclosed = f"error: unclosed '('\n --> {open_}:1:3\n  |\n1 | a (\n  |   ^\n\n"
     faulty = (
-        f"error: there is no fragment of the name that this variable gives\n --> {left}:1:19\n  |\n"
+        f"error: this variable names an unknown fragment\n --> {left}:1:19\n  |\n"
         f"1 | {text}\n  |                   ^\n\n"
         f"warning: this call of `k` is left as it is\n --> {left}:1:36\n  |\n"
         f"1 | {text}\n  |                                    ^\n"
@@ -133,7 +133,7 @@ def try_bytes_stay(files):
     judge(files, text.replace("m!(1, 2)", "(1 + 2)").encode(), "", files.made("text", text.encode()))
     wrong = files.made("text", text.replace("m!(1, 2)", "m!(1)").encode())
     told = (
-        f"error: no rule of `m` takes this\n --> {wrong}:2:9\n  |\n2 | é\t= m!(1) ; // 漢 \n  |  \t      ^\n"
+        f"error: no rule of `m` matches this\n --> {wrong}:2:9\n  |\n2 | é\t= m!(1) ; // 漢 \n  |  \t      ^\n"
         f"note: `m` is defined here\n --> {wrong}:1:14\n  |\n1 | {DEFINITION.decode()}  |              ^\n{ONE_ERROR}"
     )
     judge(files, None, told, wrong)
@@ -165,7 +165,7 @@ def try_forever(files):
         text = b"macro_rules! m { ($($a:tt)*) => { m!($($a)* a) + m!() }; } m!()"
         status, written, told = files.run("expand", *options, given=text)
         wants("the run", (status, written), (1, b""))
-        wants("the message", told.split(b"\n")[0], b"error: `m` is called in too many expansions, one inside the other")
+        wants("the message", told.split(b"\n")[0], b"error: recursion limit reached while expanding `m`")
         wants("the count", told.split(b"\n")[-2], b"error: found 1 error")
 
 

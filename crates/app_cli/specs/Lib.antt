@@ -1,2 +1,4 @@
--- What is told.
+-- What the program writes, and its exit status.
 pub mod Counts
+pub mod Messages
+pub mod Reports

@@ -6,7 +6,7 @@ use expand_unused::{DropRulesError, without_rules};
 fn refused(rt: &HostRuntime, name: &str, error: DropRulesError) -> Failure {
     let told = match error {
         DropRulesError::Text(fault) => format!(in rt.alloc();
-            "{name}: no rules can be dropped, since what comes of it is not read again: {fault}"
+            "{name}: no definitions can be dropped, because the expanded text does not read back: {fault}"
         ),
         DropRulesError::Memory => return Failure::Memory,
     };

@@ -1,30 +1,28 @@
-//! The macros of texts: what comes of their calls, and what is wrong in them.
+//! The macros of texts: what their calls become, and what is wrong in them.
 use crate::counts::Counts;
 use crate::dropping::without_definitions;
-use crate::failure::{Failure, plain_text};
+use crate::failure::Failure;
 use crate::fault::told;
 use crate::finding::findings_text;
 use crate::input::Input;
+use crate::report::{Report, report, summary};
 use crate::style::style_of;
-use expand_text::{ExpandOptions, ExpandTextError, Expanded, Finding, expand_leniently};
-use std::alloc::{AllocError, Global};
+use expand_text::{ExpandOptions, ExpandTextError, expand_leniently};
 use std::io::{self, Write};
 use std::process::ExitCode;
-use syntax_diagnostic::{SourceFile, Style};
-use tt::TtFault;
 
 const BYTE_ORDER_MARK: &str = "\u{feff}";
 
-// What comes of a text, and how much was told of it.
+// What becomes of a text, and how many errors and warnings it has.
 #[derive(Drop)]
 struct Outcome {
-    text: Option<String>,
-    // whether a byte order mark stands before it
+    output: Option<String>,
+    // whether the text begins with a byte order mark
     has_mark: bool,
     counts: Counts,
 }
 
-// What is told of why the text of that name is not expanded.
+// Why the text of that name is not expanded.
 fn refused(
     rt: &HostRuntime,
     name: &str,
@@ -38,28 +36,12 @@ fn refused(
         ExpandTextError::Text(fault) => told(rt, name, text, fault),
         ExpandTextError::Memory => Failure::Memory,
         ExpandTextError::Macro(finding) => {
-            Failure::told(told_of(alloc, style, name, text, limit, &[finding]))
+            Failure::told(findings_text(alloc, style, name, text, limit, &[finding]))
         }
     }
 }
 
-// What is told of all that is found in a text.
-fn told_of<'x>(
-    alloc: Global,
-    style: Style,
-    name: &'x str,
-    text: &'x str,
-    limit: usize,
-    findings: &[Finding],
-) -> Result<String, AllocError> {
-    if findings.is_empty() {
-        return Ok(String::new(alloc));
-    }
-    let source = SourceFile::new(alloc, name, text)?;
-    findings_text(alloc, style, &source, limit, findings)
-}
-
-// What comes of the text of an input, where it can be read. What is found is told.
+// Reports what is found in the text of an input, and gives what becomes of it.
 fn expanded(
     rt: &HostRuntime,
     input: Input<'_>,
@@ -73,20 +55,20 @@ fn expanded(
         Ok(found) => found,
         Err(error) => return Err(refused(rt, name, text, limit, error)),
     };
-    let Expanded {
-        text: written,
-        findings,
-    } = found;
-    let told = told_of(rt.alloc(), style_of(rt), name, text, limit, &findings)?;
+    let Report {
+        output,
+        told,
+        counts,
+    } = report(rt.alloc(), style_of(rt), name, text, limit, found)?;
     let _ = eprint!(rt; "{told}");
     Ok(Outcome {
-        text: Some(written),
+        output,
         has_mark: text.len() < bytes.len(),
-        counts: Counts::of(&findings),
+        counts,
     })
 }
 
-// The same. Where nothing comes of it, that is told, and is one error.
+// The same. An input that cannot be read or has no tree is one error.
 fn outcome_of(rt: &HostRuntime, input: Input<'_>, options: ExpandOptions<'_>) -> Outcome {
     match expanded(rt, input, options) {
         Ok(outcome) => outcome,
@@ -94,7 +76,7 @@ fn outcome_of(rt: &HostRuntime, input: Input<'_>, options: ExpandOptions<'_>) ->
             failure.tell(rt);
             let _ = eprintln!(rt; "");
             Outcome {
-                text: None,
+                output: None,
                 has_mark: false,
                 counts: Counts::ONE_ERROR,
             }
@@ -102,13 +84,9 @@ fn outcome_of(rt: &HostRuntime, input: Input<'_>, options: ExpandOptions<'_>) ->
     }
 }
 
-// Tells how much was told.
+// Reports how many errors and warnings there are.
 fn tell_counts(rt: &HostRuntime, counts: Counts) -> Result<(), Failure> {
-    let Some(level) = counts.level() else {
-        return Ok(());
-    };
-    let message = counts.message(rt.alloc())?;
-    let text = plain_text(rt, level, message.as_str())?;
+    let text = summary(rt.alloc(), style_of(rt), counts)?;
     let _ = eprint!(rt; "{text}");
     Ok(())
 }
@@ -122,7 +100,7 @@ fn write(rt: &HostRuntime, has_mark: bool, text: &str) -> io::Result<()> {
 }
 
 /// Writes the text of an input in which calls are expanded, without the definitions that nothing in it needs, if these are to be dropped.
-/// Where something is wrong in it, nothing is written.
+/// If something is wrong in it, it writes nothing.
 pub fn expand(
     rt: &HostRuntime,
     input: Input<'_>,
@@ -132,25 +110,23 @@ pub fn expand(
     let name = input.name();
     let only = options.only;
     let Outcome {
-        text,
+        output,
         has_mark,
         counts,
     } = outcome_of(rt, input, options);
     tell_counts(rt, counts)?;
-    if let Some(text) = text {
-        if !counts.has_errors() {
-            let text = if drops_rules {
-                without_definitions(rt, name, text.as_str(), only)?
-            } else {
-                text
-            };
-            write(rt, has_mark, text.as_str())?;
-        }
+    if let Some(text) = output {
+        let text = if drops_rules {
+            without_definitions(rt, name, text.as_str(), only)?
+        } else {
+            text
+        };
+        write(rt, has_mark, text.as_str())?;
     }
     Ok(counts.status())
 }
 
-/// Tells what is wrong in the macros of the files of these names, one after the other.
+/// Reports what is wrong in the macros of the files of these names, one after the other.
 pub fn check(
     rt: &HostRuntime,
     names: &[&str],

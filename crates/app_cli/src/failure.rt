@@ -1,9 +1,10 @@
 //! Why a command did not do its work.
+use crate::report::plain_text;
 use crate::style::style_of;
 use std::alloc::{AllocError, AllocFailed};
 use std::io::{self, ErrorKind};
 use std::process::ExitCode;
-use syntax_diagnostic::{Diagnostic, Level, diagnostic_text};
+use syntax_diagnostic::Level;
 
 /// Why a command did not do its work.
 #[derive(Drop)]
@@ -36,18 +37,6 @@ impl From<io::Error> for Failure {
     }
 }
 
-/// What is told of something that has no place in a text.
-pub fn plain_text(rt: &HostRuntime, level: Level, message: &str) -> Result<String, AllocError> {
-    let diagnostic = Diagnostic {
-        level,
-        message,
-        spot: None,
-        notes: Vec::new(rt.alloc()),
-        placed_note: None,
-    };
-    diagnostic_text(rt.alloc(), style_of(rt), &diagnostic)
-}
-
 impl Failure {
     /// One of which that is told.
     pub fn told(text: Result<String, AllocError>) -> Failure {
@@ -59,12 +48,12 @@ impl Failure {
 
     /// One that is told by its message alone, with no place in a text.
     pub fn plain(rt: &HostRuntime, message: &str) -> Failure {
-        Failure::told(plain_text(rt, Level::Error, message))
+        Failure::told(plain_text(rt.alloc(), style_of(rt), Level::Error, message))
     }
 
     /// A mistake in the arguments.
     pub fn mistake(rt: &HostRuntime, message: &str) -> Failure {
-        match plain_text(rt, Level::Error, message) {
+        match plain_text(rt.alloc(), style_of(rt), Level::Error, message) {
             Ok(text) => Failure::Mistake(text),
             Err(_refused) => Failure::Memory,
         }

@@ -1,11 +1,16 @@
-//! What is told of what is found in the macros of a text.
+//! The diagnostics of what is found in the macros of a text.
+ghost use Rattle.std.specs.Prelude.{◌≡◌, ◌++◌, map, IfOk, string_bytes};
+ghost use Rattle.app_cli.specs.Reports.{AreFindingTexts, IsDefinedNote, IsFindingText, level_of_fault, notes_on};
+
 use crate::messages::message;
 use expand_text::{Finding, MacroFault};
 use std::alloc::{AllocError, Global};
 use syntax_diagnostic::{Diagnostic, Level, PlacedNote, SourceFile, Style, diagnostic_text};
 
 // How grave a fault is.
-fn level_of(fault: &MacroFault) -> Level {
+fn level_of(fault: &MacroFault) -> Level
+    ensures { result ≡ level_of_fault fault.now }
+{
     if fault.is_warning() {
         Level::Warning
     } else {
@@ -13,8 +18,10 @@ fn level_of(fault: &MacroFault) -> Level {
     }
 }
 
-// What is to be known beside a fault, where so many expansions may stand one inside the other.
-fn notes_of(alloc: Global, limit: usize, fault: MacroFault) -> Result<Vec<String>, AllocError> {
+// The notes on a fault, if so many expansions are allowed inside one another.
+fn notes_of(alloc: Global, limit: usize, fault: MacroFault) -> Result<Vec<String>, AllocError>
+    ensures { IfOk result (λ notes. map string_bytes notes.items ≡ notes_on limit fault) }
+{
     let mut notes = Vec::new(alloc);
     if let MacroFault::TooDeep = fault {
         let note = format!(in alloc;
@@ -35,14 +42,16 @@ fn note_at<'x>(
     Some(PlacedNote { message, spot })
 }
 
-// What is told of something that is found.
+// The diagnostic of a finding, as a text.
 fn finding_text(
     alloc: Global,
     style: Style,
     source: &SourceFile<'_>,
     limit: usize,
     finding: &Finding,
-) -> Result<String, AllocError> {
+) -> Result<String, AllocError>
+    ensures { IfOk result (λ told. IsFindingText style source.now.name.now source.now.text.now limit finding.now (string_bytes told)) }
+{
     let name = finding.name.as_str();
     let message = message(alloc, name, finding.fault)?;
     let defined = format!(in alloc; "`{name}` is defined here")?;
@@ -57,19 +66,26 @@ fn finding_text(
     diagnostic_text(alloc, style, &diagnostic)
 }
 
-/// What is told of all that is found, in order, with an empty line behind each.
+/// The diagnostics of all that is found in a text of that name, in order, with an empty line behind each.
 pub fn findings_text(
     alloc: Global,
     style: Style,
-    source: &SourceFile<'_>,
+    name: &str,
+    text: &str,
     limit: usize,
     findings: &[Finding],
-) -> Result<String, AllocError> {
-    let mut text = String::new(alloc);
-    for finding in findings {
-        let told = finding_text(alloc, style, source, limit, finding)?;
-        text.push_str(told.as_str())?;
-        text.push_str("\n")?;
+) -> Result<String, AllocError>
+    ensures { IfOk result (λ told. AreFindingTexts style name.now text.now limit findings.now (string_bytes told)) }
+{
+    let mut all = String::new(alloc);
+    if findings.is_empty() {
+        return Ok(all);
     }
-    Ok(text)
+    let source = SourceFile::new(alloc, name, text)?;
+    for finding in findings {
+        let told = finding_text(alloc, style, &source, limit, finding)?;
+        all.push_str(told.as_str())?;
+        all.push_str("\n")?;
+    }
+    Ok(all)
 }

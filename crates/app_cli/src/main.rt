@@ -14,6 +14,7 @@ mod messages;
 mod options;
 mod packing;
 mod program;
+mod report;
 mod style;
 mod token_lines;
 mod tree_lines;

@@ -1,51 +1,66 @@
-//! What is said of each fault of a macro, in the words of who wrote it.
+//! The messages of faults of macros, in the words of who wrote the macro.
+ghost use Rattle.std.specs.Prelude.{◌≡◌, ◌++◌, ℕ, IfOk, codes, decimal, string_bytes};
+ghost use Rattle.app_cli.specs.Messages.{about, about_rule, definition_message, fill_message, message, pattern_message, rule_number, template_message};
+
 use expand_text::MacroFault;
 use mbe_pattern::PatternError;
 use mbe_rules::{ArmFault, FillError, RulesError, TemplateError};
 use std::alloc::{AllocError, Global};
 
 // What is wrong with a pattern.
-fn pattern_message(alloc: Global, error: PatternError) -> Result<String, AllocError> {
+fn pattern_message(alloc: Global, error: PatternError) -> Result<String, AllocError>
+    ensures { IfOk result (λ text. string_bytes text ≡ pattern_message error) }
+{
     let words = match error {
         PatternError::BeginsNothing(_) => "this `$` begins no variable and no repetition",
-        PatternError::UnknownFragment(_) =>
-            "there is no fragment of the name that this variable gives",
-        PatternError::NameTwice(_) => "a variable before this one has the same name",
-        PatternError::NeedlessSeparator(_) => {
-            "this repetition has a separator, and never two rounds"
-        }
-        PatternError::EmptyRepetition(_) => "this repetition may take nothing, round after round",
+        PatternError::UnknownFragment(_) => "this variable names an unknown fragment",
+        PatternError::NameTwice(_) => "an earlier variable has the same name",
+        PatternError::NeedlessSeparator(_) => "a `?` repetition takes no separator",
+        PatternError::EmptyRepetition(_) => "this repetition matches empty input",
         PatternError::Memory => "out of memory",
     };
     String::from_str(alloc, words)
 }
 
 // What is wrong with a template.
-fn template_message(alloc: Global, error: TemplateError) -> Result<String, AllocError> {
+fn template_message(alloc: Global, error: TemplateError) -> Result<String, AllocError>
+    ensures { IfOk result (λ text. string_bytes text ≡ template_message error) }
+{
     let words = match error {
-        TemplateError::StillRepeats(_) => {
-            "this variable stands in fewer repetitions than in the pattern"
-        }
-        TemplateError::NothingRepeats(_) => "no variable tells how often this is repeated",
+        TemplateError::StillRepeats(_) => "this variable is still repeating at this depth",
+        TemplateError::NothingRepeats(_) => "this repetition contains no variable that repeats",
         TemplateError::Memory => "out of memory",
     };
     String::from_str(alloc, words)
 }
 
-// What is wrong with a definition of the macro of that name. Rules are counted from 1.
-fn definition_message(alloc: Global, name: &str, error: RulesError) -> Result<String, AllocError> {
-    let rule = error.arm.saturating_add(1);
+// The name between words.
+fn about(alloc: Global, before: &str, name: &str, behind: &str) -> Result<String, AllocError>
+    ensures { IfOk result (λ text. string_bytes text ≡ about before.now name.now behind.now) }
+{
+    format!(in alloc; "{before}`{name}`{behind}")
+}
+
+// The rule of that index and the name before words. People count rules from 1.
+fn about_rule(alloc: Global, arm: usize, name: &str, behind: &str) -> Result<String, AllocError>
+    ensures { IfOk result (λ text. string_bytes text ≡ about_rule arm name.now behind.now) }
+{
+    let rule = arm.saturating_add(1);
+    format!(in alloc; "rule {rule} of `{name}`{behind}")
+}
+
+// What is wrong with a definition of the macro of that name.
+fn definition_message(alloc: Global, name: &str, error: RulesError) -> Result<String, AllocError>
+    ensures { IfOk result (λ text. string_bytes text ≡ definition_message name.now error) }
+{
+    let arm = error.arm;
     match error.fault {
-        ArmFault::NoPattern(_) => format!(in alloc; "rule {rule} of `{name}` has no pattern"),
+        ArmFault::NoPattern(_) => about_rule(alloc, arm, name, " has no pattern"),
         ArmFault::Pattern(error) => pattern_message(alloc, error),
-        ArmFault::NoArrow(_) => {
-            format!(in alloc; "no `=>` stands behind the pattern of rule {rule} of `{name}`")
-        }
-        ArmFault::NoTemplate(_) => format!(in alloc; "rule {rule} of `{name}` has no template"),
+        ArmFault::NoArrow(_) => about_rule(alloc, arm, name, " has no `=>` after its pattern"),
+        ArmFault::NoTemplate(_) => about_rule(alloc, arm, name, " has no template"),
         ArmFault::Template(error) => template_message(alloc, error),
-        ArmFault::NoSemicolon(_) => format!(in alloc;
-            "no `;` stands behind rule {rule} of `{name}`"
-        ),
+        ArmFault::NoSemicolon(_) => about_rule(alloc, arm, name, " has no `;` after it"),
         ArmFault::Memory => String::from_str(alloc, "out of memory"),
     }
 }
@@ -54,51 +69,60 @@ fn definition_message(alloc: Global, name: &str, error: RulesError) -> Result<St
 fn fill_message(
     alloc: Global,
     name: &str,
-    rule: usize,
+    arm: usize,
     error: FillError,
-) -> Result<String, AllocError> {
+) -> Result<String, AllocError>
+    ensures { IfOk result (λ text. string_bytes text ≡ fill_message name.now arm error) }
+{
     match error {
-        FillError::LengthsDiffer(_) => {
-            format!(in alloc;
-                "rule {rule} of `{name}` repeats variables together that have different numbers of rounds here"
-            )
-        }
-        FillError::NoRound(_) => {
-            format!(in alloc;
-                "rule {rule} of `{name}` wants one round at least, and there is none here"
-            )
-        }
-        FillError::Tree(fault) => format!(in alloc;
-            "rule {rule} of `{name}` becomes too much: {fault}"
+        FillError::LengthsDiffer(_) => about_rule(
+            alloc,
+            arm,
+            name,
+            " repeats variables together that have different numbers of rounds",
         ),
+        FillError::NoRound(_) => about_rule(alloc, arm, name, " needs at least one round here"),
+        FillError::Tree(fault) => {
+            let why = fault.to_string(alloc)?;
+            let words = format!(in alloc; " writes too much: {why}")?;
+            about_rule(alloc, arm, name, words.as_str())
+        }
     }
 }
 
-/// What is said of a fault of the macro of that name, or of a call of it.
-pub fn message(alloc: Global, name: &str, fault: MacroFault) -> Result<String, AllocError> {
+/// The message of a fault of the macro of that name, or of a call of it.
+pub fn message(alloc: Global, name: &str, fault: MacroFault) -> Result<String, AllocError>
+    ensures { IfOk result (λ text. string_bytes text ≡ message name.now fault) }
+{
     match fault {
         MacroFault::Definition(error) => definition_message(alloc, name, error),
-        MacroFault::Left => format!(in alloc; "this call of `{name}` is left as it is"),
-        MacroFault::Conditional => format!(in alloc;
-            "this call of `{name}` is left as it is, since `#[cfg(..)]` cannot stand before each part of what comes of it"
+        MacroFault::Left => about(alloc, "this call of ", name, " is left as it is"),
+        MacroFault::Conditional => about(
+            alloc,
+            "this call of ",
+            name,
+            " is left as it is: `#[cfg(..)]` cannot apply to each part of its expansion",
         ),
-        MacroFault::NoMatch => format!(in alloc; "no rule of `{name}` takes this"),
-        MacroFault::Ambiguous(arm) => {
-            let rule = arm.saturating_add(1);
-            format!(in alloc; "rule {rule} of `{name}` takes this in two ways")
-        }
-        MacroFault::Expansion(error) => {
-            fill_message(alloc, name, error.arm.saturating_add(1), error.fault)
-        }
-        MacroFault::TooDeep => {
-            format!(in alloc; "`{name}` is called in too many expansions, one inside the other")
-        }
-        MacroFault::NotWritable => format!(in alloc;
-            "what comes of `{name}` cannot be written: this would read back as something else"
+        MacroFault::NoMatch => about(alloc, "no rule of ", name, " matches this"),
+        MacroFault::Ambiguous(arm) => about_rule(alloc, arm, name, " matches this in two ways"),
+        MacroFault::Expansion(error) => fill_message(alloc, name, error.arm, error.fault),
+        MacroFault::TooDeep => about(alloc, "recursion limit reached while expanding ", name, ""),
+        MacroFault::NotWritable => about(
+            alloc,
+            "the expansion of ",
+            name,
+            " cannot be written: this would read back as something else",
         ),
-        MacroFault::TooLong => format!(in alloc;
-            "what comes of `{name}` has 4294967295 bytes or more"
+        MacroFault::TooLong => about(
+            alloc,
+            "the expansion of ",
+            name,
+            " has 4294967295 bytes or more",
         ),
-        MacroFault::TooLarge(fault) => format!(in alloc; "`{name}` is too large: {fault}"),
+        MacroFault::TooLarge(fault) => {
+            let why = fault.to_string(alloc)?;
+            let words = format!(in alloc; " is too large: {why}")?;
+            about(alloc, "", name, words.as_str())
+        }
     }
 }

@@ -1,0 +1,75 @@
+-- The messages of faults of macros.
+use Rattle.std.specs.Prelude.{ℕ, ◌+◌, min, List, [], ◌++◌, codes, decimal}
+use Rattle.expand_text.specs.declared.fault.MacroFault.{MacroFault}
+use Rattle.expand_text.specs.declared.fault.MacroFault.TheVariants as wrong
+use Rattle.mbe_pattern.specs.declared.error.PatternError.{PatternError}
+use Rattle.mbe_pattern.specs.declared.error.PatternError.TheVariants as pattern
+use Rattle.mbe_rules.specs.declared.error.TemplateError.{TemplateError}
+use Rattle.mbe_rules.specs.declared.error.TemplateError.TheVariants as template
+use Rattle.mbe_rules.specs.declared.fill_error.FillError.{FillError}
+use Rattle.mbe_rules.specs.declared.fill_error.FillError.TheVariants as filling
+use Rattle.mbe_rules.specs.declared.rules_error.ArmFault.{ArmFault}
+use Rattle.mbe_rules.specs.declared.rules_error.ArmFault.TheVariants as rule
+use Rattle.mbe_rules.specs.declared.rules_error.RulesError.{RulesError}
+use Rattle.tt.specs.Fault.{fault_text}
+
+-- the number of a rule, as people count: from 1, and as far as 64 bits go
+abbrev pub rule_number : (arm : ℕ) → ℕ
+rule_number arm = min (arm + 1) 18446744073709551615
+
+-- a name between words
+abbrev pub about : (before name behind : List ℕ) → List ℕ
+about before name behind = before ++ codes "`" ++ name ++ codes "`" ++ behind
+
+-- a rule and a name before words
+abbrev pub about_rule : (arm : ℕ) (name behind : List ℕ) → List ℕ
+about_rule arm name behind = codes "rule " ++ decimal (rule_number arm) ++ codes " of `" ++ name ++ codes "`" ++ behind
+
+-- what is wrong with a pattern
+abbrev pub pattern_message : PatternError → List ℕ
+pattern_message (pattern.BeginsNothing at) = codes "this `$` begins no variable and no repetition"
+pattern_message (pattern.UnknownFragment at) = codes "this variable names an unknown fragment"
+pattern_message (pattern.NameTwice at) = codes "an earlier variable has the same name"
+pattern_message (pattern.NeedlessSeparator at) = codes "a `?` repetition takes no separator"
+pattern_message (pattern.EmptyRepetition at) = codes "this repetition matches empty input"
+pattern_message pattern.Memory = codes "out of memory"
+
+-- what is wrong with a template
+abbrev pub template_message : TemplateError → List ℕ
+template_message (template.StillRepeats at) = codes "this variable is still repeating at this depth"
+template_message (template.NothingRepeats at) = codes "this repetition contains no variable that repeats"
+template_message template.Memory = codes "out of memory"
+
+-- what is wrong with a rule
+abbrev pub rule_message : (name : List ℕ) (arm : ℕ) → ArmFault → List ℕ
+rule_message name arm (rule.NoPattern at) = about_rule arm name (codes " has no pattern")
+rule_message name arm (rule.Pattern error) = pattern_message error
+rule_message name arm (rule.NoArrow at) = about_rule arm name (codes " has no `=>` after its pattern")
+rule_message name arm (rule.NoTemplate at) = about_rule arm name (codes " has no template")
+rule_message name arm (rule.Template error) = template_message error
+rule_message name arm (rule.NoSemicolon at) = about_rule arm name (codes " has no `;` after it")
+rule_message name arm rule.Memory = codes "out of memory"
+
+-- what is wrong with a definition of that name
+abbrev pub definition_message : (name : List ℕ) → RulesError → List ℕ
+definition_message name error = rule_message name error.arm error.fault
+
+-- why a rule of that name writes nothing
+abbrev pub fill_message : (name : List ℕ) (arm : ℕ) → FillError → List ℕ
+fill_message name arm (filling.LengthsDiffer at) = about_rule arm name (codes " repeats variables together that have different numbers of rounds")
+fill_message name arm (filling.NoRound at) = about_rule arm name (codes " needs at least one round here")
+fill_message name arm (filling.Tree fault) = about_rule arm name (codes " writes too much: " ++ fault_text fault)
+
+-- the message of a fault of the macro of that name, or of a call of it
+abbrev pub message : (name : List ℕ) → MacroFault → List ℕ
+message name (wrong.Definition error) = definition_message name error
+message name wrong.Left = about (codes "this call of ") name (codes " is left as it is")
+message name wrong.Conditional =
+    about (codes "this call of ") name (codes " is left as it is: `#[cfg(..)]` cannot apply to each part of its expansion")
+message name wrong.NoMatch = about (codes "no rule of ") name (codes " matches this")
+message name (wrong.Ambiguous arm) = about_rule arm name (codes " matches this in two ways")
+message name (wrong.Expansion error) = fill_message name error.arm error.fault
+message name wrong.TooDeep = about (codes "recursion limit reached while expanding ") name []
+message name wrong.NotWritable = about (codes "the expansion of ") name (codes " cannot be written: this would read back as something else")
+message name wrong.TooLong = about (codes "the expansion of ") name (codes " has 4294967295 bytes or more")
+message name (wrong.TooLarge fault) = about [] name (codes " is too large: " ++ fault_text fault)

@@ -1,0 +1,88 @@
+-- What the program writes of a text whose macros are expanded.
+use Rattle.std.specs.Prelude.{◌≡◌, ℕ, List, [], ◌∷◌, ◌++◌, map, nat_lt, codes, decimal, string_bytes, Option, None, Some, MatchOption, if◌then◌else◌}
+use Rattle.app_cli.specs.Counts.{counts_of, level_of, message_of}
+use Rattle.app_cli.specs.Messages.{about, message}
+use Rattle.app_cli.specs.declared.counts.Counts.{Counts}
+use Rattle.app_cli.specs.declared.report.Report.{Report}
+use Rattle.expand_text.specs.Findings.{is_warning}
+use Rattle.expand_text.specs.declared.fault.Finding.{Finding}
+use Rattle.expand_text.specs.declared.fault.MacroFault.{MacroFault}
+use Rattle.expand_text.specs.declared.fault.MacroFault.TheVariants as wrong
+use Rattle.expand_text.specs.declared.text.Expanded.{Expanded}
+use Rattle.syntax_diagnostic.specs.Diagnostic.{diagnostic_text}
+use Rattle.syntax_diagnostic.specs.Place.{place_of}
+use Rattle.syntax_diagnostic.specs.Source.{line_text}
+use Rattle.syntax_diagnostic.specs.declared.diagnostic.Diagnostic.{Diagnostic}
+use Rattle.syntax_diagnostic.specs.declared.diagnostic.PlacedNote.{PlacedNote}
+use Rattle.syntax_diagnostic.specs.declared.level.Level.{Level}
+use Rattle.syntax_diagnostic.specs.declared.level.Level.TheVariants.{Error, Warning}
+use Rattle.syntax_diagnostic.specs.declared.paint.Style.{Style}
+use Rattle.syntax_diagnostic.specs.declared.spot.Spot.{Spot}
+
+-- how grave a fault is
+abbrev pub level_of_fault : MacroFault → Level
+level_of_fault fault = if is_warning fault then Warning else Error
+
+-- the notes on a fault: on recursion, the limit
+abbrev pub notes_on : (limit : ℕ) → MacroFault → List (List ℕ)
+notes_on limit (wrong.Definition why) = []
+notes_on limit wrong.Left = []
+notes_on limit wrong.Conditional = []
+notes_on limit wrong.NoMatch = []
+notes_on limit (wrong.Ambiguous arm) = []
+notes_on limit (wrong.Expansion why) = []
+notes_on limit wrong.TooDeep = (codes "the limit is " ++ decimal limit ++ codes "; --limit N sets another one, up to 1000") ∷ []
+notes_on limit wrong.NotWritable = []
+notes_on limit wrong.TooLong = []
+notes_on limit (wrong.TooLarge why) = []
+
+-- the place of a byte in a text of that name
+pub record IsSpot (file text : List ℕ) (at : ℕ) (spot : Spot) : Type 0 where
+  pub file : spot.file.now ≡ file
+  pub place : spot.place ≡ place_of text at
+  pub line : spot.line.now ≡ line_text text (place_of text at).line
+
+-- the note that says at which byte the macro of that name is defined, if the finding knows it
+abbrev pub IsDefinedNote : (file text name : List ℕ) → (at : Option ℕ) → Option PlacedNote → Type 0
+IsDefinedNote file text name None note = note ≡ None
+IsDefinedNote file text name (Some at) note =
+    MatchOption note ⊥ (λ it. (it.message.now ≡ about [] name (codes " is defined here")) × IsSpot file text at it.spot)
+
+-- the diagnostic of a finding in a text of that name
+pub record IsDiagnosticOf (file text : List ℕ) (limit : ℕ) (finding : Finding) (it : Diagnostic) : Type 0 where
+  pub level : it.level ≡ level_of_fault finding.fault
+  pub message : it.message.now ≡ message finding.name finding.fault
+  pub spot : MatchOption it.spot ⊥ (IsSpot file text finding.at)
+  pub notes : map string_bytes it.notes.items ≡ notes_on limit finding.fault
+  pub defined : IsDefinedNote file text finding.name finding.defined_at it.placed_note
+
+-- its text
+abbrev pub IsFindingText : Style → (file text : List ℕ) (limit : ℕ) → Finding → List ℕ → Type 0
+IsFindingText style file text limit finding told = (it : Diagnostic) × IsDiagnosticOf file text limit finding it × (told ≡ diagnostic_text style it)
+
+-- the texts of all findings in order, with an empty line behind each
+abbrev pub AreFindingTexts : Style → (file text : List ℕ) (limit : ℕ) → List Finding → List ℕ → Type 0
+AreFindingTexts style file text limit [] told = told ≡ []
+AreFindingTexts style file text limit (finding ∷ findings) told =
+    (first others : List ℕ) × IsFindingText style file text limit finding first × AreFindingTexts style file text limit findings others
+    × (told ≡ first ++ 10 ∷ others)
+
+-- the text of a message without a place
+pub record IsPlainText (style : Style) (level : Level) (message told : List ℕ) : Type 0 where
+  pub it : Diagnostic
+  pub level_is : it.level ≡ level
+  pub message_is : it.message.now ≡ message
+  pub no_spot : it.spot ≡ None
+  pub no_notes : it.notes.items ≡ []
+  pub no_placed_note : it.placed_note ≡ None
+  pub is : told ≡ diagnostic_text style it
+
+-- the last line: how many errors and warnings there are, if there are some
+abbrev pub IsSummary : Style → Counts → List ℕ → Type 0
+IsSummary style counts told = MatchOption (level_of counts) (told ≡ []) (λ level. IsPlainText style level (message_of counts) told)
+
+-- all findings are told, and the expanded text is the output, unless a finding is an error
+pub record IsReport (style : Style) (file text : List ℕ) (limit : ℕ) (found : Expanded) (report : Report) : Type 0 where
+  pub told : AreFindingTexts style file text limit found.findings.items (string_bytes report.told)
+  pub counts : report.counts ≡ counts_of found.findings.items
+  pub output : report.output ≡ (if nat_lt 0 (counts_of found.findings.items).errors then None else Some found.text)
