@@ -5,7 +5,7 @@ use crate::failure::Failure;
 use crate::fault::told;
 use crate::finding::findings_text;
 use crate::input::Input;
-use crate::report::{Report, report, summary};
+use crate::report::{Report, report_on, summary};
 use crate::style::style_of;
 use expand_text::{ExpandOptions, ExpandTextError, expand_leniently};
 use std::io::{self, Write};
@@ -59,7 +59,7 @@ fn expanded(
         output,
         told,
         counts,
-    } = report(rt.alloc(), style_of(rt), name, text, limit, found)?;
+    } = report_on(rt.alloc(), style_of(rt), name, text, limit, found)?;
     let _ = eprint!(rt; "{told}");
     Ok(Outcome {
         output,

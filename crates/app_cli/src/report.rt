@@ -20,7 +20,7 @@ pub struct Report {
 }
 
 /// The report on what the library found in a text of that name, with so many expansions allowed inside one another.
-pub fn report(
+pub fn report_on(
     alloc: Global,
     style: Style,
     name: &str,

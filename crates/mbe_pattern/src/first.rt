@@ -7,7 +7,7 @@ ghost use Rattle.mbe_pattern.specs.Placed.{fault_in, placed_until};
 ghost use Rattle.mbe_pattern.specs.Spelling.{is_dollar};
 
 use crate::error::PatternError;
-use crate::passing::pass;
+use crate::front::pass;
 use crate::pattern::Variable;
 use crate::signs::{Sign, Tail, is_dollar, sign_in};
 use crate::units::unit_size;

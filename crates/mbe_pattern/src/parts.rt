@@ -5,7 +5,7 @@ ghost use Rattle.tt.specs.Iters.{rest_of};
 ghost use Rattle.mbe_pattern.specs.Signs.{IsPart, held_size, AreLess};
 ghost use Rattle.mbe_pattern.specs.Spelling.{is_dollar, pattern_of};
 
-use crate::passing::pass;
+use crate::front::pass;
 use crate::pattern::Variable;
 use crate::signs::{Sign, Tail, first_unit, is_dollar, sign_in};
 use std::alloc::{AllocError, Global};

@@ -7,6 +7,7 @@ ghost use Rattle.mbe_pattern.specs.Signs.{tail_of, sign_of};
 ghost use Rattle.mbe_pattern.specs.Spelling.{is_dollar, grammar_named, fragment_named, fragment_in, name_of, variable_in, repeat_kind_of, as_repeat_kind, is_separator, tail_in, is_parenthesis, repetition_in, is_crate_in, sign_in};
 ghost use Rattle.mbe_pattern.specs.Units.{front_leaves, first_unit};
 
+use crate::front::pass;
 use crate::pattern::{Fragment, GrammarFragment, RepeatKind, Variable};
 use crate::units::unit_size;
 use std::alloc::{AllocError, Global};

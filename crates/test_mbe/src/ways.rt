@@ -3,6 +3,7 @@ use crate::texts::{holds, tree_of};
 use mbe_matcher::{Binder, Binding, Found, Matcher};
 use std::alloc::Global;
 use std::test::Fail;
+use tt::TopSubtree;
 
 // In how many ways an input is an instance of a pattern, where there is an answer: 2 stands for more, too.
 fn ways(alloc: Global, pattern: &str, input: &str) -> Option<usize> {

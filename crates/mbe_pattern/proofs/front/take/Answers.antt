@@ -5,7 +5,7 @@ use Rattle.tt.specs.Iters.{rest_of, saved_of}
 use Rattle.tt.specs.Views.{trees_of}
 use Rattle.mbe_pattern.specs.Units.{front_trees}
 use Rattle.mbe_pattern.proofs.Passing.{front_joined, front_told}
-use Rattle.mbe_pattern.proofs.passing.take.Goals as goal
+use Rattle.mbe_pattern.proofs.front.take.Goals as goal
 
 pub from_savepoint-requires : goal.from_savepoint-requires
 from_savepoint-requires c =

@@ -2,7 +2,7 @@
 use Rattle.std.proofs.Common.{◌≡◌, ◌-◌}
 use Rattle.tt.specs.Gluing.{after_trees}
 use Rattle.tt.specs.Iters.{rest_of}
-use Rattle.mbe_pattern.proofs.passing.pass.Given as goal
+use Rattle.mbe_pattern.proofs.front.pass.Given as goal
 
 abbrev pub invariant-loop : goal.invariant-loop
 invariant-loop l = after_trees (l.fn.count - l.counter) (rest_of l.trees) ≡ after_trees l.fn.count (rest_of l.fn.trees)

@@ -4,7 +4,7 @@ use Rattle.tt.specs.Gluing.{after_trees}
 use Rattle.tt.specs.Iters.{rest_of}
 use Rattle.tt.specs.Moves.{after_tree}
 use Rattle.mbe_pattern.proofs.Passing.{pass_next, pass_all, after_less}
-use Rattle.mbe_pattern.proofs.passing.pass.Goals as goal
+use Rattle.mbe_pattern.proofs.front.pass.Goals as goal
 
 pub loop-preserved : goal.loop-preserved
 loop-preserved c =
