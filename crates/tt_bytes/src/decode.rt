@@ -28,7 +28,10 @@ fn keep_in_range(token: &TokenTree)
 {
     match token {
         TokenTree::Leaf(Leaf::Literal(literal)) => keep_span_in_range(literal.span()),
-        TokenTree::Leaf(Leaf::Punct(punct)) => keep_span_in_range(&punct.span),
+        TokenTree::Leaf(Leaf::Punct(punct)) => {
+            let _char = punct.char;
+            keep_span_in_range(&punct.span);
+        }
         TokenTree::Leaf(Leaf::Ident(ident)) => keep_span_in_range(&ident.span),
         TokenTree::Subtree(subtree) => {
             keep_span_in_range(&subtree.delimiter.open_span);
