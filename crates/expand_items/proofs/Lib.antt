@@ -7,3 +7,4 @@ pub mod Shapes
 pub mod Beginnings
 pub mod Attributes
 pub mod Conditions
+pub mod Wanting

@@ -1,6 +1,6 @@
 -- Parts under conditions.
-use Rattle.std.specs.Prelude.{◌≡◌, ◌⊎◌, ℕ, zero, suc, Bool, true, false, List, [], ◌∷◌, Option, None, Some, is_some}
-use Rattle.tt.specs.Building.{Stack, append}
+use Rattle.std.specs.Prelude.{◌≡◌, ◌⊎◌, ◌<◌, ℕ, zero, suc, Bool, true, false, List, [], ◌∷◌, Option, None, Some, is_some}
+use Rattle.tt.specs.Building.{Stack, append, most_held, tokens_held}
 use Rattle.tt.specs.Forest.{Forest, end, node, join}
 use Rattle.tt.specs.Gluing.{after_trees}
 use Rattle.tt.specs.Token.{delimiter}
@@ -45,9 +45,15 @@ abbrev pub append_if : Option Forest → Stack → Stack
 append_if None stack = stack
 append_if (Some trees) stack = append trees stack
 
--- memory is wanting, or room for tokens
-abbrev pub IsWanting : TtFault → Type 0
-IsWanting fault = (fault ≡ limit.Memory) ⊎ (fault ≡ limit.TooManyTokens)
+-- why a builder does not come to hold a stack: memory is refused, or the stack holds too many tokens
+abbrev pub IsWanting : Stack → TtFault → Type 0
+IsWanting whole fault = (fault ≡ limit.Memory) ⊎ ((fault ≡ limit.TooManyTokens) × (most_held < tokens_held whole))
+
+-- why trees are not put under conditions: memory is refused, or with all parts the builder would hold too many tokens
+abbrev pub IsNotPut : Siblings → (braces : Delimiter) → (conditions trees : Forest) → Stack → TtFault → Type 0
+IsNotPut its braces conditions trees stack fault =
+    (fault ≡ limit.Memory)
+    ⊎ ((put : Forest) × AreUnder its braces conditions trees (Some put) × (fault ≡ limit.TooManyTokens) × (most_held < tokens_held (append put stack)))
 
 -- they are added so, or nothing is
 pub record IsPutUnder (its : Siblings) (braces : Delimiter) (conditions trees : Forest) (is_put : Bool) (old new : Stack) : Type 0 where

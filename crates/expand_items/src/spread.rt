@@ -5,7 +5,7 @@ ghost use Rattle.tt.specs.Forest.{end};
 ghost use Rattle.tt.specs.Gluing.{after_trees};
 ghost use Rattle.tt.specs.Iters.{rest_of};
 ghost use Rattle.tt.specs.Views.{trees_of};
-ghost use Rattle.expand_items.specs.Spreads.{IsPutUnder, IsWanting, before, put_part, spread};
+ghost use Rattle.expand_items.specs.Spreads.{IsNotPut, IsPutUnder, IsWanting, before, put_part, spread};
 ghost use Rattle.expand_items.specs.Attributes.{conditions_of, is_at_condition};
 ghost use Rattle.mbe_pattern.specs.Units.{front_trees};
 
@@ -25,7 +25,7 @@ fn add_condition(
     builder: &mut TopSubtreeBuilder,
 ) -> Result<(), TtFault>
     ensures top { OnOk result (builder.new.top ≡ builder.old.top) }
-    ensures fault { IfErr result IsWanting }
+    ensures fault { IfErr result (IsWanting (append (if is_at_condition (trees_of attribute.entry) then trees_of attribute.entry else end) builder.old.stack)) }
     ensures added { OnOk result (builder.new.stack ≡ append (if is_at_condition (trees_of attribute.entry) then trees_of attribute.entry else end) builder.old.stack) }
 {
     if !is_condition(attribute.iter()) {
@@ -40,7 +40,7 @@ fn add_conditions(
     builder: &mut TopSubtreeBuilder,
 ) -> Result<(), TtFault>
     ensures top { OnOk result (builder.new.top ≡ builder.old.top) }
-    ensures fault { IfErr result IsWanting }
+    ensures fault { IfErr result (IsWanting (append (conditions_of (trees_of attributes.entry)) builder.old.stack)) }
     ensures added { OnOk result (builder.new.stack ≡ append (conditions_of (trees_of attributes.entry)) builder.old.stack) }
 {
     let mut trees = attributes.iter();
@@ -58,7 +58,7 @@ fn add_before(
     builder: &mut TopSubtreeBuilder,
 ) -> Result<(), TtFault>
     ensures top { OnOk result (builder.new.top ≡ builder.old.top) }
-    ensures fault { IfErr result IsWanting }
+    ensures fault { IfErr result (IsWanting (append (before (conditions_of (trees_of attributes.entry)) place) builder.old.stack)) }
     ensures added { OnOk result (builder.new.stack ≡ append (before (conditions_of (trees_of attributes.entry)) place) builder.old.stack) }
 {
     if place == 0 {
@@ -75,7 +75,7 @@ fn add_part(
     builder: &mut TopSubtreeBuilder,
 ) -> Result<(), TtFault>
     ensures top { OnOk result (builder.new.top ≡ builder.old.top) }
-    ensures fault { IfErr result IsWanting }
+    ensures fault { IfErr result (IsWanting (append (put_part braces is_expression (trees_of trees.entry)) builder.old.stack)) }
     ensures added { OnOk result (builder.new.stack ≡ append (put_part braces is_expression (trees_of trees.entry)) builder.old.stack) }
 {
     if !is_expression {
@@ -95,7 +95,7 @@ fn add_parts(
     builder: &mut TopSubtreeBuilder,
 ) -> Result<(), TtFault>
     ensures top { OnOk result (builder.new.top ≡ builder.old.top) }
-    ensures fault { IfErr result IsWanting }
+    ensures fault { IfErr result (IsWanting (append (spread braces (conditions_of (trees_of attributes.entry)) 0 parts.now (rest_of trees.entry)) builder.old.stack)) }
     ensures added { OnOk result (builder.new.stack ≡ append (spread braces (conditions_of (trees_of attributes.entry)) 0 parts.now (rest_of trees.entry)) builder.old.stack) }
 {
     for place in 0..parts.len() {
@@ -107,10 +107,10 @@ fn add_parts(
     Ok(())
 }
 
-/// Adds trees that are such siblings, where these attributes stand before the first of them: before each other one it adds the conditions
-/// among those. An expression stands in braces, whose spans are those of that delimiter. Whether it adds them: where the trees are no run of
-/// items or statements, or are none, nothing is added. It is refused where memory is wanting, or where the builder would hold more than
-/// 4,294,967,295 tokens.
+/// Adds trees that are such siblings and have these attributes before the first of them: before each other one it adds the conditions
+/// among the attributes. An expression goes into braces with the spans of that delimiter. It returns whether it adds them: if the trees are
+/// no run of items or statements, or there are none, it adds nothing. The fault is `Memory`, or `TooManyTokens` if the builder would hold
+/// more than 4,294,967,295 tokens.
 pub fn put_under(
     alloc: Global,
     siblings: Siblings,
@@ -120,7 +120,7 @@ pub fn put_under(
     builder: &mut TopSubtreeBuilder,
 ) -> Result<bool, TtFault>
     ensures top { OnOk result (builder.new.top ≡ builder.old.top) }
-    ensures fault { IfErr result IsWanting }
+    ensures fault { IfErr result (IsNotPut siblings braces (conditions_of (trees_of attributes.entry)) (trees_of trees.entry) builder.old.stack) }
     ensures put { IfOk result (λ is_put. IsPutUnder siblings braces (conditions_of (trees_of attributes.entry)) (trees_of trees.entry) is_put builder.old.stack builder.new.stack) }
 {
     let Some(parts) = parts(alloc, siblings, trees.iter())? else {

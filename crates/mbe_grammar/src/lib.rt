@@ -8,6 +8,7 @@
 mod fragments;
 mod kind;
 mod known;
+pub mod laws;
 mod machine;
 mod place;
 mod rule;
