@@ -4,7 +4,9 @@ use Rattle.tt.specs.Building.{BuilderState, Stack, above, append, most_held, tok
 use Rattle.tt.specs.Forest.{Forest, end, node, size}
 use Rattle.tt.specs.Types.TtFault.{TtFault}
 use Rattle.tt_base.proofs.Appending.{held-append}
-use Rattle.expand_items.specs.Spreads.{IsWanting}
+use Rattle.tt.specs.Types.Delimiter.{Delimiter}
+use Rattle.tt.specs.Types.DelimiterKind.TheVariants.{Brace}
+use Rattle.expand_items.specs.Spreads.{put_part, IsWanting}
 
 -- Growth by some trees fails if the stack with them fails.
 pub growth_wants : (trees : Forest) (state : BuilderState) (fault : TtFault) → IsGrowthFault (size trees) state fault → IsWanting (append trees state.stack) fault
@@ -17,3 +19,16 @@ wants_more one other fault more why = ⊎_elim (λ memory. inl memory) (λ many.
 -- So does it with trees appended.
 pub wants_appended : (trees : Forest) (stack : Stack) (fault : TtFault) → IsWanting stack fault → IsWanting (append trees stack) fault
 wants_appended trees stack fault why = wants_more stack (append trees stack) fault (omega (arith, held-append trees stack)) why
+
+-- If braces cannot be opened, the stack with them fails.
+pub braces_want : (braces : Delimiter) (trees : Forest) (state : BuilderState) (fault : TtFault) → IsGrowthFault 1 state fault
+    → IsWanting (append (put_part braces true trees) state.stack) fault
+braces_want braces trees state fault why =
+    ⊎_elim (λ memory. inl memory.0) (λ many. inr (many.0, omega (arith, many.1, held-append (put_part braces true trees) state.stack))) why
+
+-- If they do not come to hold trees, the stack with both fails.
+pub inside_wants : (braces : Delimiter) (trees : Forest) (state inside : BuilderState) (fault : TtFault) → inside.stack ≡ above state.stack Brace braces.open_span end
+    → IsGrowthFault (size trees) inside fault → IsWanting (append (put_part braces true trees) state.stack) fault
+inside_wants braces trees state inside fault is why =
+    ⊎_elim (λ memory. inl memory.0)
+    (λ many. inr (many.0, omega (arith, many.1, ap tokens_held is, held-append (put_part braces true trees) state.stack))) why

@@ -47,7 +47,7 @@ returns-in-Some c =
 pub returns-then-passes_leaf : goal.returns-then-passes_leaf
 returns-then-passes_leaf c =
     let old = c.args.pair.now in
-    let new : Pair = record { pattern = c.variable_at.new.siblings; input = c.passes_leaf.new.input } in
+    let new : Pair = record { pattern = c.variable_at.new.siblings; input = c.passes_leaf.new.trees } in
     let leaf = c.in-Some-Leaf.leaf in
     let first : IsFirstElement (rest_of old.pattern) (Some (element.Leaf leaf)) = search rules in
     let behind : rest_of c.next.new.self ≡ after_tree (rest_of old.pattern) = search rules in
@@ -55,13 +55,13 @@ returns-then-passes_leaf c =
     let at : variable_at leaf (after_tree (rest_of old.pattern)) ≡ None = ap (variable_at leaf) (sym behind) ∙ read in
     let like : IsLeafLike leaf (rest_of old.input) = search rules in
     let passed : rest_of c.variable_at.new.siblings ≡ rest_of c.next.new.self = search rules in
-    let rest : rest_of c.passes_leaf.new.input ≡ after_tree (rest_of old.input) = search rules in
+    let rest : rest_of c.passes_leaf.new.trees ≡ after_tree (rest_of old.input) = search rules in
     token_passes old new (map trees_of c.args.taken.now.items) (map trees_of c.args.taken.now.items) leaf first at like (passed ∙ behind) rest refl
 
 pub returns-in-Some-Leaf : goal.returns-in-Some-Leaf
 returns-in-Some-Leaf c =
     let old = c.args.pair.now in
-    let new : Pair = record { pattern = c.variable_at.new.siblings; input = c.passes_leaf.new.input } in
+    let new : Pair = record { pattern = c.variable_at.new.siblings; input = c.passes_leaf.new.trees } in
     let leaf = c.in-Some-Leaf.leaf in
     let first : IsFirstElement (rest_of old.pattern) (Some (element.Leaf leaf)) = search rules in
     let behind : rest_of c.next.new.self ≡ after_tree (rest_of old.pattern) = search rules in
