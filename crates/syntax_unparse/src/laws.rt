@@ -1,5 +1,5 @@
 //! Laws of the definitions that the contracts cite: each is the contract of a function that does nothing.
-ghost use Rattle.std.specs.Prelude.{◌≡◌, List, ℕ};
+ghost use Rattle.std.specs.Prelude.{◌≡◌, false, List, ℕ};
 ghost use Rattle.tt_base.specs.Forest.{Forest, Root};
 ghost use Rattle.tt_base.specs.TreeText.{display};
 ghost use Rattle.tt_base.specs.declared.span.SpanPart.{SpanPart};
@@ -7,7 +7,7 @@ ghost use Rattle.syntax_parse.specs.Parsed.{IsParse};
 ghost use Rattle.syntax_parse.specs.Refusal.{IsFaultOf};
 ghost use Rattle.syntax_parse.specs.Spelled.{spelled};
 ghost use Rattle.syntax_parse.specs.declared.fault.SyntaxFault.{SyntaxFault};
-ghost use Rattle.syntax_unparse.specs.Displayed.{IsDisplayed};
+ghost use Rattle.syntax_unparse.specs.Displayed.{IsDisplayed, IsPlain};
 ghost use Rattle.syntax_unparse.specs.Marks.{marks};
 ghost use Rattle.syntax_unparse.specs.Settled.{ReadsBack, settled, sorts};
 ghost use Rattle.syntax_unparse.specs.Text.{text_of};
@@ -31,8 +31,13 @@ pub fn no_syntax_fault()
     ensures { (trees : Forest) → (text : List ℕ) → (fault : SyntaxFault) → ReadsBack trees text → IsFaultOf text fault → ⊥ }
 {}
 
-/// The text is that of Display where each subtree has brackets, no `'` is alone, and no string stands behind a `#` that is
-/// joint or joint hidden.
+/// The text is that of Display if each subtree has the same brackets in both, or none in both, and a space stands in the text exactly
+/// where Display has one.
 pub fn as_displayed()
-    ensures { (trees : Forest) → IsDisplayed Opening trees → text_of trees ≡ display trees }
+    ensures { (trees : Forest) → IsDisplayed false Opening trees → text_of trees ≡ display trees }
+{}
+
+/// So it is if each subtree has brackets, no `'` is alone, and no string stands behind a `#` that is joint or joint hidden.
+pub fn plain_displayed()
+    ensures { (trees : Forest) → IsPlain Opening trees → IsDisplayed false Opening trees }
 {}
