@@ -38,8 +38,27 @@ numbers : (first_token_of (codes "1..2") ≡ token (kinds.Literal (literals.Int 
     × (first_token_of (codes "0x") ≡ token (kinds.Literal (literals.Int base.Hexadecimal true) 2) 2)
     × (first_token_of (codes "0b12") ≡ token (kinds.Literal (literals.Int base.Binary false) 4) 4)
     × (first_token_of (codes "1_u8") ≡ token (kinds.Literal (literals.Int base.Decimal false) 2) 4)
+    × (first_token_of (codes "0xFF") ≡ token (kinds.Literal (literals.Int base.Hexadecimal false) 4) 4)
+    × (first_token_of (codes "0xaBcDeF") ≡ token (kinds.Literal (literals.Int base.Hexadecimal false) 8) 8)
+    × (first_token_of (codes "1E3") ≡ token (kinds.Literal (literals.Float base.Decimal false) 3) 3)
+    × (first_token_of (codes "1e+3") ≡ token (kinds.Literal (literals.Float base.Decimal false) 4) 4)
 unfolding first_token_of reading reading_of opening symbol word number with_fraction with_exponent literal quoted_char apostrophe raw_text byte_length unicode_ident ucd_emoji lib.Utf8.encode
-numbers = (refl, refl, refl, refl, refl, refl, refl)
+numbers = (refl, refl, refl, refl, refl, refl, refl, refl, refl, refl, refl)
+
+-- each white space character: one byte of UTF-8 below 0x80, two below 0x800, and else three
+spaces : (first_token_of (9 ∷ []) ≡ token (kinds.Whitespace) 1)
+    × (first_token_of (10 ∷ []) ≡ token (kinds.Whitespace) 1)
+    × (first_token_of (11 ∷ []) ≡ token (kinds.Whitespace) 1)
+    × (first_token_of (12 ∷ []) ≡ token (kinds.Whitespace) 1)
+    × (first_token_of (13 ∷ []) ≡ token (kinds.Whitespace) 1)
+    × (first_token_of (32 ∷ []) ≡ token (kinds.Whitespace) 1)
+    × (first_token_of (0x85 ∷ []) ≡ token (kinds.Whitespace) 2)
+    × (first_token_of (0x200e ∷ []) ≡ token (kinds.Whitespace) 3)
+    × (first_token_of (0x200f ∷ []) ≡ token (kinds.Whitespace) 3)
+    × (first_token_of (0x2028 ∷ []) ≡ token (kinds.Whitespace) 3)
+    × (first_token_of (0x2029 ∷ []) ≡ token (kinds.Whitespace) 3)
+unfolding first_token_of reading reading_of opening symbol word number with_fraction with_exponent literal quoted_char apostrophe raw_text byte_length unicode_ident ucd_emoji lib.Utf8.encode
+spaces = (refl, refl, refl, refl, refl, refl, refl, refl, refl, refl, refl)
 
 quotes : (first_token_of (codes "r\"a\"#") ≡ token (kinds.Literal (literals.RawStr (Some 0)) 4) 4)
     × (first_token_of (codes "'a'") ≡ token (kinds.Literal (literals.Char true) 3) 3)

@@ -1,13 +1,17 @@
 pub mod AheadFacts
 pub mod Counts
 pub mod Hashes
+pub mod InsideText
 pub mod LimitFacts
+pub mod ListedText
 pub mod LiteralBytes
 pub mod OneSpelling
 pub mod Returns
+pub mod Rows
 pub mod ScanFacts
 pub mod ShapeFacts
 pub mod StackFacts
+pub mod TableText
 pub mod TextFacts
 pub mod TextUnits
 pub mod UnitFacts

@@ -8,7 +8,7 @@ use Rattle.std.specs.Prelude.{◌⊎◌, IsUtf8, nat_lt, unwrap_or}
 use Rattle.std.specs.Str.{chars}
 use Rattle.syntax_lex.specs.declared.token.LiteralKind.{LiteralKind}
 use Rattle.syntax_parse.specs.Escapes.{behind_one, count_fault, counted, escape_step, fault_behind, hex_digit, hex_first, hex_second, is_escape, is_scalar, is_single, step, takes_high, takes_null, takes_unicode, unicode_end, unicode_first, unicode_more, unicode_open, wants_escape, with_digit}
-use Rattle.syntax_parse.specs.LiteralText.{AreUnits, nothing, more, IsDigit, IsDigitOrLine, IsLiteralText, IsUnicode, IsUnit, character, simple, null, byte, unicode, line_end, MayHold, StandsForItself, digits_in, number_behind, number_in}
+use Rattle.syntax_parse.proofs.TableText.{AreUnits, nothing, more, IsDigit, IsDigitOrLine, IsLiteralText, IsUnicode, IsUnit, character, simple, null, byte, unicode, line_end, MayHold, StandsForItself, digits_in, number_behind, number_in}
 use Rattle.syntax_parse.specs.declared.escapes.Reached.{Reached}
 use Rattle.syntax_parse.specs.declared.escapes.Reached.TheVariants.{Plain, Backslash, Hex, HexDigit, Unicode, UnicodeOpen, UnicodeDigits, Wrong}
 use Rattle.syntax_parse.specs.declared.fault.BadToken.{BadToken}
@@ -328,8 +328,8 @@ unit_one kind units (inr one) = ap (λ n. count_fault kind (plus 0 n)) one ∙ b
     by_kind true = refl
     by_kind false = refl
 
-pub literal_text : (kind : LiteralKind) (text : List ℕ) → IsUtf8 text → (fault_behind kind Plain 0 text ≡ None → IsLiteralText kind text) × (IsLiteralText kind text → fault_behind kind Plain 0 text ≡ None)
-literal_text kind text utf8 =
+pub table_text : (kind : LiteralKind) (text : List ℕ) → IsUtf8 text → (fault_behind kind Plain 0 text ≡ None → IsLiteralText kind text) × (IsLiteralText kind text → fault_behind kind Plain 0 text ≡ None)
+table_text kind text utf8 =
     let spelled = encodes-chars text utf8 in (
       (λ none.
           let s = sound kind (length (chars text)) (chars text) 0 (omega arith) (ap (fault_behind kind Plain 0) spelled ∙ none) in

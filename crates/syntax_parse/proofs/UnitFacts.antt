@@ -6,7 +6,7 @@ use Rattle.std.specs.List.{AllByRecursion}
 use Rattle.std.specs.Prelude.{◌⊎◌, nat_lt, unwrap_or}
 use Rattle.syntax_lex.specs.declared.token.LiteralKind.{LiteralKind}
 use Rattle.syntax_parse.specs.Escapes.{behind_one, fault_behind, hex_digit, hex_first, hex_second, is_scalar, is_single, step, takes_high, takes_null, unicode_end, unicode_more, unicode_step, wants_escape, with_digit}
-use Rattle.syntax_parse.specs.LiteralText.{IsDigit, IsDigitOrLine, IsUnit, byte, MayHold, StandsForItself, digits_in, number_behind}
+use Rattle.syntax_parse.proofs.TableText.{IsDigit, IsDigitOrLine, IsUnit, byte, MayHold, StandsForItself, digits_in, number_behind}
 use Rattle.syntax_parse.specs.declared.escapes.Reached.TheVariants.{Plain, Backslash, Hex, HexDigit, UnicodeDigits, Wrong}
 use Rattle.syntax_parse.specs.declared.fault.BadToken.TheVariants as bad
 use Rattle.syntax_parse.proofs.LiteralBytes.{at_ascii, low_within, no_wrong}

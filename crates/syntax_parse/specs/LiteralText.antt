@@ -1,71 +1,112 @@
--- What stands between the quotes of a literal that is not raw, as the Rust reference lists it: characters and escapes.
-use Rattle.std.specs.List.{AllByRecursion}
-use Rattle.std.specs.Prelude.{◌≡◌, ◌≢◌, ◌⊎◌, ℕ, suc, ◌+◌, ◌*◌, ◌<◌, ◌≤◌, ◌==◌, true, false, List, [], ◌∷◌, ◌++◌, length, Some, unwrap_or, if◌then◌else◌}
-use Rattle.std.specs.Str.{chars}
+-- What may stand between the quotes of a literal that is not raw, as the Rust reference lists it: characters and escapes.
+use Rattle.std.specs.Char.{IsScalar}
+use Rattle.std.specs.Prelude.{◌≡◌, ◌≢◌, ◌⊎◌, ℕ, suc, ◌+◌, ◌*◌, ◌<◌, ◌≤◌, Bool, true, false, Contains, IsAscii, List, [], ◌∷◌, ◌++◌, Some, chars, codes, slice_get}
 use Rattle.syntax_lex.specs.declared.token.LiteralKind.{LiteralKind}
-use Rattle.syntax_parse.specs.Escapes.{hex_digit, is_escape, is_scalar, is_single, takes_high, takes_null, takes_unicode, wants_escape}
+use Rattle.syntax_lex.specs.declared.token.LiteralKind.TheVariants as literals
 
--- a literal of the kind may hold the character of that number: a C string holds no null
+-- whether a literal stands in quotes and is not raw
+abbrev pub is_quoted : LiteralKind → Bool
+is_quoted (literals.Char terminated) = true
+is_quoted (literals.Byte terminated) = true
+is_quoted (literals.Str terminated) = true
+is_quoted (literals.ByteStr terminated) = true
+is_quoted (literals.CStr terminated) = true
+is_quoted _ = false
+
+-- what such a literal begins with, up to its first quote
+abbrev pub opening : LiteralKind → List ℕ
+opening (literals.Char terminated) = codes "'"
+opening (literals.Byte terminated) = codes "b'"
+opening (literals.Str terminated) = codes "\""
+opening (literals.ByteStr terminated) = codes "b\""
+opening (literals.CStr terminated) = codes "c\""
+opening _ = []
+
+-- the quote that it ends with
+abbrev pub closing : LiteralKind → List ℕ
+closing (literals.Char terminated) = codes "'"
+closing (literals.Byte terminated) = codes "'"
+closing (literals.Str terminated) = codes "\""
+closing (literals.ByteStr terminated) = codes "\""
+closing (literals.CStr terminated) = codes "\""
+closing _ = []
+
+-- whether a literal holds exactly one character
+abbrev pub holds_one : LiteralKind → Bool
+holds_one (literals.Char terminated) = true
+holds_one (literals.Byte terminated) = true
+holds_one _ = false
+
+-- whether a literal is of bytes
+abbrev pub is_of_bytes : LiteralKind → Bool
+is_of_bytes (literals.Byte terminated) = true
+is_of_bytes (literals.ByteStr terminated) = true
+is_of_bytes _ = false
+
+-- a literal may hold this number as a character or a byte: a C string holds no null
 abbrev pub MayHold : LiteralKind → (number : ℕ) → Type 0
-MayHold kind number = (takes_null kind ≡ true) ⊎ (number ≢ 0)
+MayHold (literals.CStr terminated) number = number ≢ 0
+MayHold _ number = Unit {0}
+
+-- `\x` and two digits may tell this number: ASCII alone where they tell a character, and any where they tell a byte
+abbrev pub MayTell : LiteralKind → (number : ℕ) → Type 0
+MayTell (literals.Char terminated) number = number < 128
+MayTell (literals.Str terminated) number = number < 128
+MayTell (literals.CStr terminated) number = number ≢ 0
+MayTell _ number = Unit {0}
 
 -- a character that stands for itself: no backslash, and in a literal of one character no quote, no end of a line and no tab
 pub record StandsForItself (kind : LiteralKind) (c : ℕ) : Type 0 where
   pub no_backslash : c ≢ 92
-  pub no_mark : (is_single kind ≡ false) ⊎ (wants_escape c ≡ false)
+  pub no_mark : (holds_one kind ≡ false) ⊎ (Contains (codes "'\n\r\t") c → ⊥)
   pub held : MayHold kind c
 
 -- a digit of base 16, and its value
-abbrev pub IsDigit : (c value : ℕ) → Type 0
-IsDigit c value = hex_digit c ≡ Some value
+pub data IsDigit (c value : ℕ) : Type 0 where
+  small : slice_get (codes "0123456789abcdef") value ≡ Some c → IsDigit c value
+  large : slice_get (codes "0123456789ABCDEF") value ≡ Some c → IsDigit c value
 
--- `_`, or a digit of base 16
-abbrev pub IsDigitOrLine : ℕ → Type 0
-IsDigitOrLine c = (c ≡ 95) ⊎ ((value : ℕ) × IsDigit c value)
+-- so many digits of base 16, with `_` anywhere among them, tell a number behind digits that told another
+pub data Tell : (before : ℕ) → List ℕ → (digits number : ℕ) → Type 0 where
+  none : {before : ℕ} → Tell before [] 0 before
+  low_line : {before digits number : ℕ} {text : List ℕ} → Tell before text digits number → Tell before (95 ∷ text) digits number
+  digit : {before c value digits number : ℕ} {text : List ℕ} → IsDigit c value → Tell (before * 16 + value) text digits number
+      → Tell before (c ∷ text) (suc digits) number
 
--- the digits among digits and `_`
-abbrev pub digits_in : List ℕ → List ℕ
-digits_in [] = []
-digits_in (c ∷ cs) = if c == 95 then digits_in cs else c ∷ digits_in cs
-
--- the number that digits of base 16 tell, behind digits that tell another
-abbrev pub number_behind : (before : ℕ) → List ℕ → ℕ
-number_behind before [] = before
-number_behind before (c ∷ cs) = number_behind (before * 16 + unwrap_or (hex_digit c) 0) cs
-
--- the number that digits and `_` tell
-abbrev pub number_in : List ℕ → ℕ
-number_in text = number_behind 0 (digits_in text)
-
--- what `\u{..}` may hold: one to six digits of base 16, behind each of which `_` may stand, with the number of a character
-pub record IsUnicode (kind : LiteralKind) (text : List ℕ) : Type 0 where
-  pub first : ℕ
+-- what `\u{..}` may hold: a digit of base 16 and up to five more, with `_` behind any of them, that tell the number of a character
+pub record IsUnicode (kind : LiteralKind) (first : ℕ) (rest : List ℕ) : Type 0 where
   pub value : ℕ
-  pub rest : List ℕ
-  pub begins : text ≡ first ∷ rest
-  pub digit : IsDigit first value
-  pub digits : AllByRecursion IsDigitOrLine rest
-  pub few : length (digits_in text) ≤ 6
-  pub scalar : is_scalar (number_in text) ≡ true
-  pub held : MayHold kind (number_in text)
+  pub digits : ℕ
+  pub number : ℕ
+  pub begins : IsDigit first value
+  pub tell : Tell value rest digits number
+  pub few : digits ≤ 5
+  pub scalar : IsScalar number
+  pub held : MayHold kind number
 
 -- a character, or an escape: `\n` and its like, `\0`, `\x` and two digits, `\u{..}`, or a backslash at the end of a line
 pub data IsUnit (kind : LiteralKind) : List ℕ → Type 0 where
   character : {c : ℕ} → StandsForItself kind c → IsUnit kind (c ∷ [])
-  simple : {c : ℕ} → is_escape c ≡ true → IsUnit kind (92 ∷ c ∷ [])
+  simple : {c : ℕ} → Contains (codes "nrt\\'\"") c → IsUnit kind (92 ∷ c ∷ [])
   null : MayHold kind 0 → IsUnit kind (92 ∷ 48 ∷ [])
-  byte : {a b high low : ℕ} → IsDigit a high → IsDigit b low → (takes_high kind ≡ true) ⊎ (high < 8) → MayHold kind (high * 16 + low)
-      → IsUnit kind (92 ∷ 120 ∷ a ∷ b ∷ [])
-  unicode : {text : List ℕ} → takes_unicode kind ≡ true → IsUnicode kind text → IsUnit kind (92 ∷ 117 ∷ 123 ∷ (text ++ 125 ∷ []))
-  line_end : {c : ℕ} → is_single kind ≡ false → (c ≡ 10) ⊎ (c ≡ 13) → IsUnit kind (92 ∷ c ∷ [])
+  byte : {a b high low : ℕ} → IsDigit a high → IsDigit b low → MayTell kind (high * 16 + low) → IsUnit kind (92 ∷ 120 ∷ a ∷ b ∷ [])
+  unicode : {first : ℕ} {rest : List ℕ} → is_of_bytes kind ≡ false → IsUnicode kind first rest → IsUnit kind (92 ∷ 117 ∷ 123 ∷ first ∷ (rest ++ 125 ∷ []))
+  line_end : {c : ℕ} → holds_one kind ≡ false → (c ≡ 10) ⊎ (c ≡ 13) → IsUnit kind (92 ∷ c ∷ [])
 
 -- so many of them, one after another
 pub data AreUnits (kind : LiteralKind) : (count : ℕ) → List ℕ → Type 0 where
   nothing : AreUnits kind 0 []
   more : {unit rest : List ℕ} {count : ℕ} → IsUnit kind unit → AreUnits kind count rest → AreUnits kind (suc count) (unit ++ rest)
 
--- the text of a literal: characters and escapes, and exactly one where the literal is of one character
+-- a line feed stands right behind each carriage return
+abbrev pub ReturnsEndLines : List ℕ → Type 0
+ReturnsEndLines text = (before behind : List ℕ) → text ≡ before ++ (13 ∷ behind) → (rest : List ℕ) × (behind ≡ 10 ∷ rest)
+
+-- the text of a literal: characters and escapes, exactly one where it holds one character, ASCII where it is of bytes, with no bare carriage
+-- return; that its closing quote stands in it only behind a backslash is a rule of tokens
 pub record IsLiteralText (kind : LiteralKind) (text : List ℕ) : Type 0 where
   pub count : ℕ
   pub units : AreUnits kind count (chars text)
-  pub one : (is_single kind ≡ false) ⊎ (count ≡ 1)
+  pub one : (holds_one kind ≡ false) ⊎ (count ≡ 1)
+  pub ascii : (is_of_bytes kind ≡ false) ⊎ IsAscii text
+  pub returns : ReturnsEndLines text

@@ -1,5 +1,5 @@
 -- The Rust text of trees is that of Display where no space stands otherwise.
-use Rattle.std.proofs.Common.{◌≡◌, ℕ, ◌+◌, Bool, true, false, ◌==◌, ◌&&◌, IsTrue, List, [], ◌∷◌, ◌++◌, Some, refl, sym, ap, ap₂, ◌∙◌, append_assoc, append-nil, if◌then◌else◌}
+use Rattle.std.proofs.Common.{◌≡◌, ℕ, ◌+◌, Bool, true, false, ◌==◌, ◌&&◌, IsTrue, List, [], ◌∷◌, ◌++◌, None, Some, refl, sym, ap, ap₂, subst, inl, inr, ◌∙◌, append_assoc, append-nil, if◌then◌else◌}
 use Rattle.std.proofs.lemmas.Bool.{false≢true}
 use Rattle.tt_base.specs.Forest.{Forest, end, leaf, node, size}
 use Rattle.tt_base.specs.LeafText.{leaf_text}
@@ -11,17 +11,11 @@ use Rattle.tt_base.specs.declared.leaf.Leaf.TheVariants as leaf_of
 use Rattle.syntax_parse.specs.Role.{kind_of}
 use Rattle.syntax_parse.specs.declared.bracket.Bracket.{Bracket}
 use Rattle.syntax_parse.specs.declared.bracket.Bracket.TheVariants.{Parenthesis, Brace, Square}
-use Rattle.syntax_unparse.specs.Displayed.{IsDisplayed, has_brackets, is_lone_quote, touches_pound}
+use Rattle.syntax_unparse.specs.Displayed.{IsDisplayed, IsPlain, TakesSpace, behind_all, behind_subtree, has_brackets, is_lone_quote, touches_pound}
 use Rattle.syntax_unparse.specs.Marks.{Mark, closing, brackets_of, closes, marks, opens, shown}
 use Rattle.syntax_unparse.specs.Text.{behind_leaf, opens_apart, text_of, wants_space, written}
 use Rattle.syntax_unparse.specs.declared.behind.Behind.{Behind}
 use Rattle.syntax_unparse.specs.declared.behind.Behind.TheVariants.{Opening, Apart, Joint, Slash, Pound, Quote}
-
--- what stands behind siblings
-abbrev behind_all : Behind → Forest → Behind
-behind_all behind end = behind
-behind_all behind (leaf it rest) = behind_all (behind_leaf it) rest
-behind_all behind (node delimiter children rest) = behind_all Apart rest
 
 -- a leaf has a space before it where a subtree has one
 space_same : (behind : Behind) (it : Leaf) → touches_pound behind it ≡ false → wants_space behind it ≡ opens_apart behind
@@ -65,18 +59,39 @@ regrouped a b c d e =
 grouped : (f c t r w : List ℕ) → f ++ (c ++ (t ++ (r ++ w))) ≡ (((f ++ c) ++ t) ++ r) ++ w
 grouped f c t r w = sym (append_assoc ((f ++ c) ++ t) r w ∙ append_assoc (f ++ c) t (r ++ w) ∙ append_assoc f c (t ++ (r ++ w)))
 
+-- a kind that is written without brackets has none in Display
+bare : (kind : DelimiterKind) (held : ℕ) → brackets_of kind held ≡ None → (opening_text kind ≡ []) × (closing_text kind ≡ [])
+bare delimits.Parenthesis held none = cc
+bare delimits.Brace held none = cc
+bare delimits.Bracket held none = cc
+bare delimits.Invisible held none = (refl, refl)
+bare delimits.InvisibleOpaque held none = (refl, refl)
+
+-- a space before a subtree without brackets is one before its first tree
+space_first : (due : Bool) (trees : Forest) → TakesSpace due trees → space_if due ++ siblings_text is_alone false trees ≡ siblings_text is_alone due trees
+space_first true end takes = absurd takes
+space_first true (leaf it rest) takes = refl
+space_first true (node delimiter children rest) takes = refl
+space_first false trees takes = refl
+
+ungrouped : (s o i c r w : List ℕ) → o ≡ [] → c ≡ [] → (s ++ i) ++ (r ++ w) ≡ ((((s ++ o) ++ i) ++ c) ++ r) ++ w
+ungrouped s o i c r w no_opening no_closing =
+    ap (λ t. (t ++ i) ++ (r ++ w)) (sym (append-nil s))
+    ∙ sym (append_assoc ((s ++ []) ++ i) r w)
+    ∙ ap (λ t. (t ++ r) ++ w) (sym (append-nil ((s ++ []) ++ i)))
+    ∙ ap₂ (λ a b. ((((s ++ a) ++ i) ++ b) ++ r) ++ w) (sym no_opening) (sym no_closing)
+
 -- the text of siblings, and of what follows them
-written_all : (behind : Behind) (at : ℕ) (trees : Forest) (more : List Mark) → IsDisplayed behind trees
-    → written behind (marks at trees ++ more) ≡ siblings_text is_alone (opens_apart behind) trees ++ written (behind_all behind trees) more
-written_all behind at end more h = refl
-written_all behind at (leaf it rest) more h =
-    let inner = written_all (behind_leaf it) (at + 1) rest more h.2 in
-    ap₂ (λ b t. (space_if b ++ leaf_text it) ++ t) (space_same behind it h.1) (inner ∙ ap (λ b. siblings_text is_alone b rest ++ written (behind_all (behind_leaf it) rest) more) (after_same it h.0))
-    ∙ sym (append_assoc (space_if (opens_apart behind) ++ leaf_text it) (siblings_text is_alone (space_after is_alone it) rest) (written (behind_all (behind_leaf it) rest) more))
-written_all behind at (node delimiter children rest) more h =
+written_all : (due : Bool) (behind : Behind) (at : ℕ) (trees : Forest) (more : List Mark) → IsDisplayed due behind trees
+    → written behind (marks at trees ++ more) ≡ siblings_text is_alone due trees ++ written (behind_all behind trees) more
+written_all due behind at end more h = refl
+written_all due behind at (leaf it rest) more h =
+    ap₂ (λ b t. (space_if b ++ leaf_text it) ++ t) h.0 (written_all (space_after is_alone it) (behind_leaf it) (at + 1) rest more h.1)
+    ∙ sym (append_assoc (space_if due ++ leaf_text it) (siblings_text is_alone (space_after is_alone it) rest) (written (behind_all (behind_leaf it) rest) more))
+written_all due behind at (node delimiter children rest) more (inl h) =
     let there = brackets_there delimiter.kind (shown children) h.0 in
     let pair = there.pair in
-    let space = space_if (opens_apart behind) in
+    let space = space_if due in
     let held = marks (at + 1) children in
     let others = marks ((at + 1) + size children) rest in
     let inside = siblings_text is_alone false children in
@@ -84,12 +99,37 @@ written_all behind at (node delimiter children rest) more h =
     let left = written (behind_all Apart rest) more in
     ap (written behind) (regrouped (opens (brackets_of delimiter.kind (shown children))) held (closes (brackets_of delimiter.kind (shown children))) others more)
     ∙ ap (λ b. written behind (opens b ++ (held ++ (closes b ++ (others ++ more))))) there.are
-    ∙ ap (λ t. (space ++ opening_text (kind_of pair)) ++ t) (written_all Opening (at + 1) children (closing pair ∷ (others ++ more)) h.1)
-    ∙ ap (λ t. (space ++ opening_text (kind_of pair)) ++ (inside ++ (closing_text (kind_of pair) ++ t))) (written_all Apart ((at + 1) + size children) rest more h.2)
+    ∙ ap (λ s. (space_if s ++ opening_text (kind_of pair)) ++ written Opening (held ++ (closing pair ∷ (others ++ more)))) h.1
+    ∙ ap (λ t. (space ++ opening_text (kind_of pair)) ++ t) (written_all false Opening (at + 1) children (closing pair ∷ (others ++ more)) h.2)
+    ∙ ap (λ t. (space ++ opening_text (kind_of pair)) ++ (inside ++ (closing_text (kind_of pair) ++ t))) (written_all true Apart ((at + 1) + size children) rest more h.3)
     ∙ ap (λ k. (space ++ opening_text k) ++ (inside ++ (closing_text k ++ (outside ++ left)))) there.of_kind
     ∙ grouped (space ++ opening_text delimiter.kind) inside (closing_text delimiter.kind) outside left
+    ∙ ap (λ b. ((((space ++ opening_text delimiter.kind) ++ inside) ++ closing_text delimiter.kind) ++ outside) ++ written (behind_all (behind_subtree b (behind_all behind children)) rest) more) (sym there.are)
+written_all due behind at (node delimiter children rest) more (inr h) =
+    let none = bare delimiter.kind (shown children) h.0 in
+    let held = marks (at + 1) children in
+    let others = marks ((at + 1) + size children) rest in
+    let inside = siblings_text is_alone false children in
+    let outside = siblings_text is_alone true rest in
+    let left = written (behind_all (behind_all behind children) rest) more in
+    ap (written behind) (regrouped (opens (brackets_of delimiter.kind (shown children))) held (closes (brackets_of delimiter.kind (shown children))) others more)
+    ∙ ap (λ b. written behind (opens b ++ (held ++ (closes b ++ (others ++ more))))) h.0
+    ∙ written_all due behind (at + 1) children (others ++ more) h.2
+    ∙ ap (λ t. siblings_text is_alone due children ++ t) (written_all true (behind_all behind children) ((at + 1) + size children) rest more h.3)
+    ∙ ap (λ t. t ++ (outside ++ left)) (sym (space_first due children h.1))
+    ∙ ungrouped (space_if due) (opening_text delimiter.kind) inside (closing_text delimiter.kind) outside left none.0 none.1
+    ∙ ap (λ b. ((((space_if due ++ opening_text delimiter.kind) ++ inside) ++ closing_text delimiter.kind) ++ outside) ++ written (behind_all (behind_subtree b (behind_all behind children)) rest) more) (sym h.0)
 
 -- the whole text is that of Display
-pub as_displayed : (trees : Forest) → IsDisplayed Opening trees → text_of trees ≡ display trees
+pub as_displayed : (trees : Forest) → IsDisplayed false Opening trees → text_of trees ≡ display trees
 unfolding display
-as_displayed trees h = ap (written Opening) (sym (append-nil (marks 0 trees))) ∙ written_all Opening 0 trees [] h ∙ append-nil (siblings_text is_alone false trees)
+as_displayed trees h = ap (written Opening) (sym (append-nil (marks 0 trees))) ∙ written_all false Opening 0 trees [] h ∙ append-nil (siblings_text is_alone false trees)
+
+plain_all : (behind : Behind) (trees : Forest) → IsPlain behind trees → IsDisplayed (opens_apart behind) behind trees
+plain_all behind end h = tt
+plain_all behind (leaf it rest) h = (space_same behind it h.1, subst (λ b. IsDisplayed b (behind_leaf it) rest) (after_same it h.0) (plain_all (behind_leaf it) rest h.2))
+plain_all behind (node delimiter children rest) h = inl (h.0, refl, plain_all Opening children h.1, plain_all Apart rest h.2)
+
+-- plain trees are written as Display writes them
+pub plain_displayed : (trees : Forest) → IsPlain Opening trees → IsDisplayed false Opening trees
+plain_displayed trees h = plain_all Opening trees h

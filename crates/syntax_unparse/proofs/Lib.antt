@@ -1,4 +1,5 @@
 pub mod MarksLeft
+pub mod OneFault
 pub mod ReadFacts
 pub mod ShownLeft
 pub mod WriteFacts

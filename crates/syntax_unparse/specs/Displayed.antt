@@ -1,14 +1,49 @@
 -- Trees whose Rust text is that of Display.
-use Rattle.std.specs.Prelude.{◌≡◌, Bool, true, false, ◌==◌, ◌&&◌, IsTrue}
+use Rattle.std.specs.Prelude.{◌≡◌, ◌⊎◌, Bool, true, false, ◌==◌, ◌&&◌, IsTrue, Option, None, Some}
 use Rattle.tt_base.specs.Forest.{Forest, end, leaf, node}
-use Rattle.tt_base.specs.TreeText.{is_alone}
+use Rattle.tt_base.specs.TreeText.{is_alone, space_after}
 use Rattle.tt_base.specs.declared.delimiter.DelimiterKind.{DelimiterKind}
 use Rattle.tt_base.specs.declared.delimiter.DelimiterKind.TheVariants as delimits
 use Rattle.tt_base.specs.declared.leaf.Leaf.{Leaf}
 use Rattle.tt_base.specs.declared.leaf.Leaf.TheVariants as leaf_of
-use Rattle.syntax_unparse.specs.Text.{behind_leaf, is_string}
+use Rattle.syntax_parse.specs.declared.bracket.Bracket.{Bracket}
+use Rattle.syntax_unparse.specs.Marks.{brackets_of, shown}
+use Rattle.syntax_unparse.specs.Text.{behind_leaf, is_string, opens_apart, wants_space}
 use Rattle.syntax_unparse.specs.declared.behind.Behind.{Behind}
 use Rattle.syntax_unparse.specs.declared.behind.Behind.TheVariants.{Opening, Apart, Pound}
+
+-- whether Display has brackets round a subtree of a kind
+abbrev pub has_brackets : DelimiterKind → Bool
+has_brackets delimits.Invisible = false
+has_brackets delimits.InvisibleOpaque = false
+has_brackets _ = true
+
+-- what stands behind a subtree, of whose trees the last leaves this behind it: they stand for the subtree if it has no brackets
+abbrev pub behind_subtree : Option Bracket → (held : Behind) → Behind
+behind_subtree None held = held
+behind_subtree (Some pair) held = Apart
+
+-- what stands behind siblings
+abbrev pub behind_all : Behind → Forest → Behind
+behind_all behind end = behind
+behind_all behind (leaf it rest) = behind_all (behind_leaf it) rest
+behind_all behind (node delimiter children rest) =
+    behind_all (behind_subtree (brackets_of delimiter.kind (shown children)) (behind_all behind children)) rest
+
+-- a space that Display puts before trees without brackets has a tree to stand before
+abbrev pub TakesSpace : (due : Bool) → Forest → Type 0
+TakesSpace true end = ⊥
+TakesSpace due trees = Unit {0}
+
+-- before each leaf and each pair of brackets, the Rust text of siblings has a space exactly if Display has one, which puts one before the first
+-- of them if one is due; each subtree has brackets in both, or in neither
+abbrev pub IsDisplayed : (due : Bool) → Behind → Forest → Type 0
+IsDisplayed due behind end = Unit {0}
+IsDisplayed due behind (leaf it rest) = (wants_space behind it ≡ due) × IsDisplayed (space_after is_alone it) (behind_leaf it) rest
+IsDisplayed due behind (node delimiter children rest) =
+    (IsTrue (has_brackets delimiter.kind) × (opens_apart behind ≡ due) × IsDisplayed false Opening children × IsDisplayed true Apart rest)
+    ⊎ ((brackets_of delimiter.kind (shown children) ≡ None) × TakesSpace due children × IsDisplayed due behind children
+    × IsDisplayed true (behind_all behind children) rest)
 
 -- whether a leaf is a `'` that is alone
 abbrev pub is_lone_quote : Leaf → Bool
@@ -20,14 +55,8 @@ abbrev pub touches_pound : Behind → Leaf → Bool
 touches_pound Pound it = is_string it
 touches_pound _ it = false
 
--- whether a subtree of a kind has brackets
-abbrev pub has_brackets : DelimiterKind → Bool
-has_brackets delimits.Invisible = false
-has_brackets delimits.InvisibleOpaque = false
-has_brackets _ = true
-
--- each subtree has brackets, no `'` is alone, and no string touches a `#`, where this was written last
-abbrev pub IsDisplayed : Behind → Forest → Type 0
-IsDisplayed behind end = Unit {0}
-IsDisplayed behind (leaf it rest) = (is_lone_quote it ≡ false) × (touches_pound behind it ≡ false) × IsDisplayed (behind_leaf it) rest
-IsDisplayed behind (node delimiter children rest) = IsTrue (has_brackets delimiter.kind) × IsDisplayed Opening children × IsDisplayed Apart rest
+-- each subtree has brackets, no `'` is alone, and no string touches a `#`, if this was written last
+abbrev pub IsPlain : Behind → Forest → Type 0
+IsPlain behind end = Unit {0}
+IsPlain behind (leaf it rest) = (is_lone_quote it ≡ false) × (touches_pound behind it ≡ false) × IsPlain (behind_leaf it) rest
+IsPlain behind (node delimiter children rest) = IsTrue (has_brackets delimiter.kind) × IsPlain Opening children × IsPlain Apart rest

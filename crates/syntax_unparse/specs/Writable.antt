@@ -1,5 +1,5 @@
 -- Which leaves can be written: those whose text reads back.
-use Rattle.std.specs.Prelude.{◌≡◌, ◌⊎◌, ◌≤◌, ◌^◌, ℕ, ◌+◌, Bool, true, false, ◌==◌, ◌||◌, IsTrue, List, [], ◌∷◌, ◌++◌, length, Option, None, Some}
+use Rattle.std.specs.Prelude.{◌≡◌, ◌⊎◌, ◌<◌, ◌≤◌, ◌^◌, ℕ, ◌+◌, Bool, true, false, ◌==◌, ◌||◌, IsTrue, List, [], ◌∷◌, ◌++◌, length, Option, None, Some}
 use Rattle.std.specs.Str.{chars, IsUtf8}
 use Rattle.tt_base.specs.Forest.{Forest}
 use Rattle.tt_base.specs.LeafText.{ident_text, leaf_text}
@@ -109,8 +109,8 @@ Refuses trees answer = IsFirstRefused 0 Opening (marks 0 trees) answer
 abbrev pub IsWritable : Forest → Type 0
 IsWritable trees = Refuses trees None
 
--- why trees are not written
+-- why trees are not written: their text is too long; or else a leaf cannot be written, and this is the first; memory may run out at any time
 abbrev pub IsWriteFault : Forest → WriteFault → Type 0
-IsWriteFault trees (NotWritable at) = Refuses trees (Some at)
+IsWriteFault trees (NotWritable at) = Refuses trees (Some at) × (1 + length (text_of trees) < 2 ^ 32)
 IsWriteFault trees TooLong = 2 ^ 32 ≤ 1 + length (text_of trees)
 IsWriteFault trees Memory = Unit {0}

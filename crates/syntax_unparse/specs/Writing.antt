@@ -1,25 +1,41 @@
 -- Writing marks one after the other.
-use Rattle.std.specs.Prelude.{◌≡◌, ◌≤◌, ◌+◌, ◌^◌, ℕ, List, [], ◌++◌, length, Option, Some}
+use Rattle.std.specs.Prelude.{◌≡◌, ◌≤◌, ◌<◌, ◌+◌, ◌^◌, ℕ, List, [], ◌++◌, length, Option, None, Some}
+use Rattle.tt_base.specs.declared.leaf.Leaf.{Leaf}
 use Rattle.syntax_unparse.specs.Marks.{Mark}
 use Rattle.syntax_unparse.specs.Text.{written}
-use Rattle.syntax_unparse.specs.Writable.{IsFirstRefused}
+use Rattle.syntax_unparse.specs.Writable.{Answers, IsFirstRefused, MayFollow, ReadsAlone}
+use Rattle.syntax_unparse.specs.declared.behind.Behind.{Behind}
 use Rattle.syntax_unparse.specs.declared.fault.WriteFault.{WriteFault}
 use Rattle.syntax_unparse.specs.declared.fault.WriteFault.TheVariants.{NotWritable, TooLong, Memory}
 use Rattle.syntax_unparse.specs.declared.write.Last.{Last}
 
--- marks are written, all of which can be: whatever follows, what comes behind them is what came behind the text before
+-- the place of the first leaf that cannot be written, of those before or else of these marks, if one cannot
+abbrev pub IsRefused : (before : Option ℕ) → (last : ℕ) → Behind → List Mark → Option ℕ → Type 0
+IsRefused None last behind marks answer = IsFirstRefused last behind marks answer
+IsRefused (Some at) last behind marks answer = answer ≡ Some at
+
+-- the same of the marks that stand behind what was written last
+abbrev pub Refusing : Last → List Mark → Option ℕ → Type 0
+Refusing last marks answer = IsRefused last.refused last.at last.behind marks answer
+
+-- the place of the first leaf that cannot be written, of those before or else of the last one and of the leaf that follows, if one cannot
+abbrev pub IsLeafRefused : (before : Option ℕ) → (last : ℕ) → Behind → (at : ℕ) → Leaf → Option ℕ → Type 0
+IsLeafRefused None last behind at it answer = Answers (MayFollow behind it) (Answers (ReadsAlone it) (answer ≡ None) (answer ≡ Some at)) (answer ≡ Some last)
+IsLeafRefused (Some place) last behind at it answer = answer ≡ Some place
+
+-- marks are written: whatever follows, what comes behind them is what came behind the text before
 pub record Writes (old : List ℕ) (last : Last) (front : List Mark) (new : List ℕ) (next : Last) : Type 0 where
   pub text : (rest : List Mark) → new ++ written next.behind rest ≡ old ++ written last.behind (front ++ rest)
-  pub refused : (rest : List Mark) → (answer : Option ℕ) → IsFirstRefused next.at next.behind rest answer → IsFirstRefused last.at last.behind (front ++ rest) answer
+  pub refused : (rest : List Mark) → (answer : Option ℕ) → Refusing next rest answer → Refusing last (front ++ rest) answer
 
 -- why marks are not written, whatever follows
 abbrev pub IsFaultBefore : (last : Last) → (front : List Mark) → WriteFault → Type 0
-IsFaultBefore last front (NotWritable at) = (rest : List Mark) → IsFirstRefused last.at last.behind (front ++ rest) (Some at)
+IsFaultBefore last front (NotWritable at) = ⊥
 IsFaultBefore last front TooLong = (rest : List Mark) → 2 ^ 32 ≤ 1 + length (written last.behind (front ++ rest))
 IsFaultBefore last front Memory = Unit {0}
 
 -- why a text is refused that is all written
 abbrev pub IsFaultAtEnd : (text : List ℕ) → (last : Last) → WriteFault → Type 0
-IsFaultAtEnd text last (NotWritable at) = IsFirstRefused last.at last.behind [] (Some at)
+IsFaultAtEnd text last (NotWritable at) = Refusing last [] (Some at) × (1 + length text < 2 ^ 32)
 IsFaultAtEnd text last TooLong = 2 ^ 32 ≤ 1 + length text
 IsFaultAtEnd text last Memory = ⊥

@@ -1,5 +1,5 @@
 //! Laws of the definitions that the contracts cite: each is the contract of a function that does nothing.
-ghost use Rattle.std.specs.Prelude.{◌≡◌, List, ℕ};
+ghost use Rattle.std.specs.Prelude.{◌≡◌, ◌≢◌, ◌+◌, ◌^◌, ◌<◌, false, length, List, ℕ};
 ghost use Rattle.tt_base.specs.Forest.{Forest, Root};
 ghost use Rattle.tt_base.specs.TreeText.{display};
 ghost use Rattle.tt_base.specs.declared.span.SpanPart.{SpanPart};
@@ -7,12 +7,14 @@ ghost use Rattle.syntax_parse.specs.Parsed.{IsParse};
 ghost use Rattle.syntax_parse.specs.Refusal.{IsFaultOf};
 ghost use Rattle.syntax_parse.specs.Spelled.{spelled};
 ghost use Rattle.syntax_parse.specs.declared.fault.SyntaxFault.{SyntaxFault};
-ghost use Rattle.syntax_unparse.specs.Displayed.{IsDisplayed};
+ghost use Rattle.syntax_unparse.specs.Displayed.{IsDisplayed, IsPlain};
 ghost use Rattle.syntax_unparse.specs.Marks.{marks};
 ghost use Rattle.syntax_unparse.specs.Settled.{ReadsBack, settled, sorts};
 ghost use Rattle.syntax_unparse.specs.Text.{text_of};
-ghost use Rattle.syntax_unparse.specs.Writable.{IsWritable};
+ghost use Rattle.syntax_unparse.specs.Writable.{IsWritable, IsWriteFault};
 ghost use Rattle.syntax_unparse.specs.declared.behind.Behind.TheVariants.{Opening};
+ghost use Rattle.syntax_unparse.specs.declared.fault.WriteFault.{WriteFault};
+ghost use Rattle.syntax_unparse.specs.declared.fault.WriteFault.TheVariants.{Memory};
 
 /// What is written of trees that can be written has only valid tokens, its brackets match, and its pieces are the settled
 /// leaves and brackets of the trees.
@@ -31,8 +33,23 @@ pub fn no_syntax_fault()
     ensures { (trees : Forest) → (text : List ℕ) → (fault : SyntaxFault) → ReadsBack trees text → IsFaultOf text fault → ⊥ }
 {}
 
-/// The text is that of Display where each subtree has brackets, no `'` is alone, and no string stands behind a `#` that is
-/// joint or joint hidden.
+/// Trees that are not written have one fault, apart from want of memory.
+pub fn one_fault()
+    ensures { (trees : Forest) → (one other : WriteFault) → IsWriteFault trees one → IsWriteFault trees other → one ≢ Memory → other ≢ Memory → one ≡ other }
+{}
+
+/// Trees that can be written, with a text that is not too long, have none.
+pub fn no_fault()
+    ensures { (trees : Forest) → (fault : WriteFault) → IsWritable trees → 1 + length (text_of trees) < 2 ^ 32 → IsWriteFault trees fault → fault ≡ Memory }
+{}
+
+/// The text is that of Display if each subtree has the same brackets in both, or none in both, and a space stands in the text exactly
+/// where Display has one.
 pub fn as_displayed()
-    ensures { (trees : Forest) → IsDisplayed Opening trees → text_of trees ≡ display trees }
+    ensures { (trees : Forest) → IsDisplayed false Opening trees → text_of trees ≡ display trees }
+{}
+
+/// So it is if each subtree has brackets, no `'` is alone, and no string stands behind a `#` that is joint or joint hidden.
+pub fn plain_displayed()
+    ensures { (trees : Forest) → IsPlain Opening trees → IsDisplayed false Opening trees }
 {}

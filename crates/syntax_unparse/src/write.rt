@@ -1,11 +1,12 @@
 //! Trees as Rust text. What is left of each subtree that was entered is kept in memory, so a tree may be as deep as that holds.
-ghost use Rattle.std.specs.Prelude.{◌≡◌, ◌+◌, ◌<◌, ◌≤◌, ◌^◌, ◌++◌, [], ◌∷◌, IfOk, IfErr, OnOk, string_bytes, length};
+ghost use Rattle.std.specs.Prelude.{◌≡◌, ◌+◌, ◌<◌, ◌≤◌, ◌^◌, ◌++◌, [], ◌∷◌, IfOk, IfErr, None, OnOk, string_bytes, length};
 ghost use Rattle.tt_base.specs.LeafText.{ident_text, leaf_text};
 ghost use Rattle.syntax_unparse.specs.Marks.{closes, opens, word};
 ghost use Rattle.syntax_unparse.specs.Settled.{ReadsBack};
 ghost use Rattle.syntax_unparse.specs.Text.{text_of};
-ghost use Rattle.syntax_unparse.specs.Writable.{IsWritable, IsWriteFault, MayEnd};
-ghost use Rattle.syntax_unparse.specs.Writing.{IsFaultAtEnd, IsFaultBefore, Writes};
+ghost use Rattle.syntax_unparse.specs.Writable.{IsWritable, IsWriteFault};
+ghost use Rattle.syntax_unparse.specs.Writing.{IsFaultAtEnd, IsFaultBefore, IsLeafRefused, Refusing, Writes};
+ghost use Rattle.syntax_unparse.specs.declared.fault.WriteFault.TheVariants.{Memory};
 ghost use Rattle.tt_view.specs.Views.{trees_of};
 
 use crate::behind::{Behind, behind_leaf, may_end, opens_apart, wants_space};
@@ -19,11 +20,13 @@ use tt_base::{Ident, IdentIsRaw, Leaf};
 use tt_view::text::{closing, opening, space};
 use tt_view::{TokenTreesView, TtElement, TtIter};
 
-// What was written last: the place of the last leaf, and what may follow.
+// What was written last: the place of the last leaf, what may follow, and the place of the first leaf that cannot be written, if one
+// cannot.
 #[derive(Clone, Copy)]
 struct Last {
     at: usize,
     behind: Behind,
+    refused: Option<usize>,
 }
 
 // What is left of a subtree that was entered, and the brackets that it is written in.
@@ -71,7 +74,46 @@ fn text_in<'a>(room: &'a mut String, leaf: &'a Leaf) -> Result<&'a str, AllocErr
     Ok(room.as_str())
 }
 
-// Adds the leaf behind what was written last, if both can be written; `room` is for its text.
+// The first leaf that cannot be written, of those before or else of the last one and of the leaf that follows with this text.
+fn refused_by(
+    alloc: Global,
+    last: Last,
+    at: usize,
+    leaf: &Leaf,
+    text: &str,
+) -> Result<Option<usize>, WriteFault>
+    requires text { text.now ≡ leaf_text leaf.now }
+    requires fits { length text.now + 1 < 2 ^ 32 }
+    ensures ok { IfOk result (λ refused. IsLeafRefused last.refused last.at last.behind at leaf.now refused) }
+    ensures err { IfErr result (λ fault. fault ≡ Memory) }
+{
+    if let Some(place) = last.refused {
+        return Ok(Some(place));
+    }
+    if !may_follow(alloc, last.behind, leaf)? {
+        return Ok(Some(last.at));
+    }
+    if !reads_alone(alloc, text, leaf)? {
+        return Ok(Some(at));
+    }
+    Ok(None)
+}
+
+// The first leaf that cannot be written, of those before or else of the last one before a bracket or the end.
+fn refused_at_end(last: Last) -> Option<usize>
+    ensures { Refusing last [] result }
+{
+    if let Some(place) = last.refused {
+        return Some(place);
+    }
+    if may_end(last.behind) {
+        None
+    } else {
+        Some(last.at)
+    }
+}
+
+// Adds the leaf behind what was written last; `room` is for its text.
 #[tactic(auto, using(crate::proofs::WriteFacts::writes_leaf, crate::proofs::WriteFacts::leaf_within))]
 fn write_leaf(
     alloc: Global,
@@ -88,17 +130,13 @@ fn write_leaf(
     if leaf_text.len() >= MOST_TEXT_BYTES {
         return Err(WriteFault::TooLong);
     }
-    if !may_follow(alloc, last.behind, leaf)? {
-        return Err(WriteFault::NotWritable { at: last.at });
-    }
-    if !reads_alone(alloc, leaf_text, leaf)? {
-        return Err(WriteFault::NotWritable { at });
-    }
+    let refused = refused_by(alloc, last, at, leaf, leaf_text)?;
     text.push_str(space(wants_space(last.behind, leaf)))?;
     text.push_str(leaf_text)?;
     Ok(Last {
         at,
         behind: behind_leaf(leaf),
+        refused,
     })
 }
 
@@ -114,14 +152,13 @@ fn write_opening(
     let Some(bracket) = brackets else {
         return Ok(last);
     };
-    if !may_end(last.behind) {
-        return Err(WriteFault::NotWritable { at: last.at });
-    }
+    let refused = refused_at_end(last);
     text.push_str(space(opens_apart(last.behind)))?;
     text.push_str(opening(bracket.kind()))?;
     Ok(Last {
         at: last.at,
         behind: Behind::Opening,
+        refused,
     })
 }
 
@@ -137,32 +174,32 @@ fn write_closing(
     let Some(bracket) = brackets else {
         return Ok(last);
     };
-    if !may_end(last.behind) {
-        return Err(WriteFault::NotWritable { at: last.at });
-    }
+    let refused = refused_at_end(last);
     text.push_str(closing(bracket.kind()))?;
     Ok(Last {
         at: last.at,
         behind: Behind::Apart,
+        refused,
     })
 }
 
-// The text, where all is written.
+// The text, once all is written.
 fn ended(text: String, last: Last) -> Result<String, WriteFault>
-    ensures ok { IfOk result (λ all. (string_bytes all ≡ string_bytes text) × (2 ^ 32 ≤ 1 + length (string_bytes text) → ⊥) × MayEnd last.behind) }
+    ensures ok { IfOk result (λ all. (string_bytes all ≡ string_bytes text) × (2 ^ 32 ≤ 1 + length (string_bytes text) → ⊥) × Refusing last [] None) }
     ensures err { IfErr result (IsFaultAtEnd (string_bytes text) last) }
 {
-    if !may_end(last.behind) {
-        return Err(WriteFault::NotWritable { at: last.at });
-    }
     if text.len() >= MOST_TEXT_BYTES {
         return Err(WriteFault::TooLong);
+    }
+    if let Some(at) = refused_at_end(last) {
+        return Err(WriteFault::NotWritable { at });
     }
     Ok(text)
 }
 
 /// The Rust text of trees: that of Display, but for subtrees without brackets and for what would not read back so. An opaque
-/// subtree has parentheses where it holds two trees or more; `'` touches its name; a `#` stands apart from a string.
+/// subtree has parentheses where it holds two trees or more; `'` touches its name; a `#` stands apart from a string. A text that would be too
+/// long is refused as such, also if a leaf cannot be written.
 pub fn rust_text(alloc: Global, trees: TokenTreesView<'_>) -> Result<String, WriteFault>
     ensures text { IfOk result (λ text. string_bytes text ≡ text_of (trees_of trees.entry)) }
     ensures writable { IfOk result (λ _. IsWritable (trees_of trees.entry)) }
@@ -176,6 +213,7 @@ pub fn rust_text(alloc: Global, trees: TokenTreesView<'_>) -> Result<String, Wri
     let mut last = Last {
         at: 0,
         behind: Behind::Opening,
+        refused: None,
     };
     let mut at = 0;
     let mut level = Level {
