@@ -1,19 +1,19 @@
 -- What is known of a token by its kind, and of its kind by its first characters.
-use Rattle.std.proofs.Common.{◌≡◌, ◌⊎◌, inl, inr, ℕ, ◌+◌, Bool, true, false, ◌==◌, ◌||◌, ◌&&◌, List, [], ◌∷◌, length, Option, None, Some, refl, sym, ap, ◌∙◌, subst, if◌then◌else◌}
+use Rattle.std.proofs.Common.{◌≡◌, ◌⊎◌, inl, inr, ℕ, ◌+◌, Bool, true, false, ◌==◌, ◌||◌, ◌&&◌, not, List, [], ◌∷◌, length, Option, None, Some, refl, sym, ap, ◌∙◌, subst, if◌then◌else◌}
 use Rattle.std.proofs.lemmas.Bool.{false≢true, eqb-true, or_parts}
 use Rattle.tt_base.specs.declared.span.SpanPart.{SpanPart}
-use Rattle.syntax_lex.specs.Class.{is_decimal, is_emoji_mark, is_id_continue, is_id_start, is_whitespace}
+use Rattle.syntax_lex.specs.Class.{is_decimal, is_emoji_mark, is_id_continue, is_id_start, is_odd_rest, is_whitespace}
 use Rattle.syntax_lex.specs.Front.{behind, first, second, skip}
 use Rattle.syntax_lex.specs.Opening.{begins_raw, opening, opening_slash, symbol}
-use Rattle.syntax_lex.specs.Quoted.{apostrophe, begins_lifetime, begins_raw_lifetime, literal}
+use Rattle.syntax_lex.specs.Quoted.{apostrophe, begins_lifetime, begins_raw_lifetime, char_literal, literal, named, quoted_char}
 use Rattle.syntax_lex.specs.Reading.{reading, reading_of}
 use Rattle.syntax_lex.specs.Word.{begins_literal, word}
 use Rattle.syntax_lex.specs.declared.opening.Family.{Family}
 use Rattle.syntax_lex.specs.declared.opening.Family.TheVariants as opens
+use Rattle.syntax_lex.specs.declared.token.LiteralKind.TheVariants as literals
 use Rattle.syntax_lex.specs.declared.token.TokenKind.{TokenKind}
 use Rattle.syntax_lex.specs.declared.token.TokenKind.TheVariants as kinds
 use Rattle.laws_round_trip.proofs.Roles.{leaf_valid, literal_closed, literal_two}
-use Rattle.laws_round_trip.proofs.MoreWords.{lifetime_as, named_as, word_as}
 use Rattle.laws_round_trip.specs.Kept.{is_sound}
 use Rattle.laws_tokens.specs.Stops.{is_ended}
 use Rattle.syntax_parse.specs.Pieces.{leaves_of, pieces_as, pieces_of, placed, punct_char, puncts, sorts_of, spacing_before}
@@ -146,6 +146,18 @@ proper_opening c d e space comment = rw space (go (c == 47) refl)
     go : (b : Bool) → (c == 47) ≡ b → is_proper (if c == 47 then opening_slash d else rest) ≡ true
     go true e2 = rw e2 (slash (subst (λ b. (b && ((d == 47) || (d == 42))) ≡ false) e2 comment))
     go false e2 = rw e2 rest_proper
+
+-- a name or number behind a quote, a lifetime or character, and an identifier, by what stands behind each
+abbrev named_as : (text : List ℕ) → (quote hash : Bool) → (number : Bool) → (cs left : List ℕ) → TokenKind × List ℕ
+named_as text quote hash number cs left =
+    if quote then literal text (literals.Char true) false left else (if hash && not number then (kinds.UnknownPrefixLifetime, cs) else (kinds.Lifetime number, cs))
+
+abbrev pub lifetime_as : (text : List ℕ) → (begins raw : Bool) → (cs named_left raw_left : List ℕ) → TokenKind × List ℕ
+lifetime_as text begins raw cs named_left raw_left =
+    if begins then (if raw then (kinds.RawLifetime, behind is_id_continue raw_left) else named text (is_decimal (first cs)) (behind is_id_continue named_left)) else char_literal text (quoted_char cs)
+
+abbrev word_as : (literal emoji : Bool) → List ℕ → TokenKind × List ℕ
+word_as literal emoji cs = if literal then (kinds.UnknownPrefix, cs) else (if emoji then (kinds.InvalidIdent, behind is_odd_rest cs) else (kinds.Ident, cs))
 
 named_ended : (text : List ℕ) (quote hash number : Bool) (cs left : List ℕ) → is_sound (named_as text quote hash number cs left).0 ≡ true → is_ended (named_as text quote hash number cs left).0 ≡ true
 unfolding literal

@@ -1,6 +1,6 @@
 -- The pieces of chunks, and those that begin before a byte of the text.
 use Rattle.laws_round_trip.proofs.SortFits.{sorts-append}
-use Rattle.laws_round_trip.proofs.CutFacts.{end_le}
+use Rattle.laws_tokens.proofs.Twins.{end_le}
 use Rattle.std.proofs.Common.{◌≡◌, ◌≢◌, ℕ, suc, ◌+◌, ◌<◌, ◌≤◌, Bool, true, false, ◌||◌, ◌&&◌, List, [], ◌∷◌, ◌++◌, length, Option, refl, sym, ap, ap₂, ◌∙◌, subst, arith, append_assoc, length-append, if◌then◌else◌}
 use Rattle.std.proofs.lemmas.Bool.{false≢true, le-ltb, lt-ltb}
 use Rattle.std.proofs.lemmas.Str.{chars-nil, encode_ascii, encodes-chars}
@@ -17,7 +17,7 @@ use Rattle.syntax_lex.specs.Reading.{reading, reading_of}
 use Rattle.syntax_lex.specs.declared.token.TokenKind.{TokenKind}
 use Rattle.syntax_lex.specs.declared.token.TokenKind.TheVariants as kinds
 use Rattle.laws_round_trip.proofs.KindFacts.{life_first}
-use Rattle.laws_round_trip.proofs.MoreWords.{lifetime_as}
+use Rattle.laws_round_trip.proofs.KindFacts.{lifetime_as}
 use Rattle.laws_round_trip.specs.Splices.{before_byte, from_byte}
 use Rattle.laws_tokens.proofs.KeepFacts.{no_start, plain_null}
 use Rattle.syntax_parse.specs.Parsed.{next_kind, pieces_from}

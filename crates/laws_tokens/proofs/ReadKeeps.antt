@@ -28,7 +28,7 @@ token_plain [] rest kind some read ended plain = absurd (some refl)
 token_plain (c ∷ cs) rest kind some read ended plain = token_twin c cs [] [] rest kind (ap (λ t. reading (c ∷ t)) (append-nil cs) ∙ read) (record {
   fits = record { stays = short tt plain; shut = ended_shut kind ended; known = inr (tt, refl) };
   apart = ended_apart [] rest [] kind ended;
-  pointless = λ is e. omega (arith, ap length e);
+  pointless = λ is. inr tt;
 })
 
 stops_plain : (rest : List ℕ) → Stops rest → IsPlain (first rest)

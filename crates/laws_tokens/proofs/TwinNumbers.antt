@@ -1,5 +1,5 @@
 -- Numbers of two texts that begin alike.
-use Rattle.std.proofs.Common.{◌≡◌, ◌≢◌, ℕ, ◌<◌, ◌≤◌, Bool, true, false, ◌==◌, ◌||◌, ◌&&◌, not, List, [], ◌∷◌, length, refl, sym, ap, ap₂, ◌∙◌, subst, arith, if◌then◌else◌}
+use Rattle.std.proofs.Common.{◌≡◌, ◌≢◌, ◌⊎◌, inl, inr, ℕ, ◌<◌, ◌≤◌, Bool, true, false, ◌==◌, ◌||◌, ◌&&◌, not, List, [], ◌∷◌, length, refl, sym, ap, ap₂, ◌∙◌, subst, arith, if◌then◌else◌}
 use Rattle.std.proofs.lemmas.Bool.{false≢true, and_parts, cond_both, eqb-true, or_parts}
 use Rattle.syntax_lex.proofs.EndFacts.{behind_end, behind_sign_end, with_exponent_end, with_fraction_end}
 use Rattle.syntax_lex.specs.Class.{is_decimal, is_decimal_part, is_id_start, is_underscore, passes}
@@ -10,13 +10,13 @@ use Rattle.syntax_lex.specs.declared.token.Base.TheVariants.{Binary, Octal, Deci
 use Rattle.syntax_lex.specs.declared.token.LiteralKind.{LiteralKind}
 use Rattle.syntax_lex.specs.declared.token.LiteralKind.TheVariants.{Int, Float}
 use Rattle.laws_tokens.proofs.KeepFacts.{IsPlain, plain_null}
-use Rattle.laws_tokens.proofs.Twins.{Alike, NoPlain, Stays, Twins, at_end, behind_none, branch, end_le, ends, front, next_of, off, off_two, run, run_next, run_stops, stays_more, taken, unless}
+use Rattle.laws_tokens.proofs.Twins.{Alike, IsShort, NoPlain, Stays, Twins, at_end, behind_none, branch, end_le, ends, front, held_of, next_of, off, off_two, run, run_next, run_stops, short_plain, stays_more, taken, unless}
 use Rattle.laws_tokens.specs.Stops.{is_number_kind}
 
--- what is left of a number stays, and is no point alone in front of r
+-- what is left of a number stays, and is no point alone in front of r that goes on
 pub record Holds (r s : List ℕ) (read : LiteralKind × List ℕ) : Type 0 where
   pub stays : Stays r s read.1
-  pub pointless : is_number_kind read.0 ≡ true → read.1 ≢ 46 ∷ r
+  pub pointless : is_number_kind read.0 ≡ true → (read.1 ≢ 46 ∷ r) ⊎ IsShort r
 
 -- something of a kind is read, and what is left stays
 abbrev Left : (r s : List ℕ) → LiteralKind × List ℕ → Type 0
@@ -103,7 +103,7 @@ point_twins : {r s a b : List ℕ} (base : Base) → Twins r s a b → Left r s 
 point_twins {r = r} {s = s} base ends stays = go (is_decimal (first r)) refl stays
   where
     go : (d : Bool) → is_decimal (first r) ≡ d → Left r s (behind_point base d r) → Alike r s (behind_point base d r) (behind_point base (is_decimal (first s)) s)
-    go true e m = absurd (taken is_decimal (λ c p. p.no_decimal) e (omega (arith, digits_end base r, first_taken r e)) m)
+    go true e m = absurd (taken is_decimal (λ c p. p.no_decimal) e (omega (arith, digits_end base r, first_taken r e)) (held_of m))
     go false e m = rw (off is_decimal (λ c p. p.no_decimal) e (next_of m (omega arith))) (record { kind = refl; left = ends })
 point_twins {r = r} {s = s} base (front {c = c} {a = a} t) stays =
     branch (Left r s) (Alike r s) (is_decimal c) _ _ _ _
@@ -118,9 +118,13 @@ lone_point {r = r} {s = s} base m = go (first r == 46) refl (is_id_start (first 
     left : Bool → List ℕ → LiteralKind × List ℕ
     left b cs = if b then behind_point base (is_decimal (first cs)) cs else (Int base false, 46 ∷ cs)
 
+    by : {x : List ℕ} → (x ≢ x) ⊎ IsShort r → (IsPlain (first r) → ⊥) → ⊥
+    by (inl other) none = other refl
+    by (inr h) none = none (short_plain r h)
+
     go : (p : Bool) → (first r == 46) ≡ p → (n : Bool) → is_id_start (first r) ≡ n → Holds r s (left (not p && not n) r) → Alike r s (left (not p && not n) r) (left (not (first s == 46) && not (is_id_start (first s))) s)
-    go true e n k h = absurd (h.pointless refl refl)
-    go false e true k h = absurd (h.pointless refl refl)
+    go true e n k h = absurd (by (h.pointless refl) (λ p. false≢true (sym p.no_point ∙ e)))
+    go false e true k h = absurd (by (h.pointless refl) (λ p. false≢true (sym p.no_start ∙ k)))
     go false e false k h =
         let next = next_of h.stays (point_end base (is_decimal (first r)) r) in
         let no_point : (first s == 46) ≡ false = off (λ c. c == 46) (λ c p. p.no_point) e next in
@@ -131,7 +135,7 @@ with_fraction_twins : {r s a b : List ℕ} (base : Base) → Twins r s a b → H
 unfolding with_fraction
 with_fraction_twins {r = r} {s = s} base ends m =
     unless (Left r s) (Alike r s) (begins_fraction r) (begins_fraction s) _ _ _ _
-    (λ is h. taken (λ c. c == 46) (λ c p. p.no_point) (and_parts _ _ ((and_parts _ _ is).0)).0 (point_end base (is_decimal (second r)) (skip r)) h)
+    (λ is h. taken (λ c. c == 46) (λ c p. p.no_point) (and_parts _ _ ((and_parts _ _ is).0)).0 (point_end base (is_decimal (second r)) (skip r)) (held_of h))
     (λ fails h. off_two (λ c d. ((c == 46) && not (d == 46)) && not (is_id_start d)) (λ c d p. ap (λ b. (b && not (d == 46)) && not (is_id_start d)) p.no_point) fails (next_of h (end_le (with_exponent_end base (Int base false) r))))
     (λ fails h. with_exponent_twins base (Int base false) ends h) m.stays
 with_fraction_twins {r = r} {s = s} base (front {c = c} ends) m = go (c == 46) refl
@@ -187,7 +191,7 @@ pub number_twins : {r s a b : List ℕ} (digit : ℕ) → Twins r s a b → Hold
 unfolding number
 number_twins {r = r} {s = s} digit ends m =
     unless (Holds r s) (Alike r s) (has_letter (base_of digit (first r))) (has_letter (base_of digit (first s))) _ _ _ _
-    (λ is h. taken (λ c. has_letter (base_of digit c)) (no_letter digit) is (lettered (base_of digit (first r))) h.stays)
+    (λ is h. taken (λ c. has_letter (base_of digit c)) (no_letter digit) is (lettered (base_of digit (first r))) (held_of h.stays))
     (λ fails h. next fails h)
     (λ fails h. subst (λ base. Alike r s (with_fraction (base_of digit (first r)) (behind is_decimal_part r)) (with_fraction base (behind is_decimal_part s)))
     (ten (base_of digit (first r)) fails ∙ sym (ten (base_of digit (first s)) (next fails h))) (decimal_twins (base_of digit (first r)) ends h)) m

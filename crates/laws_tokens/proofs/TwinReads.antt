@@ -23,7 +23,7 @@ use Rattle.laws_tokens.proofs.KeepFacts.{IsPlain, no_start, plain_null}
 use Rattle.laws_tokens.proofs.TwinNumbers.{Holds, number_twins}
 use Rattle.laws_tokens.proofs.TwinQuotes.{Counts, Shut, char_twins, comment_front, comment_twins, no_raw_text, quote_twins, raw_text_closes, raw_text_twins}
 use Rattle.laws_tokens.proofs.TwinWords.{Fits, apostrophe_twins, inner, is_shut, told_twins, word_twins}
-use Rattle.laws_tokens.proofs.Twins.{Alike, IsShort, Next, Stays, Twins, alike, branch, end_le, ends, front, name_twins, next_of, not_taken, off, plain, run, run_by, run_kept, short_plain, taken, twin_is, twins_of, unless}
+use Rattle.laws_tokens.proofs.Twins.{Alike, Held, IsShort, Next, Stays, Twins, alike, branch, end_le, ends, front, held_of, name_twins, next_of, not_taken, off, plain, run, run_by, run_kept, short_plain, taken, twin_is, twins_of, unless}
 use Rattle.laws_tokens.specs.Stops.{is_number, is_number_kind}
 
 -- White space and comments to the end of a line end where no more of them follows.
@@ -37,7 +37,7 @@ Apart r s left _ = Unit {0}
 pub record Suits (r s : List ℕ) (read : TokenKind × List ℕ) : Type 0 where
   pub fits : Fits r s read
   pub apart : Apart r s read.1 read.0
-  pub pointless : is_number read.0 ≡ true → read.1 ≢ 46 ∷ r
+  pub pointless : is_number read.0 ≡ true → (read.1 ≢ 46 ∷ r) ⊎ IsShort r
 
 -- a comment to the end of a line
 line_twins : {r s a b : List ℕ} → Twins r s a b → length r < length (behind is_in_line a) → Alike r s (line_comment a) (line_comment b)
@@ -49,9 +49,9 @@ line_twins {r = r} {s = s} (front {c = c} ends) more = go (c == 10) refl
     go false e = absurd (omega (arith, subst (λ b. length r < length (if not b then behind is_in_line r else c ∷ r)) e more, end_le (behind_end is_in_line r)))
 line_twins (front {c = c} (front {c = d} t)) more = record { kind = refl; left = run_kept is_in_line (front {c = c} (front {c = d} t)) more }
 
-block_twins : {r s a b : List ℕ} → Twins r s a b → Fits r s (block_comment a) → Alike r s (block_comment a) (block_comment b)
-block_twins {r = r} {s = s} {a = a} t m =
-    let shut : Shut r s (behind_comment 0 a) = record { closed = m.shut; stays = m.stays } in
+pub block_twins : {r s a b : List ℕ} → Twins r s a b → (behind_comment 0 a).0 ≡ true → Held r (behind_comment 0 a).1 → Alike r s (block_comment a) (block_comment b)
+block_twins {r = r} {a = a} t closed held =
+    let shut : Shut r (behind_comment 0 a) = record { closed = closed; held = held } in
     let docs = comment_front t shut in
     let found = comment_twins 0 t shut in
     record { kind = ap₂ (λ d c. kinds.BlockComment d c) (ap₂ block_doc docs.0 docs.1) found.kind; left = found.left }
@@ -83,11 +83,11 @@ wants_two opens.Guarded = true
 wants_two _ = false
 
 -- a string, and a raw one, that stays
-shut_of : {r s : List ℕ} (text : List ℕ) (kind : Bool → LiteralKind) (found : Bool × List ℕ) → found.0 ≡ true → Stays r s (literal text (kind found.0) found.0 found.1).1 → Shut r s found
-shut_of text kind found closed stays = record { closed = closed; stays = inner text (kind found.0) found.0 stays }
+shut_of : {r s : List ℕ} (text : List ℕ) (kind : Bool → LiteralKind) (found : Bool × List ℕ) → found.0 ≡ true → Stays r s (literal text (kind found.0) found.0 found.1).1 → Shut r found
+shut_of text kind found closed stays = record { closed = closed; held = held_of (inner text (kind found.0) found.0 stays) }
 
-counts_of : {r s : List ℕ} (text cs : List ℕ) (kind : LiteralKind) → is_some (raw_text cs).0 ≡ true → Stays r s (literal text kind (is_some (raw_text cs).0) (raw_text cs).1).1 → Counts r s (raw_text cs)
-counts_of text cs kind closed stays = record { closed = closed; stays = inner text kind (is_some (raw_text cs).0) stays }
+counts_of : {r s : List ℕ} (text cs : List ℕ) (kind : LiteralKind) → is_some (raw_text cs).0 ≡ true → Stays r s (literal text kind (is_some (raw_text cs).0) (raw_text cs).1).1 → Counts r (raw_text cs)
+counts_of text cs kind closed stays = record { closed = closed; held = held_of (inner text kind (is_some (raw_text cs).0) stays) }
 
 -- no name in front of a point
 point_left : (r : List ℕ) → behind_name (46 ∷ r) ≡ 46 ∷ r
@@ -98,14 +98,14 @@ pub family_twins : {r s a b : List ℕ} (family : Family) (c : ℕ) → Twins r 
     → Alike r s (reading_of family (c ∷ a) a) (reading_of family (c ∷ b) b)
 unfolding reading_of literal
 family_twins opens.LineComment c t two m = line_twins (two refl) m.apart
-family_twins opens.BlockComment c t two m = block_twins (two refl) m.fits
+family_twins opens.BlockComment c t two m = block_twins (two refl) m.fits.shut (held_of m.fits.stays)
 family_twins opens.Whitespace c t two m = record { kind = refl; left = spaces_twins t m.apart }
 family_twins opens.RawIdent c t two m = record { kind = refl; left = name_twins (two refl) m.fits.stays }
 family_twins {a = a} {b = b} opens.RawStr c t two m =
     told_twins literals.RawStr is_some (front t) (raw_text a) (raw_text b) (raw_text_twins t (counts_of (c ∷ a) a (literals.RawStr (raw_text a).0) m.fits.shut m.fits.stays)) m.fits.stays
 family_twins {a = a} {b = b} opens.Byte c t two m =
     let found = quoted_char (skip a) in
-    told_twins literals.Byte (λ w. w) (front t) found (quoted_char (skip b)) (char_twins (two refl) (shut_of (c ∷ a) literals.Byte found m.fits.shut m.fits.stays)) m.fits.stays
+    told_twins literals.Byte (λ w. w) (front t) found (quoted_char (skip b)) (char_twins (two refl) m.fits.shut (inner (c ∷ a) (literals.Byte found.0) found.0 m.fits.stays)) m.fits.stays
 family_twins {a = a} {b = b} opens.ByteStr c t two m =
     let found = behind_quote false (skip a) in
     told_twins literals.ByteStr (λ w. w) (front t) found (behind_quote false (skip b)) (quote_twins false (two refl) (shut_of (c ∷ a) literals.ByteStr found m.fits.shut m.fits.stays)) m.fits.stays
@@ -121,8 +121,12 @@ family_twins {a = a} {b = b} opens.RawCStr c t two m =
 family_twins opens.Word c t two m = word_twins t m.fits
 family_twins {r = r} {s = s} {a = a} {b = b} opens.Number c t two m =
     let found = number c a in
-    let holds : Holds r s found = record { stays = inner (c ∷ a) found.0 true m.fits.stays; pointless = λ is e. m.pointless is (ap behind_name e ∙ point_left r) } in
+    let holds : Holds r s found = record { stays = inner (c ∷ a) found.0 true m.fits.stays; pointless = λ is. by found.1 (m.pointless is) } in
     told_twins (λ k. k) (λ k. true) (front t) found (number c b) (number_twins c t holds) m.fits.stays
+  where
+    by : (left : List ℕ) → (behind_name left ≢ 46 ∷ r) ⊎ IsShort r → (left ≢ 46 ∷ r) ⊎ IsShort r
+    by left (inl other) = inl (λ e. other (ap behind_name e ∙ point_left r))
+    by left (inr h) = inr h
 family_twins opens.Guarded c t two m = record { kind = refl; left = two refl }
 family_twins opens.Apostrophe c t two m = apostrophe_twins (front {c = c} t) t m.fits
 family_twins {a = a} {b = b} opens.Str c t two m =
@@ -205,7 +209,7 @@ two_taken opens.Symbol c d ds two shut = absurd (false≢true two)
 no_two : (r s : List ℕ) (c : ℕ) → Fits r s (reading_of (opening c (first r) (second r)) (c ∷ r) r) → wants_two (opening c (first r) (second r)) ≡ true → ⊥
 no_two [] s c m two = false≢true (sym (one_tells c) ∙ two)
 no_two (d ∷ ds) s c m two =
-    not_taken m.stays (two_taken (opening c d (first ds)) c d ds two m.shut)
+    not_taken (held_of m.stays) (two_taken (opening c d (first ds)) c d ds two m.shut)
     (λ h. false≢true (sym (ap wants_two (opening_plain c d (first ds) (short_plain (d ∷ ds) h)) ∙ one_tells c) ∙ two))
 
 name_less : (r : List ℕ) → is_id_start (first r) ≡ true → length (behind_name r) ≤ length (skip r)
@@ -240,17 +244,14 @@ pair_twins {r = r} {s = s} c x =
     Same f g = f ≡ g
 
     name : ((x == 35) && is_id_start (first r)) ≡ true → M opens.RawIdent → ⊥
-    name e m = let start = (and_parts (x == 35) (is_id_start (first r)) e).1 in taken is_id_start (λ d p. p.no_start) start (name_less r start) m.stays
+    name e m = let start = (and_parts (x == 35) (is_id_start (first r)) e).1 in taken is_id_start (λ d p. p.no_start) start (name_less r start) (held_of m.stays)
 
     hash : (b : Bool) → (x == 35) ≡ b → (b && is_id_start (first r)) ≡ false → M (if begins_raw x then opens.RawStr else opens.Word) → (b && is_id_start (first s)) ≡ false
     hash false k f m = refl
-    hash true k f m = off is_id_start (λ d p. p.no_start) f (next_of raw.stays (omega (arith, raw_text_closes.takes (x ∷ r) raw.closed)))
+    hash true k f m = off is_id_start (λ d p. p.no_start) f (next_of {left = (raw_text (x ∷ r)).1} (inner (c ∷ x ∷ r) (literals.RawStr (raw_text (x ∷ r)).0) (is_some (raw_text (x ∷ r)).0) str.stays) (omega (arith, raw_text_closes.takes (x ∷ r) str.shut)))
       where
         str : M opens.RawStr
         str = subst (λ b. M (if b then opens.RawStr else opens.Word)) (ap begins_raw (eqb-true x 35 k)) m
-
-        raw : Counts r s (raw_text (x ∷ r))
-        raw = counts_of (c ∷ x ∷ r) (x ∷ r) (literals.RawStr (raw_text (x ∷ r)).0) str.shut str.stays
 
     raws : (raw : Family) → (M raw → ⊥) → M (if (x == 114) && begins_raw (first r) then raw else opens.Word) → (if (x == 114) && begins_raw (first r) then raw else opens.Word) ≡ (if (x == 114) && begins_raw (first s) then raw else opens.Word)
     raws raw none = unless M Same ((x == 114) && begins_raw (first r)) ((x == 114) && begins_raw (first s)) raw opens.Word raw opens.Word (λ e m. none m) (λ f m. by (x == 114) refl f m) (λ f m. refl)

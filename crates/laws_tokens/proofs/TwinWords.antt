@@ -15,7 +15,7 @@ use Rattle.syntax_lex.specs.declared.token.TokenKind.{TokenKind}
 use Rattle.syntax_lex.specs.declared.token.TokenKind.TheVariants as kinds
 use Rattle.laws_tokens.proofs.KeepFacts.{IsPlain, no_start, plain_null}
 use Rattle.laws_tokens.proofs.TwinQuotes.{Shut, char_twins, no_char, and_none}
-use Rattle.laws_tokens.proofs.Twins.{Alike, IsShort, Next, NoPlain, Stays, Twins, behind_none, branch, end_le, ends, front, name_twins, next_of, off, off_two, run, short_plain, stays_more, taken, unless}
+use Rattle.laws_tokens.proofs.Twins.{Alike, IsShort, Next, NoPlain, Stays, Twins, behind_none, branch, end_le, ends, front, held_of, name_twins, next_of, off, off_two, run, short_plain, stays_more, taken, unless}
 use Rattle.laws_tokens.specs.Stops.{is_closed}
 
 -- whether a token is closed: each but some comments and literals
@@ -96,7 +96,7 @@ word_before_twins {r = r} {s = s} ends m = go (begins_literal (first r)) refl (i
         by : (true ≡ false) ⊎ (IsShort r × (r ≡ r)) → ⊥
         by (inl never) = false≢true (sym never)
         by (inr (short, same)) = false≢true (sym (short_plain r short).no_literal ∙ k)
-    go false k true j h = absurd (taken is_emoji_mark (λ c p. p.no_emoji) j (emoji_taken j) h.stays)
+    go false k true j h = absurd (taken is_emoji_mark (λ c p. p.no_emoji) j (emoji_taken j) (held_of h.stays))
     go false k false j h =
         let next = next_of h.stays (omega arith) in
         let literal : begins_literal (first s) ≡ false = off begins_literal (λ c p. p.no_literal) k next in
@@ -122,7 +122,7 @@ named_twins {r = r} {s = s} {text = text} {text2 = text2} number texts ends m = 
         if quote then literal text (literals.Char true) false (skip cs) else (if hash && not number then (kinds.UnknownPrefixLifetime, cs) else (kinds.Lifetime number, cs))
 
     go : (q : Bool) → (first r == 39) ≡ q → (h : Bool) → (first r == 35) ≡ h → (n : Bool) → Fits r s (named_as q h n text r) → Alike r s (named_as q h n text r) (named_as (first s == 39) (first s == 35) n text2 s)
-    go true e h k n fit = absurd (taken (λ c. c == 39) (λ c p. p.no_apostrophe) e (end_le (literal_end text (literals.Char true) false (skip r))) fit.stays)
+    go true e h k n fit = absurd (taken (λ c. c == 39) (λ c p. p.no_apostrophe) e (end_le (literal_end text (literals.Char true) false (skip r))) (held_of fit.stays))
     go false e true k false fit = absurd (by fit.known)
       where
         by : (true ≡ false) ⊎ (IsShort r × (r ≡ r)) → ⊥
@@ -149,13 +149,17 @@ named_twins {r = r} {s = s} number texts (front {c = c} t) m =
     (λ is h. branch (Fits r s) (Alike r s) ((c == 35) && not number) _ _ _ _ (λ k j. record { kind = refl; left = front {c = c} t }) (λ k j. record { kind = refl; left = front {c = c} t }) h) m
 
 -- a character is closed where its token is
-shut_char : {r s : List ℕ} (text : List ℕ) (found : Bool × List ℕ) → Fits r s (char_literal text found) → Shut r s found
+shut_char : {r s : List ℕ} (text : List ℕ) (found : Bool × List ℕ) → Fits r s (char_literal text found) → Shut r found
 unfolding literal
-shut_char text found m = record { closed = m.shut; stays = inner text (literals.Char found.0) found.0 m.stays }
+shut_char text found m = record { closed = m.shut; held = held_of (inner text (literals.Char found.0) found.0 m.stays) }
+
+shut_twins : {r s a b : List ℕ} (text : List ℕ) → Twins r s a b → Fits r s (char_literal text (quoted_char a)) → Alike r s (quoted_char a) (quoted_char b)
+unfolding literal
+shut_twins {a = a} text t m = let found = quoted_char a in char_twins t m.shut (inner text (literals.Char found.0) found.0 m.stays)
 
 char_literal_twins : {r s text text2 a b : List ℕ} → Twins r s text text2 → Twins r s a b → Fits r s (char_literal text (quoted_char a)) → Alike r s (char_literal text (quoted_char a)) (char_literal text2 (quoted_char b))
 char_literal_twins {text = text} {a = a} {b = b} texts t m =
-    told_twins literals.Char (λ w. w) texts (quoted_char a) (quoted_char b) (char_twins t (shut_char text (quoted_char a) m)) m.stays
+    told_twins literals.Char (λ w. w) texts (quoted_char a) (quoted_char b) (shut_twins text t m) m.stays
 
 -- a name behind a quote, and its first character
 life_twins : {r s text text2 a b : List ℕ} (x : ℕ) → Twins r s text text2 → Twins r s a b → Fits r s (named text (is_decimal x) (behind is_id_continue a))
@@ -169,9 +173,9 @@ no_escape : (c : ℕ) → (is_id_start c || is_decimal c) ≡ true → (c == 92)
 no_escape c is = false_from_ne_true (c == 92) (λ e. false≢true (sym (ap (λ x. is_id_start x || is_decimal x) (eqb-true c 92 e) ∙ (rw (no_start 92 (omega arith) refl refl) refl)) ∙ is))
 
 -- the quote of a character that is one with it is not left
-single_char : {r s : List ℕ} (c : ℕ) → (first r == 39) ≡ true → (c == 92) ≡ false → Shut r s (quoted_char (c ∷ r)) → ⊥
+single_char : {r : List ℕ} (c : ℕ) → (first r == 39) ≡ true → (c == 92) ≡ false → Shut r (quoted_char (c ∷ r)) → ⊥
 unfolding quoted_char
-single_char {r = r} {s = s} c quote other m = taken (λ d. d == 39) (λ d p. p.no_apostrophe) quote (omega arith) (subst (Shut r s) is m).stays
+single_char {r = r} c quote other m = taken (λ d. d == 39) (λ d p. p.no_apostrophe) quote (omega arith) (subst (Shut r) is m).held
   where
     is : quoted_char (c ∷ r) ≡ (true, skip r)
     is = rw (quote, other) refl
@@ -205,7 +209,7 @@ apostrophe_twins {r = r} {s = s} {text = text} texts ends m = absurd (cond_both 
     long false = omega (arith, end_le (named_end text (is_decimal (first r)) (behind is_id_continue (skip r))), end_le (behind_end is_id_continue (skip r)))
 
     life : begins_lifetime r ≡ true → Fits r s (found (begins_raw_lifetime r)) → ⊥
-    life e h = taken (λ c. is_id_start c || is_decimal c) (λ c p. rw (p.no_start, p.no_decimal) refl) (and_parts (not (second r == 39)) (is_id_start (first r) || is_decimal (first r)) e).1 (long (begins_raw_lifetime r)) h.stays
+    life e h = taken (λ c. is_id_start c || is_decimal c) (λ c p. rw (p.no_start, p.no_decimal) refl) (and_parts (not (second r == 39)) (is_id_start (first r) || is_decimal (first r)) e).1 (long (begins_raw_lifetime r)) (held_of h.stays)
 apostrophe_twins {r = r} {s = s} {text = text} {text2 = text2} texts (front {c = c} ends) m = go (is_id_start c || is_decimal c) refl (first r == 39) refl m
   where
     go : (b : Bool) → (is_id_start c || is_decimal c) ≡ b → (q : Bool) → (first r == 39) ≡ q → Fits r s (behind_first (not q && b) c text r)
@@ -218,7 +222,7 @@ apostrophe_twins {r = r} {s = s} {text = text} {text2 = text2} texts (front {c =
         raws : (w : Bool) → begins_raw_lifetime (c ∷ r) ≡ w → Fits r s (if w then (kinds.RawLifetime, behind is_id_continue (skip (skip r))) else named text (is_decimal c) (behind is_id_continue r))
             → Alike r s (if w then (kinds.RawLifetime, behind is_id_continue (skip (skip r))) else named text (is_decimal c) (behind is_id_continue r)) (behind_first (not (first s == 39) && true) c text2 s)
         raws true w h =
-            absurd (taken (λ d. d == 35) (λ d p. p.no_hash) (and_parts (c == 114) _ ((and_parts _ _ w).0)).1 (omega (arith, end_le (behind_end is_id_continue (skip (skip r))), end_le (skip_end (skip r)))) h.stays)
+            absurd (taken (λ d. d == 35) (λ d p. p.no_hash) (and_parts (c == 114) _ ((and_parts _ _ w).0)).1 (omega (arith, end_le (behind_end is_id_continue (skip (skip r))), end_le (skip_end (skip r)))) (held_of h.stays))
         raws false w h =
             let next = next_of h.stays (omega (arith, end_le (named_end text (is_decimal c) (behind is_id_continue r)), end_le (behind_end is_id_continue r))) in
             let quote : (first s == 39) ≡ false = off (λ d. d == 39) (λ d p. p.no_apostrophe) e next in
@@ -227,7 +231,7 @@ apostrophe_twins {r = r} {s = s} {text = text} {text2 = text2} texts (front {c =
 apostrophe_twins {r = r} {s = s} {text = text} {text2 = text2} texts (front {c = c} (front {c = d} ends)) m =
     branch (Fits r s) (Alike r s) (begins_lifetime (c ∷ d ∷ r)) _ _ _ _
     (λ is h. unless (Fits r s) (Alike r s) (begins_raw_lifetime (c ∷ d ∷ r)) (begins_raw_lifetime (c ∷ d ∷ s)) _ _ _ _
-    (λ e k. taken is_id_start (λ x p. p.no_start) (and_parts _ _ e).1 (end_le (behind_end is_id_continue (skip r))) k.stays)
+    (λ e k. taken is_id_start (λ x p. p.no_start) (and_parts _ _ e).1 (end_le (behind_end is_id_continue (skip r))) (held_of k.stays))
     (λ e k. marks (c == 114) refl (d == 35) refl k) (λ e k. life_twins c texts (front {c = d} ends) k) h)
     (λ is h. char_literal_twins texts (front {c = c} (front {c = d} ends)) h) m
   where

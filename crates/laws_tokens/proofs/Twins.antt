@@ -85,16 +85,25 @@ next_of (kept h) le = absurd (omega (arith, h, le))
 next_of (ended h next) le = next
 next_of (short h p) le = plain p
 
--- nothing of r is taken, but of one that goes on
-pub not_taken : {r s left : List ℕ} → Stays r s left → length left < length r → (IsShort r → ⊥) → ⊥
-not_taken (kept h) less none = omega (arith, h, less)
-not_taken (ended h next) less none = omega (arith, h, less)
-not_taken (short h p) less none = none h
+-- no less than r is left, or r is short
+pub data Held (r left : List ℕ) : Type 0 where
+  enough : length r ≤ length left → Held r left
+  little : IsShort r → Held r left
 
--- so r does not begin with what is taken along
-pub taken : {r s left : List ℕ} (test : ℕ → Bool) → NoPlain test → test (first r) ≡ true → length left ≤ length (skip r) → Stays r s left → ⊥
-taken {r = []} test none is le stays = false≢true (sym (none 0 plain_null) ∙ is)
-taken {r = c ∷ cs} test none is le stays = not_taken stays (omega (arith, le)) (λ h. false≢true (sym (none c (short_plain (c ∷ cs) h)) ∙ is))
+pub held_of : {r s left : List ℕ} → Stays r s left → Held r left
+held_of (kept h) = enough (omega (arith, h))
+held_of (ended h next) = enough h
+held_of (short h p) = little h
+
+-- so nothing of r is taken, but of a short one
+pub not_taken : {r left : List ℕ} → Held r left → length left < length r → (IsShort r → ⊥) → ⊥
+not_taken (enough h) less none = omega (arith, h, less)
+not_taken (little h) less none = none h
+
+-- and r does not begin with what is taken along
+pub taken : {r left : List ℕ} (test : ℕ → Bool) → NoPlain test → test (first r) ≡ true → length left ≤ length (skip r) → Held r left → ⊥
+taken {r = []} test none is le held = false≢true (sym (none 0 plain_null) ∙ is)
+taken {r = c ∷ cs} test none is le held = not_taken held (omega (arith, le)) (λ h. false≢true (sym (none c (short_plain (c ∷ cs) h)) ∙ is))
 
 -- one of two choices, by a test of both texts: so is what is made of it
 pub branch : {A : Type 0} (M : A → Type 0) (R : A → A → Type 0) (b : Bool) (x y x2 y2 : A) → (b ≡ true → M x → R x x2) → (b ≡ false → M y → R y y2)
@@ -113,7 +122,7 @@ pub at_end : {A : Type 0} {r s : List ℕ} (M : A → Type 0) (R : A → A → T
     → (M x → length (rest x) ≤ length (skip r)) → (M y → length (rest y) ≤ length r) → (M y → R y y2)
     → M (if test (first r) then x else y) → R (if test (first r) then x else y) (if test (first s) then x2 else y2)
 at_end {r = r} {s = s} M R rest test x y x2 y2 none stays less le k =
-    unless M R (test (first r)) (test (first s)) x y x2 y2 (λ is m. taken test none is (less m) (stays x m)) (λ fails m. off test none fails (next_of (stays y m) (le m))) (λ fails m. k m)
+    unless M R (test (first r)) (test (first s)) x y x2 y2 (λ is m. taken test none is (less m) (held_of (stays x m))) (λ fails m. off test none fails (next_of (stays y m) (le m))) (λ fails m. k m)
 
 -- nothing is taken of a text that begins with no such character
 pub behind_none : (p : ℕ → Bool) (r : List ℕ) → p (first r) ≡ false → behind p r ≡ r
@@ -127,7 +136,7 @@ behind_less p (c ∷ cs) is = rw is (end_le (behind_end p cs))
 
 -- what a run leaves is not gone on with
 pub run_stops : {r s : List ℕ} (p : ℕ → Bool) → NoPlain p → Stays r s (behind p r) → p (first r) ≡ false
-run_stops {r = r} p none stays = false_from_ne_true (p (first r)) (λ is. taken p none is (behind_less p r is) stays)
+run_stops {r = r} p none stays = false_from_ne_true (p (first r)) (λ is. taken p none is (behind_less p r is) (held_of stays))
 
 pub run_next : {r s : List ℕ} (p : ℕ → Bool) → NoPlain p → Stays r s (behind p r) → p (first s) ≡ false
 run_next {r = r} p none stays = off p none (run_stops p none stays) (next_of stays (end_le (behind_end p r)))
