@@ -9,22 +9,10 @@ use Rattle.syntax_lex.specs.declared.token.TokenKind.TheVariants as kinds
 use Rattle.laws_round_trip.specs.Kept.{is_line, is_number, is_parting, is_sound}
 use Rattle.laws_round_trip.specs.Whole.{is_whole}
 use Rattle.laws_tokens.proofs.KeepFacts.{IsPlain, plain_null, plain_parting}
-use Rattle.laws_tokens.proofs.ReadKeeps.{ended_apart, ended_shut, token_plain}
+use Rattle.laws_tokens.proofs.ReadKeeps.{ended_apart, sound_known, sound_shut, token_plain}
 use Rattle.laws_tokens.proofs.TwinReads.{Apart, Suits, block_twins, reading_twins, token_twin}
-use Rattle.laws_tokens.proofs.TwinWords.{is_prefix, is_shut}
 use Rattle.laws_tokens.proofs.Twins.{IsShort, ended, enough, kept, plain, short, twin_is, twins_le, twins_of}
 use Rattle.laws_tokens.specs.Stops.{is_ended}
-
--- a sound token is closed, and no prefix
-sound_shut : (kind : TokenKind) → is_sound kind ≡ true → is_shut kind ≡ true
-sound_shut (kinds.BlockComment doc terminated) h = h
-sound_shut (kinds.Literal kind start) h = h
-sound_shut kind h = refl
-
-sound_known : (kind : TokenKind) → is_sound kind ≡ true → is_prefix kind ≡ false
-sound_known kinds.UnknownPrefix h = absurd (false≢true h)
-sound_known kinds.UnknownPrefixLifetime h = absurd (false≢true h)
-sound_known kind h = refl
 
 -- it stands apart from the end, but for a comment to the end of a line
 line_apart : (r left : List ℕ) (kind : TokenKind) → is_line kind ≡ false → length r ≡ length left → Apart r [] left kind

@@ -6,3 +6,5 @@ pub mod TwinWords
 pub mod TwinReads
 pub mod ReadKeeps
 pub mod SignFacts
+pub mod Clears
+mod Rows

@@ -7,9 +7,9 @@ use Rattle.syntax_lex.specs.declared.token.TokenKind.{TokenKind}
 use Rattle.syntax_lex.specs.declared.token.TokenKind.TheVariants as kinds
 use Rattle.laws_tokens.proofs.KeepFacts.{IsPlain, plain_null, plain_stop}
 use Rattle.laws_tokens.proofs.TwinReads.{Apart, Suits, token_twin}
-use Rattle.laws_tokens.proofs.TwinWords.{is_shut}
+use Rattle.laws_tokens.proofs.TwinWords.{is_prefix, is_shut}
 use Rattle.laws_tokens.proofs.Twins.{short}
-use Rattle.laws_tokens.specs.Stops.{Stops, is_ended}
+use Rattle.laws_tokens.specs.Stops.{Stops, is_ended, is_sound}
 
 -- a token that is ended is closed, and no white space and no comment
 pub ended_shut : (kind : TokenKind) → is_ended kind ≡ true → is_shut kind ≡ true
@@ -21,6 +21,17 @@ pub ended_apart : (r s left : List ℕ) (kind : TokenKind) → is_ended kind ≡
 ended_apart r s left (kinds.LineComment doc) h = absurd (false≢true h)
 ended_apart r s left kinds.Whitespace h = absurd (false≢true h)
 ended_apart r s left kind h = tt
+
+-- a sound token is closed, and no prefix
+pub sound_shut : (kind : TokenKind) → is_sound kind ≡ true → is_shut kind ≡ true
+sound_shut (kinds.BlockComment doc terminated) h = h
+sound_shut (kinds.Literal kind start) h = h
+sound_shut kind h = refl
+
+pub sound_known : (kind : TokenKind) → is_sound kind ≡ true → is_prefix kind ≡ false
+sound_known kinds.UnknownPrefix h = absurd (false≢true h)
+sound_known kinds.UnknownPrefixLifetime h = absurd (false≢true h)
+sound_known kind h = refl
 
 -- a token that is all of a text ends there before a plain character
 pub token_plain : (text rest : List ℕ) (kind : TokenKind) → text ≢ [] → reading text ≡ (kind, []) → is_ended kind ≡ true → IsPlain (first rest) → reading (text ++ rest) ≡ (kind, rest)
