@@ -8,3 +8,4 @@ pub mod ReadKeeps
 pub mod SignFacts
 pub mod Clears
 mod Rows
+pub mod Tables
