@@ -1,12 +1,12 @@
 -- A token in front of a stop is the token in front of the end.
-use Rattle.std.proofs.Common.{◌≡◌, ◌≢◌, ◌⊎◌, inl, inr, ℕ, true, false, List, [], ◌∷◌, ◌++◌, length, refl, sym, ap, ◌∙◌, arith, append-nil}
+use Rattle.std.proofs.Common.{◌≡◌, ◌≢◌, inr, ℕ, true, false, List, [], ◌∷◌, ◌++◌, refl, ap, ◌∙◌, append-nil}
 use Rattle.std.proofs.lemmas.Bool.{false≢true}
 use Rattle.syntax_lex.specs.Front.{first}
 use Rattle.syntax_lex.specs.Reading.{reading}
 use Rattle.syntax_lex.specs.declared.token.TokenKind.{TokenKind}
 use Rattle.syntax_lex.specs.declared.token.TokenKind.TheVariants as kinds
 use Rattle.laws_tokens.proofs.KeepFacts.{IsPlain, plain_null, plain_stop}
-use Rattle.laws_tokens.proofs.TwinReads.{Apart, Suits, token_twin}
+use Rattle.laws_tokens.proofs.TwinReads.{Apart, token_twin}
 use Rattle.laws_tokens.proofs.TwinWords.{is_prefix, is_shut}
 use Rattle.laws_tokens.proofs.Twins.{short}
 use Rattle.laws_tokens.specs.Stops.{Stops, is_ended, is_sound}

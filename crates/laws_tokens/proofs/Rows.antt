@@ -1,5 +1,5 @@
 -- Tokens that are clear of what stands behind them, and some that are not, as the definitions compute.
-use Rattle.std.proofs.Common.{◌≡◌, ℕ, true, false, List, [], ◌∷◌, ◌++◌, None, Some, codes, refl, take}
+use Rattle.std.proofs.Common.{◌≡◌, ℕ, true, false, [], ◌++◌, codes, refl, take}
 use Rattle.ucd_emoji.proofs.Computing.{ucd_emoji}
 use Rattle.unicode_ident.proofs.Computing.{unicode_ident}
 use Rattle.syntax_lex.specs.Closing.{raw_text}

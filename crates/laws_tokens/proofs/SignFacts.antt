@@ -1,5 +1,5 @@
 -- Signs and white space, whatever stands behind them.
-use Rattle.std.proofs.Common.{◌≡◌, ℕ, ◌<◌, Bool, true, false, ◌==◌, ◌||◌, ◌&&◌, not, List, [], ◌∷◌, nat_le, refl, ap, if◌then◌else◌}
+use Rattle.std.proofs.Common.{◌≡◌, ℕ, Bool, true, false, ◌==◌, ◌||◌, ◌&&◌, not, List, [], ◌∷◌, nat_le, refl, ap, if◌then◌else◌}
 use Rattle.std.proofs.lemmas.Bool.{and_parts, ltb-true, or_parts}
 use Rattle.std.specs.Char.{is_ascii_alphabetic}
 use Rattle.std.specs.Prelude.{nat_lt}

@@ -1,15 +1,15 @@
 -- Numbers of two texts that begin alike.
-use Rattle.std.proofs.Common.{◌≡◌, ◌≢◌, ◌⊎◌, inl, inr, ℕ, ◌<◌, ◌≤◌, Bool, true, false, ◌==◌, ◌||◌, ◌&&◌, not, List, [], ◌∷◌, length, refl, sym, ap, ap₂, ◌∙◌, subst, arith, if◌then◌else◌}
-use Rattle.std.proofs.lemmas.Bool.{false≢true, and_parts, cond_both, eqb-true, or_parts}
+use Rattle.std.proofs.Common.{◌≡◌, ◌≢◌, ◌⊎◌, inl, inr, ℕ, ◌≤◌, Bool, true, false, ◌==◌, ◌||◌, ◌&&◌, not, List, [], ◌∷◌, length, refl, sym, ap, ◌∙◌, subst, arith, if◌then◌else◌}
+use Rattle.std.proofs.lemmas.Bool.{false≢true, and_parts, eqb-true, or_parts}
 use Rattle.syntax_lex.proofs.EndFacts.{behind_end, behind_sign_end, with_exponent_end, with_fraction_end}
 use Rattle.syntax_lex.specs.Class.{is_decimal, is_decimal_part, is_id_start, is_underscore, passes}
 use Rattle.syntax_lex.specs.Front.{first, second, skip, behind}
-use Rattle.syntax_lex.specs.Number.{base_of, begins_exponent, begins_fraction, behind_sign, class_of, has_digit, has_letter, is_digit_of, number, with_exponent, with_fraction}
+use Rattle.syntax_lex.specs.Number.{base_of, begins_fraction, behind_sign, class_of, has_digit, has_letter, is_digit_of, number, with_exponent, with_fraction}
 use Rattle.syntax_lex.specs.declared.token.Base.{Base}
 use Rattle.syntax_lex.specs.declared.token.Base.TheVariants.{Binary, Octal, Decimal, Hexadecimal}
 use Rattle.syntax_lex.specs.declared.token.LiteralKind.{LiteralKind}
 use Rattle.syntax_lex.specs.declared.token.LiteralKind.TheVariants.{Int, Float}
-use Rattle.laws_tokens.proofs.KeepFacts.{IsPlain, plain_null}
+use Rattle.laws_tokens.proofs.KeepFacts.{IsPlain}
 use Rattle.laws_tokens.proofs.Twins.{Alike, IsShort, NoPlain, Stays, Twins, at_end, behind_none, branch, end_le, ends, front, held_of, next_of, off, off_two, run, run_next, run_stops, short_plain, stays_more, taken, unless}
 use Rattle.laws_tokens.specs.Stops.{is_number_kind}
 

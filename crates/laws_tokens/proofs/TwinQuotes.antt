@@ -1,11 +1,11 @@
 -- What is closed in two texts that begin alike: strings, raw texts, characters and comments.
-use Rattle.std.proofs.Common.{◌≡◌, ◌⊎◌, inl, inr, ℕ, zero, suc, ◌+◌, ◌-◌, ◌<◌, ◌≤◌, Bool, true, false, ◌==◌, ◌||◌, ◌&&◌, not, List, [], ◌∷◌, length, drop, Option, None, is_some, refl, sym, ap, ap₂, ◌∙◌, subst, arith, nat_le, if◌then◌else◌}
-use Rattle.std.proofs.lemmas.Bool.{false≢true, and_parts, cond_both, eqb-true, le-leb, leb-true}
+use Rattle.std.proofs.Common.{◌≡◌, ◌⊎◌, inl, inr, ℕ, zero, suc, ◌+◌, ◌-◌, ◌<◌, ◌≤◌, Bool, true, false, ◌==◌, ◌&&◌, not, List, [], ◌∷◌, length, drop, Option, None, is_some, refl, sym, ap, ◌∙◌, subst, arith, nat_le, if◌then◌else◌}
+use Rattle.std.proofs.lemmas.Bool.{false≢true, cond_both, eqb-true, le-leb, leb-true}
 use Rattle.syntax_lex.proofs.EndFacts.{behind_apostrophe_end, behind_comment_end, behind_quote_end, behind_raw_end, drop_end, raw_body_end, skip_end}
 use Rattle.syntax_lex.specs.Closing.{behind_comment, behind_quote, behind_raw, closes_comment, counted, hashes_of, opens_comment, raw_body, raw_text}
 use Rattle.syntax_lex.specs.Front.{first, second, skip}
 use Rattle.syntax_lex.specs.Quoted.{behind_apostrophe, gives_up, quoted_char}
-use Rattle.laws_tokens.proofs.KeepFacts.{IsPlain, plain_null}
+use Rattle.laws_tokens.proofs.KeepFacts.{IsPlain}
 use Rattle.laws_tokens.proofs.Twins.{Alike, IsShort, Held, Stays, Twins, branch, end_le, ends, enough, front, held_of, little, next_of, not_taken, off, short_plain, taken}
 
 -- what is found is closed, and no less than r is left

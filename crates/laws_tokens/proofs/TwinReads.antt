@@ -1,15 +1,15 @@
 -- The first tokens of two texts that begin alike: they are the same, and end at the same place.
-use Rattle.std.proofs.Common.{◌≡◌, ◌≢◌, ◌⊎◌, inl, inr, ℕ, suc, ◌<◌, ◌≤◌, Bool, true, false, ◌==◌, ◌||◌, ◌&&◌, not, List, [], ◌∷◌, ◌++◌, length, is_some, refl, sym, ap, ap₂, ◌∙◌, subst, arith, if◌then◌else◌}
-use Rattle.std.proofs.lemmas.Bool.{cond_both, false≢true, false_from_ne_true, and_parts, eqb-true}
+use Rattle.std.proofs.Common.{◌≡◌, ◌≢◌, ◌⊎◌, inl, inr, ℕ, suc, ◌<◌, ◌≤◌, Bool, true, false, ◌==◌, ◌&&◌, not, List, [], ◌∷◌, ◌++◌, length, is_some, refl, sym, ap, ap₂, ◌∙◌, subst, arith, if◌then◌else◌}
+use Rattle.std.proofs.lemmas.Bool.{false≢true, false_from_ne_true, and_parts, eqb-true}
 use Rattle.unicode_ident.proofs.IdentLemmas.{is_xid_continue-ascii}
-use Rattle.syntax_lex.proofs.EndFacts.{behind_comment_end, behind_end, behind_name_end, behind_quote_end, literal_end, on, quoted_char_end, raw_text_end, reading_of_end, skip_end, word_end}
+use Rattle.syntax_lex.proofs.EndFacts.{behind_comment_end, behind_end, behind_name_end, behind_quote_end, literal_end, on, quoted_char_end, raw_text_end, reading_of_end, word_end}
 use Rattle.syntax_lex.specs.Class.{is_decimal, is_emoji_mark, is_id_continue, is_id_start, is_odd_rest, is_whitespace}
 use Rattle.syntax_lex.specs.Closing.{behind_comment, behind_quote, raw_text}
-use Rattle.syntax_lex.specs.Comments.{block_comment, block_doc, line_comment, line_doc}
+use Rattle.syntax_lex.specs.Comments.{block_comment, block_doc, line_comment}
 use Rattle.syntax_lex.specs.Front.{first, second, skip, behind, behind_name}
 use Rattle.syntax_lex.specs.Number.{number}
 use Rattle.syntax_lex.specs.Opening.{begins_raw, opening, opening_b, opening_c, opening_r, opening_slash}
-use Rattle.syntax_lex.specs.Quoted.{apostrophe, literal, quoted_char}
+use Rattle.syntax_lex.specs.Quoted.{literal, quoted_char}
 use Rattle.syntax_lex.specs.Reading.{reading, reading_of}
 use Rattle.syntax_lex.specs.Stop.{is_in_line}
 use Rattle.syntax_lex.specs.Word.{word, word_before}
@@ -19,12 +19,12 @@ use Rattle.syntax_lex.specs.declared.token.LiteralKind.{LiteralKind}
 use Rattle.syntax_lex.specs.declared.token.LiteralKind.TheVariants as literals
 use Rattle.syntax_lex.specs.declared.token.TokenKind.{TokenKind}
 use Rattle.syntax_lex.specs.declared.token.TokenKind.TheVariants as kinds
-use Rattle.laws_tokens.proofs.KeepFacts.{IsPlain, no_start, plain_null}
+use Rattle.laws_tokens.proofs.KeepFacts.{IsPlain, no_start}
 use Rattle.laws_tokens.proofs.TwinNumbers.{Holds, number_twins}
 use Rattle.laws_tokens.proofs.TwinQuotes.{Counts, Shut, char_twins, comment_front, comment_twins, no_raw_text, quote_twins, raw_text_closes, raw_text_twins}
 use Rattle.laws_tokens.proofs.TwinWords.{Fits, apostrophe_twins, inner, is_shut, told_twins, word_twins}
 use Rattle.laws_tokens.proofs.Twins.{Alike, Held, IsShort, Next, Stays, Twins, alike, branch, end_le, ends, front, held_of, name_twins, next_of, not_taken, off, plain, run, run_by, run_kept, short_plain, taken, twin_is, twins_of, unless}
-use Rattle.laws_tokens.specs.Stops.{is_number, is_number_kind}
+use Rattle.laws_tokens.specs.Stops.{is_number}
 
 -- White space and comments to the end of a line end where no more of them follows.
 abbrev pub Apart : (r s left : List ℕ) → TokenKind → Type 0

@@ -1,5 +1,5 @@
 -- Literals, words and lifetimes of two texts that begin alike.
-use Rattle.std.proofs.Common.{◌≡◌, ◌≢◌, ◌⊎◌, inl, inr, ℕ, ◌+◌, ◌-◌, ◌<◌, ◌≤◌, Bool, true, false, ◌==◌, ◌||◌, ◌&&◌, not, List, [], ◌∷◌, ◌++◌, length, refl, sym, ap, ap₂, ◌∙◌, subst, arith, length-append, if◌then◌else◌}
+use Rattle.std.proofs.Common.{◌≡◌, ◌⊎◌, inl, inr, ℕ, ◌+◌, ◌-◌, ◌≤◌, Bool, true, false, ◌==◌, ◌||◌, ◌&&◌, not, List, [], ◌∷◌, ◌++◌, length, refl, sym, ap, ◌∙◌, subst, arith, length-append, if◌then◌else◌}
 use Rattle.std.proofs.Math.Utf8.{encodes}
 use Rattle.std.proofs.lemmas.Bool.{cond_both, false≢true, false_from_ne_true, and_parts, eqb-true}
 use Rattle.unicode_ident.proofs.IdentLemmas.{is_xid_continue-ascii}
@@ -13,9 +13,9 @@ use Rattle.syntax_lex.specs.declared.token.LiteralKind.{LiteralKind}
 use Rattle.syntax_lex.specs.declared.token.LiteralKind.TheVariants as literals
 use Rattle.syntax_lex.specs.declared.token.TokenKind.{TokenKind}
 use Rattle.syntax_lex.specs.declared.token.TokenKind.TheVariants as kinds
-use Rattle.laws_tokens.proofs.KeepFacts.{IsPlain, no_start, plain_null}
+use Rattle.laws_tokens.proofs.KeepFacts.{no_start}
 use Rattle.laws_tokens.proofs.TwinQuotes.{Shut, char_twins, no_char, and_none}
-use Rattle.laws_tokens.proofs.Twins.{Alike, IsShort, Next, NoPlain, Stays, Twins, behind_none, branch, end_le, ends, front, held_of, name_twins, next_of, off, off_two, run, short_plain, stays_more, taken, unless}
+use Rattle.laws_tokens.proofs.Twins.{Alike, IsShort, Stays, Twins, behind_none, branch, end_le, ends, front, held_of, name_twins, next_of, off, off_two, run, short_plain, stays_more, taken, unless}
 use Rattle.laws_tokens.specs.Stops.{is_closed}
 
 -- whether a token is closed: each but some comments and literals
