@@ -1,16 +1,15 @@
 -- What is known of a token by its kind, and of its kind by its first characters.
-use Rattle.std.proofs.Common.{◌≡◌, ◌⊎◌, inl, inr, ℕ, ◌+◌, Bool, true, false, ◌==◌, ◌||◌, ◌&&◌, not, List, [], ◌∷◌, length, Option, None, Some, refl, sym, ap, ap₂, ◌∙◌, subst, if◌then◌else◌}
-use Rattle.std.proofs.lemmas.Bool.{false≢true, eqb-true, or_parts}
+use Rattle.std.proofs.Common.{◌≡◌, ◌⊎◌, inl, inr, ℕ, ◌+◌, Bool, true, false, ◌==◌, ◌||◌, ◌&&◌, not, List, [], ◌∷◌, length, Option, None, Some, refl, sym, ap, ap₂, ◌∙◌}
+use Rattle.std.proofs.lemmas.Bool.{false≢true}
 use Rattle.tt_base.specs.declared.span.SpanPart.{SpanPart}
-use Rattle.syntax_lex.specs.Class.{is_decimal, is_emoji_mark, is_id_continue, is_id_start, is_odd_rest, is_whitespace}
+use Rattle.syntax_lex.specs.Class.{is_decimal, is_emoji_mark, is_id_continue, is_whitespace}
 use Rattle.syntax_lex.specs.Front.{behind, first, second, skip}
-use Rattle.syntax_lex.specs.Opening.{begins_raw, opening, opening_slash, symbol}
-use Rattle.syntax_lex.specs.Quoted.{apostrophe, begins_lifetime, begins_raw_lifetime, char_literal, literal, named, quoted_char}
+use Rattle.syntax_lex.specs.Opening.{opening, symbol}
+use Rattle.syntax_lex.specs.Quoted.{apostrophe, begins_lifetime, begins_raw_lifetime, literal}
 use Rattle.syntax_lex.specs.Reading.{reading, reading_of}
 use Rattle.syntax_lex.specs.Word.{begins_literal, word}
 use Rattle.syntax_lex.specs.declared.opening.Family.{Family}
 use Rattle.syntax_lex.specs.declared.opening.Family.TheVariants as opens
-use Rattle.syntax_lex.specs.declared.token.LiteralKind.TheVariants as literals
 use Rattle.syntax_lex.specs.declared.token.TokenKind.{TokenKind}
 use Rattle.syntax_lex.specs.declared.token.TokenKind.TheVariants as kinds
 use Rattle.laws_round_trip.proofs.Roles.{leaf_valid, literal_closed, literal_two}

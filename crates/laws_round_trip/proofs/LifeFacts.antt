@@ -3,7 +3,7 @@ use Rattle.std.proofs.Common.{◌≡◌, ℕ, ◌≤◌, nat_le, Bool, true, fal
 use Rattle.std.proofs.lemmas.Bool.{and_parts, cases_eq, eqb-true, false≢true, leb-true, ne_eqb}
 use Rattle.syntax_lex.specs.Class.{is_decimal, is_emoji_mark, is_id_continue, is_id_start, is_whitespace}
 use Rattle.syntax_lex.specs.Front.{behind, first, second, skip}
-use Rattle.syntax_lex.specs.Opening.{begins_raw, opening, opening_b, opening_c, opening_r, opening_slash, symbol}
+use Rattle.syntax_lex.specs.Opening.{begins_raw, opening, opening_b, opening_c, opening_r, symbol}
 use Rattle.syntax_lex.specs.Quoted.{apostrophe, begins_lifetime, begins_raw_lifetime, literal}
 use Rattle.syntax_lex.specs.Reading.{reading, reading_of}
 use Rattle.syntax_lex.specs.Word.{begins_literal, word, word_before}

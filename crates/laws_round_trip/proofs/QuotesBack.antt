@@ -1,12 +1,12 @@
 -- Which token of a text is a literal in quotes, told by the first characters.
 use Rattle.std.proofs.Common.{◌≡◌, ℕ, suc, ◌-◌, Bool, true, false, ◌==◌, ◌&&◌, not, List, [], ◌∷◌, ◌++◌, replicate, refl, sym, ap, ◌∙◌, subst, arith, if◌then◌else◌}
-use Rattle.std.proofs.lemmas.Bool.{and_parts, eqb-true, false≢true}
+use Rattle.std.proofs.lemmas.Bool.{eqb-true, false≢true}
 use Rattle.syntax_lex.proofs.EndFacts.{behind_end, on, skip_end}
-use Rattle.syntax_lex.specs.Class.{is_decimal, is_decimal_part, is_emoji_mark, is_id_continue, is_id_start, is_whitespace, passes}
+use Rattle.syntax_lex.specs.Class.{is_decimal, is_decimal_part, is_emoji_mark, is_id_continue, passes}
 use Rattle.syntax_lex.specs.Closing.{behind_quote}
 use Rattle.syntax_lex.specs.Front.{behind, byte_length, first, second, skip}
 use Rattle.syntax_lex.specs.Number.{base_of, begins_exponent, begins_fraction, class_of, has_digit, has_letter, number, with_exponent, with_fraction}
-use Rattle.syntax_lex.specs.Opening.{begins_raw, opening}
+use Rattle.syntax_lex.specs.Opening.{opening}
 use Rattle.syntax_lex.specs.Quoted.{apostrophe, begins_lifetime, begins_raw_lifetime, literal, quoted_char}
 use Rattle.syntax_lex.specs.Reading.{reading, reading_of}
 use Rattle.syntax_lex.specs.Word.{begins_literal, word}

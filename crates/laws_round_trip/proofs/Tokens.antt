@@ -8,7 +8,7 @@ use Rattle.syntax_lex.specs.declared.token.TokenKind.{TokenKind}
 use Rattle.syntax_lex.specs.declared.token.TokenKind.TheVariants as kinds
 use Rattle.laws_round_trip.specs.Kept.{is_line, is_number, is_parting, is_sound}
 use Rattle.laws_round_trip.specs.Whole.{is_whole}
-use Rattle.laws_tokens.proofs.KeepFacts.{IsPlain, plain_null, plain_parting}
+use Rattle.laws_tokens.proofs.KeepFacts.{plain_null, plain_parting}
 use Rattle.laws_tokens.proofs.ReadKeeps.{ended_apart, sound_known, sound_shut, token_plain}
 use Rattle.laws_tokens.proofs.TwinReads.{Apart, Suits, block_twins, reading_twins, token_twin}
 use Rattle.laws_tokens.proofs.Twins.{IsShort, ended, enough, kept, plain, short, twin_is, twins_le, twins_of}
