@@ -7,7 +7,7 @@ use Rattle.syntax_lex.specs.Front.{first, behind}
 use Rattle.syntax_lex.specs.Opening.{opening}
 use Rattle.syntax_lex.specs.Reading.{reading, reading_of}
 use Rattle.syntax_lex.specs.declared.token.TokenKind.TheVariants as kinds
-use Rattle.laws_round_trip.proofs.MoreFacts.{behind_none}
+use Rattle.laws_tokens.proofs.Twins.{behind_none}
 use Rattle.laws_round_trip.proofs.KindFacts.{some_part}
 use Rattle.syntax_parse.specs.Parsed.{next_kind}
 use Rattle.syntax_parse.specs.Pieces.{pieces_of}

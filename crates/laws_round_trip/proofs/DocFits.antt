@@ -21,7 +21,7 @@ use Rattle.laws_round_trip.proofs.Quotes.{IsAll, raw_alone}
 use Rattle.laws_round_trip.proofs.RawReads.{raw_opens}
 use Rattle.laws_round_trip.proofs.Returns.{bare_joined}
 use Rattle.laws_round_trip.proofs.Roles.{raw_role}
-use Rattle.laws_round_trip.proofs.WordCuts.{byte_length-is}
+use Rattle.laws_tokens.proofs.TwinWords.{byte_length-is}
 use Rattle.syntax_parse.specs.Doc.{hashes_wanted}
 use Rattle.syntax_parse.specs.Inside.{bare_return}
 use Rattle.syntax_unparse.specs.Writable.{ReadsAlone}

@@ -1,10 +1,10 @@
 -- What is known of a token by its kind, and of its kind by its first characters.
-use Rattle.std.proofs.Common.{◌≡◌, ◌⊎◌, inl, inr, ℕ, ◌+◌, Bool, true, false, ◌==◌, ◌||◌, ◌&&◌, List, [], ◌∷◌, length, Option, None, Some, refl, sym, ap, ◌∙◌, subst, if◌then◌else◌}
-use Rattle.std.proofs.lemmas.Bool.{false≢true, eqb-true, or_parts}
+use Rattle.std.proofs.Common.{◌≡◌, ◌⊎◌, inl, inr, ℕ, ◌+◌, Bool, true, false, ◌==◌, ◌||◌, ◌&&◌, not, List, [], ◌∷◌, length, Option, None, Some, refl, sym, ap, ap₂, ◌∙◌}
+use Rattle.std.proofs.lemmas.Bool.{false≢true}
 use Rattle.tt_base.specs.declared.span.SpanPart.{SpanPart}
-use Rattle.syntax_lex.specs.Class.{is_decimal, is_emoji_mark, is_id_continue, is_id_start, is_whitespace}
+use Rattle.syntax_lex.specs.Class.{is_decimal, is_emoji_mark, is_id_continue, is_whitespace}
 use Rattle.syntax_lex.specs.Front.{behind, first, second, skip}
-use Rattle.syntax_lex.specs.Opening.{begins_raw, opening, opening_slash, symbol}
+use Rattle.syntax_lex.specs.Opening.{opening, symbol}
 use Rattle.syntax_lex.specs.Quoted.{apostrophe, begins_lifetime, begins_raw_lifetime, literal}
 use Rattle.syntax_lex.specs.Reading.{reading, reading_of}
 use Rattle.syntax_lex.specs.Word.{begins_literal, word}
@@ -13,9 +13,11 @@ use Rattle.syntax_lex.specs.declared.opening.Family.TheVariants as opens
 use Rattle.syntax_lex.specs.declared.token.TokenKind.{TokenKind}
 use Rattle.syntax_lex.specs.declared.token.TokenKind.TheVariants as kinds
 use Rattle.laws_round_trip.proofs.Roles.{leaf_valid, literal_closed, literal_two}
-use Rattle.laws_round_trip.proofs.MoreWords.{lifetime_as, named_as, word_as}
 use Rattle.laws_round_trip.specs.Kept.{is_sound}
+use Rattle.laws_tokens.proofs.KeepFacts.{not_true}
+use Rattle.laws_tokens.proofs.Tables.{Known, known, opening_facts, symbol_passes}
 use Rattle.laws_tokens.specs.Stops.{is_ended}
+use Rattle.laws_round_trip.proofs.ToldKinds.{lifetime_as, named_as, word_as}
 use Rattle.syntax_parse.specs.Pieces.{leaves_of, pieces_as, pieces_of, placed, punct_char, puncts, sorts_of, spacing_before}
 use Rattle.syntax_parse.specs.Role.{role_in}
 use Rattle.syntax_parse.specs.Spelled.{Sort}
@@ -81,21 +83,6 @@ pieces_same part other kind n m at to text same = by (role_in kind text)
     by (Closes pair) = refl
     by Leaf = leaves_same part other kind n m at to text same
 
-pick : (P : TokenKind → Type 0) (b : Bool) (f g : TokenKind) → P f → P g → P (if b then f else g)
-pick P true f g h k = h
-pick P false f g h k = k
-
--- what holds of each sign's kind
-symbol_cases : (P : TokenKind → Type 0) (c : ℕ) → P kinds.Semi → P kinds.Comma → P kinds.Dot → P kinds.OpenParen → P kinds.CloseParen → P kinds.OpenBrace → P kinds.CloseBrace → P kinds.OpenBracket → P kinds.CloseBracket
-    → P kinds.At → P kinds.Pound → P kinds.Tilde → P kinds.Question → P kinds.Colon → P kinds.Dollar → P kinds.Eq → P kinds.Bang → P kinds.Lt → P kinds.Gt → P kinds.Minus → P kinds.And → P kinds.Or → P kinds.Plus
-    → P kinds.Star → P kinds.Slash → P kinds.Caret → P kinds.Percent → P kinds.Unknown → P (symbol c)
-unfolding symbol
-symbol_cases P c p1 p2 p3 p4 p5 p6 p7 p8 p9 p10 p11 p12 p13 p14 p15 p16 p17 p18 p19 p20 p21 p22 p23 p24 p25 p26 p27 p28 =
-    pick P (c == 59) _ _ p1 (pick P (c == 44) _ _ p2 (pick P (c == 46) _ _ p3 (pick P (c == 40) _ _ p4 (pick P (c == 41) _ _ p5 (pick P (c == 123) _ _ p6 (pick P (c == 125) _ _ p7 (pick P (c == 91) _ _ p8
-    (pick P (c == 93) _ _ p9 (pick P (c == 64) _ _ p10 (pick P (c == 35) _ _ p11 (pick P (c == 126) _ _ p12 (pick P (c == 63) _ _ p13 (pick P (c == 58) _ _ p14 (pick P (c == 36) _ _ p15 (pick P (c == 61) _ _ p16
-    (pick P (c == 33) _ _ p17 (pick P (c == 60) _ _ p18 (pick P (c == 62) _ _ p19 (pick P (c == 45) _ _ p20 (pick P (c == 38) _ _ p21 (pick P (c == 124) _ _ p22 (pick P (c == 43) _ _ p23 (pick P (c == 42) _ _ p24
-    (pick P (c == 47) _ _ p25 (pick P (c == 94) _ _ p26 (pick P (c == 37) _ _ p27 p28))))))))))))))))))))))))))
-
 -- a family that is no white space and no comment
 abbrev is_proper : Family → Bool
 is_proper opens.LineComment = false
@@ -103,66 +90,34 @@ is_proper opens.BlockComment = false
 is_proper opens.Whitespace = false
 is_proper _ = true
 
-both : (b : Bool) (f g : Family) → is_proper f ≡ true → is_proper g ≡ true → is_proper (if b then f else g) ≡ true
-both true f g h k = h
-both false f g h k = k
-
 -- two slashes, or a slash and an asterisk
 abbrev pub opens_comment : (c d : ℕ) → Bool
 opens_comment c d = (c == 47) && ((d == 47) || (d == 42))
 
 proper_opening : (c d e : ℕ) → is_whitespace c ≡ false → opens_comment c d ≡ false → is_proper (opening c d e) ≡ true
-unfolding opening
-proper_opening c d e space comment = rw space (go (c == 47) refl)
+proper_opening c d e space comment = by (opening c d e) (opening_facts c d e)
   where
-    slash : (d == 47) || (d == 42) ≡ false → is_proper (opening_slash d) ≡ true
-    slash h = let parts = or_parts (d == 47) (d == 42) h in rw (parts.0, parts.1) refl
+    by : (family : Family) → Known family c d → is_proper family ≡ true
+    by opens.LineComment (known (is, marks)) = absurd (false≢true (sym comment ∙ ap₂ opens_comment is marks))
+    by opens.BlockComment (known (is, marks)) = absurd (false≢true (sym comment ∙ ap₂ opens_comment is marks))
+    by opens.Whitespace (known is) = absurd (false≢true (sym space ∙ is))
+    by family k = refl
 
-    rest : Family
-    rest =
-        if c == 114 then (if (d == 35) && is_id_start e then opens.RawIdent else (if begins_raw d then opens.RawStr else opens.Word))
-        else (if c == 98 then (if d == 39 then opens.Byte else (if d == 34 then opens.ByteStr else (if (d == 114) && begins_raw e then opens.RawByteStr else opens.Word)))
-        else (if c == 99 then (if d == 34 then opens.CStr else (if (d == 114) && begins_raw e then opens.RawCStr else opens.Word))
-        else (if is_id_start c then opens.Word
-        else (if is_decimal c then opens.Number
-        else (if c == 39 then opens.Apostrophe
-        else (if c == 34 then opens.Str
-        else (if (c == 35) && begins_raw d then opens.Guarded
-        else (if is_emoji_mark c then opens.OddWord
-        else opens.Symbol))))))))
-
-    rest_proper : is_proper rest ≡ true
-    rest_proper =
-        both (c == 114) _ _ (both ((d == 35) && is_id_start e) _ _ refl (both (begins_raw d) _ _ refl refl))
-        (both (c == 98) _ _ (both (d == 39) _ _ refl (both (d == 34) _ _ refl (both ((d == 114) && begins_raw e) _ _ refl refl)))
-        (both (c == 99) _ _ (both (d == 34) _ _ refl (both ((d == 114) && begins_raw e) _ _ refl refl))
-        (both (is_id_start c) _ _ refl
-        (both (is_decimal c) _ _ refl
-        (both (c == 39) _ _ refl
-        (both (c == 34) _ _ refl
-        (both ((c == 35) && begins_raw d) _ _ refl
-        (both (is_emoji_mark c) _ _ refl refl))))))))
-
-    go : (b : Bool) → (c == 47) ≡ b → is_proper (if c == 47 then opening_slash d else rest) ≡ true
-    go true e2 = rw e2 (slash (subst (λ b. (b && ((d == 47) || (d == 42))) ≡ false) e2 comment))
-    go false e2 = rw e2 rest_proper
-
-named_ended : (text : List ℕ) (quote hash number : Bool) (cs left : List ℕ) → is_sound (named_as text quote hash number cs left).0 ≡ true → is_ended (named_as text quote hash number cs left).0 ≡ true
+named_ended : (text : List ℕ) (quote hash number : Bool) (left : List ℕ) → is_sound (named_as text quote hash number left).0 ≡ true → is_ended (named_as text quote hash number left).0 ≡ true
 unfolding literal
-named_ended text true hash number cs left h = h
-named_ended text false true true cs left h = refl
-named_ended text false true false cs left h = absurd (false≢true h)
-named_ended text false false number cs left h = refl
+named_ended text true hash number left h = h
+named_ended text false true number left h = absurd (false≢true h)
+named_ended text false false number left h = refl
 
 life_ended : (text cs : List ℕ) → is_sound (apostrophe text cs).0 ≡ true → is_ended (apostrophe text cs).0 ≡ true
 unfolding apostrophe literal
 life_ended text cs = by (begins_lifetime cs) (begins_raw_lifetime cs)
   where
-    by : (b raw : Bool) → is_sound (lifetime_as text b raw cs (skip cs) (skip (skip (skip cs)))).0 ≡ true → is_ended (lifetime_as text b raw cs (skip cs) (skip (skip (skip cs)))).0 ≡ true
+    by : (b raw : Bool) → is_sound (lifetime_as text b raw cs (behind is_id_continue (skip cs))).0 ≡ true → is_ended (lifetime_as text b raw cs (behind is_id_continue (skip cs))).0 ≡ true
     by true true h = refl
     by true false h =
         let left = behind is_id_continue (skip cs) in
-        named_ended text (first left == 39) (first left == 35) (is_decimal (first cs)) left (skip left) h
+        named_ended text (first left == 39) ((first left == 35) && not (is_decimal (first cs))) (is_decimal (first cs)) left h
     by false raw h = h
 
 word_ended : (quote emoji : Bool) (cs : List ℕ) → is_sound (word_as quote emoji cs).0 ≡ true → is_ended (word_as quote emoji cs).0 ≡ true
@@ -189,57 +144,25 @@ family_ended opens.Apostrophe c cs proper sound = life_ended (c ∷ cs) cs sound
 family_ended opens.Str c cs proper sound = sound
 family_ended opens.OddWord c cs proper sound = absurd (false≢true sound)
 family_ended opens.Symbol c cs proper sound =
-    symbol_cases (λ k. is_ended k ≡ true) c refl refl refl refl refl refl refl refl refl refl refl refl refl refl refl refl refl refl refl refl refl refl refl refl refl refl refl refl
+    symbol_passes (λ n kind. is_ended kind) refl c refl
 
 -- a sound token that is no white space and no comment is ended
 pub proper_ended : (c : ℕ) (cs : List ℕ) → is_whitespace c ≡ false → opens_comment c (first cs) ≡ false → is_sound (reading (c ∷ cs)).0 ≡ true → is_ended (reading (c ∷ cs)).0 ≡ true
 unfolding reading
 proper_ended c cs space comment sound = family_ended (opening c (first cs) (second cs)) c cs (proper_opening c (first cs) (second cs) space comment) sound
 
-no_life : (family : Family) (c : ℕ) (cs : List ℕ) → (family ≡ opens.Apostrophe → ⊥) → is_lifetime (reading_of family (c ∷ cs) cs).0 ≡ false
-unfolding reading_of literal word
-no_life opens.Apostrophe c cs other = absurd (other refl)
-no_life opens.Symbol c cs other =
-    symbol_cases (λ k. is_lifetime k ≡ false) c refl refl refl refl refl refl refl refl refl refl refl refl refl refl refl refl refl refl refl refl refl refl refl refl refl refl refl refl
-no_life opens.Word c cs other = let left = behind is_id_continue cs in word_no_life (begins_literal (first left)) (is_emoji_mark (first left)) left
+-- a lifetime begins with a quote
+pub life_first : (c : ℕ) (cs : List ℕ) → is_lifetime (reading (c ∷ cs)).0 ≡ true → c ≡ 39
+unfolding reading reading_of literal word
+life_first c cs = by (opening c (first cs) (second cs)) (opening_facts c (first cs) (second cs))
   where
     word_no_life : (quote emoji : Bool) (ds : List ℕ) → is_lifetime (word_as quote emoji ds).0 ≡ false
     word_no_life true emoji ds = refl
     word_no_life false true ds = refl
     word_no_life false false ds = refl
-no_life family c cs other = refl
 
--- a family that begins with a quote
-abbrev is_quote : Family → Bool
-is_quote opens.Apostrophe = true
-is_quote _ = false
-
-no_quote : (b : Bool) (f g : Family) → is_quote f ≡ false → is_quote g ≡ false → is_quote (if b then f else g) ≡ false
-no_quote true f g h k = h
-no_quote false f g h k = k
-
-other_first : (c d e : ℕ) → (c == 39) ≡ false → is_quote (opening c d e) ≡ false
-unfolding opening
-other_first c d e other =
-    no_quote (is_whitespace c) _ _ refl
-    (no_quote (c == 47) _ _ (no_quote (d == 47) _ _ refl (no_quote (d == 42) _ _ refl refl))
-    (no_quote (c == 114) _ _ (no_quote ((d == 35) && is_id_start e) _ _ refl (no_quote (begins_raw d) _ _ refl refl))
-    (no_quote (c == 98) _ _ (no_quote (d == 39) _ _ refl (no_quote (d == 34) _ _ refl (no_quote ((d == 114) && begins_raw e) _ _ refl refl)))
-    (no_quote (c == 99) _ _ (no_quote (d == 34) _ _ refl (no_quote ((d == 114) && begins_raw e) _ _ refl refl))
-    (no_quote (is_id_start c) _ _ refl
-    (no_quote (is_decimal c) _ _ refl
-    (rw other
-    (no_quote (c == 34) _ _ refl
-    (no_quote ((c == 35) && begins_raw d) _ _ refl
-    (no_quote (is_emoji_mark c) _ _ refl refl))))))))))
-
--- a lifetime begins with a quote
-pub life_first : (c : ℕ) (cs : List ℕ) → is_lifetime (reading (c ∷ cs)).0 ≡ true → c ≡ 39
-unfolding reading
-life_first c cs life = go (c == 39) refl
-  where
-    go : (b : Bool) → (c == 39) ≡ b → c ≡ 39
-    go true e = eqb-true c 39 e
-    go false e =
-        let none = other_first c (first cs) (second cs) e in
-        absurd (false≢true (sym (no_life (opening c (first cs) (second cs)) c cs (λ is. false≢true (sym none ∙ ap is_quote is))) ∙ life))
+    by : (family : Family) → Known family c (first cs) → is_lifetime (reading_of family (c ∷ cs) cs).0 ≡ true → c ≡ 39
+    by opens.Apostrophe (known is) h = is
+    by opens.Symbol k h = absurd (false≢true (sym (not_true (is_lifetime (symbol c)) (symbol_passes (λ n kind. not (is_lifetime kind)) refl c refl)) ∙ h))
+    by opens.Word k h = let left = behind is_id_continue cs in absurd (false≢true (sym (word_no_life (begins_literal (first left)) (is_emoji_mark (first left)) left) ∙ h))
+    by family k h = absurd (false≢true h)

@@ -3,7 +3,7 @@ use Rattle.std.proofs.Common.{◌≡◌, ℕ, ◌≤◌, nat_le, Bool, true, fal
 use Rattle.std.proofs.lemmas.Bool.{and_parts, cases_eq, eqb-true, false≢true, leb-true, ne_eqb}
 use Rattle.syntax_lex.specs.Class.{is_decimal, is_emoji_mark, is_id_continue, is_id_start, is_whitespace}
 use Rattle.syntax_lex.specs.Front.{behind, first, second, skip}
-use Rattle.syntax_lex.specs.Opening.{begins_raw, opening, opening_b, opening_c, opening_r, opening_slash, symbol}
+use Rattle.syntax_lex.specs.Opening.{begins_raw, opening, opening_b, opening_c, opening_r, symbol}
 use Rattle.syntax_lex.specs.Quoted.{apostrophe, begins_lifetime, begins_raw_lifetime, literal}
 use Rattle.syntax_lex.specs.Reading.{reading, reading_of}
 use Rattle.syntax_lex.specs.Word.{begins_literal, word, word_before}
@@ -13,7 +13,8 @@ use Rattle.syntax_lex.specs.declared.token.TokenKind.{TokenKind}
 use Rattle.syntax_lex.specs.declared.token.TokenKind.TheVariants as kinds
 use Rattle.laws_round_trip.proofs.Roles.{name_kind}
 use Rattle.laws_round_trip.proofs.ToldKinds.{lifetime_as, named_as, word_as}
-use Rattle.laws_tokens.proofs.KeepFacts.{no_start, plain_null}
+use Rattle.laws_tokens.proofs.KeepFacts.{no_start, not_true, plain_null}
+use Rattle.laws_tokens.proofs.Tables.{Known, known, opening_facts, symbol_passes}
 use Rattle.syntax_unparse.specs.Writable.{is_lifetime}
 use Rattle.unicode_ident.proofs.Computing.{unicode_ident}
 use Rattle.unicode_ident.proofs.IdentLemmas.{is_xid_continue-ascii}
@@ -23,72 +24,15 @@ abbrev is_quote : Family → Bool
 is_quote opens.Apostrophe = true
 is_quote _ = false
 
--- in a branch that is none, it is the other
-behind_branch : {X : Type 0} (b : Bool) (f g : Family) → is_quote f ≡ false → (is_quote g ≡ true → X) → is_quote (if b then f else g) ≡ true → X
-behind_branch true f g none more h = absurd (false≢true (sym none ∙ h))
-behind_branch false f g none more h = more h
-
-neither : (b : Bool) (f g : Family) → is_quote f ≡ false → is_quote g ≡ false → is_quote (if b then f else g) ≡ false
-neither true f g h k = h
-neither false f g h k = k
-
 quote_first : (d e f : ℕ) → is_quote (opening d e f) ≡ true → d ≡ 39
-unfolding opening
-quote_first d e f =
-    behind_branch (is_whitespace d) opens.Whitespace _ refl
-    (behind_branch (d == 47) (opening_slash e) _ (neither (e == 47) _ _ refl (neither (e == 42) _ _ refl refl))
-    (behind_branch (d == 114) (opening_r e f) _ (neither ((e == 35) && is_id_start f) _ _ refl (neither (begins_raw e) _ _ refl refl))
-    (behind_branch (d == 98) (opening_b e f) _ (neither (e == 39) _ _ refl (neither (e == 34) _ _ refl (neither ((e == 114) && begins_raw f) _ _ refl refl)))
-    (behind_branch (d == 99) (opening_c e f) _ (neither (e == 34) _ _ refl (neither ((e == 114) && begins_raw f) _ _ refl refl))
-    (behind_branch (is_id_start d) opens.Word _ refl
-    (behind_branch (is_decimal d) opens.Number _ refl
-    (last (d == 39) refl)))))))
+quote_first d e f = by (opening d e f) (opening_facts d e f)
   where
-    rest : Family
-    rest = if d == 34 then opens.Str else (if (d == 35) && begins_raw e then opens.Guarded else (if is_emoji_mark d then opens.OddWord else opens.Symbol))
-
-    none : is_quote rest ≡ false
-    none = neither (d == 34) _ _ refl (neither ((d == 35) && begins_raw e) _ _ refl (neither (is_emoji_mark d) _ _ refl refl))
-
-    last : (b : Bool) → (d == 39) ≡ b → is_quote (if b then opens.Apostrophe else rest) ≡ true → d ≡ 39
-    last true e2 h = eqb-true d 39 e2
-    last false e2 h = absurd (false≢true (sym none ∙ h))
-
-no_life : (b : Bool) (f g : TokenKind) → is_lifetime f ≡ false → is_lifetime g ≡ false → is_lifetime (if b then f else g) ≡ false
-no_life true f g h k = h
-no_life false f g h k = k
+    by : (family : Family) → Known family d e → is_quote family ≡ true → d ≡ 39
+    by opens.Apostrophe (known k) h = k
+    by family k h = absurd (false≢true h)
 
 symbol_no_life : (d : ℕ) → is_lifetime (symbol d) ≡ false
-unfolding symbol
-symbol_no_life d =
-    no_life (d == 59) _ _ refl
-    (no_life (d == 44) _ _ refl
-    (no_life (d == 46) _ _ refl
-    (no_life (d == 40) _ _ refl
-    (no_life (d == 41) _ _ refl
-    (no_life (d == 123) _ _ refl
-    (no_life (d == 125) _ _ refl
-    (no_life (d == 91) _ _ refl
-    (no_life (d == 93) _ _ refl
-    (no_life (d == 64) _ _ refl
-    (no_life (d == 35) _ _ refl
-    (no_life (d == 126) _ _ refl
-    (no_life (d == 63) _ _ refl
-    (no_life (d == 58) _ _ refl
-    (no_life (d == 36) _ _ refl
-    (no_life (d == 61) _ _ refl
-    (no_life (d == 33) _ _ refl
-    (no_life (d == 60) _ _ refl
-    (no_life (d == 62) _ _ refl
-    (no_life (d == 45) _ _ refl
-    (no_life (d == 38) _ _ refl
-    (no_life (d == 124) _ _ refl
-    (no_life (d == 43) _ _ refl
-    (no_life (d == 42) _ _ refl
-    (no_life (d == 47) _ _ refl
-    (no_life (d == 94) _ _ refl
-    (no_life (d == 37) _ _ refl
-    refl))))))))))))))))))))))))))
+symbol_no_life d = not_true (is_lifetime (symbol d)) (symbol_passes (λ n kind. not (is_lifetime kind)) refl d refl)
 
 word_no_life : (quote emoji : Bool) (cs : List ℕ) → is_lifetime (word_as quote emoji cs).0 ≡ false
 word_no_life true emoji cs = refl

@@ -19,6 +19,8 @@ use Rattle.syntax_lex.specs.declared.token.TokenKind.{TokenKind}
 use Rattle.syntax_lex.specs.declared.token.TokenKind.TheVariants as kinds
 use Rattle.syntax_parse.proofs.TextFacts.{end_split}
 use Rattle.unicode_ident.specs.Ident.{is_xid_start}
+use Rattle.laws_tokens.proofs.KeepFacts.{not_true}
+use Rattle.laws_tokens.proofs.Tables.{symbol_passes}
 use Rattle.laws_round_trip.proofs.ToldKinds.{lifetime_as, named_as, word_as}
 
 -- whether a kind is that of a number
@@ -110,41 +112,8 @@ number_ends digit cs = by (base_of digit (first cs))
     by Hexadecimal = lettered Hexadecimal (has_digit Hexadecimal (skip cs))
 
 -- no character alone is a literal, and no name
-none_of : (b : Bool) (f g : TokenKind) → is_literal_token f ≡ false → is_literal_token g ≡ false → is_literal_token (if b then f else g) ≡ false
-none_of true f g h k = h
-none_of false f g h k = k
-
 pub symbol_none : (d : ℕ) → is_literal_token (symbol d) ≡ false
-unfolding symbol
-symbol_none d =
-    none_of (d == 59) _ _ refl
-    (none_of (d == 44) _ _ refl
-    (none_of (d == 46) _ _ refl
-    (none_of (d == 40) _ _ refl
-    (none_of (d == 41) _ _ refl
-    (none_of (d == 123) _ _ refl
-    (none_of (d == 125) _ _ refl
-    (none_of (d == 91) _ _ refl
-    (none_of (d == 93) _ _ refl
-    (none_of (d == 64) _ _ refl
-    (none_of (d == 35) _ _ refl
-    (none_of (d == 126) _ _ refl
-    (none_of (d == 63) _ _ refl
-    (none_of (d == 58) _ _ refl
-    (none_of (d == 36) _ _ refl
-    (none_of (d == 61) _ _ refl
-    (none_of (d == 33) _ _ refl
-    (none_of (d == 60) _ _ refl
-    (none_of (d == 62) _ _ refl
-    (none_of (d == 45) _ _ refl
-    (none_of (d == 38) _ _ refl
-    (none_of (d == 124) _ _ refl
-    (none_of (d == 43) _ _ refl
-    (none_of (d == 42) _ _ refl
-    (none_of (d == 47) _ _ refl
-    (none_of (d == 94) _ _ refl
-    (none_of (d == 37) _ _ refl
-    refl))))))))))))))))))))))))))
+symbol_none d = not_true (is_literal_token (symbol d)) (symbol_passes (λ n kind. not (is_literal_token kind)) refl d refl)
 
 pub word_none : (quote emoji : Bool) (cs : List ℕ) → is_literal_token (word_as quote emoji cs).0 ≡ false
 word_none true emoji cs = refl

@@ -9,11 +9,11 @@ use Rattle.syntax_lex.specs.Reading.{bytes_of, reading}
 use Rattle.syntax_lex.specs.declared.token.Token.{Token}
 use Rattle.syntax_lex.specs.declared.token.TokenKind.{TokenKind}
 use Rattle.syntax_lex.specs.declared.token.TokenKind.TheVariants as kinds
-use Rattle.laws_round_trip.proofs.Alones.{alone, line_left}
+use Rattle.laws_round_trip.proofs.Alones.{line_left}
 use Rattle.laws_round_trip.proofs.Blanks.{blank_read}
 use Rattle.laws_round_trip.proofs.KindFacts.{pieces_same}
 use Rattle.laws_round_trip.proofs.Seams.{AreSound, letters_there}
-use Rattle.laws_round_trip.proofs.Tokens.{kept_alone, some_length}
+use Rattle.laws_round_trip.proofs.Tokens.{alone, kept_alone, some_length}
 use Rattle.laws_round_trip.specs.Kept.{is_number, is_sound, ends_in_line, is_line}
 use Rattle.laws_round_trip.specs.Splices.{begins_with_name, ends_in_point, is_dot}
 use Rattle.laws_tokens.proofs.SignFacts.{sign_read}

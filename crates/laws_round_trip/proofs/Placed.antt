@@ -1,6 +1,6 @@
 -- The pieces of chunks, and those that begin before a byte of the text.
 use Rattle.laws_round_trip.proofs.SortFits.{sorts-append}
-use Rattle.laws_round_trip.proofs.CutFacts.{end_le}
+use Rattle.laws_tokens.proofs.Twins.{end_le}
 use Rattle.std.proofs.Common.{◌≡◌, ◌≢◌, ℕ, suc, ◌+◌, ◌<◌, ◌≤◌, Bool, true, false, ◌||◌, ◌&&◌, List, [], ◌∷◌, ◌++◌, length, Option, refl, sym, ap, ap₂, ◌∙◌, subst, arith, append_assoc, length-append, if◌then◌else◌}
 use Rattle.std.proofs.lemmas.Bool.{false≢true, le-ltb, lt-ltb}
 use Rattle.std.proofs.lemmas.Str.{chars-nil, encode_ascii, encodes-chars}
@@ -17,7 +17,7 @@ use Rattle.syntax_lex.specs.Reading.{reading, reading_of}
 use Rattle.syntax_lex.specs.declared.token.TokenKind.{TokenKind}
 use Rattle.syntax_lex.specs.declared.token.TokenKind.TheVariants as kinds
 use Rattle.laws_round_trip.proofs.KindFacts.{life_first}
-use Rattle.laws_round_trip.proofs.MoreWords.{lifetime_as}
+use Rattle.laws_round_trip.proofs.ToldKinds.{lifetime_as}
 use Rattle.laws_round_trip.specs.Splices.{before_byte, from_byte}
 use Rattle.laws_tokens.proofs.KeepFacts.{no_start, plain_null}
 use Rattle.syntax_parse.specs.Parsed.{next_kind, pieces_from}
@@ -40,10 +40,10 @@ quote_read cs = rw (no_start 39 (omega arith) refl refl) refl
 life_takes : (text cs : List ℕ) → is_lifetime (apostrophe text cs).0 ≡ true → length (apostrophe text cs).1 < length cs
 unfolding apostrophe literal
 life_takes text [] life =
-    absurd (false≢true (subst (λ b. is_lifetime (lifetime_as text (true && (b || false)) (begins_raw_lifetime []) [] [] []).0 ≡ true) plain_null.no_start life))
+    absurd (false≢true (subst (λ b. is_lifetime (lifetime_as text (true && (b || false)) (begins_raw_lifetime []) [] (behind is_id_continue [])).0 ≡ true) plain_null.no_start life))
 life_takes text (c ∷ cs) life = go (begins_lifetime (c ∷ cs)) (begins_raw_lifetime (c ∷ cs)) life
   where
-    go : (b raw : Bool) → is_lifetime (lifetime_as text b raw (c ∷ cs) cs (skip (skip cs))).0 ≡ true → length (lifetime_as text b raw (c ∷ cs) cs (skip (skip cs))).1 < suc (length cs)
+    go : (b raw : Bool) → is_lifetime (lifetime_as text b raw (c ∷ cs) (behind is_id_continue cs)).0 ≡ true → length (lifetime_as text b raw (c ∷ cs) (behind is_id_continue cs)).1 < suc (length cs)
     go true true h = omega (arith, end_le (behind_end is_id_continue (skip (skip cs))), end_le (skip_end (skip cs)), end_le (skip_end cs))
     go true false h = omega (arith, end_le (named_end text (is_decimal c) (behind is_id_continue cs)), end_le (behind_end is_id_continue cs))
     go false raw h = absurd (false≢true h)

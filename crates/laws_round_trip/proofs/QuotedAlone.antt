@@ -22,7 +22,7 @@ use Rattle.syntax_lex.specs.declared.token.LiteralKind.TheVariants as literals
 use Rattle.syntax_lex.specs.declared.token.TokenKind.TheVariants as kinds
 use Rattle.laws_round_trip.proofs.Quotes.{Quoted, has_quotes, is_quoted, lit_of}
 use Rattle.laws_round_trip.proofs.Roles.{literal_kept}
-use Rattle.laws_round_trip.proofs.WordCuts.{byte_length-is}
+use Rattle.laws_tokens.proofs.TwinWords.{byte_length-is}
 use Rattle.laws_round_trip.proofs.Words.{scalars-back, scalars-front, whole_token}
 use Rattle.syntax_parse.specs.Pieces.{scan_of}
 use Rattle.syntax_parse.specs.Role.{role_in}

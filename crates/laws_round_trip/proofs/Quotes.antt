@@ -1,5 +1,5 @@
 -- A literal in quotes that is read of a text: its quotes, what stands between them, and what is left behind; without that it is the same.
-use Rattle.std.proofs.Common.{◌≡◌, ℕ, ◌-◌, ◌<◌, Bool, true, false, List, [], ◌∷◌, ◌++◌, length, replicate, Option, Some, is_some, refl, sym, ap, ap₂, ◌∙◌, subst, arith, append_assoc, if◌then◌else◌}
+use Rattle.std.proofs.Common.{◌≡◌, ℕ, ◌-◌, ◌<◌, Bool, true, false, List, [], ◌∷◌, ◌++◌, length, replicate, Option, Some, is_some, refl, sym, ap, ap₂, ◌∙◌, subst, arith, append-nil, append_assoc, if◌then◌else◌}
 use Rattle.std.proofs.lemmas.Bool.{false≢true}
 use Rattle.tt_base.specs.LeafText.{closing_quote, opening_quote}
 use Rattle.tt_base.specs.Scan.{kind_told}
@@ -19,11 +19,11 @@ use Rattle.syntax_lex.specs.declared.token.LiteralKind.TheVariants as literals
 use Rattle.syntax_lex.specs.declared.token.TokenKind.{TokenKind}
 use Rattle.syntax_lex.specs.declared.token.TokenKind.TheVariants as kinds
 use Rattle.laws_round_trip.proofs.Numbers.{is_literal_token}
-use Rattle.laws_round_trip.proofs.QuoteCuts.{quoted_char_cut}
+use Rattle.laws_tokens.proofs.TwinQuotes.{char_twins}
 use Rattle.laws_round_trip.proofs.RawReads.{raw_text_back, raw_text_whole}
-use Rattle.laws_round_trip.proofs.WordCuts.{byte_length-append, byte_length-is, nothing_left}
+use Rattle.laws_tokens.proofs.TwinWords.{byte_length-append, byte_length-is}
 use Rattle.laws_tokens.proofs.KeepFacts.{plain_null}
-use Rattle.laws_tokens.proofs.NumberKeeps.{appended}
+use Rattle.laws_tokens.proofs.Twins.{ended, plain, twin_is, twins_of}
 use Rattle.syntax_parse.proofs.ShapeFacts.{char_closed}
 use Rattle.syntax_parse.specs.Pieces.{scan_of}
 
@@ -116,9 +116,9 @@ char_closes cs rest h =
     let text : List ℕ = it.0 ++ 39 ∷ [] in
     let are : cs ≡ text ++ rest = it.1 ∙ sym (append_assoc it.0 (39 ∷ []) rest) in
     let found : quoted_char (text ++ rest) ≡ (true, rest) = ap quoted_char (sym are) ∙ h in
-    let cut = quoted_char_cut text rest (ap (λ p. p.0) found) (omega (arith, ap (λ p. length p.1) found)) in
-    let same : appended (quoted_char text) rest ≡ (true, rest) = sym cut ∙ found in
-    (it.0, it.1, ap₂ (λ a b. (a, b)) (ap (λ p. p.0) same) (nothing_left (quoted_char text).1 rest (ap (λ p. p.1) same)))
+    let same = char_twins (twins_of text rest []) (ap (λ p. p.0) found) (ended (omega (arith, ap (λ p. length p.1) found)) (plain plain_null)) in
+    let both : quoted_char (text ++ []) ≡ (true, []) = ap₂ (λ a b. (a, b)) (sym same.kind ∙ ap (λ p. p.0) found) (twin_is rest [] [] same.left (ap (λ p. p.1) found)) in
+    (it.0, it.1, ap quoted_char (sym (append-nil text)) ∙ both)
 
 -- a literal that is closed by a quote, behind what opens it
 pub quoted_back : (text before cs : List ℕ) (quote : ℕ) (kind : Bool → LiteralKind) (find : List ℕ → Bool × List ℕ) (token : TokenKind)

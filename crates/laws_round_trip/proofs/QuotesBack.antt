@@ -1,12 +1,12 @@
 -- Which token of a text is a literal in quotes, told by the first characters.
 use Rattle.std.proofs.Common.{◌≡◌, ℕ, suc, ◌-◌, Bool, true, false, ◌==◌, ◌&&◌, not, List, [], ◌∷◌, ◌++◌, replicate, refl, sym, ap, ◌∙◌, subst, arith, if◌then◌else◌}
-use Rattle.std.proofs.lemmas.Bool.{and_parts, eqb-true, false≢true}
+use Rattle.std.proofs.lemmas.Bool.{eqb-true, false≢true}
 use Rattle.syntax_lex.proofs.EndFacts.{behind_end, on, skip_end}
-use Rattle.syntax_lex.specs.Class.{is_decimal, is_decimal_part, is_emoji_mark, is_id_continue, is_id_start, is_whitespace, passes}
+use Rattle.syntax_lex.specs.Class.{is_decimal, is_decimal_part, is_emoji_mark, is_id_continue, passes}
 use Rattle.syntax_lex.specs.Closing.{behind_quote}
 use Rattle.syntax_lex.specs.Front.{behind, byte_length, first, second, skip}
 use Rattle.syntax_lex.specs.Number.{base_of, begins_exponent, begins_fraction, class_of, has_digit, has_letter, number, with_exponent, with_fraction}
-use Rattle.syntax_lex.specs.Opening.{begins_raw, opening}
+use Rattle.syntax_lex.specs.Opening.{opening}
 use Rattle.syntax_lex.specs.Quoted.{apostrophe, begins_lifetime, begins_raw_lifetime, literal, quoted_char}
 use Rattle.syntax_lex.specs.Reading.{reading, reading_of}
 use Rattle.syntax_lex.specs.Word.{begins_literal, word}
@@ -22,47 +22,8 @@ use Rattle.laws_round_trip.proofs.Quotes.{QuotedAs, char_closes, is_quoted, is_q
 use Rattle.laws_round_trip.proofs.RawReads.{first_is, raw_byte_opens, raw_c_opens, raw_opens}
 use Rattle.laws_round_trip.proofs.ToldKinds.{lifetime_as, named_as}
 use Rattle.laws_tokens.proofs.KeepFacts.{no_start}
+use Rattle.laws_tokens.proofs.Tables.{Known, known, opening_facts}
 use Rattle.syntax_parse.proofs.TextFacts.{end_split}
-
--- the first two characters by the family that they tell
-abbrev Facts : Family → (c d : ℕ) → Type 0
-Facts opens.RawStr c d = c ≡ 114
-Facts opens.Byte c d = (c ≡ 98) × (d ≡ 39)
-Facts opens.ByteStr c d = (c ≡ 98) × (d ≡ 34)
-Facts opens.RawByteStr c d = (c ≡ 98) × (d ≡ 114)
-Facts opens.CStr c d = (c ≡ 99) × (d ≡ 34)
-Facts opens.RawCStr c d = (c ≡ 99) × (d ≡ 114)
-Facts opens.Apostrophe c d = c ≡ 39
-Facts opens.Str c d = c ≡ 34
-Facts _ c d = Unit {0}
-
--- facts that are known, by either branch
-data Known (family : Family) (c d : ℕ) : Type 0 where
-  known : Facts family c d → Known family c d
-
-facts : (b : Bool) (x y : Family) (c d : ℕ) → (b ≡ true → Known x c d) → (b ≡ false → Known y c d) → Known (if b then x else y) c d
-facts true x y c d h k = h refl
-facts false x y c d h k = k refl
-
-opening_facts : (c d e : ℕ) → Known (opening c d e) c d
-unfolding opening
-opening_facts c d e =
-    facts (is_whitespace c) _ _ c d (λ _. known tt) (λ _.
-    facts (c == 47) _ _ c d (λ _. facts (d == 47) _ _ c d (λ _. known tt) (λ _. facts (d == 42) _ _ c d (λ _. known tt) (λ _. known tt))) (λ _.
-    facts (c == 114) _ _ c d (λ h. facts ((d == 35) && is_id_start e) _ _ c d (λ _. known tt) (λ _. facts (begins_raw d) _ _ c d (λ _. known (eqb-true c 114 h)) (λ _. known tt))) (λ _.
-    facts (c == 98) _ _ c d
-    (λ h. facts (d == 39) _ _ c d (λ k. known (eqb-true c 98 h, eqb-true d 39 k)) (λ _.
-    facts (d == 34) _ _ c d (λ k. known (eqb-true c 98 h, eqb-true d 34 k)) (λ _.
-    facts ((d == 114) && begins_raw e) _ _ c d (λ k. known (eqb-true c 98 h, eqb-true d 114 (and_parts (d == 114) (begins_raw e) k).0)) (λ _. known tt)))) (λ _.
-    facts (c == 99) _ _ c d
-    (λ h. facts (d == 34) _ _ c d (λ k. known (eqb-true c 99 h, eqb-true d 34 k)) (λ _.
-    facts ((d == 114) && begins_raw e) _ _ c d (λ k. known (eqb-true c 99 h, eqb-true d 114 (and_parts (d == 114) (begins_raw e) k).0)) (λ _. known tt))) (λ _.
-    facts (is_id_start c) _ _ c d (λ _. known tt) (λ _.
-    facts (is_decimal c) _ _ c d (λ _. known tt) (λ _.
-    facts (c == 39) _ _ c d (λ h. known (eqb-true c 39 h)) (λ _.
-    facts (c == 34) _ _ c d (λ h. known (eqb-true c 34 h)) (λ _.
-    facts ((c == 35) && begins_raw d) _ _ c d (λ _. known tt) (λ _.
-    facts (is_emoji_mark c) _ _ c d (λ _. known tt) (λ _. known tt)))))))))))
 
 -- a `"` opens a string, and a `'` a character or a lifetime
 string_opens : (d e : ℕ) → opening 34 d e ≡ opens.Str

@@ -8,7 +8,12 @@ use Rattle.syntax_lex.specs.Front.{first, second, skip}
 use Rattle.syntax_lex.specs.Grammar.{IsRawText}
 use Rattle.syntax_lex.specs.Opening.{opening}
 use Rattle.syntax_lex.specs.declared.opening.Family.TheVariants as opens
-use Rattle.laws_tokens.proofs.KeepFacts.{hashes_same, no_start}
+use Rattle.laws_tokens.proofs.KeepFacts.{no_start}
+
+-- how many hashes stand in front of what is none
+hashes_same : (xs : List ℕ) (s : ℕ) (r : List ℕ) → (s == 35) ≡ false → hashes_of (xs ++ s ∷ r) ≡ hashes_of xs
+hashes_same [] s r differs = rw differs refl
+hashes_same (x ∷ xs) s r differs = ap (λ n. if x == 35 then suc n else 0) (hashes_same xs s r differs)
 
 -- so many hashes stand in front of a quote
 hashes_counted : (n : ℕ) (t : List ℕ) → hashes_of (replicate n 35 ++ 34 ∷ t) ≡ n

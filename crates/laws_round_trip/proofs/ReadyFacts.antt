@@ -11,7 +11,7 @@ use Rattle.syntax_lex.specs.Opening.{opening}
 use Rattle.syntax_lex.specs.Reading.{reading, reading_of}
 use Rattle.syntax_lex.specs.declared.token.TokenKind.{TokenKind}
 use Rattle.laws_round_trip.proofs.Names.{name_alone}
-use Rattle.laws_round_trip.proofs.ReadCuts.{token_alone}
+use Rattle.laws_round_trip.proofs.Tokens.{token_alone}
 use Rattle.laws_round_trip.proofs.SortFits.{IsPair, NameAlone, NoQuote, QuoteFits, SignFollows, SortFits, begins_sign, settled_before}
 use Rattle.laws_round_trip.proofs.ToldKinds.{Told, line, block, blank, wrong, opened, closed, wordy, valued, living, sign as sign_kind, punct_back, told}
 use Rattle.laws_round_trip.proofs.Words.{whole_token}

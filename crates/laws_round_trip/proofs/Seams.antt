@@ -14,8 +14,7 @@ use Rattle.syntax_lex.specs.Reading.{reading, reading_of}
 use Rattle.syntax_lex.specs.declared.token.TokenKind.{TokenKind}
 use Rattle.laws_round_trip.proofs.Blanks.{IsBlank, blank_match, blank_read, blank_space, space_blank, space_chunk, spaced, spaced_are, spaced_match, spaced_means, spaced_next, spaced_text}
 use Rattle.laws_round_trip.proofs.KindFacts.{SameBefore, opens_comment, pieces_same, proper_ended}
-use Rattle.laws_round_trip.proofs.MoreReads.{block_more}
-use Rattle.laws_round_trip.proofs.Tokens.{blunt_parting, kept_more, token_blunt}
+use Rattle.laws_round_trip.proofs.Tokens.{block_more, kept_more, token_parted}
 use Rattle.laws_round_trip.proofs.Touches.{last_of, last_snoc, snoc, touch}
 use Rattle.laws_round_trip.specs.Kept.{ends_in_line, is_line, is_sound}
 use Rattle.laws_tokens.specs.Stops.{is_ended}
@@ -72,8 +71,7 @@ comment_fixed c (d ∷ ds) kind opens read sound line = by (d == 47) refl (d == 
     by false k true j =
         let two : reading (47 ∷ 42 ∷ ds) ≡ (kind, []) = ap₂ (λ x y. reading (x ∷ y ∷ ds)) (sym is) (sym (eqb-true d 42 j)) ∙ read in (
           (λ r.
-              ap₂ (λ x y. reading (x ∷ y ∷ (ds ++ r))) is (eqb-true d 42 j) ∙ block_more ds r (ap (λ p. is_sound p.0) two ∙ sound)
-              ∙ ap (λ p. (p.0, p.1 ++ r)) two),
+              ap₂ (λ x y. reading (x ∷ y ∷ (ds ++ r))) is (eqb-true d 42 j) ∙ block_more ds r kind two sound),
           ap (λ p. punct_char p.0) (sym two),
         )
     by false k false j = absurd (false≢true (sym (ap₂ (λ x y. x || y) k j) ∙ both.1))
@@ -185,7 +183,7 @@ spacing x chunks c cs it letters read sound line space = chunk_before x more it 
 
     by : Last c cs x.kind → reading (c ∷ (cs ++ 32 ∷ text chunks)) ≡ (x.kind, 32 ∷ text chunks)
     by (inl fixed) = fixed.0 (32 ∷ text chunks)
-    by (inr ended) = token_blunt (c ∷ cs) (32 ∷ text chunks) x.kind (not_nil c cs) read sound ended (blunt_parting 32 refl)
+    by (inr ended) = token_parted (c ∷ cs) (text chunks) 32 x.kind (not_nil c cs) read sound ended refl
 
 -- the last chunk, and others behind it
 seam_end : (x : Chunk) (chunks : List Chunk) → IsChunk x [] → is_sound x.kind ≡ true → is_line x.kind ≡ false → AreChunks chunks → Seam (x ∷ []) chunks

@@ -19,7 +19,7 @@ use Rattle.laws_round_trip.proofs.DocFits.{doc_alone}
 use Rattle.laws_round_trip.proofs.DocTexts.{IsDocText, block_doc, line_doc}
 use Rattle.laws_round_trip.proofs.LifeFacts.{Life, life_back, name_read}
 use Rattle.laws_round_trip.proofs.Names.{name_alone, name_text}
-use Rattle.laws_round_trip.proofs.ReadCuts.{token_alone}
+use Rattle.laws_round_trip.proofs.Tokens.{token_alone}
 use Rattle.laws_round_trip.proofs.Values.{value_alone}
 use Rattle.laws_round_trip.proofs.ReadyFacts.{Ready, Fit, alone_joint, ready_no_quote, ready_blank, ready_sign, ready_quote, ready_doc, ready_name, pair_is, Read, one, name_reads, sign_letters, slash_apart, pound_apart, ready_behind, settled_is}
 use Rattle.laws_round_trip.proofs.Roles.{block_few, block_open, block_role, block_two, leaf_valid, life_name, life_two, line_few, line_role, line_two, literal_two, name_kind, name_two, no_digit}

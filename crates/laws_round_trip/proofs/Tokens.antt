@@ -1,29 +1,30 @@
 -- A token where what stands behind it changes.
-use Rattle.std.proofs.Common.{◌≡◌, ◌≢◌, inl, inr, ℕ, ◌<◌, true, List, [], ◌∷◌, ◌++◌, length, refl, sym, ap, ap₂, ◌∙◌, ⊎_elim, subst, arith, append_assoc, length-append}
-use Rattle.std.proofs.lemmas.Bool.{cases_eq, ne_eqb}
+use Rattle.std.proofs.Common.{◌≡◌, ◌≢◌, ◌⊎◌, inl, inr, ℕ, ◌<◌, true, false, List, [], ◌∷◌, ◌++◌, length, refl, sym, ap, ap₂, ◌∙◌, subst, arith, append-nil, append_assoc, length-append}
+use Rattle.std.proofs.lemmas.Bool.{false≢true}
+use Rattle.syntax_lex.specs.Comments.{block_comment}
 use Rattle.syntax_lex.specs.Front.{first, skip}
 use Rattle.syntax_lex.specs.Reading.{reading}
 use Rattle.syntax_lex.specs.declared.token.TokenKind.{TokenKind}
-use Rattle.laws_round_trip.proofs.LastReads.{reading_last}
-use Rattle.laws_round_trip.proofs.MoreFacts.{IsBlunt, blunt_comma, blunt_feed, blunt_plain, blunt_return, blunt_semicolon, blunt_tab}
-use Rattle.laws_round_trip.proofs.MoreReads.{reading_more}
-use Rattle.laws_round_trip.proofs.TokenCuts.{reading_cut}
-use Rattle.laws_round_trip.specs.Kept.{is_number, is_parting, is_sound}
-use Rattle.laws_tokens.proofs.KeepFacts.{plain_stop}
-use Rattle.laws_tokens.proofs.NumberKeeps.{appended}
-use Rattle.laws_tokens.specs.Stops.{is_ended, is_stop}
+use Rattle.syntax_lex.specs.declared.token.TokenKind.TheVariants as kinds
+use Rattle.laws_round_trip.specs.Kept.{is_line, is_number, is_parting, is_sound}
+use Rattle.laws_round_trip.specs.Whole.{is_whole}
+use Rattle.laws_tokens.proofs.KeepFacts.{plain_null, plain_parting}
+use Rattle.laws_tokens.proofs.ReadKeeps.{ended_apart, sound_known, sound_shut, token_plain}
+use Rattle.laws_tokens.proofs.TwinReads.{Apart, Suits, block_twins, reading_twins, token_twin}
+use Rattle.laws_tokens.proofs.Twins.{IsShort, ended, enough, kept, plain, short, twin_is, twins_le, twins_of}
+use Rattle.laws_tokens.specs.Stops.{is_ended}
 
--- what parts tokens is blunt
-pub blunt_parting : (c : ℕ) → is_parting c ≡ true → IsBlunt c
-blunt_parting c is =
-    ⊎_elim (λ e. subst IsBlunt (sym e) blunt_tab) (λ n0.
-    ⊎_elim (λ e. subst IsBlunt (sym e) blunt_feed) (λ n1.
-    ⊎_elim (λ e. subst IsBlunt (sym e) blunt_return) (λ n2.
-    ⊎_elim (λ e. subst IsBlunt (sym e) blunt_comma) (λ n3.
-    ⊎_elim (λ e. subst IsBlunt (sym e) blunt_semicolon) (λ n4.
-    let same : is_parting c ≡ is_stop c = rw (ne_eqb c 9 n0, ne_eqb c 10 n1, ne_eqb c 13 n2, ne_eqb c 44 n3, ne_eqb c 59 n4) refl in
-    blunt_plain c (plain_stop c (sym same ∙ is)))
-    (cases_eq c 59)) (cases_eq c 44)) (cases_eq c 13)) (cases_eq c 10)) (cases_eq c 9)
+-- it stands apart from the end, but for a comment to the end of a line
+line_apart : (r left : List ℕ) (kind : TokenKind) → is_line kind ≡ false → length r ≡ length left → Apart r [] left kind
+line_apart r left (kinds.LineComment doc) h e = absurd (false≢true (sym h))
+line_apart r left kinds.Whitespace h e = inr (omega (arith, e), refl)
+line_apart r left kind h e = tt
+
+-- and from anything where something is kept behind it
+kept_apart : (r s left : List ℕ) (kind : TokenKind) → length r < length left → Apart r s left kind
+kept_apart r s left (kinds.LineComment doc) more = more
+kept_apart r s left kinds.Whitespace more = inl more
+kept_apart r s left kind more = tt
 
 pub some_length : (xs : List ℕ) → xs ≢ [] → 0 < length xs
 some_length [] some = absurd (some refl)
@@ -36,43 +37,82 @@ front_same [] (y ∷ ys) r e = absurd (omega (arith, ap length e, length-append 
 front_same (x ∷ xs) [] r e = absurd (omega (arith, ap length e, length-append xs r))
 front_same (x ∷ xs) (y ∷ ys) r e = ap₂ (λ a t. a ∷ t) (ap first e) (front_same xs ys r (ap skip e))
 
--- a token with something kept behind it is that of what is kept
-pub kept_alone : (text kept rest : List ℕ) (kind : TokenKind) → text ≢ [] → kept ≢ [] → reading (text ++ (kept ++ rest)) ≡ (kind, kept ++ rest) → is_sound kind ≡ true
-    → (is_number kind ≡ true → kept ≢ 46 ∷ []) → reading (text ++ kept) ≡ (kind, kept)
-kept_alone [] kept rest kind some more read sound other = absurd (some refl)
-kept_alone (c ∷ cs) kept rest kind some more read sound other =
-    let whole : reading (c ∷ ((cs ++ kept) ++ rest)) ≡ (kind, kept ++ rest) = ap (λ t. reading (c ∷ t)) (append_assoc cs kept rest) ∙ read in
-    let kinds : (reading (c ∷ ((cs ++ kept) ++ rest))).0 ≡ kind = ap (λ p. p.0) whole in
-    let lefts : (reading (c ∷ ((cs ++ kept) ++ rest))).1 ≡ kept ++ rest = ap (λ p. p.1) whole in
-    let cut = reading_cut c (cs ++ kept) rest (ap is_sound kinds ∙ sound) (omega (arith, ap length lefts, length-append kept rest, some_length kept more))
-    (λ number e. other (ap is_number (sym kinds) ∙ number) (front_same kept (46 ∷ []) rest (sym lefts ∙ e))) in
-    let both : appended (reading (c ∷ (cs ++ kept))) rest ≡ (kind, kept ++ rest) = sym cut ∙ whole in
-    ap₂ (λ k t. (k, t)) (ap (λ p. p.0) both) (front_same (reading (c ∷ (cs ++ kept))).1 kept rest (ap (λ p. p.1) both))
+-- a token with something kept behind it is the same whatever stands behind that
+kept_twin : (text kept_part r s : List ℕ) (kind : TokenKind) → text ≢ [] → kept_part ≢ [] → reading (text ++ (kept_part ++ r)) ≡ (kind, kept_part ++ r) → is_sound kind ≡ true
+    → ((is_number kind ≡ true → kept_part ≢ 46 ∷ []) ⊎ (r ≡ [])) → reading (text ++ (kept_part ++ s)) ≡ (kind, kept_part ++ s)
+kept_twin [] l r s kind some more read sound other = absurd (some refl)
+kept_twin (c ∷ cs) l r s kind some more read sound other =
+    ap (λ t. reading (c ∷ t)) (sym (append_assoc cs l s))
+    ∙ token_twin c (cs ++ l) l r s kind (ap (λ t. reading (c ∷ t)) (append_assoc cs l r) ∙ read) (record {
+      fits = record { stays = kept longer; shut = sound_shut kind sound; known = inl (sound_known kind sound) };
+      apart = kept_apart r s (l ++ r) kind longer;
+      pointless = by other;
+    })
+  where
+    longer : length r < length (l ++ r)
+    longer = omega (arith, length-append l r, some_length l more)
 
--- and it is the same with more behind what is kept
-pub kept_more : (text kept other : List ℕ) (kind : TokenKind) → text ≢ [] → kept ≢ [] → reading (text ++ kept) ≡ (kind, kept) → is_sound kind ≡ true → reading (text ++ (kept ++ other)) ≡ (kind, kept ++ other)
-kept_more [] kept other kind some more read sound = absurd (some refl)
-kept_more (c ∷ cs) kept other kind some more read sound =
-    ap (λ t. reading (c ∷ t)) (sym (append_assoc cs kept other))
-    ∙ reading_more c (cs ++ kept) other (ap (λ p. is_sound p.0) read ∙ sound) (inl (omega (arith, ap (λ p. length p.1) read, some_length kept more)))
-    ∙ ap (λ p. appended p other) read
+    by : ((is_number kind ≡ true → l ≢ 46 ∷ []) ⊎ (r ≡ [])) → is_number kind ≡ true → (l ++ r ≢ 46 ∷ r) ⊎ IsShort r
+    by (inl none) is = inl (λ e. none is (front_same l (46 ∷ []) r e))
+    by (inr nil) is = inr (subst IsShort (sym nil) tt)
 
-pub token_kept : (text kept rest other : List ℕ) (kind : TokenKind) → text ≢ [] → kept ≢ [] → reading (text ++ (kept ++ rest)) ≡ (kind, kept ++ rest) → is_sound kind ≡ true
-    → (is_number kind ≡ true → kept ≢ 46 ∷ []) → reading (text ++ (kept ++ other)) ≡ (kind, kept ++ other)
-token_kept text kept rest other kind some more read sound number = kept_more text kept other kind some more (kept_alone text kept rest kind some more read sound number) sound
+pub token_kept : (text kept_part rest other : List ℕ) (kind : TokenKind) → text ≢ [] → kept_part ≢ [] → reading (text ++ (kept_part ++ rest)) ≡ (kind, kept_part ++ rest) → is_sound kind ≡ true
+    → (is_number kind ≡ true → kept_part ≢ 46 ∷ []) → reading (text ++ (kept_part ++ other)) ≡ (kind, kept_part ++ other)
+token_kept text l rest other kind some more read sound number = kept_twin text l rest other kind some more read sound (inl number)
 
--- a token that is all of a text ends before a blunt character
-pub token_blunt : (text rest : List ℕ) (kind : TokenKind) → text ≢ [] → reading text ≡ (kind, []) → is_sound kind ≡ true → is_ended kind ≡ true → IsBlunt (first rest) → reading (text ++ rest) ≡ (kind, rest)
-token_blunt [] rest kind some read sound ended blunt = absurd (some refl)
-token_blunt (c ∷ cs) rest kind some read sound ended blunt =
-    reading_more c cs rest (ap (λ p. is_sound p.0) read ∙ sound) (inr (blunt, ap (λ p. is_ended p.0) read ∙ ended)) ∙ ap (λ p. appended p rest) read
+-- it is that of what is kept
+pub kept_alone : (text kept_part rest : List ℕ) (kind : TokenKind) → text ≢ [] → kept_part ≢ [] → reading (text ++ (kept_part ++ rest)) ≡ (kind, kept_part ++ rest) → is_sound kind ≡ true
+    → (is_number kind ≡ true → kept_part ≢ 46 ∷ []) → reading (text ++ kept_part) ≡ (kind, kept_part)
+kept_alone text l rest kind some more read sound number =
+    subst (λ t. reading (text ++ t) ≡ (kind, t)) (append-nil l) (token_kept text l rest [] kind some more read sound number)
+
+-- and the same with more behind what is kept
+pub kept_more : (text kept_part other : List ℕ) (kind : TokenKind) → text ≢ [] → kept_part ≢ [] → reading (text ++ kept_part) ≡ (kind, kept_part) → is_sound kind ≡ true
+    → reading (text ++ (kept_part ++ other)) ≡ (kind, kept_part ++ other)
+kept_more text l other kind some more read sound = kept_twin text l [] other kind some more (subst (λ t. reading (text ++ t) ≡ (kind, t)) (sym (append-nil l)) read) sound (inr refl)
+
+-- a token in front of what is left is the token alone
+pub alone : (c : ℕ) (cs r : List ℕ) (kind : TokenKind) → reading (c ∷ (cs ++ r)) ≡ (kind, r) → is_sound kind ≡ true → is_line kind ≡ false → reading (c ∷ cs) ≡ (kind, [])
+alone c cs r kind read sound line = ap (λ t. reading (c ∷ t)) (sym (append-nil cs)) ∙ token_twin c cs [] r [] kind read (record {
+  fits = record { stays = ended (omega arith) (plain plain_null); shut = sound_shut kind sound; known = inl (sound_known kind sound) };
+  apart = line_apart r r kind line refl;
+  pointless = λ is. inl (λ e. omega (arith, ap length e));
+})
+
+-- a comment that is closed is the same whatever stands behind it
+pub block_more : (cs r : List ℕ) (kind : TokenKind) → block_comment cs ≡ (kind, []) → is_sound kind ≡ true → block_comment (cs ++ r) ≡ (kind, r)
+block_more cs r kind read sound =
+    let at : block_comment (cs ++ []) ≡ (kind, []) = ap block_comment (append-nil cs) ∙ read in
+    let it = block_twins (twins_of cs [] r) (ap (λ p. is_sound p.0) at ∙ sound) (enough (omega arith)) in
+    ap₂ (λ k t. (k, t)) (sym it.kind ∙ ap (λ p. p.0) at) (twin_is [] r [] it.left (ap (λ p. p.1) at))
+
+whole_sound : (kind : TokenKind) → is_whole kind ≡ true → (is_sound kind ≡ true) × (is_line kind ≡ false)
+whole_sound (kinds.LineComment doc) h = absurd (false≢true h)
+whole_sound (kinds.BlockComment doc terminated) h = absurd (false≢true h)
+whole_sound kinds.InvalidIdent h = absurd (false≢true h)
+whole_sound kinds.UnknownPrefix h = absurd (false≢true h)
+whole_sound kinds.UnknownPrefixLifetime h = absurd (false≢true h)
+whole_sound kinds.GuardedStrPrefix h = absurd (false≢true h)
+whole_sound (kinds.Literal kind start) h = (h, refl)
+whole_sound kind h = (refl, refl)
+
+-- so a token of a text is the same token where it is all of the text
+pub token_alone : (text rest : List ℕ) (kind : TokenKind) → text ≢ [] → reading (text ++ rest) ≡ (kind, rest) → is_whole kind ≡ true → reading text ≡ (kind, [])
+token_alone [] rest kind some read is = absurd (some refl)
+token_alone (c ∷ cs) rest kind some read is = let it = whole_sound kind is in alone c cs rest kind read it.0 it.1
 
 pub token_parted : (text rest : List ℕ) (c : ℕ) (kind : TokenKind) → text ≢ [] → reading text ≡ (kind, []) → is_sound kind ≡ true → is_ended kind ≡ true → is_parting c ≡ true
     → reading (text ++ c ∷ rest) ≡ (kind, c ∷ rest)
-token_parted text rest c kind some read sound ended parts = token_blunt text (c ∷ rest) kind some read sound ended (blunt_parting c parts)
+token_parted text rest c kind some read sound ends parts = token_plain text (c ∷ rest) kind some read ends (plain_parting c parts)
 
+-- none of two characters or more ends with such a character
 pub never_last : (front : List ℕ) (c : ℕ) (kind : TokenKind) → front ≢ [] → reading (front ++ c ∷ []) ≡ (kind, []) → is_sound kind ≡ true → is_ended kind ≡ true → is_parting c ≢ true
-never_last [] c kind some read sound ended parts = some refl
-never_last (d ∷ ds) c kind some read sound ended parts =
-    let more = reading_last d ds c (blunt_parting c parts) (ap (λ p. is_sound p.0) read ∙ sound) (ap (λ p. is_ended p.0) read ∙ ended) in
-    omega (arith, more, ap (λ p. length p.1) read)
+never_last [] c kind some read sound ends parts = some refl
+never_last (d ∷ ds) c kind some read sound ends parts =
+    let suits : Suits (c ∷ []) [] (kind, []) = record {
+      fits = record { stays = short (plain_parting c parts) plain_null; shut = sound_shut kind sound; known = inl (sound_known kind sound) };
+      apart = ended_apart (c ∷ []) [] [] kind ends;
+      pointless = λ is. inr (plain_parting c parts);
+    } in
+    let it = reading_twins d (twins_of ds (c ∷ []) []) (subst (Suits (c ∷ []) []) (sym read) suits) in
+    omega (arith, twins_le it.left, ap (λ p. length p.1) read)

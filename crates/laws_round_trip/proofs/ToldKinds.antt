@@ -1,5 +1,5 @@
 -- What each kind of token is to what is written.
-use Rattle.std.proofs.Common.{◌≡◌, ℕ, Bool, true, false, ◌==◌, ◌&&◌, not, IsTrue, List, ◌∷◌, Option, None, Some, refl, sym, ◌∙◌, if◌then◌else◌}
+use Rattle.std.proofs.Common.{◌≡◌, ℕ, Bool, true, false, ◌==◌, ◌&&◌, not, IsTrue, List, ◌∷◌, Option, None, Some, refl, ap, sym, ◌∙◌, if◌then◌else◌}
 use Rattle.std.proofs.lemmas.Bool.{eqb-true}
 use Rattle.tt_base.specs.declared.punct.Spacing.TheVariants.{Alone}
 use Rattle.syntax_lex.specs.Class.{is_decimal, is_emoji_mark, is_id_continue, is_odd_rest}
@@ -23,6 +23,7 @@ use Rattle.syntax_parse.specs.declared.fault.BadToken.{BadToken}
 use Rattle.syntax_parse.specs.declared.fault.BadToken.TheVariants as bad
 use Rattle.syntax_parse.specs.declared.role.Role.TheVariants.{Bad, Nothing, Opens, Closes}
 use Rattle.syntax_unparse.specs.Writable.{is_lifetime, is_name}
+use Rattle.laws_tokens.proofs.Tables.{symbol_passes}
 
 -- what a kind of token is to what is written
 pub data Told : TokenKind → Type 0 where
@@ -82,61 +83,15 @@ told kinds.Slash = sign 47 refl
 told kinds.Caret = sign 94 refl
 told kinds.Percent = sign 37 refl
 
+-- whether a character is that of a punct, if there is one
+is_of : ℕ → Option ℕ → Bool
+is_of d None = true
+is_of d (Some n) = d == n
+
 -- a character whose symbol is this punct is the punct's
-step : (d n c : ℕ) (kind rest : TokenKind) → punct_char kind ≡ Some n → (punct_char rest ≡ Some c → d ≡ c) → punct_char (if d == n then kind else rest) ≡ Some c → d ≡ c
-step d n c kind rest is more h = go (d == n) refl h
-  where
-    go : (b : Bool) → (d == n) ≡ b → punct_char (if b then kind else rest) ≡ Some c → d ≡ c
-    go true e k = let same : n ≡ c = some_is (sym is ∙ k) in eqb-true d n e ∙ same
-      where
-        some_is : {a b : ℕ} → Some a ≡ Some b → a ≡ b
-        some_is q = cc
-    go false e k = more k
-
-other : (d n c : ℕ) (kind rest : TokenKind) → punct_char kind ≡ None → (punct_char rest ≡ Some c → d ≡ c) → punct_char (if d == n then kind else rest) ≡ Some c → d ≡ c
-other d n c kind rest is more h = go (d == n) h
-  where
-    none : (k : Option ℕ) → k ≡ None → k ≡ Some c → ⊥
-    none k e q = cc
-
-    go : (b : Bool) → punct_char (if b then kind else rest) ≡ Some c → d ≡ c
-    go true k = absurd (none (punct_char kind) is k)
-    go false k = more k
-
 symbol_back : (d c : ℕ) → punct_char (symbol d) ≡ Some c → d ≡ c
-unfolding symbol
-symbol_back d c =
-    (step d 59 c kinds.Semi _ refl
-    (step d 44 c kinds.Comma _ refl
-    (step d 46 c kinds.Dot _ refl
-    (other d 40 c kinds.OpenParen _ refl
-    (other d 41 c kinds.CloseParen _ refl
-    (other d 123 c kinds.OpenBrace _ refl
-    (other d 125 c kinds.CloseBrace _ refl
-    (other d 91 c kinds.OpenBracket _ refl
-    (other d 93 c kinds.CloseBracket _ refl
-    (step d 64 c kinds.At _ refl
-    (step d 35 c kinds.Pound _ refl
-    (step d 126 c kinds.Tilde _ refl
-    (step d 63 c kinds.Question _ refl
-    (step d 58 c kinds.Colon _ refl
-    (step d 36 c kinds.Dollar _ refl
-    (step d 61 c kinds.Eq _ refl
-    (step d 33 c kinds.Bang _ refl
-    (step d 60 c kinds.Lt _ refl
-    (step d 62 c kinds.Gt _ refl
-    (step d 45 c kinds.Minus _ refl
-    (step d 38 c kinds.And _ refl
-    (step d 124 c kinds.Or _ refl
-    (step d 43 c kinds.Plus _ refl
-    (step d 42 c kinds.Star _ refl
-    (step d 47 c kinds.Slash _ refl
-    (step d 94 c kinds.Caret _ refl
-    (step d 37 c kinds.Percent _ refl
-    (λ h. absurd (unknown h)))))))))))))))))))))))))))))
-  where
-    unknown : None ≡ Some c → ⊥
-    unknown h = cc
+unfolding is_of
+symbol_back d c h = eqb-true d c (sym (ap (is_of d) h) ∙ symbol_passes (λ n kind. is_of n (punct_char kind)) refl d refl)
 
 -- no other token is a punct
 no_punct : (c : ℕ) → None ≡ Some c → ⊥

@@ -18,8 +18,7 @@ use Rattle.syntax_lex.specs.declared.token.TokenKind.TheVariants as kinds
 use Rattle.laws_round_trip.proofs.ToldKinds.{Told, told, line, block, blank, wrong, opened, closed, wordy, valued, living, sign as sign_kind, punct_back}
 use Rattle.laws_round_trip.proofs.Blanks.{blank_read}
 use Rattle.laws_round_trip.proofs.KindFacts.{SameBefore, life_first}
-use Rattle.laws_round_trip.proofs.MoreFacts.{IsBlunt}
-use Rattle.laws_round_trip.proofs.Tokens.{blunt_parting, never_last, token_blunt}
+use Rattle.laws_round_trip.proofs.Tokens.{never_last, token_parted}
 use Rattle.laws_round_trip.specs.Kept.{is_parting, is_sound}
 use Rattle.laws_tokens.proofs.SignFacts.{sign_read}
 use Rattle.laws_tokens.specs.Stops.{is_ended}
@@ -230,7 +229,7 @@ touch t u c cs kind f fs l b utf8 fine letters marks last byte read sound ended 
     blunt : Parts b → reading (c ∷ (cs ++ f ∷ fs)) ≡ (kind, f ∷ fs)
     blunt parts =
         let is : f ≡ b = first_letter u f fs b marks byte parts.ascii in
-        token_blunt (c ∷ cs) (f ∷ fs) kind (λ n. absurd (omega (arith, ap length n))) read sound ended (subst IsBlunt (sym is) (blunt_parting b parts.parts))
+        token_parted (c ∷ cs) fs f kind (λ n. absurd (omega (arith, ap length n))) read sound ended (ap is_parting is ∙ parts.parts)
 
     last_apart : is_apart l ≡ true → Touch c cs kind f fs
     last_apart h =

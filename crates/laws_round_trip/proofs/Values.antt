@@ -25,11 +25,11 @@ use Rattle.laws_round_trip.proofs.Numbers.{IsNumber, is_numeric, number_back}
 use Rattle.laws_round_trip.proofs.QuotedAlone.{quoted_alone}
 use Rattle.laws_round_trip.proofs.Quotes.{Quoted, has_quotes, is_quoted}
 use Rattle.laws_round_trip.proofs.QuotesBack.{quotes_back}
-use Rattle.laws_round_trip.proofs.ReadCuts.{token_alone}
+use Rattle.laws_round_trip.proofs.Tokens.{token_alone}
 use Rattle.laws_round_trip.proofs.ReadyFacts.{Read, one}
 use Rattle.laws_round_trip.proofs.Roles.{literal_closed}
 use Rattle.laws_round_trip.proofs.SortFits.{ValueAlone}
-use Rattle.laws_round_trip.proofs.WordCuts.{byte_length-append}
+use Rattle.laws_tokens.proofs.TwinWords.{byte_length-append}
 use Rattle.laws_round_trip.proofs.Words.{scalars-back}
 use Rattle.laws_tokens.specs.Stops.{is_closed}
 use Rattle.syntax_parse.specs.Pieces.{scan_of}

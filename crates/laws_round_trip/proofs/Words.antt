@@ -13,8 +13,8 @@ use Rattle.syntax_lex.specs.Front.{byte_length}
 use Rattle.syntax_lex.specs.Reading.{first_token_of, reading}
 use Rattle.syntax_lex.specs.declared.token.Token.{Token}
 use Rattle.syntax_lex.specs.declared.token.TokenKind.{TokenKind}
-use Rattle.laws_round_trip.proofs.ReadCuts.{token_alone}
-use Rattle.laws_round_trip.proofs.WordCuts.{byte_length-append}
+use Rattle.laws_round_trip.proofs.Tokens.{token_alone}
+use Rattle.laws_tokens.proofs.TwinWords.{byte_length-append}
 use Rattle.laws_round_trip.specs.Whole.{is_whole}
 use Rattle.syntax_parse.proofs.TextFacts.{end_split}
 use Rattle.syntax_parse.specs.Role.{role_in}

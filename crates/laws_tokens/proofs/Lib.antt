@@ -1,5 +1,11 @@
 pub mod KeepFacts
-pub mod NumberKeeps
+pub mod Twins
+pub mod TwinNumbers
+pub mod TwinQuotes
+pub mod TwinWords
+pub mod TwinReads
 pub mod ReadKeeps
-pub mod WordKeeps
 pub mod SignFacts
+pub mod Clears
+mod Rows
+pub mod Tables

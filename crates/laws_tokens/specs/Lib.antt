@@ -1,2 +1,3 @@
 -- What a token may have behind it.
+pub mod Clear
 pub mod Stops

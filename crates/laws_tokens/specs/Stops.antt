@@ -27,6 +27,12 @@ is_closed (literals.RawStr n_hashes) = is_some n_hashes
 is_closed (literals.RawByteStr n_hashes) = is_some n_hashes
 is_closed (literals.RawCStr n_hashes) = is_some n_hashes
 
+-- whether a literal is a number
+abbrev pub is_number_kind : LiteralKind → Bool
+is_number_kind (literals.Int base empty_int) = true
+is_number_kind (literals.Float base empty_exponent) = true
+is_number_kind _ = false
+
 -- whether a space, a bracket or the end ends a token: all but comments, white space, and what is not closed
 abbrev pub is_ended : TokenKind → Bool
 is_ended (kinds.LineComment doc_style) = false
@@ -42,3 +48,18 @@ is_sign c = (c == 59) || ((c == 44) || ((c == 46) || ((c == 40) || ((c == 41) ||
 -- whether a sign is no token with this behind it: `//`, `/*`, `##`, `#"`
 abbrev pub is_glued : (c next : ℕ) → Bool
 is_glued c next = ((c == 47) && ((next == 47) || (next == 42))) || ((c == 35) && ((next == 34) || (next == 35)))
+
+-- whether a token is a number
+abbrev pub is_number : TokenKind → Bool
+is_number (kinds.Literal kind suffix_start) = is_number_kind kind
+is_number _ = false
+
+-- whether a token is sound: none but prefixes, names with emoji, and what is not closed
+abbrev pub is_sound : TokenKind → Bool
+is_sound (kinds.BlockComment doc_style terminated) = terminated
+is_sound kinds.InvalidIdent = false
+is_sound kinds.UnknownPrefix = false
+is_sound kinds.UnknownPrefixLifetime = false
+is_sound kinds.GuardedStrPrefix = false
+is_sound (kinds.Literal kind suffix_start) = is_closed kind
+is_sound _ = true

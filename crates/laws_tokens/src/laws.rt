@@ -1,12 +1,20 @@
 //! Laws: a token that is all of a text is the first token of that text with a space, a bracket or nothing behind it.
-ghost use Rattle.std.specs.Prelude.{◌≡◌, ◌≢◌, ℕ, true, false, List, [], ◌∷◌, ◌++◌};
+ghost use Rattle.std.specs.Prelude.{◌≡◌, ◌≢◌, ◌↔◌, ℕ, true, false, List, [], ◌∷◌, ◌++◌};
 ghost use Rattle.syntax_lex.specs.Class.{is_whitespace};
 ghost use Rattle.syntax_lex.specs.Front.{first};
 ghost use Rattle.syntax_lex.specs.Opening.{symbol};
 ghost use Rattle.syntax_lex.specs.Reading.{reading};
 ghost use Rattle.syntax_lex.specs.declared.token.TokenKind.{TokenKind};
 ghost use Rattle.syntax_lex.specs.declared.token.TokenKind.TheVariants.{Whitespace};
-ghost use Rattle.laws_tokens.specs.Stops.{Stops, is_ended, is_glued, is_sign};
+ghost use Rattle.laws_tokens.specs.Clear.{Clear};
+ghost use Rattle.laws_tokens.specs.Stops.{Stops, is_ended, is_glued, is_sign, is_sound};
+
+/// What is read of a text in front of what is left is a sound token that is ended exactly if that is read of the text alone, and
+/// it is clear of the next two characters.
+pub fn token_clear()
+    ensures { (text rest : List ℕ) → (kind : TokenKind) → text ≢ [] → is_sound kind ≡ true → is_ended kind ≡ true
+        → (reading (text ++ rest) ≡ (kind, rest)) ↔ ((reading text ≡ (kind, [])) × Clear kind text rest) }
+{}
 
 /// A token that is all of a text is the same token, and ends there, where a space, a bracket or nothing stands behind it: so
 /// is each but comments, white space, and what is not closed.
