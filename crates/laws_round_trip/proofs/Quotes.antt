@@ -24,7 +24,7 @@ use Rattle.laws_round_trip.proofs.RawReads.{raw_text_back, raw_text_whole}
 use Rattle.laws_tokens.proofs.TwinWords.{byte_length-append, byte_length-is}
 use Rattle.laws_tokens.proofs.KeepFacts.{plain_null}
 use Rattle.laws_tokens.proofs.Twins.{ended, plain, twin_is, twins_of}
-use Rattle.syntax_parse.proofs.ShapeFacts.{char_closed}
+use Rattle.syntax_parse.proofs.ShapeParts.{char_closed}
 use Rattle.syntax_parse.specs.Pieces.{scan_of}
 
 -- whether a literal of a kind has quotes: all but numbers, and literals with a suffix that they may not have

@@ -10,6 +10,7 @@ pub mod Returns
 pub mod Rows
 pub mod ScanFacts
 pub mod ShapeFacts
+pub mod ShapeParts
 pub mod StackFacts
 pub mod TableText
 pub mod TextFacts

@@ -23,7 +23,8 @@ use Rattle.syntax_parse.specs.Scanned.{IsScanned}
 use Rattle.syntax_parse.specs.declared.fault.BadToken.{BadToken}
 use Rattle.syntax_parse.specs.declared.fault.BadToken.TheVariants as bad
 use Rattle.syntax_parse.specs.declared.role.Role.TheVariants.{Bad, Leaf}
-use Rattle.syntax_parse.proofs.ShapeFacts.{Shape, ShapeAs, literal_shape, after_of, ahead_of, front_of, is_closed}
+use Rattle.syntax_parse.proofs.ShapeFacts.{ShapeAs, literal_shape, after_of, ahead_of, is_closed}
+use Rattle.syntax_parse.proofs.ShapeParts.{Shape, front_of}
 
 -- the numbers of the lexer's kind are those of the scan
 ahead_is : (kind : LiteralKind) → opening_len (scan_of kind) ≡ ahead_of kind
