@@ -1,14 +1,14 @@
 -- Where two texts touch: what their last and first bytes tell of the tokens there.
 use Rattle.std.proofs.Common.{◌≡◌, ◌≢◌, ◌⊎◌, inl, inr, ℕ, ◌-◌, ◌<◌, Bool, true, false, ◌==◌, ◌||◌, ◌&&◌, not, List, [], ◌∷◌, ◌++◌, length, Option, None, Some, refl, sym, ap, ◌∙◌, ⊎_elim, subst, arith, append-nil, length-append}
-use Rattle.std.proofs.lemmas.Bool.{false≢true, and_parts, cases_eq, ne_eqb}
+use Rattle.std.proofs.lemmas.Bool.{false≢true, and_parts, eqb-true}
 use Rattle.std.proofs.lemmas.Str.{IsCharBoundary-before_ascii, IsUtf8-take, chars-append, chars-nil, encode_ascii, encodes-chars}
 use Rattle.std.proofs.Math.Seq.{take-append_seam}
 use Rattle.std.proofs.Math.Utf8.{encode, encodes}
-use Rattle.std.specs.List.{slice_get}
+use Rattle.std.specs.List.{list_any, slice_get}
 use Rattle.std.specs.Prelude.{get_or}
 use Rattle.std.specs.Str.{chars, IsUtf8}
 use Rattle.tt_base.specs.declared.punct.Spacing.TheVariants.{Alone}
-use Rattle.syntax_edit.specs.Texts.{is_apart, is_joined_before, is_separator, is_sign, may_touch}
+use Rattle.syntax_edit.specs.Texts.{apart_bytes, is_apart, is_joined_before, is_separator, is_sign, may_touch, separator_bytes}
 use Rattle.syntax_lex.specs.Class.{is_whitespace}
 use Rattle.syntax_lex.specs.Front.{first}
 use Rattle.syntax_lex.specs.Opening.{symbol}
@@ -27,30 +27,27 @@ use Rattle.syntax_unparse.proofs.Fronts.{ascii_first}
 use Rattle.syntax_unparse.proofs.KindFacts.{punct_known}
 use Rattle.syntax_unparse.specs.Writable.{is_lifetime}
 
+-- something for each byte of a list
+abbrev Each : (ℕ → Type 0) → List ℕ → Type 0
+Each P [] = Unit {0}
+Each P (x ∷ xs) = P x × Each P xs
+
+-- so there is it for one of them
+one_listed : (P : ℕ → Type 0) (bytes : List ℕ) (b : ℕ) → Each P bytes → list_any (λ it. it == b) bytes ≡ true → P b
+one_listed P [] b all is = absurd (false≢true is)
+one_listed P (x ∷ xs) b (here, others) is = go (x == b) refl (one_listed P xs b others) is
+  where
+    go : (w : Bool) → (x == b) ≡ w → (list_any (λ it. it == b) xs ≡ true → P b) → (w || list_any (λ it. it == b) xs) ≡ true → P b
+    go true e more h = subst P (eqb-true x b e) here
+    go false e more h = more h
+
 -- one of the bytes that stand apart
 apart_cases : (P : ℕ → Type 0) (b : ℕ) → P 32 → P 9 → P 10 → P 13 → P 40 → P 41 → P 91 → P 93 → P 123 → P 125 → is_apart b ≡ true → P b
-apart_cases P b p32 p9 p10 p13 p40 p41 p91 p93 p123 p125 is =
-    ⊎_elim (λ e. subst P (sym e) p32) (λ n32.
-    ⊎_elim (λ e. subst P (sym e) p9) (λ n9.
-    ⊎_elim (λ e. subst P (sym e) p10) (λ n10.
-    ⊎_elim (λ e. subst P (sym e) p13) (λ n13.
-    ⊎_elim (λ e. subst P (sym e) p40) (λ n40.
-    ⊎_elim (λ e. subst P (sym e) p41) (λ n41.
-    ⊎_elim (λ e. subst P (sym e) p91) (λ n91.
-    ⊎_elim (λ e. subst P (sym e) p93) (λ n93.
-    ⊎_elim (λ e. subst P (sym e) p123) (λ n123.
-    ⊎_elim (λ e. subst P (sym e) p125) (λ n125.
-    let none : is_apart b ≡ false =
-    rw (ne_eqb 32 b (λ e. n32 (sym e)), ne_eqb 9 b (λ e. n9 (sym e)), ne_eqb 10 b (λ e. n10 (sym e)), ne_eqb 13 b (λ e. n13 (sym e)), ne_eqb 40 b (λ e. n40 (sym e)), ne_eqb 41 b (λ e. n41 (sym e)), ne_eqb 91 b (λ e. n91 (sym e)), ne_eqb 93 b (λ e. n93 (sym e)), ne_eqb 123 b (λ e. n123 (sym e)), ne_eqb 125 b (λ e. n125 (sym e))) refl in
-    absurd (false≢true (sym none ∙ is))) (cases_eq b 125)) (cases_eq b 123)) (cases_eq b 93)) (cases_eq b 91)) (cases_eq b 41)) (cases_eq b 40)) (cases_eq b 13)) (cases_eq b 10)) (cases_eq b 9)) (cases_eq b 32)
+apart_cases P b p32 p9 p10 p13 p40 p41 p91 p93 p123 p125 = one_listed P apart_bytes b (p32, (p9, (p10, (p13, (p40, (p41, (p91, (p93, (p123, (p125, tt))))))))))
 
 -- a comma or a semicolon
 separator_cases : (P : ℕ → Type 0) (b : ℕ) → P 44 → P 59 → is_separator b ≡ true → P b
-separator_cases P b p44 p59 is =
-    ⊎_elim (λ e. subst P (sym e) p44) (λ n44.
-    ⊎_elim (λ e. subst P (sym e) p59) (λ n59.
-    let none : is_separator b ≡ false = rw (ne_eqb 44 b (λ e. n44 (sym e)), ne_eqb 59 b (λ e. n59 (sym e))) refl in
-    absurd (false≢true (sym none ∙ is))) (cases_eq b 59)) (cases_eq b 44)
+separator_cases P b p44 p59 = one_listed P separator_bytes b (p44, (p59, tt))
 
 -- a byte of ASCII that parts tokens
 pub record Parts (b : ℕ) : Type 0 where

@@ -1,5 +1,5 @@
 -- The first tokens of two texts that begin alike: they are the same, and end at the same place.
-use Rattle.std.proofs.Common.{◌≡◌, ◌≢◌, ◌⊎◌, inl, inr, ℕ, suc, ◌<◌, ◌≤◌, Bool, true, false, ◌==◌, ◌&&◌, not, List, [], ◌∷◌, ◌++◌, length, is_some, refl, sym, ap, ap₂, ◌∙◌, subst, arith, if◌then◌else◌}
+use Rattle.std.proofs.Common.{◌≡◌, ◌≢◌, ◌⊎◌, inl, inr, ℕ, suc, ◌<◌, ◌≤◌, Bool, true, false, ◌==◌, ◌&&◌, not, List, [], ◌∷◌, ◌++◌, length, Option, is_some, refl, sym, ap, ap₂, ◌∙◌, subst, arith, if◌then◌else◌}
 use Rattle.std.proofs.lemmas.Bool.{false≢true, false_from_ne_true, and_parts, eqb-true}
 use Rattle.unicode_ident.proofs.IdentLemmas.{is_xid_continue-ascii}
 use Rattle.syntax_lex.proofs.EndFacts.{behind_comment_end, behind_end, behind_name_end, behind_quote_end, literal_end, on, quoted_char_end, raw_text_end, reading_of_end, word_end}
@@ -7,6 +7,7 @@ use Rattle.syntax_lex.specs.Class.{is_decimal, is_emoji_mark, is_id_continue, is
 use Rattle.syntax_lex.specs.Closing.{behind_comment, behind_quote, raw_text}
 use Rattle.syntax_lex.specs.Comments.{block_comment, block_doc, line_comment}
 use Rattle.syntax_lex.specs.Front.{first, second, skip, behind, behind_name}
+use Rattle.syntax_lex.specs.Literals.{quoted, raw}
 use Rattle.syntax_lex.specs.Number.{number}
 use Rattle.syntax_lex.specs.Opening.{begins_raw, opening, opening_b, opening_c, opening_r, opening_slash}
 use Rattle.syntax_lex.specs.Quoted.{literal, quoted_char}
@@ -21,7 +22,7 @@ use Rattle.syntax_lex.specs.declared.token.TokenKind.{TokenKind}
 use Rattle.syntax_lex.specs.declared.token.TokenKind.TheVariants as kinds
 use Rattle.laws_tokens.proofs.KeepFacts.{IsPlain, no_start}
 use Rattle.laws_tokens.proofs.TwinNumbers.{Holds, number_twins}
-use Rattle.laws_tokens.proofs.TwinQuotes.{Counts, Shut, char_twins, comment_front, comment_twins, no_raw_text, quote_twins, raw_text_closes, raw_text_twins}
+use Rattle.laws_tokens.proofs.TwinQuotes.{and_none, Counts, Shut, char_twins, comment_front, comment_twins, no_raw_text, quote_twins, raw_text_closes, raw_text_twins}
 use Rattle.laws_tokens.proofs.TwinWords.{Fits, apostrophe_twins, inner, is_shut, told_twins, word_twins}
 use Rattle.laws_tokens.proofs.Twins.{Alike, Held, IsShort, Next, Stays, Twins, alike, branch, end_le, ends, front, held_of, name_twins, next_of, not_taken, off, plain, run, run_by, run_kept, short_plain, taken, twin_is, twins_of, unless}
 use Rattle.laws_tokens.specs.Stops.{is_number}
@@ -82,12 +83,20 @@ wants_two opens.RawCStr = true
 wants_two opens.Guarded = true
 wants_two _ = false
 
--- a string, and a raw one, that stays
-shut_of : {r s : List ℕ} (text : List ℕ) (kind : Bool → LiteralKind) (found : Bool × List ℕ) → found.0 ≡ true → Stays r s (literal text (kind found.0) found.0 found.1).1 → Shut r found
-shut_of text kind found closed stays = record { closed = closed; held = held_of (inner text (kind found.0) found.0 stays) }
-
+-- a raw string that stays
 counts_of : {r s : List ℕ} (text cs : List ℕ) (kind : LiteralKind) → is_some (raw_text cs).0 ≡ true → Stays r s (literal text kind (is_some (raw_text cs).0) (raw_text cs).1).1 → Counts r (raw_text cs)
 counts_of text cs kind closed stays = record { closed = closed; held = held_of (inner text kind (is_some (raw_text cs).0) stays) }
+
+-- a string, and a raw one, with its suffix
+string_twins : {r s text2 a b : List ℕ} (text : List ℕ) (kind : Bool → LiteralKind) → Twins r s text text2 → Twins r s a b → (behind_quote false a).0 ≡ true
+    → Stays r s (literal text (kind (behind_quote false a).0) (behind_quote false a).0 (behind_quote false a).1).1 → Alike r s (quoted text kind (behind_quote false a)) (quoted text2 kind (behind_quote false b))
+string_twins {a = a} {b = b} text kind texts t closed stays =
+    let found = behind_quote false a in
+    told_twins kind (λ w. w) texts found (behind_quote false b) (quote_twins false t (record { closed = closed; held = held_of (inner text (kind found.0) found.0 stays) })) stays
+
+raw_twins : {r s text2 a b : List ℕ} (text : List ℕ) (kind : Option ℕ → LiteralKind) → Twins r s text text2 → Twins r s a b → is_some (raw_text a).0 ≡ true
+    → Stays r s (literal text (kind (raw_text a).0) (is_some (raw_text a).0) (raw_text a).1).1 → Alike r s (raw text kind (raw_text a)) (raw text2 kind (raw_text b))
+raw_twins {a = a} {b = b} text kind texts t closed stays = told_twins kind is_some texts (raw_text a) (raw_text b) (raw_text_twins t (counts_of text a (kind (raw_text a).0) closed stays)) stays
 
 -- no name in front of a point
 point_left : (r : List ℕ) → behind_name (46 ∷ r) ≡ 46 ∷ r
@@ -101,23 +110,14 @@ family_twins opens.LineComment c t two m = line_twins (two refl) m.apart
 family_twins opens.BlockComment c t two m = block_twins (two refl) m.fits.shut (held_of m.fits.stays)
 family_twins opens.Whitespace c t two m = record { kind = refl; left = spaces_twins t m.apart }
 family_twins opens.RawIdent c t two m = record { kind = refl; left = name_twins (two refl) m.fits.stays }
-family_twins {a = a} {b = b} opens.RawStr c t two m =
-    told_twins literals.RawStr is_some (front t) (raw_text a) (raw_text b) (raw_text_twins t (counts_of (c ∷ a) a (literals.RawStr (raw_text a).0) m.fits.shut m.fits.stays)) m.fits.stays
+family_twins {a = a} opens.RawStr c t two m = raw_twins (c ∷ a) literals.RawStr (front t) t m.fits.shut m.fits.stays
 family_twins {a = a} {b = b} opens.Byte c t two m =
     let found = quoted_char (skip a) in
     told_twins literals.Byte (λ w. w) (front t) found (quoted_char (skip b)) (char_twins (two refl) m.fits.shut (inner (c ∷ a) (literals.Byte found.0) found.0 m.fits.stays)) m.fits.stays
-family_twins {a = a} {b = b} opens.ByteStr c t two m =
-    let found = behind_quote false (skip a) in
-    told_twins literals.ByteStr (λ w. w) (front t) found (behind_quote false (skip b)) (quote_twins false (two refl) (shut_of (c ∷ a) literals.ByteStr found m.fits.shut m.fits.stays)) m.fits.stays
-family_twins {a = a} {b = b} opens.RawByteStr c t two m =
-    told_twins literals.RawByteStr is_some (front t) (raw_text (skip a)) (raw_text (skip b))
-    (raw_text_twins (two refl) (counts_of (c ∷ a) (skip a) (literals.RawByteStr (raw_text (skip a)).0) m.fits.shut m.fits.stays)) m.fits.stays
-family_twins {a = a} {b = b} opens.CStr c t two m =
-    let found = behind_quote false (skip a) in
-    told_twins literals.CStr (λ w. w) (front t) found (behind_quote false (skip b)) (quote_twins false (two refl) (shut_of (c ∷ a) literals.CStr found m.fits.shut m.fits.stays)) m.fits.stays
-family_twins {a = a} {b = b} opens.RawCStr c t two m =
-    told_twins literals.RawCStr is_some (front t) (raw_text (skip a)) (raw_text (skip b))
-    (raw_text_twins (two refl) (counts_of (c ∷ a) (skip a) (literals.RawCStr (raw_text (skip a)).0) m.fits.shut m.fits.stays)) m.fits.stays
+family_twins {a = a} opens.ByteStr c t two m = string_twins (c ∷ a) literals.ByteStr (front t) (two refl) m.fits.shut m.fits.stays
+family_twins {a = a} opens.RawByteStr c t two m = raw_twins (c ∷ a) literals.RawByteStr (front t) (two refl) m.fits.shut m.fits.stays
+family_twins {a = a} opens.CStr c t two m = string_twins (c ∷ a) literals.CStr (front t) (two refl) m.fits.shut m.fits.stays
+family_twins {a = a} opens.RawCStr c t two m = raw_twins (c ∷ a) literals.RawCStr (front t) (two refl) m.fits.shut m.fits.stays
 family_twins opens.Word c t two m = word_twins t m.fits
 family_twins {r = r} {s = s} {a = a} {b = b} opens.Number c t two m =
     let found = number c a in
@@ -129,9 +129,7 @@ family_twins {r = r} {s = s} {a = a} {b = b} opens.Number c t two m =
     by left (inr h) = inr h
 family_twins opens.Guarded c t two m = record { kind = refl; left = two refl }
 family_twins opens.Apostrophe c t two m = apostrophe_twins (front {c = c} t) t m.fits
-family_twins {a = a} {b = b} opens.Str c t two m =
-    let found = behind_quote false a in
-    told_twins literals.Str (λ w. w) (front t) found (behind_quote false b) (quote_twins false t (shut_of (c ∷ a) literals.Str found m.fits.shut m.fits.stays)) m.fits.stays
+family_twins {a = a} opens.Str c t two m = string_twins (c ∷ a) literals.Str (front t) t m.fits.shut m.fits.stays
 family_twins opens.OddWord c t two m = record { kind = refl; left = run is_odd_rest (λ d p. p.no_odd) t m.fits.stays }
 family_twins opens.Symbol c t two m = record { kind = refl; left = t }
 
@@ -149,7 +147,7 @@ opening_one c d e =
     (λ is. branch One Same (is_decimal c) _ _ _ _ (λ is m. refl)
     (λ is. branch One Same (c == 39) _ _ _ _ (λ is m. refl)
     (λ is. branch One Same (c == 34) _ _ _ _ (λ is m. refl)
-    (λ is. unless One Same ((c == 35) && begins_raw d) ((c == 35) && begins_raw 0) _ _ opens.Guarded _ two (λ f m. lone (c == 35)) (λ f m. refl))))))))))
+    (λ is. unless One Same ((c == 35) && begins_raw d) ((c == 35) && begins_raw 0) _ _ opens.Guarded _ two (λ f m. and_none (c == 35)) (λ f m. refl))))))))))
   where
     One : Family → Type 0
     One family = wants_two family ≡ false
@@ -159,10 +157,6 @@ opening_one c d e =
 
     two : {b : Bool} → b ≡ true → true ≡ false → ⊥
     two is m = false≢true (sym m)
-
-    lone : (b : Bool) → (b && begins_raw 0) ≡ false
-    lone true = refl
-    lone false = refl
 
 -- a plain character tells the family as the end does
 opening_plain : (c d e : ℕ) → IsPlain d → opening c d e ≡ opening c 0 0
@@ -174,15 +168,11 @@ one_tells : (c : ℕ) → wants_two (opening c 0 0) ≡ false
 unfolding opening
 one_tells c =
     tell (is_whitespace c) _ _ refl (tell (c == 47) _ _ refl (tell (c == 114) _ _ refl (tell (c == 98) _ _ refl (tell (c == 99) _ _ refl (tell (is_id_start c) _ _ refl (tell (is_decimal c) _ _ refl
-    (tell (c == 39) _ _ refl (tell (c == 34) _ _ refl (rw (lone (c == 35)) (tell (is_emoji_mark c) _ _ refl refl))))))))))
+    (tell (c == 39) _ _ refl (tell (c == 34) _ _ refl (rw (and_none (c == 35)) (tell (is_emoji_mark c) _ _ refl refl))))))))))
   where
     tell : (b : Bool) (f g : Family) → wants_two f ≡ false → wants_two g ≡ false → wants_two (if b then f else g) ≡ false
     tell true f g h k = h
     tell false f g h k = k
-
-    lone : (b : Bool) → (b && begins_raw 0) ≡ false
-    lone true = refl
-    lone false = refl
 
 -- a family of two characters takes both
 two_taken : (family : Family) (c d : ℕ) (ds : List ℕ) → wants_two family ≡ true → is_shut (reading_of family (c ∷ d ∷ ds) (d ∷ ds)).0 ≡ true → length (reading_of family (c ∷ d ∷ ds) (d ∷ ds)).1 < suc (length ds)
