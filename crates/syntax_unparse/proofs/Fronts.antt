@@ -35,7 +35,7 @@ use Rattle.syntax_parse.specs.declared.bracket.Bracket.TheVariants.{Parenthesis,
 use Rattle.syntax_parse.specs.declared.role.Role.TheVariants as roles
 use Rattle.syntax_unparse.specs.Marks.{Mark, word, opening, closing}
 use Rattle.syntax_unparse.specs.Settled.{settled_leaf, sorts}
-use Rattle.syntax_unparse.specs.Text.{behind_leaf, is_string_kind}
+use Rattle.syntax_unparse.specs.Text.{behind_leaf, is_string}
 use Rattle.syntax_unparse.specs.Writable.{IsOneToken, MakesLifetime, Means, MeansLiteral, ReadsAlone, ReadsAs, first_kind, is_lifetime, is_name, is_punct}
 use Rattle.syntax_unparse.specs.declared.behind.Behind.TheVariants.{Opening, Apart, Slash, Pound, Quote}
 use Rattle.syntax_unparse.proofs.Chunks.{AreChunks, Chunk, IsChunk, joined, tokens_of}
@@ -294,16 +294,16 @@ pound_front (word at (leaf_of.Ident ident) ∷ rest) f =
     let known = name_known ident bytes (first_kind bytes) told.0.fine told.1 in
     ap (is_glued 35) (leaf_front (leaf_of.Ident ident) rest (chunks_of Apart rest) told.0)
     ∙ glue_pound (first (chars bytes)) (no_string_name ident told) (begins_not 35 not_hash bytes told.0 known.wordy)
-pound_front (word at (leaf_of.Literal literal) ∷ rest) f = go (is_string_kind (kind_of_literal literal)) refl
+pound_front (word at (leaf_of.Literal literal) ∷ rest) f = go (is_string (leaf_of.Literal literal)) refl
   where
-    go : (b : Bool) → is_string_kind (kind_of_literal literal) ≡ b → is_glued 35 (first (text (chunks_of Pound (word at (leaf_of.Literal literal) ∷ rest)))) ≡ false
+    go : (b : Bool) → is_string (leaf_of.Literal literal) ≡ b → is_glued 35 (first (text (chunks_of Pound (word at (leaf_of.Literal literal) ∷ rest)))) ≡ false
     go true e = rw e (ap (λ t. is_glued 35 (first t)) (ascii_first 32 (joined (leaf_chunk (leaf_of.Literal literal) rest ∷ chunks_of Apart rest)) (omega arith)))
     go false e =
         let told = reads_as (leaf_of.Literal literal) refl f.1 in
         let bytes = leaf_text (leaf_of.Literal literal) in
         let known = literal_known literal bytes (first_kind bytes) told.0.fine told.1 in
         rw e (ap (is_glued 35) (leaf_front (leaf_of.Literal literal) rest (chunks_of Apart rest) told.0)
-        ∙ glue_pound (first (chars bytes)) (begins_no_string bytes literal told.0 told.1 e) (begins_not 35 not_hash bytes told.0 known.wordy))
+        ∙ glue_pound (first (chars bytes)) (begins_no_string bytes told.0 e) (begins_not 35 not_hash bytes told.0 known.wordy))
 pound_front (word at (leaf_of.Punct punct) ∷ rest) f = go (punct.char == 39) refl
   where
     go : (b : Bool) → (punct.char == 39) ≡ b → is_glued 35 (first (text (chunks_of Pound (word at (leaf_of.Punct punct) ∷ rest)))) ≡ false

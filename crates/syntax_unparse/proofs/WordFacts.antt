@@ -2,11 +2,9 @@
 use Rattle.std.proofs.Common.{◌≡◌, ◌≢◌, ℕ, ◌-◌, Bool, true, false, ◌==◌, ◌||◌, List, [], ◌∷◌, ◌++◌, refl, sym, ap, ap₂, ◌∙◌, subst, arith, if◌then◌else◌}
 use Rattle.std.proofs.lemmas.Bool.{false≢true, ne_eqb}
 use Rattle.std.specs.Str.{chars}
-use Rattle.std.specs.Prelude.{bytes_eq, slice_range, drop}
-use Rattle.tt_base.specs.Literal.{kind_of}
-use Rattle.tt_base.specs.Scan.{no_literal, quote_len, suffix_told, told}
-use Rattle.tt_base.specs.declared.literal.LitKind.TheVariants as lit
-use Rattle.tt_base.specs.declared.literal.Literal.{Literal}
+use Rattle.std.proofs.lemmas.Str.{encode_ascii, encodes-chars}
+use Rattle.std.proofs.Math.Utf8.{encodes}
+use Rattle.std.specs.Prelude.{slice_get}
 use Rattle.syntax_lex.specs.Class.{is_whitespace}
 use Rattle.syntax_lex.specs.Closing.{behind_quote}
 use Rattle.syntax_lex.specs.Front.{byte_length, first}
@@ -24,8 +22,8 @@ use Rattle.laws_tokens.proofs.SignFacts.{sign_read}
 use Rattle.laws_tokens.specs.Stops.{Stops, is_ended, is_glued}
 use Rattle.syntax_parse.specs.Role.{role_in}
 use Rattle.syntax_parse.specs.declared.role.Role.TheVariants.{Leaf}
-use Rattle.syntax_unparse.specs.Text.{is_string_kind}
-use Rattle.syntax_unparse.specs.Writable.{IsOneToken, MeansLiteral, first_kind, is_name}
+use Rattle.syntax_unparse.specs.Text.{is_quote}
+use Rattle.syntax_unparse.specs.Writable.{IsOneToken, first_kind, is_name}
 
 -- what takes no bytes is nothing
 no_bytes : (cs : List ℕ) → byte_length cs ≡ 0 → cs ≡ []
@@ -140,27 +138,16 @@ string_kind : (cs : List ℕ) → (reading (34 ∷ cs)).0 ≡ kinds.Literal (lit
 unfolding reading reading_of opening literal
 string_kind cs = rw (no_start 34 (omega arith) refl refl) refl
 
--- what a string means is one, or is no literal
-string_told : (text value suffix : List ℕ) → is_string_kind (told text lit.Str value suffix).kind ≡ true
-string_told text value suffix = go (bytes_eq suffix [])
-  where
-    go : (b : Bool) → is_string_kind (if b then record { kind = lit.Str; value = value; suffix = suffix } else no_literal text).kind ≡ true
-    go true = refl
-    go false = refl
-
--- a literal that begins with a double quote is a string
-means_string : (text : List ℕ) (closed : Bool) (start : ℕ) (literal : Literal) → MeansLiteral (kinds.Literal (literals.Str closed) start) text literal → is_string_kind (kind_of literal) ≡ true
-means_string text closed start literal means =
-    ap is_string_kind means.kind ∙ string_told text (slice_range text 1 (start - quote_len closed)) (suffix_told (drop start text))
-
-pub begins_no_string : (text : List ℕ) (literal : Literal) → IsOneToken text → MeansLiteral (first_kind text) text literal → is_string_kind (kind_of literal) ≡ false → (first (chars text) == 34) ≡ false
-begins_no_string text literal one means other =
+-- a text that begins with another byte begins with another character
+pub begins_no_string : (text : List ℕ) → IsOneToken text → is_quote (slice_get text 0) ≡ false → (first (chars text) == 34) ≡ false
+begins_no_string text one other =
     let it = read_whole text one in
     ap (λ t. first t == 34) it.are
     ∙ ne_eqb it.c 34 (λ e.
-    let kind : kinds.Literal (literals.Str (behind_quote false it.cs).0) (byte_length (34 ∷ it.cs) - byte_length (behind_quote false it.cs).1) ≡ first_kind text =
-    sym (string_kind it.cs) ∙ ap (λ c. (reading (c ∷ it.cs)).0) (sym e) ∙ ap (λ p. p.0) it.read in
-    false≢true (sym other ∙ means_string text (behind_quote false it.cs).0 _ literal (subst (λ k. MeansLiteral k text literal) (sym kind) means)))
+    let begins : text ≡ 34 ∷ encodes it.cs =
+    sym (encodes-chars text one.utf8) ∙ ap encodes it.are ∙ ap (λ c. encodes (c ∷ it.cs)) e ∙ ap (λ b. b ++ encodes it.cs) (encode_ascii 34 (omega arith)) in
+    let yes : is_quote (slice_get text 0) ≡ true = ap (λ t. is_quote (slice_get t 0)) begins in
+    false≢true (sym other ∙ yes))
 
 -- no name begins with one
 pub not_string : (cs : List ℕ) → is_name (reading (34 ∷ cs)).0 ≡ false

@@ -1,13 +1,10 @@
 -- The Rust text of trees.
-use Rattle.std.specs.Prelude.{ℕ, Bool, true, false, ◌==◌, List, [], ◌∷◌, ◌++◌, if◌then◌else◌}
+use Rattle.std.specs.Prelude.{ℕ, Bool, true, false, ◌==◌, List, [], ◌∷◌, ◌++◌, Option, None, Some, slice_get, if◌then◌else◌}
 use Rattle.tt_base.specs.Forest.{Forest}
 use Rattle.tt_base.specs.LeafText.{leaf_text}
-use Rattle.tt_base.specs.Literal.{kind_of}
 use Rattle.tt_base.specs.TreeText.{closing_text, is_alone, opening_text, space_if}
 use Rattle.tt_base.specs.declared.leaf.Leaf.{Leaf}
 use Rattle.tt_base.specs.declared.leaf.Leaf.TheVariants as leaf_of
-use Rattle.tt_base.specs.declared.literal.LitKind.{LitKind}
-use Rattle.tt_base.specs.declared.literal.LitKind.TheVariants as lit
 use Rattle.tt_base.specs.declared.punct.Spacing.{Spacing}
 use Rattle.syntax_parse.specs.Role.{kind_of as delimiter_of}
 use Rattle.syntax_unparse.specs.Marks.{Mark, word, opening, closing, marks}
@@ -28,15 +25,14 @@ behind_leaf (leaf_of.Punct punct) = behind_punct punct.char punct.spacing
 behind_leaf (leaf_of.Literal literal) = Apart
 behind_leaf (leaf_of.Ident ident) = Apart
 
--- whether a literal's text may begin with a double quote
-abbrev pub is_string_kind : LitKind → Bool
-is_string_kind lit.Str = true
-is_string_kind (lit.Err unit) = true
-is_string_kind _ = false
+-- whether a byte is a double quote
+abbrev pub is_quote : Option ℕ → Bool
+is_quote None = false
+is_quote (Some byte) = byte == 34
 
--- whether a leaf's text may begin with a double quote
+-- whether a leaf is a literal whose text begins with a double quote
 abbrev pub is_string : Leaf → Bool
-is_string (leaf_of.Literal literal) = is_string_kind (kind_of literal)
+is_string (leaf_of.Literal literal) = is_quote (slice_get (leaf_text (leaf_of.Literal literal)) 0)
 is_string (leaf_of.Punct punct) = false
 is_string (leaf_of.Ident ident) = false
 

@@ -1,9 +1,10 @@
 //! What may stand behind what was written last.
 ghost use Rattle.std.specs.Prelude.{◌≡◌, ◌↔◌, IsTrue};
+ghost use Rattle.tt_base.specs.LeafText.{leaf_text};
 ghost use Rattle.syntax_unparse.specs.Text.{behind_leaf, behind_punct, is_string, wants_space, opens_apart};
 ghost use Rattle.syntax_unparse.specs.Writable.{MayEnd};
 
-use tt_base::{Leaf, LitKind, Spacing};
+use tt_base::{Leaf, Spacing};
 
 /// What was written last, as far as it matters to what is written next.
 #[derive(Debug, Clone, Copy, PartialEq, Eq)]
@@ -52,23 +53,28 @@ pub fn behind_leaf(leaf: &Leaf) -> Behind
     }
 }
 
-// Whether a leaf's text may begin with a double quote.
-fn is_string(leaf: &Leaf) -> bool
+// Whether a leaf with this text is a literal that begins with a double quote.
+fn is_string(leaf: &Leaf, text: &str) -> bool
+    requires { text.now ≡ leaf_text leaf.now }
     ensures { result ≡ is_string leaf.now }
 {
-    match leaf {
-        Leaf::Literal(literal) => matches!(literal.kind(), LitKind::Str | LitKind::Err(_)),
-        Leaf::Punct(_) | Leaf::Ident(_) => false,
+    if !matches!(leaf, Leaf::Literal(_)) {
+        return false;
+    }
+    match text.as_bytes().first() {
+        Some(byte) => *byte == b'"',
+        None => false,
     }
 }
 
-/// Whether a space stands before a leaf.
-pub fn wants_space(behind: Behind, leaf: &Leaf) -> bool
+/// Whether a space stands before a leaf with this text.
+pub fn wants_space(behind: Behind, leaf: &Leaf, text: &str) -> bool
+    requires { text.now ≡ leaf_text leaf.now }
     ensures { result ≡ wants_space behind leaf.now }
 {
     match behind {
         Behind::Apart => true,
-        Behind::Pound => is_string(leaf),
+        Behind::Pound => is_string(leaf, text),
         _ => false,
     }
 }

@@ -131,7 +131,7 @@ fn write_leaf(
         return Err(WriteFault::TooLong);
     }
     let refused = refused_by(alloc, last, at, leaf, leaf_text)?;
-    text.push_str(space(wants_space(last.behind, leaf)))?;
+    text.push_str(space(wants_space(last.behind, leaf, leaf_text)))?;
     text.push_str(leaf_text)?;
     Ok(Last {
         at,

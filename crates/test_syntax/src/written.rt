@@ -35,7 +35,7 @@ enum Part<'a> {
 }
 
 // Trees that are made of parts, with their texts, or with why they are not written.
-const MADE: [(&[Part<'static>], &str); 24] = [
+const MADE: [(&[Part<'static>], &str); 27] = [
     (&[Part::Name("a"), Part::Name("b")], "a b"),
     (
         &[
@@ -69,6 +69,20 @@ const MADE: [(&[Part<'static>], &str); 24] = [
             Part::Value(LitKind::Str, "x"),
         ],
         "# \"x\"",
+    ),
+    (
+        &[
+            Part::Sign('#', Spacing::Joint),
+            Part::Value(LitKind::Err(()), "\"a\"b"),
+        ],
+        "# \"a\"b",
+    ),
+    (
+        &[
+            Part::Sign('#', Spacing::Joint),
+            Part::Value(LitKind::Err(()), "'a'b"),
+        ],
+        "#'a'b",
     ),
     (
         &[
@@ -123,6 +137,14 @@ const MADE: [(&[Part<'static>], &str); 24] = [
         "a",
     ),
     (&[Part::Name("a"), Part::Name("b c")], "not writable at 1"),
+    (
+        &[
+            Part::Name("b c"),
+            Part::Opens(DelimiterKind::Brace, 1),
+            Part::Sign('(', Spacing::Alone),
+        ],
+        "not writable at 0",
+    ),
     (
         &[Part::Opens(DelimiterKind::Invisible, 1), Part::Name("")],
         "not writable at 1",
