@@ -18,6 +18,11 @@ ONE_ERROR = "\nerror: found 1 error\n"
 DEFINITION = b"macro_rules! m { ($a:tt, $b:tt) => { $a + $b }; }\n"
 
 
+# The keywords of edition 2024 by the Rust reference, strict and reserved, and `_`.
+KEYWORDS = """as async await break const continue crate dyn else enum extern false fn for gen if impl in let loop match mod move mut pub
+ref return self Self static struct super trait true type unsafe use where while abstract become box do final macro override priv try
+typeof unsized virtual yield _""".split()
+
 # An option of `expand` that `check` does not have.
 DROP_RULES = "--drop-rules"
 
@@ -152,6 +157,22 @@ def try_options(files):
             wants("the run", files.run("expand", option, value), (2, b"", shown.encode()))
 
 
+def try_keywords(files):
+    """No keyword is the name of a macro: what looks like its definition and its call stays."""
+    for word in KEYWORDS:
+        text = f"macro_rules! {word} {{ () => {{ 1 }} }} fn f() {{ a({word}!()) }}".encode()
+        judge(files, text, "", "-", given=text)
+
+
+def try_seams(files):
+    """A value touches white space and brackets as it is; a punct that would become joint gets a space."""
+    define = b"macro_rules! m { () => {b} } macro_rules! k { () => {-} } "
+    for gap in (b" ", b"\t", b"\r\n", b"\n"):
+        judge(files, define + b"f(a," + gap + b"b" + gap + b")", "", "-", given=define + b"f(a," + gap + b"m!()" + gap + b")")
+    for sign in b",;@~":
+        judge(files, define + b"f(a%c - ,b)" % sign, "", "-", given=define + b"f(a%ck!(),b)" % sign)
+
+
 def try_deep(files):
     """Brackets in one another, in a text and in an input."""
     deep = b"(" * DEPTH + b")" * DEPTH
@@ -223,7 +244,8 @@ def tried(files, examples):
     """Each thing that is tried, by its name."""
     yield from tried_cases(files, examples / "small.cases")
     for try_one in (
-        try_missing, try_several, try_empty, try_no_utf8, try_bytes_stay, try_options, try_deep, try_forever, try_long,
+        try_missing, try_several, try_empty, try_no_utf8, try_bytes_stay, try_options, try_keywords, try_seams, try_deep, try_forever,
+        try_long,
         try_closed_pipe, try_colours,
     ):
         name = try_one.__name__.removeprefix("try_").replace("_", " ")
