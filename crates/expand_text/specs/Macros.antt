@@ -117,13 +117,14 @@ abbrev pub MayStand : (in_text : Bool) → (call : Delimiter) → Forest → Typ
 MayStand false call trees = Unit {0}
 MayStand true call trees = IsWithinLimits (tree_of call trees) × IsWritable trees × (1 + length (text_of trees) < 2 ^ 32)
 
--- why trees that come of a call which begins at a byte are not written, and the byte where it shows: where the token comes from that cannot
--- be, or where the call begins
+-- why trees that come of a call which begins at a byte are not written, and the byte where it shows: as a tree they are past a limit, which
+-- shows where the call begins; or else their text is too long, which shows there too; or else a leaf is the first that cannot be written, which
+-- shows where it comes from
 abbrev pub IsUnwritten : (call : Delimiter) → Forest → (begin : ℕ) → (at : ℕ) → MacroFault → Type 0
 IsUnwritten call trees begin at (wrong.TooLarge why) = IsPastLimit (tree_of call trees) why × (at ≡ begin)
+IsUnwritten call trees begin at wrong.TooLong = IsWithinLimits (tree_of call trees) × IsWriteFault trees unwritten.TooLong × (at ≡ begin)
 IsUnwritten call trees begin at wrong.NotWritable =
-    (place : ℕ) × IsWriteFault trees (unwritten.NotWritable place) × (at ≡ byte_at trees place begin)
-IsUnwritten call trees begin at wrong.TooLong = IsWriteFault trees unwritten.TooLong × (at ≡ begin)
+    IsWithinLimits (tree_of call trees) × (place : ℕ) × IsWriteFault trees (unwritten.NotWritable place) × (at ≡ byte_at trees place begin)
 IsUnwritten call trees begin at (wrong.Definition why) = ⊥
 IsUnwritten call trees begin at wrong.Left = ⊥
 IsUnwritten call trees begin at wrong.Conditional = ⊥
