@@ -1,17 +1,19 @@
 -- The Rust text of trees is that of Display where no space stands otherwise.
-use Rattle.std.proofs.Common.{◌≡◌, ℕ, ◌+◌, Bool, true, false, ◌==◌, ◌&&◌, IsTrue, List, [], ◌∷◌, ◌++◌, None, Some, refl, sym, ap, ap₂, subst, inl, inr, ◌∙◌, append_assoc, append-nil, if◌then◌else◌}
+use Rattle.std.proofs.Common.{codes, ◌≡◌, ℕ, ◌+◌, Bool, true, false, ◌==◌, ◌&&◌, IsTrue, List, [], ◌∷◌, ◌++◌, None, Some, refl, sym, ap, ap₂, subst, inl, inr, ◌∙◌, append_assoc, append-nil, if◌then◌else◌}
 use Rattle.std.proofs.lemmas.Bool.{false≢true}
 use Rattle.tt_base.specs.Forest.{Forest, end, leaf, node, size}
-use Rattle.tt_base.specs.LeafText.{leaf_text}
+use Rattle.tt_base.specs.LeafText.{ident_text, leaf_text}
 use Rattle.tt_base.specs.TreeText.{closing_text, display, is_alone, opening_text, siblings_text, space_after, space_if}
+use Rattle.tt_base.specs.declared.delimiter.Delimiter.{Delimiter}
 use Rattle.tt_base.specs.declared.delimiter.DelimiterKind.{DelimiterKind}
 use Rattle.tt_base.specs.declared.delimiter.DelimiterKind.TheVariants as delimits
+use Rattle.tt_base.specs.declared.ident.Ident.{Ident}
 use Rattle.tt_base.specs.declared.leaf.Leaf.{Leaf}
 use Rattle.tt_base.specs.declared.leaf.Leaf.TheVariants as leaf_of
 use Rattle.syntax_parse.specs.Role.{kind_of}
 use Rattle.syntax_parse.specs.declared.bracket.Bracket.{Bracket}
 use Rattle.syntax_parse.specs.declared.bracket.Bracket.TheVariants.{Parenthesis, Brace, Square}
-use Rattle.syntax_unparse.specs.Displayed.{IsDisplayed, IsPlain, TakesSpace, behind_all, behind_subtree, has_brackets, is_lone_quote, touches_pound}
+use Rattle.syntax_unparse.specs.Displayed.{IsDisplayed, IsPlain, TakesSpace, behind_all, behind_subtree, has_brackets, is_lone_quote, touches_pound, with_nothing}
 use Rattle.syntax_unparse.specs.Marks.{Mark, closing, brackets_of, closes, marks, opens, shown}
 use Rattle.syntax_unparse.specs.Text.{behind_leaf, opens_apart, text_of, wants_space, written}
 use Rattle.syntax_unparse.specs.declared.behind.Behind.{Behind}
@@ -133,3 +135,8 @@ plain_all behind (node delimiter children rest) h = inl (h.0, refl, plain_all Op
 -- plain trees are written as Display writes them
 pub plain_displayed : (trees : Forest) → IsPlain Opening trees → IsDisplayed false Opening trees
 plain_displayed trees h = plain_all Opening trees h
+
+-- Display shows an empty subtree without brackets as a space where one is due, and the Rust text does not
+pub empty_subtree : (name : Ident) (delimiter : Delimiter) → (text_of (with_nothing name delimiter) ≡ ident_text name) × (display (with_nothing name delimiter) ≡ ident_text name ++ codes " ")
+unfolding display
+empty_subtree name delimiter = (append-nil (ident_text name), refl)

@@ -2,8 +2,10 @@
 use Rattle.std.specs.Prelude.{◌≡◌, ◌⊎◌, Bool, true, false, ◌==◌, ◌&&◌, IsTrue, Option, None, Some}
 use Rattle.tt_base.specs.Forest.{Forest, end, leaf, node}
 use Rattle.tt_base.specs.TreeText.{is_alone, space_after}
+use Rattle.tt_base.specs.declared.delimiter.Delimiter.{Delimiter}
 use Rattle.tt_base.specs.declared.delimiter.DelimiterKind.{DelimiterKind}
 use Rattle.tt_base.specs.declared.delimiter.DelimiterKind.TheVariants as delimits
+use Rattle.tt_base.specs.declared.ident.Ident.{Ident}
 use Rattle.tt_base.specs.declared.leaf.Leaf.{Leaf}
 use Rattle.tt_base.specs.declared.leaf.Leaf.TheVariants as leaf_of
 use Rattle.syntax_parse.specs.declared.bracket.Bracket.{Bracket}
@@ -44,6 +46,10 @@ IsDisplayed due behind (node delimiter children rest) =
     (IsTrue (has_brackets delimiter.kind) × (opens_apart behind ≡ due) × IsDisplayed false Opening children × IsDisplayed true Apart rest)
     ⊎ ((brackets_of delimiter.kind (shown children) ≡ None) × TakesSpace due children × IsDisplayed due behind children
     × IsDisplayed true (behind_all behind children) rest)
+
+-- a name with an empty subtree behind it that has no brackets
+abbrev pub with_nothing : Ident → Delimiter → Forest
+with_nothing name delimiter = leaf (leaf_of.Ident name) (node (record delimiter { kind = delimits.Invisible }) end end)
 
 -- whether a leaf is a `'` that is alone
 abbrev pub is_lone_quote : Leaf → Bool

@@ -1,13 +1,16 @@
 //! Laws of the definitions that the contracts cite: each is the contract of a function that does nothing.
-ghost use Rattle.std.specs.Prelude.{◌≡◌, ◌≢◌, ◌+◌, ◌^◌, ◌<◌, false, length, List, ℕ};
+ghost use Rattle.std.specs.Prelude.{◌≡◌, ◌≢◌, ◌+◌, ◌^◌, ◌<◌, ◌++◌, codes, false, length, List, ℕ};
 ghost use Rattle.tt_base.specs.Forest.{Forest, Root};
+ghost use Rattle.tt_base.specs.LeafText.{ident_text};
 ghost use Rattle.tt_base.specs.TreeText.{display};
+ghost use Rattle.tt_base.specs.declared.delimiter.Delimiter.{Delimiter};
+ghost use Rattle.tt_base.specs.declared.ident.Ident.{Ident};
 ghost use Rattle.tt_base.specs.declared.span.SpanPart.{SpanPart};
 ghost use Rattle.syntax_parse.specs.Parsed.{IsParse};
 ghost use Rattle.syntax_parse.specs.Refusal.{IsFaultOf};
 ghost use Rattle.syntax_parse.specs.Spelled.{spelled};
 ghost use Rattle.syntax_parse.specs.declared.fault.SyntaxFault.{SyntaxFault};
-ghost use Rattle.syntax_unparse.specs.Displayed.{IsDisplayed, IsPlain};
+ghost use Rattle.syntax_unparse.specs.Displayed.{IsDisplayed, IsPlain, with_nothing};
 ghost use Rattle.syntax_unparse.specs.Marks.{marks};
 ghost use Rattle.syntax_unparse.specs.Settled.{ReadsBack, settled, sorts};
 ghost use Rattle.syntax_unparse.specs.Text.{text_of};
@@ -52,4 +55,10 @@ pub fn as_displayed()
 /// So it is if each subtree has brackets, no `'` is alone, and no string stands behind a `#` that is joint or joint hidden.
 pub fn plain_displayed()
     ensures { (trees : Forest) → IsPlain Opening trees → IsDisplayed false Opening trees }
+{}
+
+/// An empty subtree without brackets behind a name shows as a space in Display, and leaves nothing in the Rust text.
+pub fn empty_subtree()
+    ensures { (name : Ident) → (delimiter : Delimiter) → (text_of (with_nothing name delimiter) ≡ ident_text name)
+        × (display (with_nothing name delimiter) ≡ ident_text name ++ codes " ") }
 {}
