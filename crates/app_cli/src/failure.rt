@@ -1,4 +1,7 @@
 //! Why a command did not do its work.
+ghost use Rattle.std.specs.Prelude.{◌≡◌};
+ghost use Rattle.app_cli.specs.declared.failure.Failure.TheVariants.{Memory, Stream};
+
 use crate::report::plain_text;
 use crate::style::style_of;
 use std::alloc::{AllocError, AllocFailed};
@@ -20,18 +23,24 @@ pub enum Failure {
 }
 
 impl From<AllocError> for Failure {
+    ghost from_gives = { λ _ failure. failure ≡ Memory };
+
     fn from(_error: AllocError) -> Failure {
         Failure::Memory
     }
 }
 
 impl<T: Drop> From<AllocFailed<T>> for Failure {
+    ghost from_gives = { λ _ failure. failure ≡ Memory };
+
     fn from(_error: AllocFailed<T>) -> Failure {
         Failure::Memory
     }
 }
 
 impl From<io::Error> for Failure {
+    ghost from_gives = { λ error failure. failure ≡ Stream error };
+
     fn from(error: io::Error) -> Failure {
         Failure::Stream(error)
     }
