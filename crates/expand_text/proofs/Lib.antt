@@ -16,4 +16,5 @@ pub mod Readiness
 pub mod Replacing
 pub mod Rooting
 pub mod Rows
+pub mod Undefined
 pub mod Weaving

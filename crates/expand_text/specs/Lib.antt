@@ -6,6 +6,7 @@ pub mod Expanding
 pub mod Expansion
 pub mod Findings
 pub mod Knowing
+pub mod Lacking
 pub mod LastPlaces
 pub mod Macros
 pub mod Outcomes

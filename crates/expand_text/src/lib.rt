@@ -18,6 +18,7 @@ mod defining;
 mod expanding;
 mod fault;
 mod known;
+pub mod laws;
 mod memory;
 mod options;
 mod places;
