@@ -12,6 +12,7 @@ use Rattle.mbe_rules.specs.declared.rules_error.ArmFault.{ArmFault}
 use Rattle.mbe_rules.specs.declared.rules_error.ArmFault.TheVariants as rule
 use Rattle.mbe_rules.specs.declared.rules_error.RulesError.{RulesError}
 use Rattle.tt.specs.Fault.{fault_text}
+use Rattle.tt.specs.Types.TtFault.{TtFault}
 
 -- the number of a rule, as people count: from 1, and as far as 64 bits go
 abbrev pub rule_number : (arm : ℕ) → ℕ
@@ -23,7 +24,7 @@ about before name behind = before ++ codes "`" ++ name ++ codes "`" ++ behind
 
 -- a rule and a name before words
 abbrev pub about_rule : (arm : ℕ) (name behind : List ℕ) → List ℕ
-about_rule arm name behind = codes "rule " ++ decimal (rule_number arm) ++ codes " of `" ++ name ++ codes "`" ++ behind
+about_rule arm name behind = about (codes "rule " ++ decimal (rule_number arm) ++ codes " of ") name behind
 
 -- what is wrong with a pattern
 abbrev pub pattern_message : PatternError → List ℕ
@@ -60,6 +61,10 @@ fill_message name arm (filling.LengthsDiffer at) = about_rule arm name (codes " 
 fill_message name arm (filling.NoRound at) = about_rule arm name (codes " needs at least one round here")
 fill_message name arm (filling.Tree fault) = about_rule arm name (codes " writes too much: " ++ fault_text fault)
 
+-- which limit of trees the macro of that name or its expansion passes
+abbrev pub size_message : (name : List ℕ) → TtFault → List ℕ
+size_message name fault = about [] name (codes " is too large: " ++ fault_text fault)
+
 -- the message of a fault of the macro of that name, or of a call of it
 abbrev pub message : (name : List ℕ) → MacroFault → List ℕ
 message name (wrong.Definition error) = definition_message name error
@@ -72,4 +77,4 @@ message name (wrong.Expansion error) = fill_message name error.arm error.fault
 message name wrong.TooDeep = about (codes "recursion limit reached while expanding ") name []
 message name wrong.NotWritable = about (codes "the expansion of ") name (codes " cannot be written: this would read back as something else")
 message name wrong.TooLong = about (codes "the expansion of ") name (codes " has 4294967295 bytes or more")
-message name (wrong.TooLarge fault) = about [] name (codes " is too large: " ++ fault_text fault)
+message name (wrong.TooLarge fault) = size_message name fault

@@ -37,16 +37,15 @@ notes_on limit wrong.TooLong = []
 notes_on limit (wrong.TooLarge why) = []
 
 -- the place of a byte in a text of that name
-pub record IsSpot (file text : List ℕ) (at : ℕ) (spot : Spot) : Type 0 where
-  pub file : spot.file.now ≡ file
+pub record IsSpot (name text : List ℕ) (at : ℕ) (spot : Spot) : Type 0 where
+  pub file : spot.file.now ≡ name
   pub place : spot.place ≡ place_of text at
   pub line : spot.line.now ≡ line_text text (place_of text at).line
 
--- the note that says at which byte the macro of that name is defined, if the finding knows it
-abbrev pub IsDefinedNote : (file text name : List ℕ) → (at : Option ℕ) → Option PlacedNote → Type 0
-IsDefinedNote file text name None note = note ≡ None
-IsDefinedNote file text name (Some at) note =
-    MatchOption note ⊥ (λ it. (it.message.now ≡ about [] name (codes " is defined here")) × IsSpot file text at it.spot)
+-- the note at a byte in a text of that name, if there is a byte
+abbrev pub IsNoteAt : (name text message : List ℕ) → (at : Option ℕ) → Option PlacedNote → Type 0
+IsNoteAt name text message None note = note ≡ None
+IsNoteAt name text message (Some at) note = MatchOption note ⊥ (λ it. (it.message.now ≡ message) × IsSpot name text at it.spot)
 
 -- the diagnostic of a finding in a text of that name
 pub record IsDiagnosticOf (file text : List ℕ) (limit : ℕ) (finding : Finding) (it : Diagnostic) : Type 0 where
@@ -54,7 +53,7 @@ pub record IsDiagnosticOf (file text : List ℕ) (limit : ℕ) (finding : Findin
   pub message : it.message.now ≡ message finding.name finding.fault
   pub spot : MatchOption it.spot ⊥ (IsSpot file text finding.at)
   pub notes : map string_bytes it.notes.items ≡ notes_on limit finding.fault
-  pub defined : IsDefinedNote file text finding.name finding.defined_at it.placed_note
+  pub defined : IsNoteAt file text (about [] finding.name (codes " is defined here")) finding.defined_at it.placed_note
 
 -- its text
 abbrev pub IsFindingText : Style → (file text : List ℕ) (limit : ℕ) → Finding → List ℕ → Type 0

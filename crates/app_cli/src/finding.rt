@@ -1,8 +1,8 @@
 //! The diagnostics of what is found in the macros of a text.
 ghost use Rattle.std.specs.Prelude.{◌≡◌, ◌++◌, map, IfOk, string_bytes};
-ghost use Rattle.app_cli.specs.Reports.{AreFindingTexts, IsDefinedNote, IsFindingText, level_of_fault, notes_on};
+ghost use Rattle.app_cli.specs.Reports.{AreFindingTexts, IsFindingText, IsNoteAt, level_of_fault, notes_on};
 
-use crate::messages::message;
+use crate::messages::{about, message};
 use expand_text::{Finding, MacroFault};
 use std::alloc::{AllocError, Global};
 use syntax_diagnostic::{Diagnostic, Level, PlacedNote, SourceFile, Style, diagnostic_text};
@@ -33,11 +33,9 @@ fn notes_of(alloc: Global, limit: usize, fault: MacroFault) -> Result<Vec<String
 }
 
 // A note at a byte, if there is one.
-fn note_at<'x>(
-    source: &SourceFile<'x>,
-    message: &'x str,
-    at: Option<u32>,
-) -> Option<PlacedNote<'x>> {
+fn note_at<'x>(source: &SourceFile<'x>, message: &'x str, at: Option<u32>) -> Option<PlacedNote<'x>>
+    ensures { IsNoteAt source.now.name.now source.now.text.now message.entry.now at result }
+{
     let spot = source.spot(at? as usize);
     Some(PlacedNote { message, spot })
 }
@@ -54,7 +52,7 @@ fn finding_text(
 {
     let name = finding.name.as_str();
     let message = message(alloc, name, finding.fault)?;
-    let defined = format!(in alloc; "`{name}` is defined here")?;
+    let defined = about(alloc, "", name, " is defined here")?;
     let placed_note = note_at(source, defined.as_str(), finding.defined_at);
     let diagnostic = Diagnostic {
         level: level_of(&finding.fault),

@@ -1,11 +1,12 @@
 //! The messages of faults of macros, in the words of who wrote the macro.
 ghost use Rattle.std.specs.Prelude.{◌≡◌, ◌++◌, ℕ, IfOk, codes, decimal, string_bytes};
-ghost use Rattle.app_cli.specs.Messages.{about, about_rule, definition_message, fill_message, message, pattern_message, rule_number, template_message};
+ghost use Rattle.app_cli.specs.Messages.{about, about_rule, definition_message, fill_message, message, pattern_message, rule_number, size_message, template_message};
 
 use expand_text::MacroFault;
 use mbe_pattern::PatternError;
 use mbe_rules::{ArmFault, FillError, RulesError, TemplateError};
 use std::alloc::{AllocError, Global};
+use tt::TtFault;
 
 // What is wrong with a pattern.
 fn pattern_message(alloc: Global, error: PatternError) -> Result<String, AllocError>
@@ -34,19 +35,27 @@ fn template_message(alloc: Global, error: TemplateError) -> Result<String, Alloc
     String::from_str(alloc, words)
 }
 
-// The name between words.
-fn about(alloc: Global, before: &str, name: &str, behind: &str) -> Result<String, AllocError>
+/// The name between words.
+pub fn about(alloc: Global, before: &str, name: &str, behind: &str) -> Result<String, AllocError>
     ensures { IfOk result (λ text. string_bytes text ≡ about before.now name.now behind.now) }
 {
-    format!(in alloc; "{before}`{name}`{behind}")
+    let mut text = String::from_str(alloc, before)?;
+    text.push_str("`")?;
+    text.push_str(name)?;
+    text.push_str("`")?;
+    text.push_str(behind)?;
+    Ok(text)
 }
 
 // The rule of that index and the name before words. People count rules from 1.
 fn about_rule(alloc: Global, arm: usize, name: &str, behind: &str) -> Result<String, AllocError>
     ensures { IfOk result (λ text. string_bytes text ≡ about_rule arm name.now behind.now) }
 {
-    let rule = arm.saturating_add(1);
-    format!(in alloc; "rule {rule} of `{name}`{behind}")
+    let rule = arm.saturating_add(1).to_string(alloc)?;
+    let mut before = String::from_str(alloc, "rule ")?;
+    before.push_str(rule.as_str())?;
+    before.push_str(" of ")?;
+    about(alloc, before.as_str(), name, behind)
 }
 
 // What is wrong with a definition of the macro of that name.
@@ -90,6 +99,15 @@ fn fill_message(
     }
 }
 
+// Which limit of trees the macro of that name or its expansion passes.
+fn size_message(alloc: Global, name: &str, fault: TtFault) -> Result<String, AllocError>
+    ensures { IfOk result (λ text. string_bytes text ≡ size_message name.now fault) }
+{
+    let why = fault.to_string(alloc)?;
+    let words = format!(in alloc; " is too large: {why}")?;
+    about(alloc, "", name, words.as_str())
+}
+
 /// The message of a fault of the macro of that name, or of a call of it.
 pub fn message(alloc: Global, name: &str, fault: MacroFault) -> Result<String, AllocError>
     ensures { IfOk result (λ text. string_bytes text ≡ message name.now fault) }
@@ -119,10 +137,6 @@ pub fn message(alloc: Global, name: &str, fault: MacroFault) -> Result<String, A
             name,
             " has 4294967295 bytes or more",
         ),
-        MacroFault::TooLarge(fault) => {
-            let why = fault.to_string(alloc)?;
-            let words = format!(in alloc; " is too large: {why}")?;
-            about(alloc, "", name, words.as_str())
-        }
+        MacroFault::TooLarge(fault) => size_message(alloc, name, fault),
     }
 }

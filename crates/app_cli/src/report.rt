@@ -28,7 +28,7 @@ pub fn report_on(
     limit: usize,
     found: Expanded,
 ) -> Result<Report, AllocError>
-    ensures { IfOk result (IsReport style name.now text.now limit found.entry) }
+    ensures { IfOk result (IsReport style name.now text.now limit found) }
 {
     let told = findings_text(alloc, style, name, text, limit, &found.findings)?;
     let counts = Counts::of(&found.findings);
