@@ -18,7 +18,7 @@ pub enum Timing {
 }
 
 impl Timing {
-    /// The timing of that name.
+    /// Returns the timing of that name.
     pub fn named(word: &str) -> Option<Timing> {
         match word {
             "read" => Some(Timing::Read),
@@ -28,7 +28,7 @@ impl Timing {
     }
 }
 
-/// The fragment of that name.
+/// Returns the fragment of that name.
 pub fn fragment_named(word: &str) -> Option<GrammarFragment> {
     match word {
         "expr" => Some(GrammarFragment::Expr),

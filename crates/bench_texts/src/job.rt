@@ -15,14 +15,14 @@ pub enum Job {
     Fragments(GrammarFragment, Option<(fragments::Timing, u32)>),
 }
 
-// A number of rounds.
+// Returns a number of rounds.
 fn rounds_of(word: Option<&str>) -> Result<u32, BenchError> {
     word.ok_or(BenchError::Usage)?
         .parse()
         .map_err(|_error| BenchError::Usage)
 }
 
-// The job on tokens, by its mode and its number of rounds.
+// Returns the job on tokens, by its mode and its number of rounds.
 fn tokens_job(mode: &str, rounds: Option<&str>) -> Result<Job, BenchError> {
     match (mode, rounds) {
         ("show", None) => Ok(Job::Tokens(None)),
@@ -31,7 +31,7 @@ fn tokens_job(mode: &str, rounds: Option<&str>) -> Result<Job, BenchError> {
     }
 }
 
-// The job on trees.
+// Returns the job on trees.
 fn trees_job(mode: &str, rounds: Option<&str>) -> Result<Job, BenchError> {
     if let ("show", None) = (mode, rounds) {
         return Ok(Job::Trees(None));
@@ -40,7 +40,7 @@ fn trees_job(mode: &str, rounds: Option<&str>) -> Result<Job, BenchError> {
     Ok(Job::Trees(Some((timing, rounds_of(rounds)?))))
 }
 
-// The job on a macro.
+// Returns the job on a macro.
 fn macros_job(mode: &str, rounds: Option<&str>) -> Result<Job, BenchError> {
     if let ("show", None) = (mode, rounds) {
         return Ok(Job::Macros(None));
@@ -49,7 +49,7 @@ fn macros_job(mode: &str, rounds: Option<&str>) -> Result<Job, BenchError> {
     Ok(Job::Macros(Some((timing, rounds_of(rounds)?))))
 }
 
-// The job on fragments, by its mode, the name of the fragment and its number of rounds.
+// Returns the job on fragments, by its mode, the name of the fragment and its number of rounds.
 fn fragments_job(
     mode: &str,
     fragment: Option<&str>,
@@ -65,7 +65,7 @@ fn fragments_job(
 }
 
 impl Job {
-    /// The job that the arguments name; `Usage` if they name none.
+    /// Returns the job that the arguments name; `Usage` if they name none.
     pub fn from_args<R: Env + AllocGlobal>(rt: &R) -> Result<Job, BenchError> {
         let mut args = env::args(rt)?;
         let _program = args.next();

@@ -18,7 +18,7 @@ pub enum Timing {
 }
 
 impl Timing {
-    /// The timing of that name.
+    /// Returns the timing of that name.
     pub fn named(word: &str) -> Option<Timing> {
         match word {
             "new" => Some(Timing::New),
@@ -36,7 +36,7 @@ struct Macro {
     input: TopSubtree,
 }
 
-// The macro of these arms.
+// Returns the macro of these arms.
 fn rules_of(alloc: Global, arms: &TopSubtree) -> Result<MacroRules, BenchError> {
     match MacroRules::new(alloc, arms.token_trees().iter()) {
         Ok(rules) => Ok(rules),
@@ -54,7 +54,7 @@ impl Macro {
         Ok(Macro { arms, rules, input })
     }
 
-    // The expansion of the input.
+    // Returns the expansion of the input.
     fn expanded(&self, alloc: Global) -> Result<TopSubtree, BenchError> {
         match self.rules.expand(alloc, self.input.token_trees().iter()) {
             Ok(Expansion::Tree(tree)) => Ok(tree),
@@ -93,7 +93,7 @@ impl Macro {
     }
 }
 
-// The bracket that a subtree is written with.
+// Returns the bracket that a subtree is written with.
 fn bracket(kind: DelimiterKind) -> char {
     match kind {
         DelimiterKind::Parenthesis => '(',

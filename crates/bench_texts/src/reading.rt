@@ -7,7 +7,7 @@ use tt::{ErasedFileAstId, FileId, SpanAnchor, SyntaxContext, TopSubtree};
 /// The character between one text and the next.
 pub const BETWEEN_TEXTS: char = '\u{1}';
 
-/// The tree of a text of file 0, item 0 and context 0.
+/// Returns the tree of a text of file 0, item 0 and context 0.
 pub fn read(alloc: Global, text: &str) -> Result<TopSubtree, TextFault> {
     let anchor = SpanAnchor {
         file_id: FileId(0),
@@ -16,7 +16,7 @@ pub fn read(alloc: Global, text: &str) -> Result<TopSubtree, TextFault> {
     parse_to_token_tree(alloc, anchor, SyntaxContext(0), text)
 }
 
-/// The same, if the text has a tree, or `Refused`.
+/// Returns the same, if the text has a tree, or `Refused`.
 pub fn tree_of(alloc: Global, text: &str) -> Result<TopSubtree, BenchError> {
     match read(alloc, text) {
         Ok(tree) => Ok(tree),

@@ -37,7 +37,7 @@ pub fn run(rt: &HostRuntime, text: &str, rounds: Option<u32>) -> Result<(), Benc
     Ok(())
 }
 
-// How many tokens a text has.
+// Returns how many tokens a text has.
 fn count(text: &str) -> u64
     requires { length text.now < 2 ^ 32 }
 {

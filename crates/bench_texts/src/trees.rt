@@ -20,7 +20,7 @@ pub enum Timing {
 }
 
 impl Timing {
-    /// The timing of that name.
+    /// Returns the timing of that name.
     pub fn named(word: &str) -> Option<Timing> {
         match word {
             "time" => Some(Timing::Read),

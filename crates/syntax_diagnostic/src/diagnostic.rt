@@ -31,7 +31,7 @@ pub struct Diagnostic<'a> {
     pub placed_note: Option<PlacedNote<'a>>,
 }
 
-// How many columns the number of a place's line takes.
+// Returns how many columns the number of a place's line takes.
 fn spot_width(alloc: Global, spot: Option<Spot<'_>>) -> Result<usize, AllocError>
     ensures { IfOk result (λ width. width ≡ spot_width spot.entry) }
 {
@@ -41,7 +41,7 @@ fn spot_width(alloc: Global, spot: Option<Spot<'_>>) -> Result<usize, AllocError
     }
 }
 
-// The same of a note with a place.
+// Returns the same of a note with a place.
 fn note_width(alloc: Global, note: Option<PlacedNote<'_>>) -> Result<usize, AllocError>
     ensures { IfOk result (λ width. width ≡ note_width note.entry) }
 {
@@ -51,7 +51,7 @@ fn note_width(alloc: Global, note: Option<PlacedNote<'_>>) -> Result<usize, Allo
     }
 }
 
-// How many columns the numbers of lines take.
+// Returns how many columns the numbers of lines take.
 fn width_of(alloc: Global, diagnostic: &Diagnostic<'_>) -> Result<usize, AllocError>
     ensures { IfOk result (λ width. width ≡ width_of diagnostic.now) }
 {
@@ -60,7 +60,7 @@ fn width_of(alloc: Global, diagnostic: &Diagnostic<'_>) -> Result<usize, AllocEr
     Ok(spot.max(note))
 }
 
-// The message is added.
+// Returns the message is added.
 fn add_message(
     text: &mut String,
     style: Style,
@@ -90,7 +90,7 @@ fn add_place(
     }
 }
 
-// The word before a note is added.
+// Returns the word before a note is added.
 fn add_note_word(text: &mut String, style: Style) -> Result<(), AllocError>
     ensures { OnOk result (string_bytes text.new ≡ string_bytes text.old ++ note_word style) }
 {
@@ -98,7 +98,7 @@ fn add_note_word(text: &mut String, style: Style) -> Result<(), AllocError>
     text.push_str(": ")
 }
 
-// A note is added.
+// Returns a note is added.
 fn add_note(text: &mut String, style: Style, width: usize, note: &str) -> Result<(), AllocError>
     ensures { OnOk result (string_bytes text.new ≡ string_bytes text.old ++ note_line style width note.now) }
 {
@@ -125,7 +125,7 @@ fn add_notes(
     Ok(())
 }
 
-// The note with a place is added.
+// Returns the note with a place is added.
 fn add_placed_note(
     text: &mut String,
     alloc: Global,
@@ -143,7 +143,7 @@ fn add_placed_note(
     add_spot(text, alloc, style, Colour::Green, width, &note.spot)
 }
 
-/// What is written of a fault: a line with how grave it is and the message; where it has a place, that, the line of the text
+/// Returns what is written of a fault: a line with how grave it is and the message; where it has a place, that, the line of the text
 /// and a mark under it; a line for each note; and the same of a note that has a place.
 pub fn diagnostic_text(
     alloc: Global,

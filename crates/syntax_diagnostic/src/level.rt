@@ -14,7 +14,7 @@ pub enum Level {
 }
 
 impl Level {
-    /// The word that a message begins with.
+    /// Returns the word that a message begins with.
     pub(crate) fn word(self) -> &'static str
         ensures { result.now ≡ word_of self }
     {
@@ -24,7 +24,7 @@ impl Level {
         }
     }
 
-    /// The colour of that, and of the mark.
+    /// Returns the colour of that, and of the mark.
     pub(crate) fn colour(self) -> Colour
         ensures { result ≡ colour_of self }
     {

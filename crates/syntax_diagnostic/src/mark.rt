@@ -19,7 +19,7 @@ fn spaces(count: usize) -> &'static str
     }
 }
 
-// What takes as many columns in a terminal as a character.
+// Returns what takes as many columns in a terminal as a character.
 fn indent_of(c: char) -> &'static str
     ensures { result.now ≡ indent_of c }
 {

@@ -22,7 +22,7 @@ pub(crate) enum Colour {
     Blue,
 }
 
-// What turns a colour on.
+// Returns what turns a colour on.
 fn sign_of(colour: Colour) -> &'static str
     ensures { result.now ≡ sign_of colour }
 {

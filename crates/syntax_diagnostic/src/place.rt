@@ -30,7 +30,7 @@ impl Place {
     // That of the first byte.
     pub(crate) const FIRST: Place = Place { line: 1, column: 1 };
 
-    // The place of what stands behind a byte at this place.
+    // Returns the place of what stands behind a byte at this place.
     fn next(self, byte: u8) -> Place
         requires line { self.line + 1 < 2 ^ 64 }
         requires column { self.column + 1 < 2 ^ 64 }
@@ -49,7 +49,7 @@ impl Place {
         }
     }
 
-    // The place of what stands behind these bytes, of which the first stands at this place.
+    // Returns the place of what stands behind these bytes, of which the first stands at this place.
     pub(crate) fn past(self, bytes: &[u8]) -> Place
         requires line { self.line + length bytes.now < 2 ^ 64 }
         requires column { self.column + length bytes.now < 2 ^ 64 }
@@ -63,7 +63,7 @@ impl Place {
     }
 }
 
-/// The place of a byte of a text. Behind the text it is that of the text's end.
+/// Returns the place of a byte of a text. Behind the text it is that of the text's end.
 #[tactic(auto, using(crate::proofs::PlaceFacts::fold_is_place, crate::proofs::PlaceFacts::taken_within))]
 pub fn place_of(text: &str, at: usize) -> Place
     ensures { result ≡ place_of text.now at }

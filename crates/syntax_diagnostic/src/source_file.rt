@@ -21,7 +21,7 @@ pub struct SourceFile<'a> {
 }
 
 impl<'a> SourceFile<'a> {
-    /// A text of that name. Fails only for want of memory: its lines are listed.
+    /// Returns a text of that name. Fails only for want of memory: its lines are listed.
     pub fn new(alloc: Global, name: &'a str, text: &'a str) -> Result<Self, AllocError>
         ensures name { IfOk result (λ file. file.name.now ≡ name.entry.now) }
         ensures text { IfOk result (λ file. file.text.now ≡ text.entry.now) }

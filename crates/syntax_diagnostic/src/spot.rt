@@ -18,7 +18,7 @@ pub struct Spot<'a> {
     pub line: &'a str,
 }
 
-/// How many columns the number of a line takes.
+/// Returns how many columns the number of a line takes.
 pub(crate) fn number_width(alloc: Global, number: usize) -> Result<usize, AllocError>
     ensures { IfOk result (λ width. width ≡ number_width number) }
 {
@@ -36,7 +36,7 @@ pub(crate) fn add_spaces(text: &mut String, count: usize) -> Result<(), AllocErr
     Ok(())
 }
 
-/// A line is added.
+/// Returns a line is added.
 pub(crate) fn add_line(text: &mut String, words: &str) -> Result<(), AllocError>
     ensures { OnOk result (string_bytes text.new ≡ string_bytes text.old ++ line words.now) }
 {
@@ -44,7 +44,7 @@ pub(crate) fn add_line(text: &mut String, words: &str) -> Result<(), AllocError>
     text.push_str("\n")
 }
 
-// The line that tells the place is added; the numbers of lines take that many columns.
+// Returns the line that tells the place is added; the numbers of lines take that many columns.
 fn add_arrow(
     text: &mut String,
     style: Style,
@@ -63,7 +63,7 @@ fn add_arrow(
     text.push_str("\n")
 }
 
-// The bar behind a number is added.
+// Returns the bar behind a number is added.
 fn add_bar(text: &mut String, style: Style) -> Result<(), AllocError>
     ensures { OnOk result (string_bytes text.new ≡ string_bytes text.old ++ bar style) }
 {
@@ -71,7 +71,7 @@ fn add_bar(text: &mut String, style: Style) -> Result<(), AllocError>
     add_painted(text, style, Colour::Blue, "|")
 }
 
-// A bar with no number before it is added.
+// Returns a bar with no number before it is added.
 fn add_margin(text: &mut String, style: Style, width: usize) -> Result<(), AllocError>
     ensures { OnOk result (string_bytes text.new ≡ string_bytes text.old ++ margin style width) }
 {
@@ -79,7 +79,7 @@ fn add_margin(text: &mut String, style: Style, width: usize) -> Result<(), Alloc
     add_bar(text, style)
 }
 
-// The number of a line is added.
+// Returns the number of a line is added.
 fn add_number(
     text: &mut String,
     alloc: Global,
@@ -94,7 +94,7 @@ fn add_number(
     add_spaces(text, width.saturating_sub(digits.len()))
 }
 
-// The line of the text is added.
+// Returns the line of the text is added.
 fn add_source(
     text: &mut String,
     alloc: Global,
@@ -110,7 +110,7 @@ fn add_source(
     add_line(text, spot.line)
 }
 
-// The mark under it is added.
+// Returns the mark under it is added.
 fn add_mark(
     text: &mut String,
     style: Style,
@@ -127,7 +127,7 @@ fn add_mark(
     text.push_str("\n")
 }
 
-// The lines above that of the text are added.
+// Returns the lines above that of the text are added.
 fn add_head(
     text: &mut String,
     style: Style,
@@ -141,7 +141,7 @@ fn add_head(
     text.push_str("\n")
 }
 
-/// What is written of a place is added; the numbers of lines take that many columns.
+/// Returns what is written of a place is added; the numbers of lines take that many columns.
 pub(crate) fn add_spot(
     text: &mut String,
     alloc: Global,

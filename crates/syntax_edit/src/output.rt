@@ -13,7 +13,7 @@ pub struct Output<'t> {
     at: usize,
 }
 
-// Whether a token ends before the byte, and one begins behind it, whatever stands around.
+// Returns whether a token ends before the byte, and one begins behind it, whatever stands around.
 fn is_apart(byte: u8) -> bool
     ensures { result ≡ is_apart byte }
 {
@@ -23,14 +23,14 @@ fn is_apart(byte: u8) -> bool
     )
 }
 
-// Whether it is a comma or a semicolon.
+// Returns whether it is a comma or a semicolon.
 fn is_separator(byte: u8) -> bool
     ensures { result ≡ is_separator byte }
 {
     matches!(byte, b',' | b';')
 }
 
-// Whether it is a punct.
+// Returns whether it is a punct.
 fn is_sign(byte: u8) -> bool
     ensures { result ≡ is_sign byte }
 {
@@ -59,7 +59,7 @@ fn is_sign(byte: u8) -> bool
     )
 }
 
-// Whether tokens of which one ends with a byte, and the other begins with one, stay as they are where they touch.
+// Returns whether tokens of which one ends with a byte, and the other begins with one, stay as they are where they touch.
 fn may_touch(last: u8, first: u8) -> bool
     ensures { result ≡ may_touch last first }
 {
@@ -72,7 +72,7 @@ fn may_touch(last: u8, first: u8) -> bool
     is_separator(last) && !is_sign(first) && first != b'\''
 }
 
-// Whether a space stands between two texts.
+// Returns whether a space stands between two texts.
 fn wants_space(before: &str, behind: &str) -> bool
     ensures { result ≡ wants_space (slice_get before.now (length before.now - 1)) (slice_get behind.now 0) }
 {
@@ -95,7 +95,7 @@ fn push_apart(text: &mut String, more: &str) -> Result<(), AllocError>
     text.push_str(more)
 }
 
-// What stands before a range of a text and behind it, if it is one.
+// Returns what stands before a range of a text and behind it, if it is one.
 fn cut(text: &str, start: usize, end: usize) -> Option<(&str, &str)>
     ensures { MatchOption result (IsRange text.now start end → ⊥) (λ parts. IsRange text.now start end × (parts.0.now ≡ take start text.now) × (parts.1.now ≡ drop end text.now)) }
 {
@@ -121,7 +121,7 @@ impl<'t> Output<'t> {
         }
     }
 
-    // What is left of the source before a range and behind it, if it is left.
+    // Returns what is left of the source before a range and behind it, if it is left.
     fn cut(&self, start: usize, end: usize) -> Option<(&'t str, &'t str)>
         ensures { MatchOption result (FitsIn start end (writing_of self.now) → ⊥) (λ parts. FitsIn start end (writing_of self.now) × (parts.0.now ≡ take (start - self.now.at) self.now.rest.now) × (parts.1.now ≡ drop (end - self.now.at) self.now.rest.now)) }
     {

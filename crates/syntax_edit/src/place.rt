@@ -10,7 +10,7 @@ use std::alloc::Global;
 use syntax_parse::{TextFault, parse_to_token_tree};
 use tt::{ErasedFileAstId, FileId, Span, SpanAnchor, SyntaxContext, TopSubtree, TtIter};
 
-/// The tree of a text, whose spans are bytes of the first file, or why it has none.
+/// Returns the tree of a text, whose spans are bytes of the first file, or why it has none.
 pub fn parse(alloc: Global, text: &str) -> Result<TopSubtree, TextFault>
     ensures ok { IfOk result (IsParse text_part text.now) }
     ensures err { IfErr result (IsRefusal text_part text.now) }
@@ -32,14 +32,14 @@ pub fn begin_at(trees: &TtIter<'_>, instead: Span) -> Span
     }
 }
 
-/// The byte where a span begins.
+/// Returns the byte where a span begins.
 pub fn start_of(span: Span) -> u32
     ensures { result ≡ start_of span.range }
 {
     span.range.start().raw()
 }
 
-/// The byte where it ends.
+/// Returns the byte where it ends.
 pub fn end_of(span: Span) -> u32
     ensures { result ≡ end_of span.range }
 {

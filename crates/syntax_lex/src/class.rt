@@ -2,7 +2,7 @@
 ghost use Rattle.std.specs.Prelude.{◌≡◌};
 ghost use Rattle.syntax_lex.specs.Class.{is_whitespace, is_id_start, is_id_continue, is_emoji_mark, is_decimal, is_hex, is_odd_rest, passes};
 
-/// Whether a character is white space: `Pattern_White_Space` of Unicode.
+/// Returns whether a character is white space: `Pattern_White_Space` of Unicode.
 #[inline(always)]
 pub fn is_whitespace(c: char) -> bool
     ensures { result ≡ is_whitespace c }
@@ -13,7 +13,7 @@ pub fn is_whitespace(c: char) -> bool
     )
 }
 
-/// Whether an identifier may begin with a character: `XID_Start` of Unicode, or `_`.
+/// Returns whether an identifier may begin with a character: `XID_Start` of Unicode, or `_`.
 #[inline(always)]
 pub fn is_id_start(c: char) -> bool
     ensures { result ≡ is_id_start c }
@@ -25,7 +25,7 @@ pub fn is_id_start(c: char) -> bool
     }
 }
 
-/// Whether an identifier may go on with a character: `XID_Continue` of Unicode.
+/// Returns whether an identifier may go on with a character: `XID_Continue` of Unicode.
 #[inline(always)]
 pub fn is_id_continue(c: char) -> bool
     ensures { result ≡ is_id_continue c }
@@ -37,7 +37,7 @@ pub fn is_id_continue(c: char) -> bool
     }
 }
 
-/// Whether a character is an emoji beyond ASCII, which identifiers of other languages have.
+/// Returns whether a character is an emoji beyond ASCII, which identifiers of other languages have.
 #[inline(always)]
 pub fn is_emoji_mark(c: char) -> bool
     ensures { result ≡ is_emoji_mark c }
@@ -45,14 +45,14 @@ pub fn is_emoji_mark(c: char) -> bool
     !c.is_ascii() && ucd_emoji::is_emoji(c)
 }
 
-// Whether an identifier with emoji may go on with a character.
+// Returns whether an identifier with emoji may go on with a character.
 fn is_odd_rest(c: char) -> bool
     ensures { result ≡ is_odd_rest c }
 {
     is_id_continue(c) | is_emoji_mark(c) | (c == '\u{200d}')
 }
 
-/// Whether a character is one of `0` to `9`.
+/// Returns whether a character is one of `0` to `9`.
 #[inline(always)]
 pub fn is_decimal(c: char) -> bool
     ensures { result ≡ is_decimal c }
@@ -60,7 +60,7 @@ pub fn is_decimal(c: char) -> bool
     matches!(c, '0'..='9')
 }
 
-/// Whether a character is a digit of base 16.
+/// Returns whether a character is a digit of base 16.
 #[inline(always)]
 pub fn is_hex(c: char) -> bool
     ensures { result ≡ is_hex c }
@@ -83,7 +83,7 @@ pub enum CharClass {
 }
 
 impl CharClass {
-    /// Whether a character is of the class.
+    /// Returns whether a character is of the class.
     #[inline(always)]
     pub fn passes(self, c: char) -> bool
         ensures { result ≡ passes self c }

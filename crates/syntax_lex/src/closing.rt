@@ -6,14 +6,14 @@ ghost use Rattle.syntax_lex.specs.Closing.{behind_comment, behind_quote, behind_
 use crate::front::{begins_with, first, skip, split_first};
 use crate::runs::{Stop, past_until};
 
-// Whether two characters open a comment.
+// Returns whether two characters open a comment.
 fn opens_comment(c: char, next: char) -> bool
     ensures { result ≡ opens_comment c next }
 {
     (c == '/') & (next == '*')
 }
 
-// Whether two characters close a comment.
+// Returns whether two characters close a comment.
 fn closes_comment(c: char, next: char) -> bool
     ensures { result ≡ closes_comment c next }
 {
@@ -60,7 +60,7 @@ pub fn past_quote(text: &str) -> (bool, &str)
     (false, "")
 }
 
-// How many hashes stand in front, but no more than so many, and what is left behind them.
+// Returns how many hashes stand in front, but no more than so many, and what is left behind them.
 fn past_hashes(text: &str, most: usize) -> (usize, &str)
     ensures count { result.0 ≡ min most (hashes_of (chars text.now)) }
     ensures rest { chars result.1.now ≡ drop result.0 (chars text.now) }

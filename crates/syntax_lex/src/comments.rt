@@ -9,7 +9,7 @@ use crate::front::{begins_with, goes_on_with};
 use crate::runs::{Stop, past_until};
 use crate::token::{DocStyle, TokenKind};
 
-// What a line comment documents, of which this stands behind its `//`.
+// Returns what a line comment documents, of which this stands behind its `//`.
 fn line_doc(body: &str) -> Option<DocStyle>
     ensures { result ≡ line_doc (first (chars body.now)) (second (chars body.now)) }
 {
@@ -22,7 +22,7 @@ fn line_doc(body: &str) -> Option<DocStyle>
     }
 }
 
-// What a block comment documents, of which this stands behind its `/*`.
+// Returns what a block comment documents, of which this stands behind its `/*`.
 fn block_doc(body: &str) -> Option<DocStyle>
     ensures { result ≡ block_doc (first (chars body.now)) (second (chars body.now)) }
 {

@@ -3,7 +3,7 @@ ghost use Rattle.std.specs.Prelude.{◌≡◌, ◌-◌, ◌<◌, ◌≤◌, ◌^
 ghost use Rattle.std.specs.Str.{chars};
 ghost use Rattle.syntax_lex.specs.Front.{first, second, skip, byte_length};
 
-/// The first character, and what is left behind it.
+/// Returns the first character, and what is left behind it.
 #[inline(always)]
 pub fn split_first(text: &str) -> Option<(char, &str)>
     ensures { MatchOption result (chars text.now ≡ [])
@@ -16,7 +16,7 @@ pub fn split_first(text: &str) -> Option<(char, &str)>
     }
 }
 
-/// The first character, or the null character of an empty text.
+/// Returns the first character, or the null character of an empty text.
 #[inline(always)]
 pub fn first(text: &str) -> char
     ensures { result ≡ first (chars text.now) }
@@ -27,7 +27,7 @@ pub fn first(text: &str) -> char
     }
 }
 
-/// Whether a text begins with an ASCII character that is not null. No character is decoded.
+/// Returns whether a text begins with an ASCII character that is not null. No character is decoded.
 #[inline(always)]
 pub fn begins_with(text: &str, ascii: u8) -> bool
     requires some { 0 < ascii }
@@ -38,7 +38,7 @@ pub fn begins_with(text: &str, ascii: u8) -> bool
     !bytes.is_empty() && bytes[0] == ascii
 }
 
-/// Whether a text begins with a character beyond ASCII. No character is decoded.
+/// Returns whether a text begins with a character beyond ASCII. No character is decoded.
 #[inline(always)]
 pub fn begins_wide(text: &str) -> bool
     ensures { result ≡ nat_le 128 (first (chars text.now)) }
@@ -47,7 +47,7 @@ pub fn begins_wide(text: &str) -> bool
     !bytes.is_empty() && bytes[0] >= 128
 }
 
-/// What is left behind the first character.
+/// Returns what is left behind the first character.
 #[inline(always)]
 pub fn skip(text: &str) -> &str
     ensures rest { chars result.now ≡ skip (chars text.now) }
@@ -59,7 +59,7 @@ pub fn skip(text: &str) -> &str
     }
 }
 
-/// Whether the second character of a text is an ASCII one that is not null.
+/// Returns whether the second character of a text is an ASCII one that is not null.
 #[inline(always)]
 pub fn goes_on_with(text: &str, ascii: u8) -> bool
     requires some { 0 < ascii }
@@ -69,7 +69,7 @@ pub fn goes_on_with(text: &str, ascii: u8) -> bool
     begins_with(skip(text), ascii)
 }
 
-/// How many bytes a text has more than what is left of it.
+/// Returns how many bytes a text has more than what is left of it.
 #[inline(always)]
 pub fn bytes_before(text: &str, rest: &str) -> u32
     requires { length text.now < 2 ^ 32 }

@@ -9,7 +9,7 @@ use crate::number::number;
 use crate::quoted::{literal, quoted_char};
 use crate::token::{LiteralKind, TokenKind};
 
-/// The number, behind its first digit.
+/// Returns the number, behind its first digit.
 #[inline(never)]
 pub fn number_literal<'a>(text: &str, rest: &'a str) -> (TokenKind, &'a str)
     requires { length text.now < 2 ^ 32 }
@@ -20,7 +20,7 @@ pub fn number_literal<'a>(text: &str, rest: &'a str) -> (TokenKind, &'a str)
     literal(text, kind, true, tail)
 }
 
-/// The byte, behind `b'`.
+/// Returns the byte, behind `b'`.
 #[inline(never)]
 pub fn byte_literal<'a>(text: &str, rest: &'a str) -> (TokenKind, &'a str)
     requires { length text.now < 2 ^ 32 }
@@ -31,7 +31,7 @@ pub fn byte_literal<'a>(text: &str, rest: &'a str) -> (TokenKind, &'a str)
     literal(text, LiteralKind::Byte { terminated }, terminated, tail)
 }
 
-/// The string, behind its quote.
+/// Returns the string, behind its quote.
 #[inline(never)]
 pub fn str_literal<'a>(text: &str, rest: &'a str) -> (TokenKind, &'a str)
     requires { length text.now < 2 ^ 32 }
@@ -42,7 +42,7 @@ pub fn str_literal<'a>(text: &str, rest: &'a str) -> (TokenKind, &'a str)
     literal(text, LiteralKind::Str { terminated }, terminated, tail)
 }
 
-/// The byte string, behind `b"`.
+/// Returns the byte string, behind `b"`.
 #[inline(never)]
 pub fn byte_str_literal<'a>(text: &str, rest: &'a str) -> (TokenKind, &'a str)
     requires { length text.now < 2 ^ 32 }
@@ -53,7 +53,7 @@ pub fn byte_str_literal<'a>(text: &str, rest: &'a str) -> (TokenKind, &'a str)
     literal(text, LiteralKind::ByteStr { terminated }, terminated, tail)
 }
 
-/// The C string, behind `c"`.
+/// Returns the C string, behind `c"`.
 #[inline(never)]
 pub fn c_str_literal<'a>(text: &str, rest: &'a str) -> (TokenKind, &'a str)
     requires { length text.now < 2 ^ 32 }
@@ -64,7 +64,7 @@ pub fn c_str_literal<'a>(text: &str, rest: &'a str) -> (TokenKind, &'a str)
     literal(text, LiteralKind::CStr { terminated }, terminated, tail)
 }
 
-/// The raw string, behind its `r`.
+/// Returns the raw string, behind its `r`.
 #[inline(never)]
 pub fn raw_str_literal<'a>(text: &str, rest: &'a str) -> (TokenKind, &'a str)
     requires { length text.now < 2 ^ 32 }
@@ -80,7 +80,7 @@ pub fn raw_str_literal<'a>(text: &str, rest: &'a str) -> (TokenKind, &'a str)
     )
 }
 
-/// The raw byte string, behind its `br`.
+/// Returns the raw byte string, behind its `br`.
 #[inline(never)]
 pub fn raw_byte_str_literal<'a>(text: &str, rest: &'a str) -> (TokenKind, &'a str)
     requires { length text.now < 2 ^ 32 }
@@ -96,7 +96,7 @@ pub fn raw_byte_str_literal<'a>(text: &str, rest: &'a str) -> (TokenKind, &'a st
     )
 }
 
-/// The raw C string, behind its `cr`.
+/// Returns the raw C string, behind its `cr`.
 #[inline(never)]
 pub fn raw_c_str_literal<'a>(text: &str, rest: &'a str) -> (TokenKind, &'a str)
     requires { length text.now < 2 ^ 32 }

@@ -8,7 +8,7 @@ use crate::front::{begins_with, bytes_before, first, goes_on_with, skip, split_f
 use crate::runs::{past, past_name};
 use crate::token::{LiteralKind, TokenKind};
 
-/// A literal of a text, behind which something is left. A suffix is read if the literal may have one.
+/// Returns a literal of a text, behind which something is left. A suffix is read if the literal may have one.
 #[tactic(auto, unfolding(crate::specs::Quoted::literal))]
 pub fn literal<'a>(
     text: &str,
@@ -29,7 +29,7 @@ pub fn literal<'a>(
     }
 }
 
-// Whether the reader of a character gives up at this one, which has another behind it.
+// Returns whether the reader of a character gives up at this one, which has another behind it.
 fn gives_up(c: char, next: char) -> bool
     ensures { result ≡ gives_up c next }
 {
@@ -67,7 +67,7 @@ pub fn quoted_char(text: &str) -> (bool, &str)
     }
 }
 
-// Whether what stands behind a quote may be a lifetime.
+// Returns whether what stands behind a quote may be a lifetime.
 fn begins_lifetime(text: &str) -> bool
     ensures { result ≡ begins_lifetime (chars text.now) }
 {
@@ -75,14 +75,14 @@ fn begins_lifetime(text: &str) -> bool
     !goes_on_with(text, b'\'') && (is_id_start(name) | is_decimal(name))
 }
 
-// Whether it is a raw one.
+// Returns whether it is a raw one.
 fn begins_raw_lifetime(text: &str) -> bool
     ensures { result ≡ begins_raw_lifetime (chars text.now) }
 {
     begins_with(text, b'r') && goes_on_with(text, b'#') && is_id_start(first(skip(skip(text))))
 }
 
-/// A text that begins with a quote, and that is left behind the quote: a character or a lifetime.
+/// Returns a text that begins with a quote, and that is left behind the quote: a character or a lifetime.
 #[inline(never)]
 #[tactic(auto, unfolding(crate::specs::Quoted::apostrophe))]
 pub fn apostrophe<'a>(text: &str, rest: &'a str) -> (TokenKind, &'a str)

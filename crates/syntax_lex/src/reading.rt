@@ -18,7 +18,7 @@ use crate::token::{Token, TokenKind};
 use crate::tokens::Tokenize;
 use crate::word::word;
 
-// The first token of a text, as its family tells, and what is left behind it; `c` is its first character, and `rest`
+// Returns the first token of a text, as its family tells, and what is left behind it; `c` is its first character, and `rest`
 // is what is left behind that.
 #[inline(never)]
 #[tactic(auto, unfolding(crate::specs::Reading::reading_of))]
@@ -49,7 +49,7 @@ fn read_any<'a>(family: Family, c: char, text: &str, rest: &'a str) -> (TokenKin
     }
 }
 
-// The same. The families that nearly all tokens are of are read in place, and the result of the others is taken apart and
+// Returns the same. The families that nearly all tokens are of are read in place, and the result of the others is taken apart and
 // put together again, so that it can stay in registers.
 #[inline(always)]
 #[tactic(auto, unfolding(crate::specs::Reading::reading_of))]
@@ -70,7 +70,7 @@ fn read_as<'a>(family: Family, c: char, text: &str, rest: &'a str) -> (TokenKind
     }
 }
 
-/// The first token of a text, and what is left behind it.
+/// Returns the first token of a text, and what is left behind it.
 #[inline(always)]
 #[tactic(auto, unfolding(crate::specs::Reading::reading))]
 pub fn read(text: &str) -> (TokenKind, &str)
@@ -89,7 +89,7 @@ pub fn read(text: &str) -> (TokenKind, &str)
 /// The most bytes that a text may have whose tokens are asked for, so that a `u32` tells each length.
 pub const MOST_TEXT_BYTES: usize = 4_294_967_295;
 
-/// The first token of a text: what it is, and how many bytes it takes.
+/// Returns the first token of a text: what it is, and how many bytes it takes.
 ///
 /// Conditions: the text is not empty, and has at most [`MOST_TEXT_BYTES`] bytes. They are tested by `!text.is_empty()` and
 /// `text.len() <= MOST_TEXT_BYTES`; a call that neither a test nor a contract shows to meet them is refused when it is
@@ -105,7 +105,7 @@ pub fn first_token(text: &str) -> Token
     Token { kind, len }
 }
 
-/// The tokens of a text, in order. Their lengths make up the text.
+/// Returns the tokens of a text, in order. Their lengths make up the text.
 ///
 /// Condition: the text has at most `MOST_TEXT_BYTES` bytes, which is tested by `text.len() <= MOST_TEXT_BYTES`. A call that
 /// neither a test nor a contract shows to meet it is refused when it is compiled, so nothing happens with a longer text.

@@ -10,7 +10,7 @@ use crate::class::{CharClass, is_id_start};
 use crate::front::{first, skip, split_first};
 use memchr::{memchr, memchr2};
 
-// What is left behind the characters in front that are of a class, decoding each.
+// Returns what is left behind the characters in front that are of a class, decoding each.
 #[inline(never)]
 fn past_each(text: &str, class: CharClass) -> &str
     ensures rest { chars result.now ≡ behind (passes class) (chars text.now) }
@@ -26,7 +26,7 @@ fn past_each(text: &str, class: CharClass) -> &str
     rest
 }
 
-/// What is left behind the characters in front that are of a class. A byte below 128 is a character, so nothing is decoded
+/// Returns what is left behind the characters in front that are of a class. A byte below 128 is a character, so nothing is decoded
 /// before the first character beyond ASCII.
 #[inline(always)]
 pub fn past(text: &str, class: CharClass) -> &str
@@ -48,7 +48,7 @@ pub fn past(text: &str, class: CharClass) -> &str
     ""
 }
 
-/// What is left behind an identifier, where one stands in front.
+/// Returns what is left behind an identifier, where one stands in front.
 #[inline(always)]
 pub fn past_name(text: &str) -> &str
     ensures rest { chars result.now ≡ behind_name (chars text.now) }
@@ -89,7 +89,7 @@ impl Stop {
     }
 }
 
-/// What is left behind the characters in front of the first that a run ends before.
+/// Returns what is left behind the characters in front of the first that a run ends before.
 #[inline(always)]
 pub fn past_until(text: &str, stop: Stop) -> &str
     ensures rest { chars result.now ≡ behind (goes_on stop) (chars text.now) }

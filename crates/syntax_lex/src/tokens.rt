@@ -13,7 +13,7 @@ pub struct Tokenize<'a> {
 }
 
 impl<'a> Tokenize<'a> {
-    /// The tokens of a text.
+    /// Returns the tokens of a text.
     pub(crate) fn new(text: &'a str) -> Tokenize<'a>
         requires { length text.now < 2 ^ 32 }
         ensures { result.rest.now ≡ text.now }
@@ -21,7 +21,7 @@ impl<'a> Tokenize<'a> {
         Tokenize { rest: text }
     }
 
-    /// What is left of the text: the tokens that `next` has not given yet.
+    /// Returns what is left of the text: the tokens that `next` has not given yet.
     pub fn as_str(&self) -> &'a str
         ensures { result.now ≡ self.now.rest.now }
     {

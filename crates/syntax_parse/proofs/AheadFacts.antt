@@ -1,4 +1,4 @@
--- What a loop over the tokens of a text keeps: any tokens of what is left complete those of the text.
+-- What a loop over the tokens of a text keeps: any tokens of the rest complete those of the text.
 use Rattle.std.proofs.Common.{◌≡◌, ℕ, ◌+◌, ◌<◌, List, [], ◌∷◌, ◌++◌, length, take, drop, Option, Ok, Err, refl, sym, ap, ◌∙◌, subst, arith, append_assoc, append-nil}
 use Rattle.std.specs.Str.{chars, IsUtf8}
 use Rattle.tt_base.specs.Building.{most_held, open_kinds}
@@ -28,7 +28,7 @@ pub record Completes (part : SpanPart) (text rest : List ℕ) (held : List Piece
   pub pieces : held ++ pieces_from part at rest more ≡ pieces_from part 0 text tokens
   pub faults : fault_from opens at rest more ≡ fault_from [] 0 text tokens
 
--- any tokens of what is left do
+-- any tokens of the rest complete those of the text
 abbrev pub IsAhead : SpanPart → (text rest : List ℕ) → List Piece → List Open → ℕ → Type 0
 IsAhead part text rest held opens at = (more : List Token) → AreTokensOf more (chars rest) → Completes part text rest held opens at more
 
@@ -40,7 +40,7 @@ ahead_start part text held opens none nothing more are = record {
   faults = ap (λ os. fault_from os 0 text more) nothing;
 }
 
--- a token before the tokens of what is left behind it
+-- a token before the tokens of the rest after it
 one_before : (rest behind : List ℕ) (token : Token) (more : List Token) → IsUtf8 rest → 0 < length rest → token ≡ first_token_of (chars rest) → behind ≡ drop token.len rest
     → AreTokensOf more (chars behind) → AreTokensOf (token ∷ more) (chars rest)
 one_before rest behind token more utf8 some is left are = (
@@ -87,7 +87,7 @@ ahead_fault part text rest word held opens at token fault utf8 some is word_is s
           ∙ ap (λ r. or_behind r (λ os. fault_from os (at + token.len) behind more.0)) stepped;
     }
 
--- with a token that is more than a tree may hold, the text has too many
+-- if a token makes more than a tree may hold, the text has too many
 pub ahead_many : (part : SpanPart) (text rest word behind : List ℕ) (held : List Piece) (opens : List Open) (at : ℕ) (token : Token) (next : Option Token)
     → IsUtf8 rest → 0 < length rest → token ≡ first_token_of (chars rest) → next ≡ token_ahead (chars behind) → word ≡ take token.len rest → behind ≡ drop token.len rest
     → IsAhead part text rest held opens at → most_held < token_count (held ++ pieces_of part token.kind (kind_ahead next) at word) → HasManyTokens part text

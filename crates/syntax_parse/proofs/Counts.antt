@@ -1,4 +1,4 @@
--- How many tokens the pieces are that a builder holds.
+-- How many tokens the pieces in a builder are.
 use Rattle.std.proofs.Common.{◌≡◌, ◌+◌, List, [], ◌∷◌, ◌++◌, refl, arith}
 use Rattle.tt_base.specs.Building.{Stack, above, lowest, tokens_held}
 use Rattle.tt_base.specs.Forest.{Forest, end, leaf, node, size}

@@ -1,4 +1,4 @@
--- What is known of the text of a token in which nothing is wrong: its comment wants few hashes, its suffix is short.
+-- Facts about the text of a token with nothing wrong inside: its comment needs few hashes, and its suffix is short.
 use Rattle.std.proofs.Common.{◌≡◌, ℕ, ◌+◌, ◌-◌, ◌<◌, ◌≤◌, Bool, true, false, ◌&&◌, ◌==◌, max, List, [], ◌∷◌, length, drop, slice_range, Option, None, Some, refl, arith, if◌then◌else◌}
 use Rattle.std.proofs.lemmas.Bool.{ltb-false}
 use Rattle.std.specs.Prelude.{nat_lt, codes, bytes_eq}
@@ -22,7 +22,7 @@ use Rattle.syntax_parse.specs.declared.fault.BadToken.TheVariants as bad
 use Rattle.syntax_parse.specs.declared.role.Role.{Role}
 use Rattle.syntax_parse.specs.declared.role.Role.TheVariants.{Bad, Closes, Leaf, Nothing, Opens}
 
--- a run is one longer than that before it at most
+-- a run grows by at most one
 run_grows : (run byte : ℕ) → next_run run byte ≤ run + 1
 run_grows run byte = go (byte == 34) ((byte == 35) && nat_lt 0 run)
   where
@@ -37,11 +37,11 @@ longest_within run most n (byte ∷ bytes) r m =
     let grown = run_grows run byte in
     let more = longest_within (next_run run byte) (max most (next_run run byte)) (n + 1) bytes (omega (arith, grown, r)) (omega (arith, grown, r, m)) in omega (arith, more)
 
--- a text wants no more hashes than it has bytes
+-- a text needs no more hashes than it has bytes
 pub few_wanted : (text : List ℕ) → hashes_wanted text ≤ length text
 few_wanted text = let within = longest_within 0 0 0 text (omega arith) (omega arith) in omega (arith, within)
 
--- what is wrong inside of a leaf: nothing
+-- nothing is wrong inside of a leaf
 pub none_wrong : (role : Role) (inside : Option BadToken) → with_inside role inside ≡ Leaf → inside ≡ None
 none_wrong role None h = refl
 none_wrong (Bad why) (Some other) h = cc
@@ -61,7 +61,7 @@ none_if false why h = refl
 few : (n : ℕ) → fault_if (nat_lt 255 n) bad.TooManyHashes ≡ None → n < 256
 few n h = let le = ltb-false 255 n (none_if (nat_lt 255 n) bad.TooManyHashes h) in omega (arith, le)
 
--- the text of a comment that is a leaf wants few hashes
+-- the text of a comment that is a leaf needs few hashes
 pub line_few : (style : DocStyle) (text : List ℕ) → role_in (kinds.LineComment (Some style)) text ≡ Leaf → hashes_wanted (line_text style text) < 256
 line_few style text role =
     few (hashes_wanted (line_text style text))
@@ -73,7 +73,7 @@ block_few style true text role =
 block_few style false text role =
     few (hashes_wanted (block_text style text)) (second_none (return_fault text) (hashes_fault (block_text style text)) (none_wrong (Bad bad.UnterminatedComment) (block_fault style text) role))
 
--- the suffix that counts is no longer than what stands behind the value
+-- the suffix that counts is no longer than what follows the value
 told_within : (behind : List ℕ) → length (suffix_told behind) ≤ length behind
 told_within behind = go (bytes_eq behind (codes "_"))
   where
@@ -81,12 +81,12 @@ told_within behind = go (bytes_eq behind (codes "_"))
     go true = omega arith
     go false = omega arith
 
--- what is no number has no suffix
+-- a literal that is no number has no suffix
 no_suffix : (text : List ℕ) (kind : LitKind) (value suffix : List ℕ) → is_number kind ≡ false → length (told text kind value suffix).suffix ≤ 255
 no_suffix text kind value [] other = rw other (omega arith)
 no_suffix text kind value (c ∷ cs) other = rw other (omega arith)
 
--- that of a number is all that stands behind its value
+-- the suffix of a number is all that follows its value
 number_short : (place : ℕ) (text : List ℕ) → nat_lt 255 (length (drop place text)) ≡ false → length (suffix_told (drop place text)) ≤ 255
 number_short place text h = let le = ltb-false 255 (length (drop place text)) h in let within = told_within (drop place text) in omega (arith, le, within)
 
@@ -94,7 +94,7 @@ other_short : (kind : LiteralKind) (place : ℕ) (text : List ℕ) → is_number
 other_short kind place text other =
     no_suffix text (kind_told (scan_of kind)) (slice_range text (opening_len (scan_of kind)) (place - closing_len (scan_of kind))) (suffix_told (drop place text)) other
 
--- a suffix is short where it is not told to be too long
+-- a suffix is short if nothing reports it as too long
 short_of : (kind : LiteralKind) (place : ℕ) (text : List ℕ) → (takes_suffix kind && nat_lt 255 (length (drop place text))) ≡ false → length (parts_told text (Some (scan_of kind, place))).suffix ≤ 255
 short_of (literals.Int base empty) place text h = number_short place text h
 short_of (literals.Float base empty) place text h = number_short place text h
@@ -114,7 +114,7 @@ short_suffix kind place text role =
     (none_if (takes_suffix kind && nat_lt 255 (length (drop place text))) bad.SuffixTooLong
     (second_none (inside_fault kind (before_suffix place text)) (suffix_fault kind place text) (none_wrong (literal_role kind text) (literal_fault kind place text) role)))
 
--- so no fault of a scan is met
+-- so a scan meets no fault
 pub scan_fault : (kind : LiteralKind) (place : ℕ) (text : List ℕ) (ps : List Piece) (s : Held) (fault : TtFault)
     → FitsText text (scan_of kind) place → length (parts_told text (Some (scan_of kind, place))).suffix ≤ 255 → IsScanFault text (Some (scan_of kind, place)) fault → IsAddFault ps s fault
 scan_fault kind place text ps s BadScan fits short h = absurd (h fits)

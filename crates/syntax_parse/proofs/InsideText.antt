@@ -1,4 +1,4 @@
--- Nothing is wrong inside of a literal in quotes exactly where a text that it may hold stands between them.
+-- Nothing is wrong inside of a literal in quotes exactly if it may hold the text between them.
 use Rattle.std.proofs.Common.{◌≡◌, ℕ, suc, ◌-◌, min, Bool, true, false, ◌&&◌, ◌||◌, not, ◌==◌, cond, nat_le, List, [], ◌∷◌, ◌++◌, length, take, drop, Option, None, Some, codes, refl, sym, ap, ap₂, ◌∙◌, ⊎_elim, inl, inr, arith, append_assoc}
 use Rattle.std.proofs.lemmas.Bool.{and_left, and_right, cases_eq, false≢true, leb-false, lt-leb, ne_eqb, not_from_true, or_from, or_parts}
 use Rattle.std.proofs.lemmas.List.{length-append}
@@ -16,7 +16,7 @@ use Rattle.syntax_parse.specs.declared.fault.BadToken.TheVariants as bad
 use Rattle.syntax_parse.proofs.ListedText.{one_same, units_listed, units_told}
 use Rattle.syntax_parse.proofs.TextUnits.{table_text}
 
--- carriage returns
+-- each carriage return comes before a line feed if none is bare
 returned : (before behind : List ℕ) → bare_return (before ++ (13 ∷ behind)) ≡ false → (rest : List ℕ) × (behind ≡ 10 ∷ rest)
 returned [] [] none = cc
 returned [] (c ∷ cs) none =
@@ -41,13 +41,13 @@ ends_listed (c ∷ cs) ends =
     (cases_eq c 13) in
     or_from ((c == 13) && not (begins_with_feed cs)) (bare_return cs) here others
 
--- a quote behind a text makes no carriage return bare, and none good
+-- a quote after a text changes nothing about its carriage returns
 end_return : (body : List ℕ) (quote : ℕ) → (quote == 13) ≡ false → (quote == 10) ≡ false → bare_return (body ++ quote ∷ []) ≡ bare_return body
 end_return [] quote no_return no_feed = ap (λ t. (t && true) || false) no_return
 end_return (b ∷ []) quote no_return no_feed = ap₂ (λ r f. ((b == 13) && not f) || ((r && true) || false)) no_return no_feed
 end_return (b ∷ c ∷ cs) quote no_return no_feed = ap (λ t. ((b == 13) && not (c == 10)) || t) (end_return (c ∷ cs) quote no_return no_feed)
 
--- ASCII
+-- a quote after a text changes nothing about whether it has only ASCII
 end_ascii : (body : List ℕ) (quote : ℕ) → nat_le 128 quote ≡ false → beyond_ascii (body ++ quote ∷ []) ≡ beyond_ascii body
 end_ascii [] quote low = ap (λ t. t || false) low
 end_ascii (b ∷ body) quote low = ap (λ t. nat_le 128 b || t) (end_ascii body quote low)
@@ -62,7 +62,7 @@ ascii_listed : (text : List ℕ) → IsAscii text → beyond_ascii text ≡ fals
 ascii_listed [] each = refl
 ascii_listed (b ∷ text) each = or_from (nat_le 128 b) (beyond_ascii text) (lt-leb 128 b (each 0)) (ascii_listed text (λ i. each (suc i)))
 
--- between quotes stands what was put there
+-- between the quotes is what was put there
 between : (front body : List ℕ) (quote : ℕ) → between_quotes (length front) (front ++ (body ++ quote ∷ [])) ≡ body
 between front body quote =
     let whole : front ++ (body ++ quote ∷ []) ≡ (front ++ body) ++ quote ∷ [] = sym (append_assoc front body (quote ∷ [])) in
@@ -91,7 +91,7 @@ fine_bytes : (wide bare : Bool) → cond wide (Some bad.BeyondAscii) (fault_if b
 fine_bytes true bare none = cc
 fine_bytes false bare none = (refl, right bare bad.BareReturn none)
 
--- nothing is wrong with what stands between the quotes
+-- nothing is wrong with the text between the quotes
 record IsFine (kind : LiteralKind) (body : List ℕ) : Type 0 where
   ascii : (is_of_bytes kind ≡ false) ⊎ (beyond_ascii body ≡ false)
   no_return : bare_return body ≡ false

@@ -1,4 +1,4 @@
--- Which limits are passed where leaves are added, and where a tree is built.
+-- Which limits leaves exceed when they are added, and a tree when it is built.
 use Rattle.std.proofs.Common.{◌≡◌, ℕ, ◌<◌, List, [], ◌∷◌, ◌++◌, append_assoc, ap, ◌∙◌, ⊎_elim, sym, subst, arith}
 use Rattle.tt_base.specs.Building.{most_held}
 use Rattle.tt.specs.FlatHeld.{Held, IsGrowthFault}
@@ -15,11 +15,11 @@ use Rattle.syntax_parse.specs.Parsed.{IsParse}
 use Rattle.syntax_parse.specs.Spelled.{Piece, at_span, opening, piece_of, spelled_so_far}
 use Rattle.tt_view.specs.TreeFault.{IsTreeFault}
 
--- want of memory, where whatever is added
+-- memory may run out, whatever is added
 pub memory_fault : (ps : List Piece) (s : Held) (fault : TtFault) → fault ≡ Memory → IsAddFault ps s fault
 memory_fault ps s fault is = subst (IsAddFault ps s) (sym is) tt
 
--- a leaf that is refused
+-- a leaf that does not fit
 pub leaf_fault : (it : Leaf) (s : Held) (fault : TtFault) → IsGrowthFault s fault → IsAddFault (piece_of it ∷ []) s fault
 leaf_fault it s fault h =
     ⊎_elim (λ m. memory_fault (piece_of it ∷ []) s fault m)
@@ -30,7 +30,7 @@ leaf_fault it s fault h =
     subst (IsAddFault (piece_of it ∷ []) s) (sym m.0) (omega (arith, m.1, held, joined, one)))
     h
 
--- an opening that is refused
+-- an opening that does not fit
 pub open_fault : (kind : DelimiterKind) (span : Span) (s : Held) (fault : TtFault) → IsGrowthFault s fault → IsAddFault (at_span (opening kind) span ∷ []) s fault
 open_fault kind span s fault h =
     ⊎_elim (λ m. memory_fault (at_span (opening kind) span ∷ []) s fault m)
@@ -40,7 +40,7 @@ open_fault kind span s fault h =
     subst (IsAddFault (at_span (opening kind) span ∷ []) s) (sym m.0) (omega (arith, m.1, held, joined)))
     h
 
--- what is refused is refused with more behind it
+-- pieces that do not fit do not fit with more after them
 pub more_fault : (ps qs : List Piece) (s : Held) (fault : TtFault) → IsAddFault ps s fault → IsAddFault (ps ++ qs) s fault
 more_fault ps qs s TooManyTokens h =
     let before = token_count-append (spelled_so_far s.stack) ps in
@@ -57,7 +57,7 @@ more_fault ps qs s TooManySymbols h = absurd h
 more_fault ps qs s TooManyBytes h = absurd h
 more_fault ps qs s PointsSpent h = absurd h
 
--- what is refused behind pieces that were added is refused with them
+-- pieces that do not fit after others do not fit together with them
 pub behind_fault : (ps qs : List Piece) (s t : Held) (fault : TtFault) → spelled_so_far t.stack ≡ spelled_so_far s.stack ++ ps → IsAddFault qs t fault → IsAddFault (ps ++ qs) s fault
 behind_fault ps qs s t TooManyTokens holds h =
     let e : spelled_so_far t.stack ++ qs ≡ spelled_so_far s.stack ++ (ps ++ qs) = ap (λ xs. xs ++ qs) holds ∙ append_assoc (spelled_so_far s.stack) ps qs in
@@ -73,7 +73,7 @@ behind_fault ps qs s t TooManySymbols holds h = absurd h
 behind_fault ps qs s t TooManyBytes holds h = absurd h
 behind_fault ps qs s t PointsSpent holds h = absurd h
 
--- a text that has these tokens, among them what was refused, has too many
+-- a text with these tokens, among them those that did not fit, has too many
 pub limit_of_leaves : (part : SpanPart) (text : List ℕ) (ps : List Piece) (s : Held) (fault : TtFault)
     → (most_held < token_count (spelled_so_far s.stack ++ ps) → HasManyTokens part text) → IsAddFault ps s fault → IsLimit part text fault
 limit_of_leaves part text ps s TooManyTokens many h = many h
@@ -88,7 +88,7 @@ limit_of_leaves part text ps s TooManySymbols many h = absurd h
 limit_of_leaves part text ps s TooManyBytes many h = absurd h
 limit_of_leaves part text ps s PointsSpent many h = absurd h
 
--- want of memory
+-- memory runs out
 pub limit_of_memory : (part : SpanPart) (text : List ℕ) (fault : TtFault) → fault ≡ Memory → IsLimit part text fault
 limit_of_memory part text fault is = subst (IsLimit part text) (sym is) tt
 

@@ -1,4 +1,4 @@
--- What LiteralText lists by codes is what the tables of the state machine let pass.
+-- The codes that LiteralText lists are those that the tables of the state machine accept.
 use Rattle.std.proofs.Common.{◌≡◌, ◌≢◌, ℕ, zero, suc, ◌+◌, ◌-◌, ◌*◌, ◌<◌, ◌≤◌, Bool, true, false, ◌&&◌, ◌||◌, not, ◌==◌, cond, nat_le, List, [], ◌∷◌, ◌++◌, length, Option, None, Some, codes, refl, sym, ap, subst, ◌∙◌, ⊎_elim, inl, inr, arith}
 use Rattle.std.proofs.lemmas.Bool.{and_parts, cases_Bool, cases_eq, eq-eqb, eqb-true, false≢true, leb-true, ne_eqb, or_cases}
 use Rattle.std.proofs.lemmas.List.Elements.{All-contains, All-from_recursion}
@@ -12,7 +12,7 @@ use Rattle.syntax_parse.specs.Escapes.{hex_digit, is_escape, is_scalar, is_singl
 use Rattle.syntax_parse.specs.LiteralText.{AreUnits, nothing, more, IsDigit, small, large, IsUnicode, IsUnit, character, simple, null, byte, unicode, line_end, MayHold, MayTell, Tell, none, low_line, digit, holds_one, is_of_bytes}
 use Rattle.syntax_parse.proofs.TableText as table
 
--- each digit of a list has its place as its value
+-- the value of each digit of a list is its place
 abbrev AreDigits : (from : ℕ) → List ℕ → Type 0
 AreDigits from [] = Unit {0}
 AreDigits from (x ∷ xs) = (hex_digit x ≡ Some from) × AreDigits (suc from) xs
@@ -42,7 +42,7 @@ digit_below : (c value : ℕ) → IsDigit c value → value < 16
 digit_below c value (small is) = slice_get_within (codes "0123456789abcdef") value c is
 digit_below c value (large is) = slice_get_within (codes "0123456789ABCDEF") value c is
 
--- P holds of so many numbers, from one on
+-- P holds of `count` numbers, from `from` on
 abbrev AllFrom : (P : ℕ → Type 0) (from count : ℕ) → Type 0
 AllFrom P from zero = Unit {0}
 AllFrom P from (suc count) = P from × AllFrom P (suc from) count
@@ -116,7 +116,7 @@ escape_listed c is =
     (or_cases (c == 114) ((c == 116) || ((c == 92) || ((c == 39) || (c == 34)))) is))
     (or_cases (c == 110) ((c == 114) || ((c == 116) || ((c == 92) || ((c == 39) || (c == 34))))) is)
 
--- what wants an escape in a literal of one character
+-- what needs an escape in a literal of one character
 mark_told : (c : ℕ) → (Contains (codes "'\n\r\t") c → ⊥) → wants_escape c ≡ false
 mark_told c other = ⊎_elim (λ wants. absurd (other (listed wants))) (λ plain. plain) (cases_Bool (wants_escape c))
   where
@@ -180,7 +180,7 @@ byte_listed (literals.CStr terminated) high low few fits (inl takes) = absurd (f
 byte_listed (literals.CStr terminated) high low few fits (inr some) = some
 byte_listed _ high low few fits held = tt
 
--- what digits tell
+-- what the digits of a text give
 record Told (before : ℕ) (text : List ℕ) (digits number : ℕ) : Type 0 where
   each : AllByRecursion table.IsDigitOrLine text
   few : length (table.digits_in text) ≡ digits

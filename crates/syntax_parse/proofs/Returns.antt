@@ -1,4 +1,4 @@
--- Carriage returns, where one may stand right before a text.
+-- Carriage returns, if one may come right before a text.
 use Rattle.std.proofs.Common.{Bool, true, false, List, ◌∷◌, ℕ}
 
 -- a text, with a carriage return right before it if one is there

@@ -1,4 +1,4 @@
--- What the definitions say of literals, beside what the Rust reference says of them.
+-- What the definitions say of literals, next to what the Rust reference says of them.
 use Rattle.std.proofs.Common.{◌≡◌, true, ◌∷◌, ◌++◌, None, Some, codes, refl}
 use Rattle.syntax_parse.specs.Inside.{inside_fault}
 use Rattle.syntax_parse.specs.declared.fault.BadToken.TheVariants as bad

@@ -1,4 +1,4 @@
--- The scan that a lexer tells fits the text of the token.
+-- The scan that a lexer gives fits the text of the token.
 use Rattle.std.proofs.Common.{◌≡◌, ℕ, ◌+◌, ◌-◌, true, List, [], ◌∷◌, ◌++◌, ◌&&◌, length, take, drop, refl, sym, ap, ap₂, ◌∙◌, subst, arith, append_assoc, length-append, Option, None, Some, ◌<◌, false}
 use Rattle.std.proofs.Math.Utf8.{encodes, scalars}
 use Rattle.std.proofs.lemmas.Bool.{and_parts}
@@ -59,7 +59,7 @@ scalars-parts : (xs ys : List ℕ) → scalars (xs ++ ys) ≡ true → scalars y
 scalars-parts [] ys h = h
 scalars-parts (x ∷ xs) ys h = scalars-parts xs ys (and_parts _ _ h).1
 
--- a boundary behind the characters in front
+-- a boundary after the characters in front
 seam : (word xs ys : List ℕ) (n : ℕ) → word ≡ encodes (xs ++ ys) → scalars (xs ++ ys) ≡ true → n ≡ byte_length xs → IsCharBoundary word n
 seam word xs ys n is fine len =
     subst (λ k. IsCharBoundary word k) (sym (len ∙ byte_length-is xs))
@@ -69,7 +69,7 @@ byte_length-join : (xs ys : List ℕ) → byte_length (xs ++ ys) ≡ byte_length
 unfolding byte_length
 byte_length-join xs ys = ap length (encodes-append xs ys) ∙ length-append (encodes xs) (encodes ys)
 
--- a word made of what stands before the value, the value, what stands behind it and a suffix
+-- a word made of what precedes the value, the value, what follows it, and a suffix
 pub parts_fit : (word before body after suffix : List ℕ) (kind : LiteralKind) (place : ℕ) → is_closed kind ≡ true
     → word ≡ encodes (before ++ (body ++ (after ++ suffix))) → scalars (before ++ (body ++ (after ++ suffix))) ≡ true
     → byte_length before ≡ ahead_of kind → byte_length after ≡ after_of kind → place ≡ byte_length (before ++ (body ++ after))
@@ -114,7 +114,7 @@ scan_fits bs c cs kind place utf8 are closed shape =
     omega (arith, shape.suffix, ap byte_length regroup, byte_length-join (shape.before ++ (shape.body ++ shape.after)) shape.rest) in
     parts_fit (take (first_token_of (c ∷ cs)).len bs) shape.before shape.body shape.after tail.0 kind place closed word fine shape.open_len shape.close_len at
 
--- what is bad stays bad
+-- a bad token stays bad
 bad_stays : (why : BadToken) (inside : Option BadToken) → with_inside (Bad why) inside ≡ Leaf → ⊥
 bad_stays why None h = cc
 bad_stays why (Some other) h = cc

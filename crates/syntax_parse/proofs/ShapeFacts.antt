@@ -1,4 +1,4 @@
--- Of what parts a closed literal is made.
+-- The parts that a closed literal is made of.
 use Rattle.std.proofs.Common.{◌≡◌, ℕ, ◌+◌, ◌<◌, ◌-◌, Bool, true, false, ◌==◌, ◌&&◌, not, List, [], ◌∷◌, ◌++◌, refl, sym, ap, ◌∙◌, arith, cond, subst}
 use Rattle.std.proofs.lemmas.Bool.{eqb-true, and_parts}
 use Rattle.std.specs.Prelude.{unwrap_or, is_some}
@@ -22,7 +22,7 @@ use Rattle.syntax_lex.proofs.EndFacts.{behind_end, number_end, on, skip_end}
 use Rattle.syntax_lex.proofs.GrammarFacts.{string_closed}
 use Rattle.syntax_parse.proofs.ShapeParts.{numeric, Shape, one_byte, byte_length-both, front_of, begins, char_closed, quoted_shape, raw_shape, numeric_shape}
 
--- how many bytes stand before the value of a literal, and how many behind it
+-- how many bytes precede the value of a literal, and how many follow it
 abbrev pub ahead_of : LiteralKind → ℕ
 ahead_of (literals.Int base empty) = 0
 ahead_of (literals.Float base empty) = 0
@@ -121,7 +121,7 @@ symbol_other c =
 symbol_shape : (c : ℕ) (left text : List ℕ) → ShapeAs (symbol c) left text
 symbol_shape c left text = other_in (symbol c) left text (symbol_other c)
 
--- what the first two characters are by the family that they tell
+-- what the first two characters are, by the family that they select
 abbrev Facts : Family → (c d : ℕ) → Type 0
 Facts opens.RawStr c d = c < 128
 Facts opens.Byte c d = (c < 128) × (d ≡ 39)
@@ -198,7 +198,7 @@ word_shape cs text =
     let tail = behind is_id_continue cs in
     either (begins_literal (first tail)) _ _ text (λ _. shaped tt) (λ _. either (is_emoji_mark (first tail)) _ _ text (λ _. shaped tt) (λ _. shaped tt))
 
--- a kind of number has nothing before and behind its value
+-- a kind of number has nothing before and after its value
 data IsNumber (kind : LiteralKind) : Type 0 where
   numeral : ahead_of kind ≡ 0 → after_of kind ≡ 0 → IsNumber kind
 

@@ -14,7 +14,7 @@ use Rattle.syntax_lex.specs.declared.token.TokenKind.{TokenKind}
 use Rattle.syntax_lex.proofs.EndFacts.{literal_end}
 use Rattle.syntax_lex.proofs.GrammarFacts.{raw_closed, hashes_front}
 
--- a literal's text: so many bytes before the value, so many behind it, and then the suffix, behind which this is left
+-- a literal's text: `ahead` bytes before the value, `close` bytes after it, then the suffix; `left` follows it
 pub record Shape (cs left : List ℕ) (ahead close place : ℕ) : Type 0 where
   pub before : List ℕ
   pub body : List ℕ
@@ -42,7 +42,7 @@ pub byte_length-hashes : (n : ℕ) → byte_length (replicate n 35) ≡ n
 byte_length-hashes zero = byte_length-empty
 byte_length-hashes (suc n) = byte_length-both (35 ∷ []) (replicate n 35) ∙ omega (arith, one_byte 35 (omega arith), byte_length-hashes n)
 
--- where a text is left behind what an end is, something stands before it
+-- if an end of a text is left, something precedes it
 pub front_of : {rest text : List ℕ} → IsEnd rest text → (front : List ℕ) × (text ≡ front ++ rest)
 front_of whole = ([], refl)
 front_of (later {c = c} h) = let e = front_of h in (c ∷ e.0, ap (λ t. c ∷ t) e.1)
@@ -104,7 +104,7 @@ quoted_shape text before cs quote ahead kind found lt is len closed has =
       ends = literal_end text (kind found.0) found.0 found.1;
     }
 
--- a raw text that is closed, behind its hashes
+-- a raw text that is closed, after its hashes
 pub raw_parts : (n : ℕ) (ds : List ℕ) → is_some (raw_body n ds).0 ≡ true
     → ((raw_body n ds).0 ≡ Some n) × (body : List ℕ) × (ds ≡ 34 ∷ (body ++ 34 ∷ (replicate n 35 ++ (raw_body n ds).1)))
 raw_parts n ds closed =
@@ -125,7 +125,7 @@ raw_parts n ds closed =
     (λ e. absurd (false≢true (sym (ap (λ b. is_some (cond {A = Option ℕ × List ℕ} b (counted r.0 n, r.1) (None, skip ds)).0) e) ∙ closed)))
     (cases_Bool (first ds == 34))
 
--- a raw literal that is closed, of letters and a raw text behind them
+-- a raw literal that is closed: letters and a raw text after them
 pub raw_shape : (text before cs : List ℕ) (ahead : ℕ) (kind : Option ℕ → LiteralKind) → text ≡ before ++ cs → byte_length before ≡ ahead → is_some (raw_text cs).0 ≡ true
     → Shape text (raw text kind (raw_text cs)).1 (ahead + 1 + unwrap_or (raw_text cs).0 0) (1 + unwrap_or (raw_text cs).0 0) (byte_length text - byte_length (raw_text cs).1)
 unfolding raw_text

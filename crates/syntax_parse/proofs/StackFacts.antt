@@ -1,4 +1,4 @@
--- What the calls of a builder add to the pieces that it holds.
+-- What the calls of a builder add to its pieces.
 use Rattle.std.proofs.Common.{◌≡◌, ℕ, List, [], ◌∷◌, ◌++◌, refl, sym, ap, ◌∙◌, append_assoc, true, reverse}
 use Rattle.tt_base.specs.Building.{Stack, lowest, above, append, close_innermost, open_kinds, bottom, IsAbove}
 use Rattle.tt.specs.FlatHeld.{Held, IsOpen, closed, opened, pushed}
@@ -43,7 +43,7 @@ adds_leaf it old new is = record {
   top = ap (λ s. s.top) is;
 }
 
--- where one is open, there is a level above the lowest
+-- if a subtree is open, there is a level above the lowest
 pub is_above : (s : Stack) (kind : DelimiterKind) (kinds : List DelimiterKind) → open_kinds s ≡ kind ∷ kinds → IsAbove s
 is_above (lowest trees) kind kinds h = absurd (cc)
 is_above (above outer k open_span trees) kind kinds h = tt
@@ -74,7 +74,7 @@ same_bracket-is Brace Square h = absurd (cc)
 same_bracket-is Square Parenthesis h = absurd (cc)
 same_bracket-is Square Brace h = absurd (cc)
 
--- the innermost subtree is closed by a bracket of its kind
+-- a bracket of its kind closes the innermost subtree
 pub close_step : (s t : Held) (close_span : Span) (bracket : Bracket) (last : Open) (old new : List Open) → t ≡ closed close_span s
     → kinds_of (reverse old) ≡ open_kinds s.stack → reverse old ≡ last ∷ reverse new → same_bracket last.bracket bracket ≡ true
     → spelled_so_far t.stack ≡ spelled_so_far s.stack ++ at_span (closing (kind_of bracket)) close_span ∷ []
@@ -89,12 +89,12 @@ pub at_piece : (sort : Sort) (span : Span) (part : SpanPart) (start stop : ℕ) 
 at_piece sort span part start stop p s e =
     ap (λ x. piece x (start_of span.range) (end_of span.range) sort) p ∙ ap (λ x. piece part x (end_of span.range) sort) s ∙ ap (λ x. piece part start x sort) e
 
--- where none is open, the lowest level has all pieces
+-- if no subtree is open, the lowest level has all pieces
 pub spelled-bottom : (s : Stack) → open_kinds s ≡ [] → spelled (bottom s) ≡ spelled_so_far s
 spelled-bottom (lowest trees) h = refl
 spelled-bottom (above outer kind open_span trees) h = absurd (cc)
 
--- where none is open, no builder is open
+-- if no subtree is open, no builder is open
 pub none_open : (s : Held) → open_kinds s.stack ≡ [] → IsOpen s → ⊥
 none_open s h = go s.stack h
   where
@@ -102,7 +102,7 @@ none_open s h = go s.stack h
     go (lowest trees) h k = k
     go (above outer kind open_span trees) h k = cc
 
--- one after the other
+-- two additions, one after the other
 pub adds_both : (ps qs : List Piece) (a b c : Held) → Adds ps a b → Adds qs b c → Adds (ps ++ qs) a c
 adds_both ps qs a b c h k = record {
   holds = k.holds ∙ ap (λ xs. xs ++ qs) h.holds ∙ append_assoc (spelled_so_far a.stack) ps qs;
@@ -125,17 +125,17 @@ adds_brackets kind span ps s t u v opens inside closes =
       top = ap (λ b. b.top) closes ∙ inside.top ∙ ap (λ b. b.top) opens;
     }
 
--- a builder in which one is open can close it
+-- a builder with an open subtree can close it
 pub can_close : (kind : DelimiterKind) (span : Span) (ps : List Piece) (s t u : Held) → t ≡ opened kind span s → Adds ps t u → IsOpen u
 can_close kind span ps s t u opens inside = is_above u.stack kind (open_kinds s.stack) (inside.opens ∙ ap (λ b. open_kinds b.stack) opens)
 
--- these at a span, by the numbers of the span
+-- pieces at one span, by the numbers of the span
 pub all_placed : (sorts : List Sort) (span : Span) (part : SpanPart) (start stop : ℕ) → part_of span ≡ part → start_of span.range ≡ start → end_of span.range ≡ stop
     → all_at span sorts ≡ placed part start stop sorts
 all_placed [] span part start stop p s e = refl
 all_placed (sort ∷ sorts) span part start stop p s e = ap (λ x. x ∷ all_at span sorts) (at_piece sort span part start stop p s e) ∙ ap (λ xs. piece part start stop sort ∷ xs) (all_placed sorts span part start stop p s e)
 
--- these and those at a span
+-- two lists of pieces at one span
 pub all_at-append : (span : Span) (sorts more : List Sort) → all_at span (sorts ++ more) ≡ all_at span sorts ++ all_at span more
 all_at-append span [] more = refl
 all_at-append span (sort ∷ sorts) more = ap (λ xs. at_span sort span ∷ xs) (all_at-append span sorts more)

@@ -1,4 +1,4 @@
--- The characters and escapes that the tables of the state machine let pass, one after another. LiteralText lists the same by their codes.
+-- The characters and escapes that the tables of the state machine accept, one after another. LiteralText lists the same by their codes.
 use Rattle.std.specs.List.{AllByRecursion}
 use Rattle.std.specs.Prelude.{◌≡◌, ◌≢◌, ◌⊎◌, ℕ, suc, ◌+◌, ◌*◌, ◌<◌, ◌≤◌, ◌==◌, true, false, List, [], ◌∷◌, ◌++◌, length, Some, unwrap_or, if◌then◌else◌}
 use Rattle.std.specs.Str.{chars}
@@ -9,7 +9,7 @@ use Rattle.syntax_parse.specs.Escapes.{hex_digit, is_escape, is_scalar, is_singl
 abbrev pub MayHold : LiteralKind → (number : ℕ) → Type 0
 MayHold kind number = (takes_null kind ≡ true) ⊎ (number ≢ 0)
 
--- a character that stands for itself: no backslash, and in a literal of one character no quote, no end of a line and no tab
+-- a character that means itself: no backslash; in a literal of one character also no quote, no end of a line and no tab
 pub record StandsForItself (kind : LiteralKind) (c : ℕ) : Type 0 where
   pub no_backslash : c ≢ 92
   pub no_mark : (is_single kind ≡ false) ⊎ (wants_escape c ≡ false)
@@ -28,16 +28,16 @@ abbrev pub digits_in : List ℕ → List ℕ
 digits_in [] = []
 digits_in (c ∷ cs) = if c == 95 then digits_in cs else c ∷ digits_in cs
 
--- the number that digits of base 16 tell, behind digits that tell another
+-- the number that digits of base 16 give after digits that give another
 abbrev pub number_behind : (before : ℕ) → List ℕ → ℕ
 number_behind before [] = before
 number_behind before (c ∷ cs) = number_behind (before * 16 + unwrap_or (hex_digit c) 0) cs
 
--- the number that digits and `_` tell
+-- the number that digits and `_` give
 abbrev pub number_in : List ℕ → ℕ
 number_in text = number_behind 0 (digits_in text)
 
--- what `\u{..}` may hold: one to six digits of base 16, behind each of which `_` may stand, with the number of a character
+-- what `\u{..}` may hold: one to six digits of base 16 with the number of a character; `_` may follow each digit
 pub record IsUnicode (kind : LiteralKind) (text : List ℕ) : Type 0 where
   pub first : ℕ
   pub value : ℕ
@@ -59,12 +59,12 @@ pub data IsUnit (kind : LiteralKind) : List ℕ → Type 0 where
   unicode : {text : List ℕ} → takes_unicode kind ≡ true → IsUnicode kind text → IsUnit kind (92 ∷ 117 ∷ 123 ∷ (text ++ 125 ∷ []))
   line_end : {c : ℕ} → is_single kind ≡ false → (c ≡ 10) ⊎ (c ≡ 13) → IsUnit kind (92 ∷ c ∷ [])
 
--- so many of them, one after another
+-- `count` units, one after another
 pub data AreUnits (kind : LiteralKind) : (count : ℕ) → List ℕ → Type 0 where
   nothing : AreUnits kind 0 []
   more : {unit rest : List ℕ} {count : ℕ} → IsUnit kind unit → AreUnits kind count rest → AreUnits kind (suc count) (unit ++ rest)
 
--- the text of a literal: characters and escapes, and exactly one where the literal is of one character
+-- the text of a literal: characters and escapes, exactly one if the literal is of one character
 pub record IsLiteralText (kind : LiteralKind) (text : List ℕ) : Type 0 where
   pub count : ℕ
   pub units : AreUnits kind count (chars text)

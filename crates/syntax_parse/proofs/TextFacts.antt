@@ -1,4 +1,4 @@
--- A text is cut behind its first token.
+-- A text is cut after its first token.
 use Rattle.std.proofs.Common.{◌≡◌, ℕ, zero, suc, ◌+◌, ◌<◌, ◌≤◌, true, false, ◌==◌, false-eqb, List, [], ◌∷◌, ◌++◌, length, drop, refl, sym, ap, ◌∙◌, subst, arith, length-append, Option, None, Some}
 use Rattle.std.proofs.Math.Seq.{drop-append_seam}
 use Rattle.std.proofs.Math.Utf8.{encodes, scalars}
@@ -14,7 +14,7 @@ use Rattle.syntax_lex.proofs.FrontFacts.{chars-empty, empty_from_chars}
 use Rattle.syntax_lex.proofs.TokenFacts.{len_first}
 use Rattle.syntax_parse.specs.Parsed.{kind_ahead, next_kind, token_ahead}
 
--- what stands before an end
+-- what precedes an end
 pub end_split : {rest text : List ℕ} → IsEnd rest text → (front : List ℕ) × (text ≡ front ++ rest)
 end_split whole = ([], refl)
 end_split (later {c = c} h) = let e = end_split h in (c ∷ e.0, ap (λ t. c ∷ t) e.1)
@@ -31,7 +31,7 @@ byte_length-append : (xs ys : List ℕ) → byte_length (xs ++ ys) ≡ length (e
 unfolding byte_length
 byte_length-append xs ys = ap length (encodes-append xs ys) ∙ length-append (encodes xs) (encodes ys)
 
--- the first token of a text with these characters ends where a character does, and behind it stands what is left
+-- the first token of a text with these characters ends at the end of a character, and the rest follows it
 pub record Cut (bs cs : List ℕ) : Type 0 where
   pub some : 0 < (first_token_of cs).len
   pub boundary : IsCharBoundary bs (first_token_of cs).len
@@ -56,7 +56,7 @@ cut_at bs (c ∷ cs) utf8 some e =
 pub cut : (bs : List ℕ) → IsUtf8 bs → 0 < length bs → Cut bs (chars bs)
 cut bs utf8 some = cut_at bs (chars bs) utf8 some refl
 
--- a text has tokens
+-- each text has tokens
 pub tokens_exist : (n : ℕ) (cs : List ℕ) → length cs ≤ n → (tokens : List Token) × AreTokensOf tokens cs
 tokens_exist n [] le = ([], refl)
 tokens_exist zero (c ∷ cs) le = absurd (omega arith)
@@ -64,13 +64,13 @@ tokens_exist (suc n) (c ∷ cs) le =
     let behind = tokens_exist n (reading (c ∷ cs)).1 (omega (arith, length-end (reading_end c cs))) in
     (first_token_of (c ∷ cs) ∷ behind.0, ((λ none. absurd (cc)), refl, behind.1))
 
--- the kind of the first of them is that of the token ahead
+-- the kind of the first of its tokens is that of the token ahead
 pub next_is : (tokens : List Token) (cs : List ℕ) → AreTokensOf tokens cs → kind_ahead (token_ahead cs) ≡ next_kind tokens
 next_is [] cs are = ap (λ t. kind_ahead (token_ahead t)) are
 next_is (token ∷ tokens) [] are = absurd (are.0 refl)
 next_is (token ∷ tokens) (c ∷ cs) are = ap (λ t. Some t.kind) (sym are.1)
 
--- what is not nothing is something
+-- a number that is not zero is more than zero
 pub more_than_none : (n : ℕ) → false ≡ (n == 0) → 0 < n
 more_than_none n h = let ne : n ≡ 0 → ⊥ = λ e. false-eqb n 0 h e in omega (arith, ne)
 
@@ -78,7 +78,7 @@ more_than_none n h = let ne : n ≡ 0 → ⊥ = λ e. false-eqb n 0 h e in omega
 pub none_ahead : (bs : List ℕ) → length bs ≡ 0 → None ≡ token_ahead (chars bs)
 none_ahead bs none = sym (ap token_ahead (chars-empty bs none))
 
--- any other has its first
+-- any other text has its first token ahead
 pub some_ahead : (bs : List ℕ) → IsUtf8 bs → 0 < length bs → Some (first_token_of (chars bs)) ≡ token_ahead (chars bs)
 some_ahead bs utf8 some = go (chars bs) refl
   where
@@ -98,7 +98,7 @@ ahead_is token (b ∷ bs) h = (omega arith, go (chars (b ∷ bs)) h)
     go [] k = absurd (cc)
     go (c ∷ cs) k = cc
 
--- where there is none, the text is empty
+-- a text without a token ahead is empty
 pub is_empty : (bs : List ℕ) → IsUtf8 bs → None ≡ token_ahead (chars bs) → length bs ≡ 0
 is_empty bs utf8 h = go (chars bs) refl h
   where

@@ -1,4 +1,4 @@
--- A text between quotes has nothing wrong exactly where it is characters and escapes that the literal may hold.
+-- A text between quotes has nothing wrong exactly if it is characters and escapes that the literal may hold.
 use Rattle.std.proofs.Common.{◌≡◌, ◌≢◌, ℕ, zero, suc, ◌+◌, ◌*◌, ◌<◌, ◌≤◌, Bool, true, false, ◌&&◌, ◌||◌, not, ◌==◌, cond, nat_le, List, [], ◌∷◌, ◌++◌, length, Option, None, Some, refl, sym, ap, subst, ◌∙◌, ⊎_elim, inl, inr, arith, append_assoc}
 use Rattle.std.proofs.lemmas.Bool.{and_parts, and_right, cases_Bool, cases_eq, cases_lt, eq-eqb, eqb-true, false≢true, lt-leb, lt-ltb, ne_eqb, or_left}
 use Rattle.std.proofs.lemmas.Str.{encodes-chars}
@@ -23,7 +23,7 @@ digit_no_line c value is e = let absent : None ≡ Some value = sym (ap hex_digi
 kept : (c value : ℕ) (body : List ℕ) → IsDigit c value → digits_in (c ∷ body) ≡ c ∷ digits_in body
 kept c value body is = ap (λ t. cond t (digits_in body) (c ∷ digits_in body)) (ne_eqb c 95 (digit_no_line c value is))
 
--- the number of digits of which the first is known
+-- the number of digits whose first is known
 pub number_is : (c value : ℕ) (body : List ℕ) → IsDigit c value → number_in (c ∷ body) ≡ number_behind value (digits_in body)
 number_is c value body is =
     let from_none : 0 * 16 + value ≡ value = omega arith in
@@ -183,7 +183,7 @@ low_digit c value is = ⊎_elim (λ low. low) (λ wide. let absent : None ≡ So
 low_escape : (c : ℕ) → is_escape c ≡ true → c < 128
 low_escape c is = ⊎_elim (λ low. low) (λ wide. absurd (false≢true (sym (wide_escape c wide) ∙ is))) (cases_lt c 128)
 
--- behind the backslash that an escape begins with
+-- the state after the backslash that begins an escape
 slashed : (kind : LiteralKind) (count c : ℕ) (cs : List ℕ) → c < 128
     → fault_behind kind Plain count (encodes (92 ∷ c ∷ cs)) ≡ fault_behind kind (escape_step kind c) (counted true count) (encodes cs)
 slashed kind count c cs low = at_ascii kind Plain count 92 (c ∷ cs) (omega arith) ∙ at_ascii kind Backslash (counted true count) c cs low
@@ -197,7 +197,7 @@ zero_or : (kind : LiteralKind) (number : ℕ) → MayHold kind number → (takes
 zero_or kind number (inl takes) = inl takes
 zero_or kind number (inr some) = inr (ne_eqb number 0 some)
 
--- a character that stands for itself is passed
+-- a character that means itself is read
 plain_fits : (kind : LiteralKind) (c : ℕ) → StandsForItself kind c → step kind Plain c ≡ Plain
 plain_fits kind c it =
     let unmarked : (is_single kind && wants_escape c) ≡ false = ⊎_elim (λ many. ap (λ t. t && wants_escape c) many) (λ no_mark. and_right (is_single kind) (wants_escape c) no_mark) it.no_mark in
@@ -205,7 +205,7 @@ plain_fits kind c it =
     ∙ ap (λ t. cond t (Wrong bad.WantsEscape) (behind_one kind (c == 0))) unmarked
     ∙ null_fits kind (c == 0) (zero_or kind c it.held)
 
--- digits and `_`, and the brace behind them, are passed
+-- digits and `_`, and the brace after them, are read
 digits_run : (kind : LiteralKind) (digits value count : ℕ) (body rest : List ℕ) → AllByRecursion IsDigitOrLine body → digits + length (digits_in body) ≤ 6
     → is_scalar (capped_behind value (digits_in body)) ≡ true → MayHold kind (capped_behind value (digits_in body))
     → fault_behind kind (UnicodeDigits digits value) count (encodes (body ++ 125 ∷ rest)) ≡ fault_behind kind Plain count (encodes rest)
@@ -236,7 +236,7 @@ turned : (a b : ℕ) → Alike a b → Alike b a
 turned a b (inl e) = inl (sym e)
 turned a b (inr (big, other)) = inr (other, big)
 
--- `\u{..}` is passed, behind its `u`
+-- `\u{..}` is read, after its `u`
 unicode_run : (kind : LiteralKind) (count : ℕ) (text rest : List ℕ) → IsUnicode kind text
     → fault_behind kind Unicode count (encodes (123 ∷ ((text ++ 125 ∷ []) ++ rest))) ≡ fault_behind kind Plain count (encodes rest)
 unicode_run kind count text rest it =
@@ -263,7 +263,7 @@ line_run kind count c rest many (inr e) =
     slashed kind count c rest (omega (arith, e)) ∙ ap (λ x. fault_behind kind (escape_step kind x) (counted true count) (encodes rest)) e
     ∙ ap (λ t. fault_behind kind (cond (not t) Plain (Wrong bad.UnknownEscape)) (counted true count) (encodes rest)) many
 
--- one unit is passed, and is one more
+-- one unit is read, and counts as one
 unit_run : (kind : LiteralKind) (count : ℕ) (unit rest : List ℕ) → IsUnit kind unit → fault_behind kind Plain count (encodes (unit ++ rest)) ≡ fault_behind kind Plain (counted true count) (encodes rest)
 unit_run kind count _ rest (character {c = c} it) =
     ⊎_elim
@@ -308,7 +308,7 @@ stays_two : (units : ℕ) → plus 2 units ≡ 2
 stays_two zero = refl
 stays_two (suc units) = stays_two units
 
--- one character where one is wanted
+-- one character if the literal holds one
 one_unit : (kind : LiteralKind) (units : ℕ) → count_fault kind (plus 0 units) ≡ None → (is_single kind ≡ false) ⊎ (units ≡ 1)
 one_unit kind units fine = ⊎_elim (λ single. inr (counts units (sym (ap (λ t. fault_if t (plus 0 units)) single) ∙ fine))) (λ many. inl many) (cases_Bool (is_single kind))
   where

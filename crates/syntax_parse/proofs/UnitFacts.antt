@@ -1,4 +1,4 @@
--- What stands between quotes with nothing wrong is characters and escapes, one after another.
+-- A text between quotes with nothing wrong is characters and escapes, one after another.
 use Rattle.std.proofs.Common.{◌≡◌, ◌≢◌, ℕ, ◌+◌, ◌*◌, ◌<◌, ◌≤◌, Bool, true, false, ◌&&◌, not, ◌==◌, cond, nat_le, List, [], ◌∷◌, ◌++◌, length, Option, None, Some, refl, sym, ap, subst, ◌∙◌, ⊎_elim, inl, inr, arith}
 use Rattle.std.proofs.lemmas.Bool.{and_cases, and_right, cases_Bool, cases_eq, eq-eqb, eqb-false, le-ltb, leb-false, ltb-false, ltb-true, ne_eqb, or_from}
 use Rattle.std.proofs.Math.Utf8.{encodes}
@@ -15,7 +15,7 @@ not_false : (x : Bool) → not x ≡ false → x ≡ true
 not_false true e = refl
 not_false false e = cc
 
--- a null is there only where the literal takes one
+-- a null is there only if the literal takes one
 pub null_none : (kind : LiteralKind) (zeroed : Bool) (count : ℕ) (bytes : List ℕ) → fault_behind kind (behind_one kind zeroed) count bytes ≡ None
     → ((takes_null kind ≡ true) ⊎ (zeroed ≡ false)) × (fault_behind kind Plain count bytes ≡ None)
 null_none kind zeroed count bytes none =
@@ -30,7 +30,7 @@ null_none kind zeroed count bytes none =
 held_if : (kind : LiteralKind) (number : ℕ) → ((takes_null kind ≡ true) ⊎ ((number == 0) ≡ false)) → MayHold kind number
 held_if kind number either = ⊎_elim (λ takes. inl takes) (λ other. inr (λ e. eqb-false number 0 other e)) either
 
--- a character that stands for itself
+-- a character that means itself
 pub plain_none : (kind : LiteralKind) (c count : ℕ) (bytes : List ℕ) → c ≢ 92 → fault_behind kind (step kind Plain c) count bytes ≡ None
     → StandsForItself kind c × (fault_behind kind Plain count bytes ≡ None)
 plain_none kind c count bytes other none =
@@ -43,7 +43,7 @@ plain_none kind c count bytes other none =
     (record { no_backslash = other; no_mark = and_cases (is_single kind) (wants_escape c) fine; held = held_if kind c rest.0 }, rest.1))
     (cases_Bool (is_single kind && wants_escape c))
 
--- behind `\x`: one digit, and another
+-- after `\x`: one digit, and another
 hex_one : (kind : LiteralKind) (found : Option ℕ) (count : ℕ) (bytes : List ℕ) → fault_behind kind (hex_first found) count bytes ≡ None
     → (high : ℕ) × (found ≡ Some high) × (fault_behind kind (HexDigit high) count bytes ≡ None)
 hex_one kind None count bytes none = absurd (no_wrong kind bad.BadHexEscape count bytes (hex_first None) refl none)
@@ -100,7 +100,7 @@ behind_x kind count (a ∷ cs) none =
     let h = hex_one kind (hex_digit a) count (encodes cs) (sym (at_ascii kind Hex count a cs low) ∙ none) in
     behind_digit kind h.0 count a cs h.1 h.2
 
--- the number that digits tell behind another, as far as it is the number of a character
+-- the number that digits give after another, as long as it is the number of a character
 abbrev pub capped_behind : (before : ℕ) → List ℕ → ℕ
 capped_behind before [] = before
 capped_behind before (c ∷ cs) = capped_behind (with_digit before (unwrap_or (hex_digit c) 0)) cs
@@ -135,7 +135,7 @@ alike_held kind a b alike (inl takes) = inl takes
 alike_held kind a b (inl e) (inr some) = inr (λ z. some (e ∙ z))
 alike_held kind a b (inr (big, other)) (inr some) = inr (λ z. omega (arith, other, z))
 
--- the digits behind the first one of `\u{..}`, and the brace behind them
+-- the digits after the first one of `\u{..}`, and the brace after them
 pub record Digits (kind : LiteralKind) (digits value count : ℕ) (text : List ℕ) : Type 0 where
   pub body : List ℕ
   pub rest : List ℕ

@@ -1,4 +1,4 @@
--- What stands between quotes: characters, and escapes as the Rust reference has them.
+-- What may be between quotes: characters, and escapes as in the Rust reference.
 use Rattle.std.specs.Prelude.{ℕ, ◌+◌, ◌-◌, ◌*◌, Bool, true, false, ◌&&◌, ◌||◌, ◌==◌, not, nat_le, nat_lt, List, [], ◌∷◌, length, take, drop, min, Option, None, Some, if◌then◌else◌}
 use Rattle.syntax_lex.specs.declared.token.LiteralKind.{LiteralKind}
 use Rattle.syntax_lex.specs.declared.token.LiteralKind.TheVariants as literals
@@ -37,25 +37,25 @@ hex_digit byte =
     else (if nat_le 97 byte && nat_le byte 102 then Some (byte - 87)
     else (if nat_le 65 byte && nat_le byte 70 then Some (byte - 55) else None))
 
--- whether a byte stands in no literal of one character but behind a backslash: a quote, a line feed, a carriage return, a tab
+-- whether a byte needs a backslash in a literal of one character: a quote, a line feed, a carriage return, a tab
 abbrev pub wants_escape : (byte : ℕ) → Bool
 wants_escape byte = (byte == 39) || ((byte == 10) || ((byte == 13) || (byte == 9)))
 
--- whether a backslash and this are an escape: `n`, `r`, `t`, a backslash, a quote
+-- whether a backslash and this byte are an escape: `n`, `r`, `t`, a backslash, a quote
 abbrev pub is_escape : (byte : ℕ) → Bool
 is_escape byte = (byte == 110) || ((byte == 114) || ((byte == 116) || ((byte == 92) || ((byte == 39) || (byte == 34)))))
 
--- behind a character, which may be a null
+-- the state after a character, which may be a null
 abbrev pub behind_one : LiteralKind → (null : Bool) → Reached
 behind_one kind null = if null && not (takes_null kind) then Wrong bad.NullInCStr else Plain
 
--- behind a byte where none is wanted
+-- the state after a byte outside of an escape
 abbrev pub plain_step : LiteralKind → (byte : ℕ) → Reached
 plain_step kind byte =
     if byte == 92 then Backslash
     else (if is_single kind && wants_escape byte then Wrong bad.WantsEscape else behind_one kind (byte == 0))
 
--- behind a backslash and a byte; the end of a line is left out of a string
+-- the state after a backslash and a byte; a string omits the end of a line
 abbrev pub escape_step : LiteralKind → (byte : ℕ) → Reached
 escape_step kind byte =
     if is_escape byte then Plain
@@ -65,50 +65,50 @@ escape_step kind byte =
     else (if ((byte == 10) || (byte == 13)) && not (is_single kind) then Plain
     else Wrong bad.UnknownEscape))))
 
--- behind `\x` and a digit
+-- the state after `\x` and a digit
 abbrev pub hex_first : Option ℕ → Reached
 hex_first None = Wrong bad.BadHexEscape
 hex_first (Some digit) = HexDigit digit
 
--- behind `\x` and two digits
+-- the state after `\x` and two digits
 abbrev pub hex_second : LiteralKind → (high : ℕ) → Option ℕ → Reached
 hex_second kind high None = Wrong bad.BadHexEscape
 hex_second kind high (Some low) =
     if nat_le 8 high && not (takes_high kind) then Wrong bad.HexEscapeTooLarge else behind_one kind ((high == 0) && (low == 0))
 
--- behind `\u` and a brace
+-- the state after `\u` and a brace
 abbrev pub unicode_open : (byte : ℕ) → Reached
 unicode_open byte = if byte == 123 then UnicodeOpen else Wrong bad.BadUnicodeEscape
 
--- behind `\u{` and a digit
+-- the state after `\u{` and a digit
 abbrev pub unicode_first : Option ℕ → Reached
 unicode_first None = Wrong bad.BadUnicodeEscape
 unicode_first (Some digit) = UnicodeDigits 1 digit
 
--- a number with one digit more, as far as it is the number of a character
+-- a number with one digit more; a number that is too large for a character stays as it is
 abbrev pub with_digit : (value digit : ℕ) → ℕ
 with_digit value digit = if nat_lt value 1114112 then value * 16 + digit else value
 
--- behind one digit more, of which there are six at most
+-- the state after one digit more; there are at most six
 abbrev pub unicode_more : (count value : ℕ) → Option ℕ → Reached
 unicode_more count value None = Wrong bad.BadUnicodeEscape
 unicode_more count value (Some digit) = if nat_lt count 6 then UnicodeDigits (count + 1) (with_digit value digit) else Wrong bad.BadUnicodeEscape
 
--- whether a number is that of a character: no surrogate, and no more than 10ffff
+-- whether a number is that of a character: no surrogate, and at most 10ffff
 abbrev pub is_scalar : (value : ℕ) → Bool
 is_scalar value = nat_lt value 55296 || (nat_le 57344 value && nat_lt value 1114112)
 
--- behind the brace that closes `\u{..}`
+-- the state after the brace that closes `\u{..}`
 abbrev pub unicode_end : LiteralKind → (value : ℕ) → Reached
 unicode_end kind value = if is_scalar value then behind_one kind (value == 0) else Wrong bad.BadUnicodeEscape
 
--- behind the digits of `\u{..}` and a byte: `_`, the closing brace, a digit
+-- the state after the digits of `\u{..}` and a byte: `_`, the closing brace, a digit
 abbrev pub unicode_step : LiteralKind → (count value byte : ℕ) → Reached
 unicode_step kind count value byte =
     if byte == 95 then UnicodeDigits count value
     else (if byte == 125 then unicode_end kind value else unicode_more count value (hex_digit byte))
 
--- behind one byte more
+-- the state after one byte more
 abbrev pub step : LiteralKind → Reached → (byte : ℕ) → Reached
 step kind Plain byte = plain_step kind byte
 step kind Backslash byte = escape_step kind byte
@@ -119,21 +119,21 @@ step kind UnicodeOpen byte = unicode_first (hex_digit byte)
 step kind (UnicodeDigits count value) byte = unicode_step kind count value byte
 step kind (Wrong why) byte = Wrong why
 
--- whether a character begins with a byte: one that goes on with a character does not, nor one within an escape
+-- whether a character begins with a byte: a byte that continues a character does not, and no byte within an escape does
 abbrev pub begins_one : Reached → (byte : ℕ) → Bool
 begins_one Plain byte = nat_lt byte 128 || nat_le 192 byte
 begins_one _ byte = false
 
--- how many characters there are with one more: none, one, or 2 for several
+-- the number of characters with one more: 0, 1, or 2 for several
 abbrev pub counted : (begins : Bool) → (count : ℕ) → ℕ
 counted begins count = if begins then (if count == 0 then 1 else 2) else count
 
--- what is wrong with so many characters
+-- what is wrong with this number of characters
 abbrev pub count_fault : LiteralKind → (count : ℕ) → Option BadToken
 count_fault kind count =
     if is_single kind then (if count == 0 then Some bad.EmptyChar else (if count == 1 then None else Some bad.SeveralChars)) else None
 
--- what is wrong with a text that ends there
+-- what is wrong with a text that ends in this state
 abbrev pub end_fault : LiteralKind → Reached → (count : ℕ) → Option BadToken
 end_fault kind Plain count = count_fault kind count
 end_fault kind Backslash count = Some bad.UnknownEscape
@@ -144,7 +144,7 @@ end_fault kind UnicodeOpen count = Some bad.BadUnicodeEscape
 end_fault kind (UnicodeDigits digits value) count = Some bad.BadUnicodeEscape
 end_fault kind (Wrong why) count = Some why
 
--- what is wrong with a text, of which the part in front led there
+-- what is wrong with a text, if the part before it led to this state
 abbrev pub fault_behind : LiteralKind → Reached → (count : ℕ) → (text : List ℕ) → Option BadToken
 fault_behind kind reached count [] = end_fault kind reached count
 fault_behind kind reached count (byte ∷ bytes) = fault_behind kind (step kind reached byte) (counted (begins_one reached byte) count) bytes
@@ -153,7 +153,7 @@ fault_behind kind reached count (byte ∷ bytes) = fault_behind kind (step kind 
 abbrev pub without_last : (text : List ℕ) → List ℕ
 without_last text = take (length text - 1) text
 
--- what stands between quotes in a literal without suffix, whose first quote ends so many bytes from its start
+-- the text between the quotes of a literal without suffix, whose first quote ends `opening` bytes from its start
 abbrev pub between_quotes : (opening : ℕ) → (text : List ℕ) → List ℕ
 between_quotes opening text = drop (min opening (length (without_last text))) (without_last text)
 

@@ -10,7 +10,7 @@ use Rattle.syntax_parse.specs.declared.fault.SyntaxFault.TheVariants.{BadToken, 
 use Rattle.syntax_parse.specs.declared.role.Role.{Role}
 use Rattle.syntax_parse.specs.declared.role.Role.TheVariants.{Bad, Nothing, Opens, Closes, Leaf}
 
--- the brackets that are open behind a token of a role that stands at a byte, innermost first, or why it cannot stand there
+-- the brackets that are open after a token of a role at a byte, innermost first, or why the token cannot be there
 abbrev pub step_as : Role → (before : List Open) → (at : ℕ) → Result (List Open) SyntaxFault
 step_as (Bad why) before at = Err (BadToken why at)
 step_as Nothing before at = Ok before
@@ -19,16 +19,16 @@ step_as (Opens bracket) before at = Ok (record { bracket = bracket; at = at } �
 step_as (Closes bracket) [] at = Err (Unopened bracket at)
 step_as (Closes bracket) (last ∷ before) at = if same_bracket last.bracket bracket then Ok before else Err (Mismatched bracket at last)
 
--- the same of a token of a kind with this text
+-- the same for a token of a kind with this text
 abbrev pub step : (before : List Open) → (at : ℕ) → TokenKind → (text : List ℕ) → Result (List Open) SyntaxFault
 step before at kind text = step_as (role_in kind text) before at
 
--- this fault, or else the first one behind it
+-- this fault, or else the first one after it
 abbrev pub or_behind : Result (List Open) SyntaxFault → (List Open → Option SyntaxFault) → Option SyntaxFault
 or_behind (Ok next) behind = behind next
 or_behind (Err fault) behind = Some fault
 
--- the first fault of the tokens of a text that begins at a byte, where these brackets are open, innermost first
+-- the first fault of the tokens of a text that begins at a byte, if these brackets are open, innermost first
 abbrev pub fault_from : (before : List Open) → (at : ℕ) → (text : List ℕ) → List Token → Option SyntaxFault
 fault_from [] at text [] = None
 fault_from (last ∷ before) at text [] = Some (Unclosed last.bracket last.at)

@@ -1,4 +1,4 @@
--- What a limit means that a text passes.
+-- What it means that a text exceeds a limit.
 use Rattle.std.specs.Prelude.{ℕ, ◌+◌, ◌<◌, List, [], ◌∷◌, ◌++◌}
 use Rattle.std.specs.Str.{chars}
 use Rattle.tt_base.specs.Building.{most_held}
@@ -13,7 +13,7 @@ use Rattle.syntax_parse.specs.Parsed.{IsParse, pieces_from}
 use Rattle.syntax_parse.specs.Spelled.{Piece, Sort, closing, name, opening, sign, spelled_so_far, value}
 use Rattle.tt_view.specs.TreeFault.{IsTreeFault}
 
--- how many tokens of a tree a piece is: none where it is a closing, whose token is that of its opening
+-- how many tokens of a tree a piece is: none for a closing, since its token is that of its opening
 abbrev pub tokens_of : Sort → ℕ
 tokens_of (name text is_raw) = 1
 tokens_of (sign char spacing) = 1
@@ -26,7 +26,7 @@ abbrev pub token_count : List Piece → ℕ
 token_count [] = 0
 token_count (it ∷ rest) = tokens_of it.sort + token_count rest
 
--- why pieces are not added to a builder: with them it would hold more tokens than a tree may have, or memory is wanting
+-- why a builder does not take pieces: with them it would hold more tokens than a tree may have, or memory runs out
 abbrev pub IsAddFault : (pieces : List Piece) → Held → TtFault → Type 0
 IsAddFault pieces builder TooManyTokens = most_held < token_count (spelled_so_far builder.stack ++ pieces)
 IsAddFault pieces builder Memory = Unit {0}
@@ -46,11 +46,11 @@ pub record HasManyTokens (part : SpanPart) (text : List ℕ) : Type 0 where
   pub read : AreTokensOf tokens (chars text)
   pub many : most_held < token_count (pieces_from part 0 text tokens)
 
--- the text has a tree, and it is refused for that reason
+-- the text has a tree, and the tree is refused for that reason
 abbrev pub IsRefusedTree : SpanPart → (text : List ℕ) → TtFault → Type 0
 IsRefusedTree part text fault = (root : Root) × IsParse part text root × IsTreeFault root fault
 
--- a limit that is passed, or want of memory
+-- the text exceeds a limit, or memory runs out
 abbrev pub IsLimit : SpanPart → (text : List ℕ) → TtFault → Type 0
 IsLimit part text Memory = Unit {0}
 IsLimit part text SuffixTooLong = ⊥

@@ -1,10 +1,10 @@
--- What may stand between the quotes of a literal that is not raw, as the Rust reference lists it: characters and escapes.
+-- What may be between the quotes of a literal that is not raw, as the Rust reference lists it: characters and escapes.
 use Rattle.std.specs.Char.{IsScalar}
 use Rattle.std.specs.Prelude.{◌≡◌, ◌≢◌, ◌⊎◌, ℕ, suc, ◌+◌, ◌*◌, ◌<◌, ◌≤◌, Bool, true, false, Contains, IsAscii, List, [], ◌∷◌, ◌++◌, Some, chars, codes, slice_get}
 use Rattle.syntax_lex.specs.declared.token.LiteralKind.{LiteralKind}
 use Rattle.syntax_lex.specs.declared.token.LiteralKind.TheVariants as literals
 
--- whether a literal stands in quotes and is not raw
+-- whether a literal is in quotes and not raw
 abbrev pub is_quoted : LiteralKind → Bool
 is_quoted (literals.Char terminated) = true
 is_quoted (literals.Byte terminated) = true
@@ -13,7 +13,7 @@ is_quoted (literals.ByteStr terminated) = true
 is_quoted (literals.CStr terminated) = true
 is_quoted _ = false
 
--- what such a literal begins with, up to its first quote
+-- the beginning of such a literal, up to its first quote
 abbrev pub opening : LiteralKind → List ℕ
 opening (literals.Char terminated) = codes "'"
 opening (literals.Byte terminated) = codes "b'"
@@ -22,7 +22,7 @@ opening (literals.ByteStr terminated) = codes "b\""
 opening (literals.CStr terminated) = codes "c\""
 opening _ = []
 
--- the quote that it ends with
+-- the quote at its end
 abbrev pub closing : LiteralKind → List ℕ
 closing (literals.Char terminated) = codes "'"
 closing (literals.Byte terminated) = codes "'"
@@ -48,14 +48,14 @@ abbrev pub MayHold : LiteralKind → (number : ℕ) → Type 0
 MayHold (literals.CStr terminated) number = number ≢ 0
 MayHold _ number = Unit {0}
 
--- `\x` and two digits may tell this number: ASCII alone where they tell a character, and any where they tell a byte
+-- `\x` and two digits may give this number: only ASCII if they give a character, and any if they give a byte
 abbrev pub MayTell : LiteralKind → (number : ℕ) → Type 0
 MayTell (literals.Char terminated) number = number < 128
 MayTell (literals.Str terminated) number = number < 128
 MayTell (literals.CStr terminated) number = number ≢ 0
 MayTell _ number = Unit {0}
 
--- a character that stands for itself: no backslash, and in a literal of one character no quote, no end of a line and no tab
+-- a character that means itself: no backslash; in a literal of one character also no quote, no end of a line and no tab
 pub record StandsForItself (kind : LiteralKind) (c : ℕ) : Type 0 where
   pub no_backslash : c ≢ 92
   pub no_mark : (holds_one kind ≡ false) ⊎ (Contains (codes "'\n\r\t") c → ⊥)
@@ -66,14 +66,14 @@ pub data IsDigit (c value : ℕ) : Type 0 where
   small : slice_get (codes "0123456789abcdef") value ≡ Some c → IsDigit c value
   large : slice_get (codes "0123456789ABCDEF") value ≡ Some c → IsDigit c value
 
--- so many digits of base 16, with `_` anywhere among them, tell a number behind digits that told another
+-- `digits` digits of base 16, with `_` anywhere among them, give a number after digits that gave another
 pub data Tell : (before : ℕ) → List ℕ → (digits number : ℕ) → Type 0 where
   none : {before : ℕ} → Tell before [] 0 before
   low_line : {before digits number : ℕ} {text : List ℕ} → Tell before text digits number → Tell before (95 ∷ text) digits number
   digit : {before c value digits number : ℕ} {text : List ℕ} → IsDigit c value → Tell (before * 16 + value) text digits number
       → Tell before (c ∷ text) (suc digits) number
 
--- what `\u{..}` may hold: a digit of base 16 and up to five more, with `_` behind any of them, that tell the number of a character
+-- what `\u{..}` may hold: a digit of base 16 and up to five more, with `_` after any of them, that give the number of a character
 pub record IsUnicode (kind : LiteralKind) (first : ℕ) (rest : List ℕ) : Type 0 where
   pub value : ℕ
   pub digits : ℕ
@@ -93,17 +93,17 @@ pub data IsUnit (kind : LiteralKind) : List ℕ → Type 0 where
   unicode : {first : ℕ} {rest : List ℕ} → is_of_bytes kind ≡ false → IsUnicode kind first rest → IsUnit kind (92 ∷ 117 ∷ 123 ∷ first ∷ (rest ++ 125 ∷ []))
   line_end : {c : ℕ} → holds_one kind ≡ false → (c ≡ 10) ⊎ (c ≡ 13) → IsUnit kind (92 ∷ c ∷ [])
 
--- so many of them, one after another
+-- `count` units, one after another
 pub data AreUnits (kind : LiteralKind) : (count : ℕ) → List ℕ → Type 0 where
   nothing : AreUnits kind 0 []
   more : {unit rest : List ℕ} {count : ℕ} → IsUnit kind unit → AreUnits kind count rest → AreUnits kind (suc count) (unit ++ rest)
 
--- a line feed stands right behind each carriage return
+-- a line feed comes right after each carriage return
 abbrev pub ReturnsEndLines : List ℕ → Type 0
 ReturnsEndLines text = (before behind : List ℕ) → text ≡ before ++ (13 ∷ behind) → (rest : List ℕ) × (behind ≡ 10 ∷ rest)
 
--- the text of a literal: characters and escapes, exactly one where it holds one character, ASCII where it is of bytes, with no bare carriage
--- return; that its closing quote stands in it only behind a backslash is a rule of tokens
+-- the text of a literal: characters and escapes, exactly one if it holds one character, only ASCII if it is of bytes, with no bare carriage
+-- return; the rules of tokens say that its closing quote is in it only after a backslash
 pub record IsLiteralText (kind : LiteralKind) (text : List ℕ) : Type 0 where
   pub count : ℕ
   pub units : AreUnits kind count (chars text)

@@ -1,4 +1,4 @@
--- The pieces of a text, the trees that they spell, and when a text is refused.
+-- The pieces of a text, the trees with these pieces, and when a text is refused.
 use Rattle.std.specs.Prelude.{◌≡◌, ℕ, ◌+◌, List, [], ◌∷◌, ◌++◌, length, take, drop, Option, None, Some}
 use Rattle.std.specs.Str.{chars}
 use Rattle.tt_base.specs.Building.{open_kinds}
@@ -35,19 +35,19 @@ pieces_from part at text [] = []
 pieces_from part at text (token ∷ tokens) =
     pieces_of part token.kind (next_kind tokens) at (take token.len text) ++ pieces_from part (at + token.len) (drop token.len text) tokens
 
--- the pieces are added behind those that a builder holds, and the same subtrees are open
+-- the pieces come after those in a builder, and the same subtrees are open
 pub record Adds (pieces : List Piece) (old new : Held) : Type 0 where
   pub holds : spelled_so_far new.stack ≡ spelled_so_far old.stack ++ pieces
   pub opens : open_kinds new.stack ≡ open_kinds old.stack
   pub top : new.top ≡ old.top
 
--- the delimiter of a text of so many bytes: invisible, with the empty spans at its start and at its end
+-- the delimiter of a text of `bytes` bytes: invisible, with the empty spans at its start and at its end
 pub record IsTop (part : SpanPart) (bytes : ℕ) (delimiter : Delimiter) : Type 0 where
   pub invisible : delimiter.kind ≡ Invisible
   pub opens : at_span (opening Invisible) delimiter.open_span ≡ piece part 0 0 (opening Invisible)
   pub closes : at_span (closing Invisible) delimiter.close ≡ piece part bytes bytes (closing Invisible)
 
--- the text's tokens are valid and its brackets match, and these trees are spelled by its pieces
+-- the text's tokens are valid, its brackets match, and its pieces spell these trees
 pub record IsParse (part : SpanPart) (text : List ℕ) (root : Root) : Type 0 where
   pub tokens : List Token
   pub read : AreTokensOf tokens (chars text)

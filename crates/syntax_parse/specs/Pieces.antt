@@ -1,4 +1,4 @@
--- What a token means: leaves and brackets, with the bytes that they stand in.
+-- What a token means: leaves and brackets, with the bytes of the text that they cover.
 use Rattle.std.specs.Prelude.{ℕ, ◌+◌, List, [], ◌∷◌, ◌++◌, length, codes, Option, None, Some, is_some, if◌then◌else◌}
 use Rattle.tt_base.specs.Scan.{LiteralParts, parts_told}
 use Rattle.tt_base.specs.Token.{rawness_of, without_raw_prefix}
@@ -23,7 +23,7 @@ use Rattle.syntax_parse.specs.declared.role.Role.{Role}
 use Rattle.syntax_parse.specs.declared.role.Role.TheVariants.{Bad, Nothing, Opens, Closes, Leaf}
 use Rattle.syntax_parse.specs.Spelled.{Piece, Sort, name, sign, value, opening, closing}
 
--- the scan that a lexer's kind tells
+-- the scan for a lexer's kind
 abbrev pub scan_of : LiteralKind → LiteralScan
 scan_of (literals.Int base empty_int) = scan.Int
 scan_of (literals.Float base empty_exponent) = scan.Float
@@ -36,7 +36,7 @@ scan_of (literals.RawStr n_hashes) = scan.RawStr n_hashes
 scan_of (literals.RawByteStr n_hashes) = scan.RawByteStr n_hashes
 scan_of (literals.RawCStr n_hashes) = scan.RawCStr n_hashes
 
--- the character of a punct; a bracket is none
+-- the character of a punct; a bracket has none
 abbrev pub punct_char : TokenKind → Option ℕ
 punct_char kinds.Semi = Some 59
 punct_char kinds.Comma = Some 44
@@ -61,7 +61,7 @@ punct_char kinds.Caret = Some 94
 punct_char kinds.Percent = Some 37
 punct_char _ = None
 
--- how a punct stands to the token behind it, white space too: joint before a punct or a lifetime
+-- the spacing of a punct before the next token, white space too: joint before a punct or a lifetime
 abbrev pub spacing_before : (next : Option TokenKind) → Spacing
 spacing_before None = Alone
 spacing_before (Some (kinds.Lifetime starts_with_number)) = Joint
@@ -72,7 +72,7 @@ spacing_before (Some kind) = if is_some (punct_char kind) then Joint else Alone
 abbrev pub piece : SpanPart → (start end : ℕ) → Sort → Piece
 piece part start end sort = record { sort = sort; part = part; start = start; end = end }
 
--- the name that a text spells, raw where it begins with r#
+-- the name that a text spells, raw if it begins with r#
 abbrev pub name_of : List ℕ → Sort
 name_of text = name (without_raw_prefix text) (rawness_of text)
 
@@ -85,12 +85,12 @@ abbrev pub puncts : Option ℕ → Spacing → List Sort
 puncts None spacing = []
 puncts (Some c) spacing = sign c spacing ∷ []
 
--- the `#` of an attribute, and the `!` of one that documents what it stands in
+-- the `#` of an attribute, and the `!` of one that documents the item around it
 abbrev pub signs : DocStyle → List Sort
 signs Outer = sign 35 Alone ∷ []
 signs Inner = sign 35 Alone ∷ sign 33 Alone ∷ []
 
--- what an attribute holds that documents something: its text in a raw string
+-- the contents of a documenting attribute: its text in a raw string
 abbrev pub inside : (text : List ℕ) → List Sort
 inside text = name (codes "doc") No ∷ sign 61 Alone ∷ value (StrRaw (hashes_wanted text)) text 0 ∷ []
 
@@ -98,11 +98,11 @@ inside text = name (codes "doc") No ∷ sign 61 Alone ∷ value (StrRaw (hashes_
 abbrev pub attribute : (text : List ℕ) → List Sort
 attribute text = opening Bracket ∷ (inside text ++ closing Bracket ∷ [])
 
--- what a comment means that documents something: an attribute
+-- what a documenting comment means: an attribute
 abbrev pub doc : DocStyle → (text : List ℕ) → List Sort
 doc style text = signs style ++ attribute text
 
--- what a leaf of a kind, with this text, is where all of it is in one place; a lifetime is none
+-- what a leaf of a kind with this text is, if all of it has one span; empty for a lifetime
 abbrev pub sorts_of : TokenKind → (next : Option TokenKind) → (text : List ℕ) → List Sort
 sorts_of (kinds.LineComment (Some style)) next text = doc style (line_text style text)
 sorts_of (kinds.BlockComment (Some style) terminated) next text = doc style (block_text style text)
@@ -111,7 +111,7 @@ sorts_of kinds.RawIdent next text = name_of text ∷ []
 sorts_of (kinds.Literal kind suffix_start) next text = literal_of (parts_told text (Some (scan_of kind, suffix_start))) ∷ []
 sorts_of kind next text = puncts (punct_char kind) (spacing_before next)
 
--- these, each in the same place
+-- pieces with one span
 abbrev pub placed : SpanPart → (start end : ℕ) → List Sort → List Piece
 placed part start end [] = []
 placed part start end (sort ∷ sorts) = piece part start end sort ∷ placed part start end sorts

@@ -15,6 +15,6 @@ is_never_raw name =
 abbrev pub raw_name_fault : (text : List ℕ) → Option BadToken
 raw_name_fault text = fault_if (is_never_raw (without_raw_prefix text)) bad.NeverRaw
 
--- what stands behind the quote of a lifetime
+-- what follows the quote of a lifetime
 abbrev pub behind_apostrophe : (text : List ℕ) → List ℕ
 behind_apostrophe text = without_prefix (codes "'") text

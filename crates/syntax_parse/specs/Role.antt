@@ -31,20 +31,20 @@ same_bracket Brace Brace = true
 same_bracket Square Square = true
 same_bracket _ _ = false
 
--- a leaf, or what is wrong with it
+-- bad for this reason if something is wrong, else a leaf
 abbrev pub or_leaf : (wrong : Bool) → BadToken → Role
 or_leaf wrong why = if wrong then Bad why else Leaf
 
--- what a comment is, by whether it documents something
+-- what a comment is: a leaf if it documents something
 abbrev pub comment_role : (documents : Bool) → Role
 comment_role documents = if documents then Leaf else Nothing
 
--- what a float is: a leaf where a digit follows its `e`, and it is written in base ten
+-- what a float is: a leaf if it has base ten and a digit after its `e`
 abbrev pub float_role : Base → (empty_exponent : Bool) → Role
 float_role Decimal empty_exponent = or_leaf empty_exponent bad.EmptyExponent
 float_role _ empty_exponent = if empty_exponent then Bad bad.EmptyExponent else Bad bad.FloatOfAnotherBase
 
--- what a literal with this text is: a leaf where it is closed, and has digits where it should have some
+-- what a literal with this text is: a leaf if it is closed and has the digits that it needs
 abbrev pub literal_role : LiteralKind → (text : List ℕ) → Role
 literal_role (literals.Int base empty_int) text = or_leaf empty_int bad.NoDigits
 literal_role (literals.Float base empty_exponent) text = float_role base empty_exponent
@@ -57,7 +57,7 @@ literal_role (literals.RawStr n_hashes) text = or_leaf (is_none n_hashes) (raw_f
 literal_role (literals.RawByteStr n_hashes) text = or_leaf (is_none n_hashes) (raw_fault (drop 2 text))
 literal_role (literals.RawCStr n_hashes) text = or_leaf (is_none n_hashes) (raw_fault (drop 2 text))
 
--- what a token of a kind is to a tree, whatever is in its text, in edition 2024
+-- what a token of a kind is to a tree, whatever its text holds, in edition 2024
 abbrev pub role_of : TokenKind → Role
 role_of (kinds.LineComment doc) = comment_role (is_some doc)
 role_of (kinds.BlockComment doc terminated) = if terminated then comment_role (is_some doc) else Bad bad.UnterminatedComment
@@ -76,7 +76,7 @@ role_of kinds.OpenBracket = Opens Square
 role_of kinds.CloseBracket = Closes Square
 role_of _ = Leaf
 
--- a leaf with nothing wrong inside of it
+-- the role, or bad if it is a leaf with something wrong inside
 abbrev pub with_inside : Role → (inside : Option BadToken) → Role
 with_inside Leaf (Some why) = Bad why
 with_inside role _ = role

@@ -1,4 +1,4 @@
-//! Leaves of a text, put into a builder.
+//! Adds the leaves of a text to a builder.
 ghost use Rattle.std.specs.Prelude.{◌≡◌, ◌+◌, ◌^◌, ◌<◌, ◌≤◌, [], ◌∷◌, length, Some, IfErr, OnOk};
 ghost use Rattle.tt_base.specs.Scan.{FitsText, parts_told};
 ghost use Rattle.syntax_parse.specs.Limits.{IsAddFault};
@@ -18,7 +18,7 @@ use tt_base::{
     Ident, IdentIsRaw, Leaf, Punct, Spacing, Span, SpanPart, Texts, TtFault, token_to_literal,
 };
 
-/// Puts a leaf at the end.
+/// Adds a leaf at the end.
 #[tactic(auto, using(crate::proofs::StackFacts::adds_leaf, crate::proofs::LimitFacts::leaf_fault))]
 pub fn add_leaf(builder: &mut FlatBuilder, leaf: Leaf) -> Result<(), TtFault>
     ensures ok { OnOk result (Adds (piece_of leaf ∷ []) builder.old builder.new) }
@@ -28,7 +28,7 @@ pub fn add_leaf(builder: &mut FlatBuilder, leaf: Leaf) -> Result<(), TtFault>
     Ok(())
 }
 
-/// Puts the name that a text spells at the end.
+/// Adds the name that a text spells at the end.
 pub fn add_name(
     texts: &mut Texts,
     builder: &mut FlatBuilder,
@@ -43,7 +43,7 @@ pub fn add_name(
     add_leaf(builder, Leaf::Ident(Ident { sym, span, is_raw }))
 }
 
-/// Puts a punct at the end.
+/// Adds a punct at the end.
 pub fn add_punct(
     builder: &mut FlatBuilder,
     char: char,
@@ -63,7 +63,7 @@ pub fn add_punct(
     )
 }
 
-// Puts the literal that a text spells at the end.
+// Adds the literal that a text spells at the end.
 #[tactic(auto, using(crate::proofs::Hashes::scan_fault))]
 fn add_literal(
     alloc: Global,
@@ -82,7 +82,7 @@ fn add_literal(
     add_leaf(builder, Leaf::Literal(literal))
 }
 
-// Puts the quote of a lifetime and its name at the end.
+// Adds the quote of a lifetime and its name at the end.
 fn add_lifetime(
     texts: &mut Texts,
     builder: &mut FlatBuilder,
@@ -110,20 +110,20 @@ fn add_lifetime(
     )
 }
 
-/// A token where it stands in a text.
+/// A token and its place in a text.
 #[derive(Clone, Copy)]
 pub struct Placed<'a> {
-    /// What it is.
+    /// The kind of the token.
     pub kind: TokenKind,
-    /// What the token behind it is.
+    /// The kind of the token after it.
     pub next: Option<TokenKind>,
-    /// The byte where it begins.
+    /// The byte at which it begins.
     pub at: u32,
     /// Its text.
     pub text: &'a str,
 }
 
-/// Puts the leaves of a token at the end.
+/// Adds the leaves of a token at the end.
 #[tactic(auto, using(crate::proofs::Hashes::block_few, crate::proofs::Hashes::short_suffix))]
 pub fn add_leaves(
     texts: &mut Texts,

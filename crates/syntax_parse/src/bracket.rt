@@ -5,7 +5,7 @@ ghost use Rattle.syntax_parse.specs.Role.{kind_of, same_bracket};
 
 use tt_base::DelimiterKind;
 
-/// What stands round a subtree of a text.
+/// The brackets around a subtree of a text.
 #[derive(Debug, Clone, Copy, PartialEq, Eq)]
 pub enum Bracket {
     /// `(` and `)`
@@ -17,7 +17,7 @@ pub enum Bracket {
 }
 
 impl Bracket {
-    /// The kind of the subtree's delimiter.
+    /// Returns the kind of the subtree's delimiter.
     pub fn kind(self) -> DelimiterKind
         ensures { result ≡ kind_of self }
     {
@@ -28,7 +28,7 @@ impl Bracket {
         }
     }
 
-    /// The character that opens it.
+    /// Returns the character that opens the subtree.
     pub fn opening(&self) -> char
         ensures { result ≡ opening_of self.now }
     {
@@ -39,7 +39,7 @@ impl Bracket {
         }
     }
 
-    /// The character that closes it.
+    /// Returns the character that closes the subtree.
     pub fn closing(&self) -> char
         ensures { result ≡ closing_of self.now }
     {
@@ -51,7 +51,7 @@ impl Bracket {
     }
 }
 
-/// Whether two brackets are a pair.
+/// Returns whether two brackets are a pair.
 pub fn same_bracket(a: Bracket, b: Bracket) -> bool
     ensures { result ≡ same_bracket a b }
 {

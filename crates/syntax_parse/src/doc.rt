@@ -11,7 +11,7 @@ use syntax_lex::DocStyle;
 use tt::FlatBuilder;
 use tt_base::{DelimiterKind, Leaf, LitKind, Literal, Spacing, Span, Texts, TtFault};
 
-// The text behind the signs that open a comment of one line.
+// Returns the text after the signs that open a comment of one line.
 fn behind_line_opening(style: DocStyle, text: &str) -> &str
     ensures { result.now ≡ behind_line_opening style text.now }
 {
@@ -27,7 +27,7 @@ fn behind_line_opening(style: DocStyle, text: &str) -> &str
     }
 }
 
-// The text without the carriage return at its end, which belongs to the end of the line.
+// Returns the text without the carriage return at its end, which belongs to the end of the line.
 fn without_return(text: &str) -> &str
     ensures { result.now ≡ without_return text.now }
 {
@@ -37,14 +37,14 @@ fn without_return(text: &str) -> &str
     }
 }
 
-/// The text of a comment of one line.
+/// Returns the text of a comment of one line.
 pub fn line_text(style: DocStyle, text: &str) -> &str
     ensures { result.now ≡ line_text style text.now }
 {
     without_return(behind_line_opening(style, text))
 }
 
-// The text of a comment behind the sign that opens it.
+// Returns the text after the signs that open a block comment.
 fn behind_opening(style: DocStyle, text: &str) -> &str
     ensures { result.now ≡ behind_opening style text.now }
 {
@@ -60,7 +60,7 @@ fn behind_opening(style: DocStyle, text: &str) -> &str
     }
 }
 
-// The text before the sign that closes a comment.
+// Returns the text before the sign that closes a block comment.
 fn before_closing(text: &str) -> &str
     ensures { result.now ≡ before_closing text.now }
 {
@@ -70,14 +70,14 @@ fn before_closing(text: &str) -> &str
     }
 }
 
-/// The text of a comment between signs.
+/// Returns the text of a block comment.
 pub fn block_text(style: DocStyle, text: &str) -> &str
     ensures { result.now ≡ block_text style text.now }
 {
     before_closing(behind_opening(style, text))
 }
 
-// How long a run of a quote and hashes is with one byte more.
+// Returns the length of a run of a quote and hashes after one byte more.
 fn next_run(run: usize, byte: u8) -> usize
     requires { run < 2 ^ 64 - 1 }
     ensures { result ≡ next_run run byte }
@@ -91,7 +91,7 @@ fn next_run(run: usize, byte: u8) -> usize
     }
 }
 
-/// How many hashes a raw string wants that holds the text.
+/// Returns how many hashes a raw string with this text needs.
 pub fn hashes_wanted(text: &str) -> usize
     ensures { result ≡ hashes_wanted text.now }
 {
@@ -106,7 +106,7 @@ pub fn hashes_wanted(text: &str) -> usize
     most
 }
 
-// Puts `doc = text` at the end.
+// Adds `doc = text` at the end.
 fn add_inside(
     texts: &mut Texts,
     builder: &mut FlatBuilder,
@@ -125,7 +125,7 @@ fn add_inside(
     Ok(())
 }
 
-// Puts `[doc = text]` at the end.
+// Adds `[doc = text]` at the end.
 fn add_brackets(
     texts: &mut Texts,
     builder: &mut FlatBuilder,
@@ -142,7 +142,7 @@ fn add_brackets(
     Ok(())
 }
 
-// Puts the signs before the brackets at the end.
+// Adds the signs before the brackets at the end.
 fn add_signs(builder: &mut FlatBuilder, style: DocStyle, span: Span) -> Result<(), TtFault>
     ensures err { IfErr result (IsAddFault (all_at span (signs style)) builder.old) }
     ensures ok { OnOk result (Adds (all_at span (signs style)) builder.old builder.new) }
@@ -157,7 +157,7 @@ fn add_signs(builder: &mut FlatBuilder, style: DocStyle, span: Span) -> Result<(
     }
 }
 
-/// Puts the attribute at the end that a comment of that text stands for.
+/// Adds the attribute that a comment with this text means at the end.
 pub fn add_doc(
     texts: &mut Texts,
     builder: &mut FlatBuilder,

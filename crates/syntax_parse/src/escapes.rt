@@ -1,4 +1,4 @@
-//! What stands between quotes: characters and escapes.
+//! The text between quotes: characters and escapes.
 ghost use Rattle.std.specs.Prelude.{◌≡◌, ◌<◌, MatchOption, ⊤};
 ghost use Rattle.syntax_parse.specs.Escapes.{begins_one, behind_one, between_quotes, count_fault, counted, end_fault, escape_fault, escape_step, fault_behind, hex_digit, hex_first, hex_second, is_escape, is_scalar, is_single, plain_step, step, takes_high, takes_null, takes_unicode, unicode_end, unicode_first, unicode_more, unicode_open, unicode_step, wants_escape, with_digit, without_last};
 ghost use Rattle.syntax_parse.specs.declared.escapes.Reached.TheVariants.{Plain};
@@ -6,7 +6,7 @@ ghost use Rattle.syntax_parse.specs.declared.escapes.Reached.TheVariants.{Plain}
 use crate::fault::BadToken;
 use syntax_lex::LiteralKind;
 
-/// What was read last, between the quotes of a literal.
+/// What was read last between the quotes of a literal.
 #[derive(Clone, Copy)]
 pub enum Reached {
     /// A whole character or a whole escape, or nothing yet.
@@ -23,44 +23,44 @@ pub enum Reached {
     UnicodeOpen,
     /// `\u{` and digits.
     UnicodeDigits {
-        /// How many.
+        /// How many digits.
         count: u32,
         /// Their value.
         value: u32,
     },
-    /// What no literal may hold.
+    /// A fault: something that no literal may hold.
     Wrong(BadToken),
 }
 
-// Whether a literal holds one character.
+// Returns whether a literal holds one character.
 fn is_single(kind: LiteralKind) -> bool
     ensures { result ≡ is_single kind }
 {
     matches!(kind, LiteralKind::Char { .. } | LiteralKind::Byte { .. })
 }
 
-// Whether a literal takes `\u{..}`.
+// Returns whether a literal takes `\u{..}`.
 fn takes_unicode(kind: LiteralKind) -> bool
     ensures { result ≡ takes_unicode kind }
 {
     !matches!(kind, LiteralKind::Byte { .. } | LiteralKind::ByteStr { .. })
 }
 
-// Whether a literal takes `\x80` to `\xff`.
+// Returns whether a literal takes `\x80` to `\xff`.
 fn takes_high(kind: LiteralKind) -> bool
     ensures { result ≡ takes_high kind }
 {
     !matches!(kind, LiteralKind::Char { .. } | LiteralKind::Str { .. })
 }
 
-// Whether a literal takes a null.
+// Returns whether a literal takes a null.
 fn takes_null(kind: LiteralKind) -> bool
     ensures { result ≡ takes_null kind }
 {
     !matches!(kind, LiteralKind::CStr { .. })
 }
 
-// The value of a digit of base 16.
+// Returns the value of a digit of base 16.
 fn hex_digit(byte: u8) -> Option<u32>
     ensures value { result ≡ hex_digit byte }
     ensures small { MatchOption result ⊤ (λ digit. digit < 16) }
@@ -76,14 +76,14 @@ fn hex_digit(byte: u8) -> Option<u32>
     }
 }
 
-// Whether a byte stands in no literal of one character but behind a backslash.
+// Returns whether a byte needs a backslash in a literal of one character.
 fn wants_escape(byte: u8) -> bool
     ensures { result ≡ wants_escape byte }
 {
     (byte == b'\'') | ((byte == b'\n') | ((byte == b'\r') | (byte == b'\t')))
 }
 
-// Whether a backslash and this are an escape.
+// Returns whether a backslash and this byte are an escape.
 fn is_escape(byte: u8) -> bool
     ensures { result ≡ is_escape byte }
 {
@@ -92,7 +92,7 @@ fn is_escape(byte: u8) -> bool
             | ((byte == b't') | ((byte == b'\\') | ((byte == b'\'') | (byte == b'"')))))
 }
 
-// Behind a character, which may be a null.
+// Returns the state after a character, which may be a null.
 fn behind_one(kind: LiteralKind, null: bool) -> Reached
     ensures { result ≡ behind_one kind null }
 {
@@ -103,7 +103,7 @@ fn behind_one(kind: LiteralKind, null: bool) -> Reached
     }
 }
 
-// Behind a byte where none is wanted.
+// Returns the state after a byte outside of an escape.
 fn plain_step(kind: LiteralKind, byte: u8) -> Reached
     ensures { result ≡ plain_step kind byte }
 {
@@ -116,7 +116,7 @@ fn plain_step(kind: LiteralKind, byte: u8) -> Reached
     }
 }
 
-// Behind a backslash and a byte; the end of a line is left out of a string.
+// Returns the state after a backslash and a byte. A string omits the end of a line.
 fn escape_step(kind: LiteralKind, byte: u8) -> Reached
     ensures { result ≡ escape_step kind byte }
 {
@@ -135,7 +135,7 @@ fn escape_step(kind: LiteralKind, byte: u8) -> Reached
     }
 }
 
-// Behind `\x` and a digit.
+// Returns the state after `\x` and a digit.
 fn hex_first(digit: Option<u32>) -> Reached
     ensures { result ≡ hex_first digit }
 {
@@ -145,7 +145,7 @@ fn hex_first(digit: Option<u32>) -> Reached
     }
 }
 
-// Behind `\x` and two digits.
+// Returns the state after `\x` and two digits.
 fn hex_second(kind: LiteralKind, high: u32, digit: Option<u32>) -> Reached
     ensures { result ≡ hex_second kind high digit }
 {
@@ -161,7 +161,7 @@ fn hex_second(kind: LiteralKind, high: u32, digit: Option<u32>) -> Reached
     }
 }
 
-// Behind `\u` and a brace.
+// Returns the state after `\u` and a brace.
 fn unicode_open(byte: u8) -> Reached
     ensures { result ≡ unicode_open byte }
 {
@@ -172,7 +172,7 @@ fn unicode_open(byte: u8) -> Reached
     }
 }
 
-// Behind `\u{` and a digit.
+// Returns the state after `\u{` and a digit.
 fn unicode_first(digit: Option<u32>) -> Reached
     ensures { result ≡ unicode_first digit }
 {
@@ -182,7 +182,7 @@ fn unicode_first(digit: Option<u32>) -> Reached
     }
 }
 
-// A number with one digit more, as far as it is the number of a character.
+// Returns a number with one digit more. A number that is too large for a character stays as it is.
 fn with_digit(value: u32, digit: u32) -> u32
     requires { digit < 16 }
     ensures { result ≡ with_digit value digit }
@@ -194,7 +194,7 @@ fn with_digit(value: u32, digit: u32) -> u32
     }
 }
 
-// Behind one digit more, of which there are six at most.
+// Returns the state after one digit more. There are at most six.
 fn unicode_more(count: u32, value: u32, digit: Option<u32>) -> Reached
     requires { MatchOption digit ⊤ (λ it. it < 16) }
     ensures { result ≡ unicode_more count value digit }
@@ -214,14 +214,14 @@ fn unicode_more(count: u32, value: u32, digit: Option<u32>) -> Reached
     }
 }
 
-// Whether a number is that of a character.
+// Returns whether a number is that of a character.
 fn is_scalar(value: u32) -> bool
     ensures { result ≡ is_scalar value }
 {
     (value < 55296) | ((57344 <= value) & (value < 1114112))
 }
 
-// Behind the brace that closes `\u{..}`.
+// Returns the state after the brace that closes `\u{..}`.
 fn unicode_end(kind: LiteralKind, value: u32) -> Reached
     ensures { result ≡ unicode_end kind value }
 {
@@ -232,7 +232,7 @@ fn unicode_end(kind: LiteralKind, value: u32) -> Reached
     }
 }
 
-// Behind the digits of `\u{..}` and a byte.
+// Returns the state after the digits of `\u{..}` and a byte.
 fn unicode_step(kind: LiteralKind, count: u32, value: u32, byte: u8) -> Reached
     ensures { result ≡ unicode_step kind count value byte }
 {
@@ -245,7 +245,7 @@ fn unicode_step(kind: LiteralKind, count: u32, value: u32, byte: u8) -> Reached
     }
 }
 
-// Behind one byte more.
+// Returns the state after one byte more.
 fn step(kind: LiteralKind, reached: Reached, byte: u8) -> Reached
     ensures { result ≡ step kind reached byte }
 {
@@ -261,7 +261,7 @@ fn step(kind: LiteralKind, reached: Reached, byte: u8) -> Reached
     }
 }
 
-// Whether a character begins with a byte.
+// Returns whether a character begins with a byte.
 fn begins_one(reached: Reached, byte: u8) -> bool
     ensures { result ≡ begins_one reached byte }
 {
@@ -271,7 +271,7 @@ fn begins_one(reached: Reached, byte: u8) -> bool
     }
 }
 
-// How many characters there are with one more: none, one, or 2 for several.
+// Returns the number of characters with one more: 0, 1, or 2 for several.
 fn counted(begins: bool, count: u32) -> u32
     ensures { result ≡ counted begins count }
 {
@@ -282,7 +282,7 @@ fn counted(begins: bool, count: u32) -> u32
     }
 }
 
-// What is wrong with so many characters.
+// Returns what is wrong with this number of characters.
 fn count_fault(kind: LiteralKind, count: u32) -> Option<BadToken>
     ensures { result ≡ count_fault kind count }
 {
@@ -299,7 +299,7 @@ fn count_fault(kind: LiteralKind, count: u32) -> Option<BadToken>
     }
 }
 
-// What is wrong with a text that ends there.
+// Returns what is wrong with a text that ends in this state.
 fn end_fault(kind: LiteralKind, reached: Reached, count: u32) -> Option<BadToken>
     ensures { result ≡ end_fault kind reached count }
 {
@@ -314,7 +314,7 @@ fn end_fault(kind: LiteralKind, reached: Reached, count: u32) -> Option<BadToken
     }
 }
 
-// What is wrong with what stands between quotes.
+// Returns what is wrong with the text between quotes.
 fn text_fault(kind: LiteralKind, text: &[u8]) -> Option<BadToken>
     ensures { result ≡ fault_behind kind Plain 0 text.now }
 {
@@ -327,7 +327,7 @@ fn text_fault(kind: LiteralKind, text: &[u8]) -> Option<BadToken>
     end_fault(kind, reached, count)
 }
 
-// A text without its last byte.
+// Returns a text without its last byte.
 fn without_last(text: &[u8]) -> &[u8]
     ensures { result.now ≡ without_last text.now }
 {
@@ -335,7 +335,7 @@ fn without_last(text: &[u8]) -> &[u8]
     &text[..end]
 }
 
-// What stands between quotes in a literal without suffix, whose first quote ends so many bytes from its start.
+// Returns the text between the quotes of a literal without suffix, whose first quote ends `opening` bytes from its start.
 fn between_quotes(opening: usize, text: &[u8]) -> &[u8]
     ensures { result.now ≡ between_quotes opening text.now }
 {
@@ -344,7 +344,7 @@ fn between_quotes(opening: usize, text: &[u8]) -> &[u8]
     &front[start..]
 }
 
-/// What is wrong between the quotes of a literal without suffix, whose first quote ends so many bytes from its start.
+/// Returns what is wrong between the quotes of a literal without suffix, whose first quote ends `opening` bytes from its start.
 pub fn escape_fault(kind: LiteralKind, opening: usize, text: &[u8]) -> Option<BadToken>
     ensures { result ≡ escape_fault kind opening text.now }
 {

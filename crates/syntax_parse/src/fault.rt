@@ -6,12 +6,12 @@ use crate::bracket::Bracket;
 use thiserror::Error;
 use tt_base::TtFault;
 
-/// A bracket that is open, and the byte where it stands.
+/// A bracket that is open, and its byte.
 #[derive(Debug, Clone, Copy, PartialEq, Eq)]
 pub struct Open {
-    /// Which bracket it is.
+    /// The bracket.
     pub bracket: Bracket,
-    /// The byte where it stands.
+    /// The byte at which it begins.
     pub at: u32,
 }
 
@@ -21,13 +21,13 @@ pub enum BadToken {
     /// `/*` with no `*/` that closes it.
     #[error("unterminated comment")]
     UnterminatedComment,
-    /// A literal with no quote that closes it, and of a raw one with no quote that has as many hashes behind it.
+    /// A literal without a closing quote; for a raw one, without a closing quote that has as many hashes after it.
     #[error("unterminated literal")]
     UnterminatedLiteral,
-    /// The hashes of a raw literal with no quote behind them.
+    /// The hashes of a raw literal with no quote after them.
     #[error("raw literal without a quote")]
     RawWithoutQuote,
-    /// A raw literal with more than 255 hashes, or a comment that documents something whose text would want as many.
+    /// A raw literal with more than 255 hashes, or a documenting comment whose text would need as many.
     #[error("more than 255 hashes")]
     TooManyHashes,
     /// A number with a suffix of more than 255 bytes.
@@ -48,43 +48,43 @@ pub enum BadToken {
     /// `##` or `#"`, which the edition 2024 keeps for later.
     #[error("guarded prefix")]
     GuardedPrefix,
-    /// The letter of a base with no digit behind it.
+    /// The letter of a base with no digit after it.
     #[error("number with no digits")]
     NoDigits,
-    /// The `e` of a float with no digit behind it.
+    /// The `e` of a float with no digit after it.
     #[error("exponent with no digits")]
     EmptyExponent,
     /// A float that is not written in base ten.
     #[error("float of another base than ten")]
     FloatOfAnotherBase,
-    /// A number with a digit that its base has not.
+    /// A number with a digit that its base does not have.
     #[error("number with a digit that its base has not")]
     ForeignDigit,
     /// A byte or a byte string with a character beyond ASCII.
     #[error("character beyond ASCII in bytes")]
     BeyondAscii,
-    /// A literal, or a comment that documents something, with a carriage return that no line feed follows.
+    /// A literal or a documenting comment with a carriage return that no line feed follows.
     #[error("bare carriage return")]
     BareReturn,
-    /// A backslash with something behind it that is no escape of such a literal.
+    /// A backslash followed by something that is no escape of such a literal.
     #[error("unknown escape")]
     UnknownEscape,
     /// `\x` without two digits of base 16.
     #[error("escape of a byte without two digits")]
     BadHexEscape,
-    /// `\x80` or more in a character or a string, where it would be no character.
+    /// `\x80` or more in a character or a string, where it is no character.
     #[error("escape of a byte beyond 7f")]
     HexEscapeTooLarge,
     /// `\u` without one to six digits of base 16 in braces, or with the number of no character.
     #[error("escape of no character")]
     BadUnicodeEscape,
-    /// A quote, a tab or an end of line in a literal of one character, which stands there behind a backslash alone.
+    /// A quote, a tab or an end of line in a literal of one character without a backslash before it.
     #[error("character that wants an escape")]
     WantsEscape,
-    /// A literal of one character with none in it.
+    /// A literal of one character that is empty.
     #[error("empty character literal")]
     EmptyChar,
-    /// A literal of one character with several in it.
+    /// A literal of one character that has several.
     #[error("several characters in a character literal")]
     SeveralChars,
     /// A null in a C string.
@@ -95,31 +95,31 @@ pub enum BadToken {
     LifetimeBeginsWithDigit,
 }
 
-/// Why tokens are no trees, and the byte where that shows.
+/// Why tokens are no trees, and the byte of the fault.
 #[derive(Debug, Clone, Copy, PartialEq, Eq, Error)]
 pub enum SyntaxFault {
     /// A token that is not valid.
     #[error("{why} at {at}")]
     BadToken {
-        /// What is wrong with it.
+        /// What is wrong with the token.
         why: BadToken,
-        /// The byte where it begins.
+        /// The byte at which it begins.
         at: u32,
     },
-    /// A closing bracket where none is open.
+    /// A closing bracket while none is open.
     #[error("unopened '{}' at {at}", .bracket.closing())]
     Unopened {
-        /// Which bracket it is.
+        /// The bracket.
         bracket: Bracket,
-        /// The byte where it stands.
+        /// The byte at which it begins.
         at: u32,
     },
-    /// A closing bracket that is no pair with the innermost that is open.
+    /// A closing bracket that does not match the innermost open one.
     #[error("'{}' at {at} does not close the '{}' at {}", .bracket.closing(), .open.bracket.opening(), .open.at)]
     Mismatched {
-        /// Which bracket it is.
+        /// The bracket.
         bracket: Bracket,
-        /// The byte where it stands.
+        /// The byte at which it begins.
         at: u32,
         /// The innermost bracket that is open there.
         open: Open,
@@ -127,9 +127,9 @@ pub enum SyntaxFault {
     /// The innermost bracket that is open at the end.
     #[error("unclosed '{}' at {at}", .bracket.opening())]
     Unclosed {
-        /// Which bracket it is.
+        /// The bracket.
         bracket: Bracket,
-        /// The byte where it stands.
+        /// The byte at which it begins.
         at: u32,
     },
 }
@@ -137,13 +137,13 @@ pub enum SyntaxFault {
 /// Why a text is refused.
 #[derive(Debug, Clone, Copy, PartialEq, Eq, Error)]
 pub enum TextFault {
-    /// It is no token trees. This is the first such fault.
+    /// The text is no token trees. This is the first fault.
     #[error("{0}")]
     Syntax(SyntaxFault),
-    /// It has more bytes than a span can tell: 4,294,967,296 or more.
+    /// The text has more bytes than a span can hold: 4,294,967,296 or more.
     #[error("more than 4294967295 bytes")]
     TooLong,
-    /// Memory is wanting, or a limit of trees is passed.
+    /// Memory runs out, or the text exceeds a limit of trees.
     #[error("{0}")]
     Limit(TtFault),
 }

@@ -9,7 +9,7 @@ use crate::escapes::escape_fault;
 use crate::fault::BadToken;
 use syntax_lex::{Base, DocStyle, LiteralKind};
 
-// Whether a byte is a decimal digit that a base has not.
+// Returns whether a byte is a decimal digit that a base does not have.
 fn is_foreign_digit(base: Base, byte: u8) -> bool
     ensures { result ≡ is_foreign_digit base byte }
 {
@@ -21,7 +21,7 @@ fn is_foreign_digit(base: Base, byte: u8) -> bool
     }
 }
 
-// Whether a digit stands in a text that a base has not.
+// Returns whether a text has a digit that a base does not have.
 fn foreign_digit(base: Base, text: &[u8]) -> bool
     ensures { result ≡ foreign_digit base text.now }
 {
@@ -32,7 +32,7 @@ fn foreign_digit(base: Base, text: &[u8]) -> bool
     found
 }
 
-// Whether a character beyond ASCII stands in a text.
+// Returns whether a text has a character beyond ASCII.
 fn beyond_ascii(text: &[u8]) -> bool
     ensures { result ≡ beyond_ascii text.now }
 {
@@ -43,7 +43,7 @@ fn beyond_ascii(text: &[u8]) -> bool
     found
 }
 
-// Whether a carriage return stands in a text with no line feed right behind it.
+// Returns whether a text has a carriage return with no line feed right after it.
 fn bare_return(text: &[u8]) -> bool
     ensures { result ≡ bare_return text.now }
 {
@@ -56,7 +56,7 @@ fn bare_return(text: &[u8]) -> bool
     found | pending
 }
 
-// The same of a text that a line feed may stand behind.
+// Returns the same for a text that a line feed may follow.
 fn inner_return(text: &[u8]) -> bool
     ensures { result ≡ inner_return text.now }
 {
@@ -69,21 +69,21 @@ fn inner_return(text: &[u8]) -> bool
     found
 }
 
-// What is wrong, if something is.
+// Returns this fault if something is wrong.
 fn fault_if(wrong: bool, why: BadToken) -> Option<BadToken>
     ensures { result ≡ fault_if wrong why }
 {
     if wrong { Some(why) } else { None }
 }
 
-// What is wrong with a text that holds a bare carriage return.
+// Returns what is wrong with a text that holds a bare carriage return.
 fn return_fault(text: &[u8]) -> Option<BadToken>
     ensures { result ≡ return_fault text.now }
 {
     fault_if(bare_return(text), BadToken::BareReturn)
 }
 
-// What is wrong with the text of bytes.
+// Returns what is wrong with the text of a literal of bytes.
 fn bytes_fault(text: &[u8]) -> Option<BadToken>
     ensures { result ≡ bytes_fault text.now }
 {
@@ -94,7 +94,7 @@ fn bytes_fault(text: &[u8]) -> Option<BadToken>
     }
 }
 
-// What is wrong with a text in quotes, whose first quote ends so many bytes from its start.
+// Returns what is wrong with a text in quotes, whose first quote ends `opening` bytes from its start.
 fn quoted_fault(kind: LiteralKind, opening: usize, text: &[u8]) -> Option<BadToken>
     ensures { result ≡ quoted_fault kind opening text.now }
 {
@@ -104,7 +104,7 @@ fn quoted_fault(kind: LiteralKind, opening: usize, text: &[u8]) -> Option<BadTok
     }
 }
 
-// What is wrong with bytes in quotes.
+// Returns what is wrong with bytes in quotes.
 fn quoted_bytes_fault(kind: LiteralKind, text: &[u8]) -> Option<BadToken>
     ensures { result ≡ first_of (bytes_fault text.now) (escape_fault kind 2 text.now) }
 {
@@ -114,7 +114,7 @@ fn quoted_bytes_fault(kind: LiteralKind, text: &[u8]) -> Option<BadToken>
     }
 }
 
-// Whether a null stands in a text.
+// Returns whether a text has a null.
 fn has_null(text: &[u8]) -> bool
     ensures { result ≡ has_null text.now }
 {
@@ -125,7 +125,7 @@ fn has_null(text: &[u8]) -> bool
     found
 }
 
-// What is wrong with a raw C string.
+// Returns what is wrong with a raw C string.
 fn raw_c_fault(text: &[u8]) -> Option<BadToken>
     ensures { result ≡ first_of (return_fault text.now) (fault_if (has_null text.now) NullInCStr) }
 {
@@ -135,7 +135,7 @@ fn raw_c_fault(text: &[u8]) -> Option<BadToken>
     }
 }
 
-// What is wrong with a comment that has this text. Only a long one may want many hashes.
+// Returns what is wrong with a comment that has this text. Only a long text can need many hashes.
 #[tactic(auto, using(crate::proofs::Hashes::few_wanted))]
 fn hashes_fault(text: &str) -> Option<BadToken>
     ensures { result ≡ hashes_fault text.now }
@@ -146,7 +146,7 @@ fn hashes_fault(text: &str) -> Option<BadToken>
     fault_if(hashes_wanted(text) > 255, BadToken::TooManyHashes)
 }
 
-/// What is wrong inside of a comment of one line that documents something.
+/// Returns what is wrong inside of a documenting comment of one line.
 pub fn line_fault(style: DocStyle, text: &str) -> Option<BadToken>
     ensures { result ≡ line_fault style text.now }
 {
@@ -156,7 +156,7 @@ pub fn line_fault(style: DocStyle, text: &str) -> Option<BadToken>
     hashes_fault(line_text(style, text))
 }
 
-/// What is wrong inside of one between signs.
+/// Returns what is wrong inside of a documenting block comment.
 pub fn block_fault(style: DocStyle, text: &str) -> Option<BadToken>
     ensures { result ≡ block_fault style text.now }
 {
@@ -166,7 +166,7 @@ pub fn block_fault(style: DocStyle, text: &str) -> Option<BadToken>
     }
 }
 
-// A literal without its suffix, which begins at that byte.
+// Returns a literal without its suffix, which begins at byte `place`.
 fn before_suffix(place: u32, text: &str) -> &[u8]
     ensures { result.now ≡ before_suffix place text.now }
 {
@@ -174,7 +174,7 @@ fn before_suffix(place: u32, text: &str) -> &[u8]
     &text.as_bytes()[..end]
 }
 
-// What is wrong inside of a literal, of which this stands before its suffix.
+// Returns what is wrong inside of a literal without its suffix.
 fn inside_fault(kind: LiteralKind, text: &[u8]) -> Option<BadToken>
     ensures { result ≡ inside_fault kind text.now }
 {
@@ -194,14 +194,14 @@ fn inside_fault(kind: LiteralKind, text: &[u8]) -> Option<BadToken>
     }
 }
 
-// Whether a literal may have a suffix.
+// Returns whether a literal may have a suffix.
 fn takes_suffix(kind: LiteralKind) -> bool
     ensures { result ≡ takes_suffix kind }
 {
     matches!(kind, LiteralKind::Int { .. } | LiteralKind::Float { .. })
 }
 
-// What is wrong with the suffix of a literal, which begins at that byte.
+// Returns what is wrong with the suffix of a literal, which begins at byte `place`.
 fn suffix_fault(kind: LiteralKind, place: u32, text: &str) -> Option<BadToken>
     ensures { result ≡ suffix_fault kind place text.now }
 {
@@ -212,7 +212,7 @@ fn suffix_fault(kind: LiteralKind, place: u32, text: &str) -> Option<BadToken>
     )
 }
 
-/// What is wrong with a literal whose suffix begins at that byte: inside of it, or with its suffix.
+/// Returns what is wrong with a literal whose suffix begins at byte `place`: inside of it, or with its suffix.
 pub fn literal_fault(kind: LiteralKind, place: u32, text: &str) -> Option<BadToken>
     ensures { result ≡ literal_fault kind place text.now }
 {

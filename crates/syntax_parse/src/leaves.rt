@@ -8,7 +8,7 @@ ghost use Rattle.syntax_parse.specs.RawName.{behind_apostrophe};
 use syntax_lex::{LiteralKind, TokenKind};
 use tt_base::{LiteralScan, Spacing, Span, SpanPart, TextRange, TextSize};
 
-/// The span of a part of a text, by its first byte and the byte behind its last.
+/// Returns the span of a part of a text, by its first byte and the byte after its last.
 pub fn span_at(part: SpanPart, start: u32, end: u32) -> Span
     requires { start ≤ end }
     ensures part { part_of result ≡ part }
@@ -22,7 +22,7 @@ pub fn span_at(part: SpanPart, start: u32, end: u32) -> Span
     }
 }
 
-/// The scan that a lexer's kind tells.
+/// Returns the scan for a lexer's kind.
 pub fn scan_of(kind: LiteralKind) -> LiteralScan
     ensures { result ≡ scan_of kind }
 {
@@ -40,7 +40,7 @@ pub fn scan_of(kind: LiteralKind) -> LiteralScan
     }
 }
 
-/// What stands behind the quote of a lifetime.
+/// Returns what follows the quote of a lifetime.
 pub fn behind_apostrophe(text: &str) -> &str
     ensures { result.now ≡ behind_apostrophe text.now }
 {
@@ -50,7 +50,7 @@ pub fn behind_apostrophe(text: &str) -> &str
     }
 }
 
-/// The character of a punct; a bracket is none.
+/// Returns the character of a punct, and `None` for a bracket.
 pub fn punct_char(kind: TokenKind) -> Option<char>
     ensures { result ≡ punct_char kind }
 {
@@ -80,7 +80,7 @@ pub fn punct_char(kind: TokenKind) -> Option<char>
     }
 }
 
-/// How a punct stands to the token behind it.
+/// Returns the spacing of a punct before the next token.
 pub fn spacing_before(next: Option<TokenKind>) -> Spacing
     ensures { result ≡ spacing_before next }
 {

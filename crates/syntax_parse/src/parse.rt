@@ -14,13 +14,13 @@ use tt::FlatBuilder;
 use tt_base::{DelimSpan, Delimiter, SpanAnchor, SpanPart, SyntaxContext, Texts};
 use tt_view::TopSubtree;
 
-// A token of source has more bytes than that on average, white space counted.
+// A token of source has more bytes than this on average, white space included.
 const BYTES_OF_TOKEN: usize = 2;
 
-// For no more tokens room is made before they are read.
+// The most tokens that get room before they are read.
 const MOST_TOKENS_AT_FIRST: usize = 512;
 
-// The first token of a text, if it has one.
+// Returns the first token of a text, if it has one.
 fn token_ahead(text: &str) -> Option<Token>
     requires { length text.now < 2 ^ 32 }
     ensures { result ≡ token_ahead (chars text.now) }
@@ -32,7 +32,7 @@ fn token_ahead(text: &str) -> Option<Token>
     }
 }
 
-// The kind of a token, if there is one.
+// Returns the kind of a token, if there is one.
 fn kind_of(token: Option<Token>) -> Option<TokenKind>
     ensures { result ≡ kind_ahead token }
 {
@@ -42,7 +42,7 @@ fn kind_of(token: Option<Token>) -> Option<TokenKind>
     }
 }
 
-// The delimiter of a text: invisible, with the empty spans at its start and at its end.
+// Returns the delimiter of a text: invisible, with the empty spans at its start and at its end.
 fn top_of(part: SpanPart, len: u32) -> Delimiter
     ensures { IsTop part len result }
 {
@@ -52,15 +52,14 @@ fn top_of(part: SpanPart, len: u32) -> Delimiter
     ))
 }
 
-// For how many tokens room is made at first: all of a short text.
+// Returns the number of tokens that get room at first: all of a short text.
 fn room_for(text: &str) -> usize {
     (text.len() / BYTES_OF_TOKEN + 1).min(MOST_TOKENS_AT_FIRST)
 }
 
-/// The token trees of a text, under an invisible top whose two spans are the empty ones at its start and at its end.
+/// Returns the token trees of a text, under an invisible top. Its two spans are the empty ones at the start and at the end of the text.
 ///
-/// A text with a token that is not valid, or with brackets that do not match, is refused for the first of them. The text
-/// is of edition 2024.
+/// Returns the first fault if a token is not valid or brackets do not match. The text is of edition 2024.
 #[tactic(auto, using(crate::proofs::LimitFacts::limit_of_memory))]
 pub fn parse_to_token_tree(
     alloc: Global,

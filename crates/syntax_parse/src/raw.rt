@@ -7,7 +7,7 @@ ghost use Rattle.syntax_parse.specs.RawName.{is_never_raw, raw_name_fault};
 use crate::fault::BadToken;
 use tt_base::IdentIsRaw;
 
-/// What stands behind so many letters.
+/// Returns what follows the first `letters` letters.
 pub fn behind_letters(letters: usize, text: &str) -> &[u8]
     ensures { result.now ≡ drop letters text.now }
 {
@@ -15,7 +15,7 @@ pub fn behind_letters(letters: usize, text: &str) -> &[u8]
     &text.as_bytes()[start..]
 }
 
-// How many hashes stand in front.
+// Returns how many hashes come first.
 fn hashes_of(text: &[u8]) -> usize
     ensures { result ≡ hashes_of text.now }
 {
@@ -27,7 +27,7 @@ fn hashes_of(text: &[u8]) -> usize
     text.len()
 }
 
-/// Why a raw literal is not valid, of which this stands behind its letters.
+/// Returns why a raw literal is not valid, by the text after its letters.
 pub fn raw_fault(text: &[u8]) -> BadToken
     ensures { result ≡ raw_fault text.now }
 {
@@ -42,14 +42,14 @@ pub fn raw_fault(text: &[u8]) -> BadToken
     }
 }
 
-// Whether a name is never raw.
+// Returns whether a name is never raw.
 fn is_never_raw(name: &str) -> bool
     ensures { result ≡ is_never_raw name.now }
 {
     matches!(name, "_" | "crate" | "self" | "super" | "Self")
 }
 
-/// What is wrong with a raw name of this text.
+/// Returns what is wrong with a raw name of this text.
 pub fn raw_name_fault(text: &str) -> Option<BadToken>
     ensures { result ≡ raw_name_fault text.now }
 {

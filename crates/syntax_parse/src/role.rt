@@ -13,33 +13,33 @@ use syntax_lex::{Base, LiteralKind, TokenKind};
 /// What a token is to a tree.
 #[derive(Debug, Clone, Copy, PartialEq, Eq)]
 pub enum Role {
-    /// It is not valid.
+    /// A token that is not valid.
     Bad(BadToken),
-    /// It stands in no tree: white space, or a comment that documents nothing.
+    /// A token that is in no tree: white space, or a comment that documents nothing.
     Nothing,
-    /// It opens a subtree.
+    /// A token that opens a subtree.
     Opens(Bracket),
-    /// It closes a subtree.
+    /// A token that closes a subtree.
     Closes(Bracket),
-    /// It stands for leaves.
+    /// A token that means leaves.
     Leaf,
 }
 
-// A leaf, or what is wrong with it.
+// Returns bad for this reason if something is wrong, else a leaf.
 fn or_leaf(bad: bool, why: BadToken) -> Role
     ensures { result ≡ or_leaf bad why }
 {
     if bad { Role::Bad(why) } else { Role::Leaf }
 }
 
-// What a comment is, by whether it documents something.
+// Returns what a comment is: a leaf if it documents something.
 fn comment_role(documents: bool) -> Role
     ensures { result ≡ comment_role documents }
 {
     if documents { Role::Leaf } else { Role::Nothing }
 }
 
-// What a float is: a leaf where a digit follows its `e`, and it is written in base ten.
+// Returns what a float is: a leaf if it has base ten and a digit after its `e`.
 fn float_role(base: Base, empty_exponent: bool) -> Role
     ensures { result ≡ float_role base empty_exponent }
 {
@@ -55,7 +55,7 @@ fn float_role(base: Base, empty_exponent: bool) -> Role
     }
 }
 
-// A leaf where a raw literal has its hashes; else what is wrong behind so many letters.
+// Returns a leaf if a raw literal has its hashes, else what is wrong after its `letters` letters.
 fn raw_role(n_hashes: Option<u8>, letters: usize, text: &str) -> Role
     ensures { result ≡ or_leaf (is_none n_hashes) (raw_fault (drop letters text.now)) }
 {
@@ -65,7 +65,7 @@ fn raw_role(n_hashes: Option<u8>, letters: usize, text: &str) -> Role
     }
 }
 
-// What a literal is: a leaf where it is closed, and has digits where it should have some.
+// Returns what a literal is: a leaf if it is closed and has the digits that it needs.
 fn literal_role(kind: LiteralKind, text: &str) -> Role
     ensures { result ≡ literal_role kind text.now }
 {
@@ -87,7 +87,7 @@ fn literal_role(kind: LiteralKind, text: &str) -> Role
     }
 }
 
-// What a token of a kind is to a tree, whatever is in its text, in edition 2024.
+// Returns what a token of a kind is to a tree, whatever its text holds, in edition 2024.
 fn role_of(kind: TokenKind) -> Role
     ensures { result ≡ role_of kind }
 {
@@ -122,7 +122,7 @@ fn role_of(kind: TokenKind) -> Role
     }
 }
 
-// A leaf with nothing wrong inside of it.
+// Returns the role, or bad if it is a leaf with something wrong inside.
 fn with_inside(role: Role, inside: Option<BadToken>) -> Role
     ensures { result ≡ with_inside role inside }
 {
@@ -132,7 +132,7 @@ fn with_inside(role: Role, inside: Option<BadToken>) -> Role
     }
 }
 
-/// What a token with this text is to a tree.
+/// Returns what a token with this text is to a tree.
 pub fn role_in(kind: TokenKind, text: &str) -> Role
     ensures { result ≡ role_in kind text.now }
 {

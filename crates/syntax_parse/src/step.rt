@@ -1,4 +1,4 @@
-//! One token after the other.
+//! Takes one token after the other.
 ghost use Rattle.std.specs.Prelude.{◌≡◌, ◌+◌, ◌^◌, ◌<◌, ◌++◌, Ok, Err, length, reverse, IfErr, IfOk, MatchOption, ⊤};
 ghost use Rattle.tt_base.specs.Building.{open_kinds};
 ghost use Rattle.syntax_parse.specs.Faults.{kinds_of, step};
@@ -17,7 +17,7 @@ use crate::role::{Role, role_in};
 use tt::FlatBuilder;
 use tt_base::{SpanPart, Texts, TtFault};
 
-/// Takes one token, and puts its pieces at the end of what the builder holds, or says why it cannot stand there.
+/// Takes one token and adds its pieces to the end of the builder, or returns why the token cannot be there.
 pub fn take(
     texts: &mut Texts,
     builder: &mut FlatBuilder,

@@ -23,7 +23,7 @@ pub enum Behind {
     Quote,
 }
 
-// What stands behind a punct.
+// Returns what stands behind a punct.
 fn behind_punct(char: char, spacing: Spacing) -> Behind
     ensures { result ≡ behind_punct char spacing }
 {
@@ -43,7 +43,7 @@ fn behind_punct(char: char, spacing: Spacing) -> Behind
     }
 }
 
-/// What stands behind a leaf.
+/// Returns what stands behind a leaf.
 pub fn behind_leaf(leaf: &Leaf) -> Behind
     ensures { result ≡ behind_leaf leaf.now }
 {
@@ -53,7 +53,7 @@ pub fn behind_leaf(leaf: &Leaf) -> Behind
     }
 }
 
-// Whether a leaf with this text is a literal that begins with a double quote.
+// Returns whether a leaf with this text is a literal that begins with a double quote.
 fn is_string(leaf: &Leaf, text: &str) -> bool
     requires { text.now ≡ leaf_text leaf.now }
     ensures { result ≡ is_string leaf.now }
@@ -67,7 +67,7 @@ fn is_string(leaf: &Leaf, text: &str) -> bool
     }
 }
 
-/// Whether a space stands before a leaf with this text.
+/// Returns whether a space stands before a leaf with this text.
 pub fn wants_space(behind: Behind, leaf: &Leaf, text: &str) -> bool
     requires { text.now ≡ leaf_text leaf.now }
     ensures { result ≡ wants_space behind leaf.now }
@@ -79,14 +79,14 @@ pub fn wants_space(behind: Behind, leaf: &Leaf, text: &str) -> bool
     }
 }
 
-/// Whether a space stands before an opening bracket.
+/// Returns whether a space stands before an opening bracket.
 pub fn opens_apart(behind: Behind) -> bool
     ensures { result ≡ opens_apart behind }
 {
     matches!(behind, Behind::Apart)
 }
 
-/// Whether a bracket may follow, or the end.
+/// Returns whether a bracket may follow, or the end.
 pub fn may_end(behind: Behind) -> bool
     ensures { IsTrue result ↔ MayEnd behind }
 {

@@ -8,7 +8,7 @@ use syntax_parse::Bracket;
 use tt_base::{Delimiter, DelimiterKind, Subtree};
 use tt_view::{TtElement, TtIter};
 
-// Whether two trees or more are left where each invisible subtree gives way to what it holds.
+// Returns whether two trees or more are left where each invisible subtree gives way to what it holds.
 fn shows_several(alloc: Global, trees: TtIter<'_>) -> Result<bool, AllocError>
     ensures { IfOk result (λ several. several ≡ nat_lt 1 (shown (rest_of trees.entry))) }
 {
@@ -49,7 +49,7 @@ fn shows_several(alloc: Global, trees: TtIter<'_>) -> Result<bool, AllocError>
     }
 }
 
-/// The brackets that a subtree is written in, if it has any.
+/// Returns the brackets that a subtree is written in, if it has any.
 pub fn brackets_of(
     alloc: Global,
     kind: DelimiterKind,

@@ -12,7 +12,7 @@ use syntax_lex::{TokenKind, first_token};
 use syntax_parse::{Role, punct_char, role_in, scan_of};
 use tt_base::{IdentIsRaw, Leaf, Literal, TtFault, token_to_literal};
 
-// The one token that a text is, if it stands for leaves.
+// Returns the one token that a text is, if it stands for leaves.
 fn one_token(text: &str) -> Option<TokenKind>
     requires fits { length text.now < 2 ^ 32 }
     ensures { MatchOption result (IsOneToken text.now → ⊥) (λ kind. IsOneToken text.now × (kind ≡ first_kind text.now)) }
@@ -30,7 +30,7 @@ fn one_token(text: &str) -> Option<TokenKind>
     }
 }
 
-// Whether two literals are the same, wherever they stand.
+// Returns whether two literals are the same, wherever they stand.
 fn is_same(literal: &Literal, other: &Literal) -> bool
     ensures { IsTrue result ↔ IsLiteral literal.now (symbol_of other.now) (span_of literal.now) (kind_of other.now) (suffix_len_of other.now) }
 {
@@ -39,14 +39,14 @@ fn is_same(literal: &Literal, other: &Literal) -> bool
         && literal.symbol() == other.symbol()
 }
 
-// The length of a literal's suffix is a byte.
+// Returns the length of a literal's suffix is a byte.
 fn suffix_is_short(literal: &Literal)
     ensures { suffix_len_of literal.now ≤ 255 }
 {
     literal.suffix_len();
 }
 
-// Whether the token that a text is means the literal.
+// Returns whether the token that a text is means the literal.
 fn means_literal(
     alloc: Global,
     kind: TokenKind,
@@ -74,21 +74,21 @@ fn means_literal(
     }
 }
 
-// Whether a token is a name.
+// Returns whether a token is a name.
 fn is_name(kind: TokenKind) -> bool
     ensures { result ≡ is_name kind }
 {
     matches!(kind, TokenKind::Ident | TokenKind::RawIdent)
 }
 
-// Whether a token is a lifetime.
+// Returns whether a token is a lifetime.
 fn is_lifetime(kind: TokenKind) -> bool
     ensures { result ≡ is_lifetime kind }
 {
     matches!(kind, TokenKind::Lifetime { .. } | TokenKind::RawLifetime)
 }
 
-// Whether the token that a text is means the leaf.
+// Returns whether the token that a text is means the leaf.
 fn means(alloc: Global, kind: TokenKind, text: &str, leaf: &Leaf) -> Result<bool, WriteFault>
     requires one { IsOneToken text.now }
     requires kind { kind ≡ first_kind text.now }
@@ -108,7 +108,7 @@ fn means(alloc: Global, kind: TokenKind, text: &str, leaf: &Leaf) -> Result<bool
     }
 }
 
-// Whether a text reads as the leaf.
+// Returns whether a text reads as the leaf.
 fn reads_as(alloc: Global, text: &str, leaf: &Leaf) -> Result<bool, WriteFault>
     requires fits { length text.now < 2 ^ 32 }
     ensures ok { IfOk result (λ yes. IsTrue yes ↔ ReadsAs text.now leaf.now) }
@@ -120,7 +120,7 @@ fn reads_as(alloc: Global, text: &str, leaf: &Leaf) -> Result<bool, WriteFault>
     }
 }
 
-/// Whether a leaf is a punct with this character.
+/// Returns whether a leaf is a punct with this character.
 pub fn is_punct(char: char, leaf: &Leaf) -> bool
     ensures { result ≡ is_punct char leaf.now }
 {
@@ -130,7 +130,7 @@ pub fn is_punct(char: char, leaf: &Leaf) -> bool
     }
 }
 
-/// Whether a leaf's text reads as the leaf.
+/// Returns whether a leaf's text reads as the leaf.
 pub fn reads_alone(alloc: Global, text: &str, leaf: &Leaf) -> Result<bool, WriteFault>
     requires fits { length text.now < 2 ^ 32 }
     requires text { text.now ≡ leaf_text leaf.now }
@@ -143,7 +143,7 @@ pub fn reads_alone(alloc: Global, text: &str, leaf: &Leaf) -> Result<bool, Write
     reads_as(alloc, text, leaf)
 }
 
-// Whether a `'` and the leaf behind it make a lifetime.
+// Returns whether a `'` and the leaf behind it make a lifetime.
 fn makes_lifetime(alloc: Global, leaf: &Leaf) -> Result<bool, WriteFault>
     requires fits { length (leaf_text leaf.now) + 1 < 2 ^ 32 }
     ensures ok { IfOk result (λ yes. IsTrue yes ↔ MakesLifetime leaf.now) }
@@ -161,7 +161,7 @@ fn makes_lifetime(alloc: Global, leaf: &Leaf) -> Result<bool, WriteFault>
     }
 }
 
-/// Whether a leaf may follow what was written last.
+/// Returns whether a leaf may follow what was written last.
 pub fn may_follow(alloc: Global, behind: Behind, leaf: &Leaf) -> Result<bool, WriteFault>
     requires fits { length (leaf_text leaf.now) + 1 < 2 ^ 32 }
     ensures ok { IfOk result (λ yes. IsTrue yes ↔ MayFollow behind leaf.now) }

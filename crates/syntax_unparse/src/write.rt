@@ -44,7 +44,7 @@ fn write_ident(text: &mut String, ident: &Ident) -> Result<(), AllocError>
     text.push_str(ident.sym.as_str())
 }
 
-// The text of the leaf, in the place of what stood there.
+// Returns the text of the leaf, in the place of what stood there.
 fn put_text(text: &mut String, leaf: &Leaf) -> Result<(), AllocError>
     ensures { OnOk result (string_bytes text.new ≡ leaf_text leaf.now) }
 {
@@ -56,7 +56,7 @@ fn put_text(text: &mut String, leaf: &Leaf) -> Result<(), AllocError>
     }
 }
 
-// The text of the leaf: of a plain ident as it stands, and else put in the room.
+// Returns the text of the leaf: of a plain ident as it stands, and else put in the room.
 fn text_in<'a>(room: &'a mut String, leaf: &'a Leaf) -> Result<&'a str, AllocError>
     ensures { IfOk result (λ text. text.now ≡ leaf_text leaf.now) }
 {
@@ -74,7 +74,7 @@ fn text_in<'a>(room: &'a mut String, leaf: &'a Leaf) -> Result<&'a str, AllocErr
     Ok(room.as_str())
 }
 
-// The first leaf that cannot be written, of those before or else of the last one and of the leaf that follows with this text.
+// Returns the first leaf that cannot be written, of those before or else of the last one and of the leaf that follows with this text.
 fn refused_by(
     alloc: Global,
     last: Last,
@@ -99,7 +99,7 @@ fn refused_by(
     Ok(None)
 }
 
-// The first leaf that cannot be written, of those before or else of the last one before a bracket or the end.
+// Returns the first leaf that cannot be written, of those before or else of the last one before a bracket or the end.
 fn refused_at_end(last: Last) -> Option<usize>
     ensures { Refusing last [] result }
 {
@@ -183,7 +183,7 @@ fn write_closing(
     })
 }
 
-// The text, once all is written.
+// Returns the text, once all is written.
 fn ended(text: String, last: Last) -> Result<String, WriteFault>
     ensures ok { IfOk result (λ all. (string_bytes all ≡ string_bytes text) × (2 ^ 32 ≤ 1 + length (string_bytes text) → ⊥) × Refusing last [] None) }
     ensures err { IfErr result (IsFaultAtEnd (string_bytes text) last) }
@@ -197,7 +197,7 @@ fn ended(text: String, last: Last) -> Result<String, WriteFault>
     Ok(text)
 }
 
-/// The Rust text of trees: that of Display, but for subtrees without brackets and for what would not read back so. An opaque
+/// Returns the Rust text of trees: that of Display, but for subtrees without brackets and for what would not read back so. An opaque
 /// subtree has parentheses where it holds two trees or more; `'` touches its name; a `#` stands apart from a string. A text that would be too
 /// long is refused as such, also if a leaf cannot be written.
 pub fn rust_text(alloc: Global, trees: TokenTreesView<'_>) -> Result<String, WriteFault>
@@ -249,7 +249,7 @@ pub fn rust_text(alloc: Global, trees: TokenTreesView<'_>) -> Result<String, Wri
     }
 }
 
-/// Whether trees can be written: with the fault that `rust_text` has, where it has one.
+/// Returns whether trees can be written: with the fault that `rust_text` has, where it has one.
 pub fn is_writable(alloc: Global, trees: TokenTreesView<'_>) -> Result<(), WriteFault>
     ensures ok { OnOk result (IsWritable (trees_of trees.entry)) }
     ensures err { IfErr result (IsWriteFault (trees_of trees.entry)) }

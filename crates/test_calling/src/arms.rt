@@ -38,7 +38,7 @@ impl From<ExpandError> for ArmsFault {
     }
 }
 
-/// What the macro of these arms makes of an input.
+/// Returns what the macro of these arms makes of an input.
 pub fn expand_macro(
     alloc: Global,
     arms: TokenTreesView<'_>,

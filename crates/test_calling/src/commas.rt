@@ -9,7 +9,7 @@ ghost use Rattle.test_calling.specs.ViewTrees.{view_trees};
 use std::alloc::Global;
 use tt::{Leaf, TokenTreesView, TtElement, TtFault};
 
-/// The arguments of a call: the pieces between its commas, one more than there are commas.
+/// Returns the arguments of a call: the pieces between its commas, one more than there are commas.
 pub fn arguments<'a>(
     alloc: Global,
     trees: TokenTreesView<'a>,

@@ -18,7 +18,7 @@ fn pass_comma(siblings: &mut TtIter<'_>)
     }
 }
 
-/// The next tree, and the comma behind it where there is one: what the iterator has passed then.
+/// Returns the next tree, and the comma behind it where there is one: what the iterator has passed then.
 pub fn item<'a>(siblings: &mut TtIter<'a>) -> TokenTreesView<'a>
     ensures rest { rest_of siblings.new ≡ after_comma (after_tree (rest_of siblings.old)) }
     ensures passed { join (trees_of result) (rest_of siblings.new) ≡ rest_of siblings.old }

@@ -5,7 +5,7 @@ ghost use Rattle.tt.specs.Forest.{flat_root};
 use std::alloc::Global;
 use tt::{TokenTree, TopSubtree, TtFault};
 
-/// The flat list of a tree.
+/// Returns the flat list of a tree.
 pub fn flat_list(alloc: Global, tree: &TopSubtree) -> Result<Vec<TokenTree>, TtFault>
     ensures { IfOk result (λ list. list.items ≡ flat_root tree.now) }
 {
@@ -24,7 +24,7 @@ pub fn round_trip(alloc: Global, tokens: Vec<TokenTree>) -> Result<Vec<TokenTree
     flat_list(alloc, &tree)
 }
 
-/// Whether two flat lists are the same. They are packed, and what is stored is compared.
+/// Returns whether two flat lists are the same. They are packed, and what is stored is compared.
 pub fn same_tree(
     alloc: Global,
     left: Vec<TokenTree>,

@@ -45,7 +45,7 @@ pub struct Expansions {
     pub right: Option<TopSubtree>,
 }
 
-/// What the rule of a pattern and a template makes of two inputs. It is made once.
+/// Returns what the rule of a pattern and a template makes of two inputs. It is made once.
 pub fn expand_both(
     alloc: Global,
     pattern: &TopSubtree,

@@ -225,7 +225,7 @@ const BAD_LINES: [(u32, &[u8]); 13] = [
     ),
 ];
 
-// How many of the lines of a text are no command, up to the first that is one.
+// Returns how many of the lines of a text are no command, up to the first that is one.
 fn no_commands(alloc: Global, text: &[u8]) -> Result<u32, TtFault> {
     let mut found = 0u32;
     for line in text.split(|byte| *byte == b'\n') {
@@ -237,7 +237,7 @@ fn no_commands(alloc: Global, text: &[u8]) -> Result<u32, TtFault> {
     Ok(found)
 }
 
-// The index of the first text of which not all lines are no command.
+// Returns the index of the first text of which not all lines are no command.
 fn first_wrong(alloc: Global) -> Result<usize, TtFault> {
     let mut index = 0usize;
     for (rows, text) in &BAD_LINES {
@@ -263,7 +263,7 @@ const OF_TWO_LINES: [&[u8]; 4] = [
     b"\nshow 0",
 ];
 
-// Whether none of them is a command.
+// Returns whether none of them is a command.
 fn are_no_commands(alloc: Global) -> Result<bool, TtFault> {
     for text in &OF_TWO_LINES {
         if Command::parse(alloc, text)?.is_some() {

@@ -14,7 +14,7 @@ pub struct FakeReader<'a> {
 }
 
 impl<'a> FakeReader<'a> {
-    /// A reader of that text that fails so.
+    /// Returns a reader of that text that fails so.
     pub fn new(text: &'a [u8], failure: ReadFailure) -> FakeReader<'a> {
         FakeReader {
             rest: text,
@@ -61,7 +61,7 @@ pub struct FakeWriter {
 }
 
 impl FakeWriter {
-    /// A writer that took nothing yet, and fails so.
+    /// Returns a writer that took nothing yet, and fails so.
     pub fn new(alloc: Global, failure: WriteFailure) -> FakeWriter {
         FakeWriter {
             taken: Vec::new(alloc),
@@ -71,7 +71,7 @@ impl FakeWriter {
         }
     }
 
-    /// What was taken.
+    /// Returns what was taken.
     pub fn into_taken(self) -> Vec<u8> {
         self.taken
     }

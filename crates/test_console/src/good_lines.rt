@@ -114,7 +114,7 @@ const LINES: [(u32, &[u8]); 7] = [
     ),
 ];
 
-// The Debug text of what the line stands for.
+// Returns the Debug text of what the line stands for.
 fn told(alloc: Global, line: &[u8]) -> Result<String, TtFault> {
     match Command::parse(alloc, line)? {
         Some(command) => Ok(format!(in alloc; "{command:?}")?),
@@ -122,12 +122,12 @@ fn told(alloc: Global, line: &[u8]) -> Result<String, TtFault> {
     }
 }
 
-// Whether that is this text.
+// Returns whether that is this text.
 fn stands_for(alloc: Global, line: &[u8], command: &[u8]) -> Result<bool, TtFault> {
     Ok(told(alloc, line)?.as_bytes() == command)
 }
 
-// Whether the row's line stands for its command.
+// Returns whether the row's line stands for its command.
 fn is_right(alloc: Global, row: &[u8]) -> Result<bool, TtFault> {
     let mut parts = row.split(|byte| *byte == b'=');
     match (parts.next(), parts.next()) {
@@ -136,7 +136,7 @@ fn is_right(alloc: Global, row: &[u8]) -> Result<bool, TtFault> {
     }
 }
 
-// How many of the rows of a text are right, up to the first that is not.
+// Returns how many of the rows of a text are right, up to the first that is not.
 fn right_rows(alloc: Global, text: &[u8]) -> Result<u32, TtFault> {
     let mut found = 0u32;
     for row in text.split(|byte| *byte == b'\n') {
@@ -148,7 +148,7 @@ fn right_rows(alloc: Global, text: &[u8]) -> Result<u32, TtFault> {
     Ok(found)
 }
 
-// The index of the first text of which not all rows are right.
+// Returns the index of the first text of which not all rows are right.
 fn first_wrong(alloc: Global) -> Result<usize, TtFault> {
     let mut index = 0usize;
     for (rows, text) in &LINES {

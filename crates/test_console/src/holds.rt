@@ -2,7 +2,7 @@
 use std::test::Fail;
 use tt_base::TtFault;
 
-/// A test passes where what it asks is so.
+/// Returns a test passes where what it asks is so.
 pub(crate) fn holds(is_so: Result<bool, TtFault>) -> Result<(), Fail> {
     match is_so {
         Ok(true) => Ok(()),

@@ -6,7 +6,7 @@ use std::alloc::Global;
 use std::test::Fail;
 use tt::{DelimiterKind, Leaf, Subtree, TokenTree, TopSubtree};
 
-// How a header is written: its bracket, and how many tokens it holds, which are few.
+// Returns how a header is written: its bracket, and how many tokens it holds, which are few.
 fn push_header(text: &mut String, header: &Subtree) -> Option<()> {
     let bracket = match header.delimiter.kind {
         DelimiterKind::Parenthesis => '(',
@@ -18,7 +18,7 @@ fn push_header(text: &mut String, header: &Subtree) -> Option<()> {
     text.push(char::from_digit(header.len, 10)?).ok()
 }
 
-// How a leaf is written: its text, and a space.
+// Returns how a leaf is written: its text, and a space.
 fn push_leaf(text: &mut String, leaf: &Leaf) -> Option<()> {
     match leaf {
         Leaf::Ident(ident) => text.push_str(ident.sym.as_str()).ok()?,
@@ -28,7 +28,7 @@ fn push_leaf(text: &mut String, leaf: &Leaf) -> Option<()> {
     text.push(' ').ok()
 }
 
-// The tokens of a tree as a text.
+// Returns the tokens of a tree as a text.
 fn written(alloc: Global, tree: &TopSubtree) -> Option<String> {
     let mut text = String::new(alloc);
     let mut tokens = tree.token_trees().iter_flat_tokens();
@@ -41,7 +41,7 @@ fn written(alloc: Global, tree: &TopSubtree) -> Option<String> {
     Some(text)
 }
 
-// What a template is filled with, or why it is not; nothing where the input is read in no way, or in many.
+// Returns what a template is filled with, or why it is not; nothing where the input is read in no way, or in many.
 fn filled(
     alloc: Global,
     pattern: &str,
@@ -59,7 +59,7 @@ fn filled(
     Some(template.fill(alloc, matcher.binders(), binding, delimiter))
 }
 
-// Whether it is filled with these tokens.
+// Returns whether it is filled with these tokens.
 fn is_filled(
     alloc: Global,
     pattern: &str,
@@ -129,7 +129,7 @@ fn all_are_filled(alloc: Global) -> bool {
     true
 }
 
-// Why it is not: whether numbers of rounds differ, or there is none, and the flat place of the `$` of the repetition.
+// Returns why it is not: whether numbers of rounds differ, or there is none, and the flat place of the `$` of the repetition.
 fn fault_of(error: FillError) -> Option<(bool, usize)> {
     match error {
         FillError::LengthsDiffer(at) => Some((true, at)),
@@ -185,7 +185,7 @@ const REFUSED: [(&str, &str, &str, bool, usize); 7] = [
     ),
 ];
 
-// Whether it is refused so.
+// Returns whether it is refused so.
 fn is_refused(
     alloc: Global,
     pattern: &str,

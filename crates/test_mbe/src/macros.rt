@@ -6,7 +6,7 @@ use mbe_rules::{ArmFault, Expansion, FillError, MacroRules, TemplateError};
 use std::alloc::Global;
 use std::test::Fail;
 
-// What comes of an input, as a text: its tokens, or that no arm takes it and where the farthest stops, that the one of that number takes it in two ways, or that it
+// Returns what comes of an input, as a text: its tokens, or that no arm takes it and where the farthest stops, that the one of that number takes it in two ways, or that it
 // is not filled.
 fn told(alloc: Global, arms: &str, input: &str) -> Option<String> {
     let arms = tree_of(alloc, arms)?;
@@ -24,7 +24,7 @@ fn told(alloc: Global, arms: &str, input: &str) -> Option<String> {
     }
 }
 
-// A word, and a small number.
+// Returns a word, and a small number.
 fn numbered(alloc: Global, word: &str, number: usize) -> Option<String> {
     let mut text = String::new(alloc);
     text.push_str(word).ok()?;
@@ -143,7 +143,7 @@ const PIECES: [(&str, &str, &str); 10] = [
     ),
 ];
 
-// What comes of what comes of an input, by other arms.
+// Returns what comes of what comes of an input, by other arms.
 fn told_again(alloc: Global, arms: &str, input: &str, others: &str) -> Option<String> {
     let arms = tree_of(alloc, arms)?;
     let input = tree_of(alloc, input)?;
@@ -213,7 +213,7 @@ fn are_expanded(alloc: Global, rows: &[(&str, &str, &str)]) -> bool {
     true
 }
 
-// The kind of a fault, and its place.
+// Returns the kind of a fault, and its place.
 fn kind_of(fault: ArmFault) -> (&'static str, usize) {
     match fault {
         ArmFault::NoPattern(at) => ("no pattern", at),
@@ -227,7 +227,7 @@ fn kind_of(fault: ArmFault) -> (&'static str, usize) {
     }
 }
 
-// The same of a pattern's.
+// Returns the same of a pattern's.
 fn pattern_kind(error: PatternError) -> (&'static str, usize) {
     match error {
         PatternError::BeginsNothing(at) => ("begins nothing", at),
@@ -261,7 +261,7 @@ const FAULTS: [(&str, usize, &str, usize); 17] = [
     ("(a) => {$(b)*}", 0, "nothing repeats", 0),
 ];
 
-// Whether that is wrong.
+// Returns whether that is wrong.
 fn has_fault(alloc: Global, arms: &str, arm: usize, kind: &str, place: usize) -> Option<bool> {
     let arms = tree_of(alloc, arms)?;
     let error = MacroRules::new(alloc, arms.token_trees().iter()).err()?;

@@ -4,7 +4,7 @@ use mbe_matcher::{Matcher, PatternError};
 use std::alloc::Global;
 use std::test::Fail;
 
-// Whether nothing is wrong with the one pattern, and that with the other.
+// Returns whether nothing is wrong with the one pattern, and that with the other.
 fn is_told(alloc: Global, sound: &str, faulty: &str, fault: PatternError) -> Option<bool> {
     let sound = tree_of(alloc, sound)?;
     let faulty = tree_of(alloc, faulty)?;

@@ -10,14 +10,14 @@ pub(crate) struct Row {
     pub(crate) texts: &'static [(&'static str, usize)],
 }
 
-// How many trees of the text the fragment takes; 0 where it takes none.
+// Returns how many trees of the text the fragment takes; 0 where it takes none.
 fn taken(alloc: Global, fragment: GrammarFragment, text: &str) -> Option<usize> {
     let tree = tree_of(alloc, text)?;
     let count = reach(alloc, fragment, tree.token_trees().iter()).ok()?;
     Some(count.unwrap_or(0))
 }
 
-// Whether the fragment takes so many of each text.
+// Returns whether the fragment takes so many of each text.
 fn are_taken(alloc: Global, row: &Row) -> bool {
     for (text, count) in row.texts {
         if taken(alloc, row.fragment, text) != Some(*count) {
@@ -27,7 +27,7 @@ fn are_taken(alloc: Global, row: &Row) -> bool {
     true
 }
 
-/// Whether the fragments take so many of all these texts.
+/// Returns whether the fragments take so many of all these texts.
 pub(crate) fn all_are_taken(alloc: Global, rows: &[Row]) -> bool {
     for row in rows {
         if !are_taken(alloc, row) {

@@ -6,7 +6,7 @@ use mbe_rules::{Part, Template, TemplateError};
 use std::alloc::Global;
 use std::test::Fail;
 
-// The name of the variable of that number.
+// Returns the name of the variable of that number.
 fn name_of(binders: &[Binder], number: usize) -> Option<&str> {
     match &binders.get(number)?.name {
         Some(name) => Some(name.as_str()),
@@ -14,7 +14,7 @@ fn name_of(binders: &[Binder], number: usize) -> Option<&str> {
     }
 }
 
-// How the end of a repetition is written: with `,` where it has a separator.
+// Returns how the end of a repetition is written: with `,` where it has a separator.
 fn written_tail(tail: &Tail) -> &'static str {
     match (tail.separator.is_empty(), tail.kind) {
         (true, RepeatKind::ZeroOrMore) => ")* ",
@@ -26,7 +26,7 @@ fn written_tail(tail: &Tail) -> &'static str {
     }
 }
 
-// How a part is written that is no use.
+// Returns how a part is written that is no use.
 fn written_part(part: &Part) -> &'static str {
     match part {
         Part::Use(..) => "$",
@@ -38,7 +38,7 @@ fn written_part(part: &Part) -> &'static str {
     }
 }
 
-// The parts as a text: `$` and the name for a use, `t` for a token, braces for subtrees, parentheses for repetitions.
+// Returns the parts as a text: `$` and the name for a use, `t` for a token, braces for subtrees, parentheses for repetitions.
 fn written(alloc: Global, binders: &[Binder], parts: &[Part]) -> Option<String> {
     let mut text = String::new(alloc);
     for part in parts {
@@ -51,7 +51,7 @@ fn written(alloc: Global, binders: &[Binder], parts: &[Part]) -> Option<String> 
     Some(text)
 }
 
-// Whether a template has these parts.
+// Returns whether a template has these parts.
 fn has_parts(alloc: Global, pattern: &str, template: &str, parts: &str) -> Option<bool> {
     let matcher = matcher_of(alloc, pattern)?;
     let trees = tree_of(alloc, template)?;
@@ -106,7 +106,7 @@ fn are_parts(alloc: Global) -> bool {
     true
 }
 
-// What is wrong: whether a variable repeats still, and the flat place of its `$`, or of that of a repetition in which nothing repeats.
+// Returns what is wrong: whether a variable repeats still, and the flat place of its `$`, or of that of a repetition in which nothing repeats.
 fn fault_of(error: TemplateError) -> Option<(bool, usize)> {
     match error {
         TemplateError::StillRepeats(at) => Some((true, at)),
@@ -115,7 +115,7 @@ fn fault_of(error: TemplateError) -> Option<(bool, usize)> {
     }
 }
 
-// Whether that is wrong with a template, at that flat place.
+// Returns whether that is wrong with a template, at that flat place.
 fn has_fault(
     alloc: Global,
     pattern: &str,

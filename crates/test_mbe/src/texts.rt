@@ -5,7 +5,7 @@ use std::test::Fail;
 use syntax_parse::parse_to_token_tree;
 use tt::{ErasedFileAstId, FileId, SpanAnchor, SyntaxContext, TopSubtree};
 
-/// The tree of a text, if it has one.
+/// Returns the tree of a text, if it has one.
 pub(crate) fn tree_of(alloc: Global, text: &str) -> Option<TopSubtree> {
     let anchor = SpanAnchor {
         file_id: FileId(0),
@@ -14,13 +14,13 @@ pub(crate) fn tree_of(alloc: Global, text: &str) -> Option<TopSubtree> {
     parse_to_token_tree(alloc, anchor, SyntaxContext(0), text).ok()
 }
 
-/// The matcher of a text.
+/// Returns the matcher of a text.
 pub(crate) fn matcher_of(alloc: Global, pattern: &str) -> Option<Matcher> {
     let pattern = tree_of(alloc, pattern)?;
     Matcher::new(alloc, pattern.token_trees().iter()).ok()
 }
 
-/// A test passes where what it asks is so.
+/// Returns a test passes where what it asks is so.
 pub(crate) fn holds(is_so: bool) -> Result<(), Fail> {
     if is_so {
         Ok(())

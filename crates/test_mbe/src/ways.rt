@@ -18,7 +18,7 @@ fn ways(alloc: Global, pattern: &str, input: &str) -> Option<usize> {
     }
 }
 
-// The flat place of an input where a pattern stops of which it is no instance.
+// Returns the flat place of an input where a pattern stops of which it is no instance.
 fn stop(alloc: Global, pattern: &str, input: &str) -> Option<usize> {
     let pattern = tree_of(alloc, pattern)?;
     let matcher = Matcher::new(alloc, pattern.token_trees().iter()).ok()?;
@@ -178,7 +178,7 @@ const WAYS: [(&str, &str, usize); 101] = [
     ("$v:vis $x:tt", "pub", 0),
 ];
 
-// Whether each input is an instance in so many ways.
+// Returns whether each input is an instance in so many ways.
 pub(crate) fn are_ways(alloc: Global, rows: &[(&str, &str, usize)]) -> bool {
     for (pattern, input, wanted) in rows {
         if ways(alloc, pattern, input) != Some(*wanted) {
@@ -188,7 +188,7 @@ pub(crate) fn are_ways(alloc: Global, rows: &[(&str, &str, usize)]) -> bool {
     true
 }
 
-// The idents that the variable of that number took, each with a space behind it.
+// Returns the idents that the variable of that number took, each with a space behind it.
 fn idents(alloc: Global, binding: &Binding<'_>, number: usize) -> Option<String> {
     let mut names = String::new(alloc);
     for trees in binding.trees(alloc, number).ok()?.iter() {
@@ -207,7 +207,7 @@ fn ends(alloc: Global, binding: &Binding<'_>, nest: &[usize]) -> Option<Vec<usiz
     }
 }
 
-// Whether these are the idents that the variable took, and the ends of the rounds round it.
+// Returns whether these are the idents that the variable took, and the ends of the rounds round it.
 fn is_bound(
     alloc: Global,
     binding: &Binding<'_>,
@@ -224,7 +224,7 @@ fn is_bound(
     found.as_str() == names && rounds.as_slice() == wanted
 }
 
-// Whether a variable has that name.
+// Returns whether a variable has that name.
 fn is_named(binder: &Binder, name: &str) -> bool {
     match &binder.name {
         Some(text) => text.as_str() == name,
@@ -232,7 +232,7 @@ fn is_named(binder: &Binder, name: &str) -> bool {
     }
 }
 
-// Whether the input is an instance in one way, which binds that to the variable of that name.
+// Returns whether the input is an instance in one way, which binds that to the variable of that name.
 fn binds(
     alloc: Global,
     matcher: &Matcher,
@@ -252,7 +252,7 @@ fn binds(
     false
 }
 
-// The matcher of a text.
+// Returns the matcher of a text.
 fn matcher_of(alloc: Global, pattern: &str) -> Option<Matcher> {
     let pattern = tree_of(alloc, pattern)?;
     Matcher::new(alloc, pattern.token_trees().iter()).ok()

@@ -2,7 +2,7 @@
 use std::alloc::Global;
 use tt::{DelimiterKind, Leaf, Subtree, TokenTree, TopSubtree};
 
-// How a header is written: its bracket, and how many tokens it holds, fewer than 36, as one digit or letter.
+// Returns how a header is written: its bracket, and how many tokens it holds, fewer than 36, as one digit or letter.
 fn push_header(text: &mut String, header: &Subtree) -> Option<()> {
     let bracket = match header.delimiter.kind {
         DelimiterKind::Parenthesis => '(',
@@ -14,7 +14,7 @@ fn push_header(text: &mut String, header: &Subtree) -> Option<()> {
     text.push(char::from_digit(header.len, 36)?).ok()
 }
 
-// How a leaf is written: its text, and a space.
+// Returns how a leaf is written: its text, and a space.
 fn push_leaf(text: &mut String, leaf: &Leaf) -> Option<()> {
     match leaf {
         Leaf::Ident(ident) => text.push_str(ident.sym.as_str()).ok()?,
@@ -24,7 +24,7 @@ fn push_leaf(text: &mut String, leaf: &Leaf) -> Option<()> {
     text.push(' ').ok()
 }
 
-/// The tokens of a tree as a text, its top's header too.
+/// Returns the tokens of a tree as a text, its top's header too.
 pub(crate) fn written(alloc: Global, tree: &TopSubtree) -> Option<String> {
     let mut text = String::new(alloc);
     push_header(&mut text, &tree.top_subtree())?;

@@ -243,7 +243,7 @@ const MORE_ROWS: [(&str, TokenKind, u32); 13] = [
     ),
 ];
 
-// Whether the first token of each text is the one of its row.
+// Returns whether the first token of each text is the one of its row.
 fn are_first(rows: &[(&str, TokenKind, u32)]) -> bool {
     for (text, kind, len) in rows {
         if text.is_empty() || text.len() > MOST_TEXT_BYTES {
@@ -257,7 +257,7 @@ fn are_first(rows: &[(&str, TokenKind, u32)]) -> bool {
     true
 }
 
-// Whether a text is cut into tokens of these lengths.
+// Returns whether a text is cut into tokens of these lengths.
 fn has_lengths(text: &str, lengths: &[u32]) -> bool {
     if text.len() > MOST_TEXT_BYTES {
         return false;

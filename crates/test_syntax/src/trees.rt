@@ -163,7 +163,7 @@ const MANY: [(&str, &str, usize, &str, &str); 8] = [
     ("日 r", "#", 256, "\"", "more than 255 hashes at 4"),
 ];
 
-// Whether each text of many signs is told so; one that is read has an empty answer here.
+// Returns whether each text of many signs is told so; one that is read has an empty answer here.
 fn are_many_told(alloc: Global) -> Result<bool, TtFault> {
     for (before, sign, count, behind, wanted) in &MANY {
         let mut text = String::from_str(alloc, before)?;
@@ -179,7 +179,7 @@ fn are_many_told(alloc: Global) -> Result<bool, TtFault> {
     Ok(true)
 }
 
-// Why the text is refused; empty where it is read.
+// Returns why the text is refused; empty where it is read.
 fn refusal(alloc: Global, text: &str) -> Result<String, TtFault> {
     match read(alloc, text) {
         Ok(_tree) => Ok(String::new(alloc)),
@@ -187,7 +187,7 @@ fn refusal(alloc: Global, text: &str) -> Result<String, TtFault> {
     }
 }
 
-// The tree of the text.
+// Returns the tree of the text.
 fn read(alloc: Global, text: &str) -> Result<TopSubtree, TextFault> {
     let anchor = SpanAnchor {
         file_id: FileId(0),
@@ -196,7 +196,7 @@ fn read(alloc: Global, text: &str) -> Result<TopSubtree, TextFault> {
     parse_to_token_tree(alloc, anchor, SyntaxContext(0), text)
 }
 
-// The Debug of the text's tree, or why it is refused.
+// Returns the Debug of the text's tree, or why it is refused.
 fn told(alloc: Global, text: &str) -> Result<String, TtFault> {
     match read(alloc, text) {
         Ok(tree) => debug_text(alloc, tree.token_trees()),
@@ -204,7 +204,7 @@ fn told(alloc: Global, text: &str) -> Result<String, TtFault> {
     }
 }
 
-// Whether each of the texts is told so.
+// Returns whether each of the texts is told so.
 fn are_told(alloc: Global, rows: &[(&str, &str)]) -> Result<bool, TtFault> {
     for (text, wanted) in rows {
         let found = told(alloc, text)?;
@@ -215,7 +215,7 @@ fn are_told(alloc: Global, rows: &[(&str, &str)]) -> Result<bool, TtFault> {
     Ok(true)
 }
 
-// A test passes where what it asks is so.
+// Returns a test passes where what it asks is so.
 fn holds(is_so: Result<bool, TtFault>) -> Result<(), Fail> {
     match is_so {
         Ok(true) => Ok(()),

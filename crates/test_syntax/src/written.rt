@@ -199,7 +199,7 @@ const MADE: [(&[Part<'static>], &str); 27] = [
     ),
 ];
 
-// The place of all that is made here.
+// Returns the place of all that is made here.
 fn nowhere() -> Span {
     Span {
         range: TextRange::empty(TextSize::new(0)),
@@ -211,7 +211,7 @@ fn nowhere() -> Span {
     }
 }
 
-// The token of a part.
+// Returns the token of a part.
 fn token(alloc: Global, part: Part) -> Result<TokenTree, TtFault> {
     let span = nowhere();
     Ok(match part {
@@ -236,7 +236,7 @@ fn token(alloc: Global, part: Part) -> Result<TokenTree, TtFault> {
     })
 }
 
-// The tree of these parts below an invisible top.
+// Returns the tree of these parts below an invisible top.
 fn made(alloc: Global, parts: &[Part]) -> Result<TopSubtree, TtFault> {
     let mut list = Vec::new(alloc);
     let Ok(len) = u32::try_from(parts.len()) else {
@@ -250,7 +250,7 @@ fn made(alloc: Global, parts: &[Part]) -> Result<TopSubtree, TtFault> {
     Ok(TopSubtree::from_serialized(alloc, list)?)
 }
 
-// The Rust text of a tree, or why it is not written; whether it can be is told alike.
+// Returns the Rust text of a tree, or why it is not written; whether it can be is told alike.
 fn told(alloc: Global, tree: &TopSubtree) -> Result<String, TtFault> {
     match rust_text(alloc, tree.token_trees()) {
         Ok(text) => Ok(text),
@@ -264,7 +264,7 @@ fn told(alloc: Global, tree: &TopSubtree) -> Result<String, TtFault> {
     }
 }
 
-// What is written of the tree of a text.
+// Returns what is written of the tree of a text.
 fn read_and_told(alloc: Global, text: &str) -> Result<String, TtFault> {
     match parse_to_token_tree(alloc, nowhere().anchor, SyntaxContext(0), text) {
         Ok(tree) => told(alloc, &tree),
@@ -272,7 +272,7 @@ fn read_and_told(alloc: Global, text: &str) -> Result<String, TtFault> {
     }
 }
 
-// Whether all trees are written so that are read of texts.
+// Returns whether all trees are written so that are read of texts.
 fn are_read(alloc: Global) -> Result<bool, TtFault> {
     for (text, wanted) in &READ {
         let found = read_and_told(alloc, text)?;
@@ -283,7 +283,7 @@ fn are_read(alloc: Global) -> Result<bool, TtFault> {
     Ok(true)
 }
 
-// Whether all trees are written so that are made of parts.
+// Returns whether all trees are written so that are made of parts.
 fn are_made(alloc: Global) -> Result<bool, TtFault> {
     for (parts, wanted) in &MADE {
         let tree = made(alloc, parts)?;
@@ -295,7 +295,7 @@ fn are_made(alloc: Global) -> Result<bool, TtFault> {
     Ok(true)
 }
 
-// A test passes where what it asks is so.
+// Returns a test passes where what it asks is so.
 fn holds(is_so: Result<bool, TtFault>) -> Result<(), Fail> {
     match is_so {
         Ok(true) => Ok(()),

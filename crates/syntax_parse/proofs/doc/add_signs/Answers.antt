@@ -11,7 +11,7 @@ use Rattle.syntax_parse.specs.Limits.{IsAddFault}
 use Rattle.syntax_parse.specs.Pieces.{signs}
 use Rattle.syntax_parse.specs.Spelled.{all_at, at_span, sign}
 
--- the first sign is refused
+-- the first sign does not fit
 first_fault : (style : DocStyle) (span : Span) (s : Held) (fault : TtFault) → IsAddFault (at_span (sign 35 Alone) span ∷ []) s fault → IsAddFault (all_at span (signs style)) s fault
 first_fault Outer span s fault h = h
 first_fault Inner span s fault h = more_fault (at_span (sign 35 Alone) span ∷ []) (at_span (sign 33 Alone) span ∷ []) s fault h
