@@ -1,4 +1,4 @@
--- Each chunk that marks are written as is one token of the text, so what is written reads back.
+-- Each chunk of written marks is one token of the text, so the text of the trees reads back.
 use Rattle.std.proofs.Common.{◌≡◌, ℕ, Bool, true, false, ◌==◌, List, [], ◌∷◌, ◌++◌, None, Result, Ok, Err, String, Global, refl, sym, ap, ap₂, ◌∙◌, subst, append-nil, if◌then◌else◌}
 use Rattle.std.proofs.lemmas.Bool.{eqb-true}
 use Rattle.std.specs.Prelude.{IfOk, encode_utf8, string_bytes}
@@ -34,7 +34,7 @@ use Rattle.syntax_unparse.proofs.WordFacts.{some_chars}
 use Rattle.syntax_unparse.proofs.Written.{Fits, behind_quote, chunks_of, closing_chunk, fits, gap_if, joined_are, leaf_chunk, lifetime_chunk, match_are, matches, means_are, opening_chunk, quotes, trees_match, word_as}
 use Rattle.syntax_unparse.proofs.Fronts.{closing_is, gap_are, glue_none, glue_other, known_chunk, lifetime_is, literal_known, name_known, opening_front, opening_is, plain_apart, pound_front, quote_next, reads_as, slash_front, stops_apart, text, word_front}
 
--- no punct and what touches it are a comment or a prefix
+-- a punct and what touches it make no comment and no prefix
 punct_apart : (char : ℕ) (spacing : Spacing) (rest : List Mark) → (char == 39) ≡ false → Fits (behind_punct char spacing) rest
     → is_glued char (first (text (chunks_of (behind_punct char spacing) rest))) ≡ false
 punct_apart char spacing rest other f = go (is_alone spacing) refl (char == 47) refl (char == 35) refl
@@ -75,14 +75,14 @@ closing_next Parenthesis chunks = refl
 closing_next Brace chunks = refl
 closing_next Square chunks = refl
 
--- how a punct is read that stands apart
+-- how a punct with a space after it is read
 next_apart : (rest : List Mark) → Fits Apart rest → spacing_before (next_kind (tokens_of (chunks_of Apart rest))) ≡ Alone
 next_apart [] f = refl
 next_apart (word at it ∷ rest) f = refl
 next_apart (opening pair ∷ rest) f = refl
 next_apart (closing pair ∷ rest) f = closing_next pair (chunks_of Apart rest)
 
--- how a punct is read that touches what follows
+-- how a punct that touches what follows is read
 next_touching : (behind : Behind) → quotes behind ≡ false → opens_apart behind ≡ false → ((punct : Punct) → wants_space behind (leaf_of.Punct punct) ≡ false) → (rest : List Mark) → Fits behind rest
     → spacing_before (next_kind (tokens_of (chunks_of behind rest))) ≡ (if joins rest then JointSpacing else Alone)
 next_touching behind q o w [] f = refl
@@ -153,7 +153,7 @@ settled_next char spacing rest other f = go (is_alone spacing) refl (char == 47)
         (λ g. next_touching Joint refl refl (λ punct. refl) rest g)
         ∙ ap (λ b. if b then Alone else (if joins rest then JointSpacing else Alone)) (sym ea)
 
--- a punct, whatever follows it that may
+-- a punct before anything that may follow it
 punct_chunk : (punct : Punct) (rest : List Mark) → (punct.char == 39) ≡ false → ReadsAlone (leaf_of.Punct punct) → Fits (behind_leaf (leaf_of.Punct punct)) rest
     → IsChunk (leaf_chunk (leaf_of.Punct punct) rest) (chunks_of (behind_leaf (leaf_of.Punct punct)) rest)
 punct_chunk punct rest other reads f =
@@ -172,7 +172,7 @@ punct_chunk punct rest other reads f =
       means = λ part at. known.means part (next_kind (tokens_of chunks)) at bytes ∙ ap (λ s. sign punct.char s ∷ []) (settled_next punct.char punct.spacing rest other f);
     }
 
--- a leaf with what follows it
+-- a leaf and what follows it
 word_are : (it : Leaf) (rest : List Mark) → ReadsAlone it → Fits (behind_leaf it) rest → AreChunks (chunks_of (behind_leaf it) rest)
     → AreChunks (word_as it rest (chunks_of Quote rest) (chunks_of (behind_leaf it) rest))
 word_are (leaf_of.Ident ident) rest reads f inner =
@@ -214,7 +214,7 @@ chunks_are Slash (word at it ∷ rest) f =
 chunks_are Pound (word at it ∷ rest) f =
     gap_are (wants_space Pound it) (word_as it rest (chunks_of Quote rest) (chunks_of (behind_leaf it) rest)) (word_are it rest f.1 f.2 (chunks_are (behind_leaf it) rest f.2)) (word_front it rest f.1 f.2)
 
--- what is written of writable trees reads back
+-- the text of writable trees reads back
 pub reads_back : (trees : Forest) → IsWritable trees → ReadsBack trees (text_of trees)
 reads_back trees writable =
     let f = fits 0 Opening (marks 0 trees) writable in

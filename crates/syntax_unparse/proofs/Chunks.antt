@@ -1,4 +1,4 @@
--- A text that is made of chunks, each of which is one token of it.
+-- A text made of chunks. Each chunk is one token of it.
 use Rattle.std.proofs.Common.{◌≡◌, ◌≢◌, ℕ, ◌+◌, ◌-◌, Bool, true, false, List, [], ◌∷◌, ◌++◌, length, take, drop, Option, None, Ok, Err, refl, sym, ap, ap₂, ◌∙◌, subst, arith, length-append, if◌then◌else◌}
 use Rattle.std.proofs.lemmas.Bool.{false≢true}
 use Rattle.std.proofs.Math.Seq.{drop-append_seam, take-append_seam}
@@ -24,29 +24,29 @@ use Rattle.syntax_parse.specs.declared.role.Role.{Role}
 use Rattle.syntax_parse.specs.declared.role.Role.TheVariants.{Bad, Nothing, Opens, Closes, Leaf}
 use Rattle.syntax_unparse.specs.Settled.{sorts}
 
--- a part of a text that is one token: its text, its kind, its role, and what it is read as
+-- a part of a text that is one token: its text, its kind, its role and its meaning
 pub record Chunk : Type 0 where
   pub text : List ℕ
   pub kind : TokenKind
   pub role : Role
   pub means : List Sort
 
--- the text that chunks make up
+-- the text of chunks
 abbrev pub joined : List Chunk → List ℕ
 joined [] = []
 joined (chunk ∷ chunks) = chunk.text ++ joined chunks
 
--- the tokens that they are
+-- the tokens of chunks
 abbrev pub tokens_of : List Chunk → List Token
 tokens_of [] = []
 tokens_of (chunk ∷ chunks) = record { kind = chunk.kind; len = length chunk.text } ∷ tokens_of chunks
 
--- what they are read as
+-- the meaning of chunks
 abbrev pub means_of : List Chunk → List Sort
 means_of [] = []
 means_of (chunk ∷ chunks) = chunk.means ++ means_of chunks
 
--- the chunk is the first token, and means what it says, before the others
+-- the chunk is the first token before the others, and has the meaning that it gives
 pub record IsChunk (chunk : Chunk) (chunks : List Chunk) : Type 0 where
   pub utf8 : IsUtf8 chunk.text
   pub some : chars chunk.text ≢ []
@@ -74,7 +74,7 @@ not_empty : (xs ys : List ℕ) → xs ≢ [] → xs ++ ys ≢ []
 not_empty [] ys some e = some refl
 not_empty (x ∷ xs) ys some e = cc
 
--- the first token of a text of which this is read
+-- the first token of a text with this reading
 token_is : (text : List ℕ) (kind : TokenKind) (left : List ℕ) → reading text ≡ (kind, left) → first_token_of text ≡ record { kind = kind; len = byte_length text - byte_length left }
 unfolding first_token_of
 token_is text kind left h = ap₂ (λ k l. record { kind = k; len = byte_length text - byte_length l }) (ap (λ p. p.0) h) (ap (λ p. p.1) h)
@@ -99,7 +99,7 @@ sorts-append : (xs ys : List Piece) → sorts (xs ++ ys) ≡ sorts xs ++ sorts y
 sorts-append [] ys = refl
 sorts-append (x ∷ xs) ys = ap (λ t. x.sort ∷ t) (sorts-append xs ys)
 
--- the pieces of chunks are what these mean
+-- the pieces of chunks are their meaning
 pub pieces_are : (part : SpanPart) (at : ℕ) (chunks : List Chunk) → AreChunks chunks → sorts (pieces_from part at (joined chunks) (tokens_of chunks)) ≡ means_of chunks
 pieces_are part at [] are = refl
 pieces_are part at (chunk ∷ chunks) are =
@@ -110,7 +110,7 @@ pieces_are part at (chunk ∷ chunks) are =
     ∙ ap (λ t. sorts (pieces_of part chunk.kind (next_kind (tokens_of chunks)) at chunk.text) ++ sorts (pieces_from part (at + n) t (tokens_of chunks))) (drop-append_seam chunk.text rest)
     ∙ ap₂ (λ a b. a ++ b) (are.0.means part at) (pieces_are part (at + n) chunks are.1)
 
--- what holds of the brackets that are open behind a chunk of a role, if it can stand there
+-- what holds of the open brackets after a chunk of a role; false if the chunk cannot be there
 abbrev pub match_as : List Bracket → Role → (List Bracket → Bool) → Bool
 match_as before (Bad why) behind = false
 match_as before Nothing behind = behind before
@@ -119,7 +119,7 @@ match_as before (Opens pair) behind = behind (pair ∷ before)
 match_as [] (Closes pair) behind = false
 match_as (last ∷ before) (Closes pair) behind = if same_bracket last pair then behind before else false
 
--- whether the brackets of chunks match, where these are open, innermost first
+-- whether the brackets of chunks match, if these are open, innermost first
 abbrev pub match : List Bracket → List Chunk → Bool
 match [] [] = true
 match (last ∷ before) [] = false
@@ -130,7 +130,7 @@ abbrev pub brackets : List Open → List Bracket
 brackets [] = []
 brackets (it ∷ before) = it.bracket ∷ brackets before
 
--- where brackets match, there is no fault
+-- if brackets match, there is no fault
 pub no_fault : (before : List Open) (at : ℕ) (chunks : List Chunk) → AreChunks chunks → match (brackets before) chunks ≡ true
     → fault_from before at (joined chunks) (tokens_of chunks) ≡ None
 no_fault [] at [] are h = refl

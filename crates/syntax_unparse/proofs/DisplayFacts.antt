@@ -1,4 +1,4 @@
--- The Rust text of trees is that of Display where no space stands otherwise.
+-- The Rust text of trees is that of Display if both have the same spaces.
 use Rattle.std.proofs.Common.{codes, ◌≡◌, ℕ, ◌+◌, Bool, true, false, ◌==◌, ◌&&◌, IsTrue, List, [], ◌∷◌, ◌++◌, None, Some, refl, sym, ap, ap₂, subst, inl, inr, ◌∙◌, append_assoc, append-nil, if◌then◌else◌}
 use Rattle.std.proofs.lemmas.Bool.{false≢true}
 use Rattle.tt_base.specs.Forest.{Forest, end, leaf, node, size}
@@ -19,7 +19,7 @@ use Rattle.syntax_unparse.specs.Text.{behind_leaf, opens_apart, text_of, wants_s
 use Rattle.syntax_unparse.specs.declared.behind.Behind.{Behind}
 use Rattle.syntax_unparse.specs.declared.behind.Behind.TheVariants.{Opening, Apart, Joint, Slash, Pound, Quote}
 
--- a leaf has a space before it where a subtree has one
+-- a leaf has a space before it if a subtree there has one
 space_same : (behind : Behind) (it : Leaf) → touches_pound behind it ≡ false → wants_space behind it ≡ opens_apart behind
 space_same Opening it h = refl
 space_same Apart it h = refl
@@ -28,7 +28,7 @@ space_same Slash it h = refl
 space_same Pound it h = h
 space_same Quote it h = refl
 
--- and behind it where Display has one
+-- and a space after it if Display has one
 after_same : (it : Leaf) → is_lone_quote it ≡ false → opens_apart (behind_leaf it) ≡ space_after is_alone it
 after_same (leaf_of.Literal literal) h = refl
 after_same (leaf_of.Ident ident) h = refl

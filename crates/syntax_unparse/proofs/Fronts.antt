@@ -1,4 +1,4 @@
--- Chunks, each with what stands behind it: how it begins, and that it is one token.
+-- Chunks and what follows each: its first character, and that the chunk is one token.
 use Rattle.std.proofs.Common.{◌≡◌, ℕ, ◌<◌, Bool, true, false, ◌==◌, ◌||◌, ◌&&◌, IsTrue, inl, inr, List, [], ◌∷◌, ◌++◌, length, Option, Some, refl, sym, ap, ap₂, ◌∙◌, subst, arith, if◌then◌else◌}
 use Rattle.std.proofs.lemmas.Bool.{false≢true, ne_eqb, or_parts}
 use Rattle.std.proofs.lemmas.Str.{chars-IsAscii, chars-append, chars-nil, IsUtf8-from_ascii}
@@ -54,7 +54,7 @@ not_nil c cs k = cc
 abbrev pub text : List Chunk → List ℕ
 text chunks = chars (joined chunks)
 
--- what is written behind a leaf or a closing bracket begins with a stop
+-- the text after a leaf or a closing bracket begins with a stop
 pub stops_apart : (ms : List Mark) → Fits Apart ms → Stops (text (chunks_of Apart ms))
 stops_apart [] f = subst Stops (sym chars-nil) tt
 stops_apart (word at it ∷ rest) f = subst Stops (sym (ascii_first 32 (joined (word_as it rest (chunks_of Quote rest) (chunks_of (behind_leaf it) rest))) (omega arith))) refl
@@ -68,7 +68,7 @@ pub plain_apart : (cs : List ℕ) → Stops cs → IsPlain (first cs)
 plain_apart [] stops = plain_null
 plain_apart (c ∷ cs) stops = plain_stop c stops
 
--- a space before what does not begin with one
+-- a space before a text that does not begin with one
 pub gap_are : (due : Bool) (chunks : List Chunk) → AreChunks chunks → is_whitespace (first (text chunks)) ≡ false → AreChunks (gap_if due chunks)
 gap_are false chunks are front = are
 gap_are true chunks are front = (
@@ -115,7 +115,7 @@ opening_front Parenthesis chunks = ap (λ t. is_whitespace (first t)) (ascii_fir
 opening_front Brace chunks = ap (λ t. is_whitespace (first t)) (ascii_first 123 (joined chunks) (omega arith))
 opening_front Square chunks = ap (λ t. is_whitespace (first t)) (ascii_first 91 (joined chunks) (omega arith))
 
--- what is known of a name's token
+-- facts about the token of a name
 pub record IsName (kind : TokenKind) (bytes : List ℕ) (sort : Sort) : Type 0 where
   pub ended : is_ended kind ≡ true
   pub wordy : is_wordy kind ≡ true
@@ -177,13 +177,13 @@ lifetime_is ident chunks makes (inr reads) stops = record {
         (λ digit fine. ap (λ r. sorts (pieces_as r part (kinds.Lifetime digit) next at (39 ∷ ident_text ident))) fine ∙ ap (λ s. sign 39 JointSpacing ∷ s ∷ []) same)
         (λ fine. ap (λ r. sorts (pieces_as r part kinds.RawLifetime next at (39 ∷ ident_text ident))) fine ∙ ap (λ s. sign 39 JointSpacing ∷ s ∷ []) same) is
 
--- the first character of what begins with a leaf that reads alone
+-- the first character of a text that begins with a leaf that reads alone
 pub leaf_front : (it : Leaf) (rest : List Mark) (chunks : List Chunk) → IsOneToken (leaf_text it) → first (text (leaf_chunk it rest ∷ chunks)) ≡ first (chars (leaf_text it))
 leaf_front it rest chunks one =
     let whole = read_whole (leaf_text it) one in
     ap first (chars-append (leaf_text it) (joined chunks) one.utf8 ∙ ap (λ t. t ++ text chunks) whole.are) ∙ ap first (sym whole.are)
 
--- the first character behind a `'` that was written last is the `'`
+-- the first character after a `'` that was written last is the `'`
 pub quote_front : (rest : List Mark) → Fits Quote rest → first (text (chunks_of Quote rest)) ≡ 39
 quote_front [] f = absurd f
 quote_front (word at (leaf_of.Ident ident) ∷ rest) f = ap first (ascii_first 39 (ident_text ident ++ joined (chunks_of Apart rest)) (omega arith))
@@ -201,7 +201,7 @@ quote_next (word at (leaf_of.Punct punct) ∷ rest) f = absurd f.0
 quote_next (opening pair ∷ rest) f = absurd f.0
 quote_next (closing pair ∷ rest) f = absurd f.0
 
--- what is read alone and is no `'`
+-- a leaf that reads alone and is no `'`
 pub reads_as : (it : Leaf) → is_punct 39 it ≡ false → ReadsAlone it → ReadsAs (leaf_text it) it
 reads_as it other (inl quote) = absurd (false≢true (sym other ∙ quote))
 reads_as it other (inr reads) = reads

@@ -1,4 +1,4 @@
--- What the kinds of tokens mean that leaves are written as.
+-- What the kinds of tokens that leaves are written as mean.
 use Rattle.std.proofs.Common.{◌≡◌, ℕ, zero, suc, ◌<◌, Bool, true, false, ◌==◌, IsTrue, List, [], ◌∷◌, Option, None, Some, refl, subst, arith}
 use Rattle.std.proofs.lemmas.Bool.{false≢true}
 use Rattle.std.proofs.lemmas.Str.{chars-IsAscii, encode_ascii, IsUtf8-from_ascii}
@@ -113,7 +113,7 @@ lifetime_cases P kinds.Slash a b h = absurd (false≢true h)
 lifetime_cases P kinds.Caret a b h = absurd (false≢true h)
 lifetime_cases P kinds.Percent a b h = absurd (false≢true h)
 
--- what is known of a punct and its character
+-- facts about a punct and its character
 pub record IsPunct (kind : TokenKind) (c : ℕ) : Type 0 where
   pub sign : is_sign c ≡ true
   pub symbol : symbol_of c ≡ kind
@@ -211,7 +211,7 @@ punct_37 : IsPunct kinds.Percent 37
 unfolding symbol_of
 punct_37 = record { sign = refl; symbol = refl; role = λ text. refl; means = λ part next at text. refl; joint = refl; no_quote = refl; no_string = refl; no_space = refl; bytes = encode_ascii 37 (omega arith); utf8 = IsUtf8-from_ascii (37 ∷ []) (ascii_one 37 (omega arith)); chars = chars-IsAscii (37 ∷ []) (ascii_one 37 (omega arith)) }
 
--- a punct's kind tells its character
+-- a punct's kind determines its character
 pub punct_known : (kind : TokenKind) (c : ℕ) → punct_char kind ≡ Some c → IsPunct kind c
 punct_known (kinds.LineComment doc) c h = absurd (cc)
 punct_known (kinds.BlockComment doc terminated) c h = absurd (cc)
@@ -259,7 +259,7 @@ bad_stays : (why : BadToken) (inside : Option BadToken) → with_inside (Bad why
 bad_stays why None h = cc
 bad_stays why (Some other) h = cc
 
--- a literal that stands for a leaf is closed
+-- a literal that means a leaf is closed
 pub closed_leaf : (kind : LiteralKind) (text : List ℕ) (inside : Option BadToken) → with_inside (literal_role kind text) inside ≡ Leaf → is_closed kind ≡ true
 closed_leaf (literals.Int base empty) text inside h = refl
 closed_leaf (literals.Float base empty) text inside h = refl
@@ -280,7 +280,7 @@ closed_leaf (literals.RawByteStr None) text inside h = absurd (bad_stays _ insid
 closed_leaf (literals.RawCStr (Some hashes)) text inside h = refl
 closed_leaf (literals.RawCStr None) text inside h = absurd (bad_stays _ inside h)
 
--- what means a literal is one
+-- a token that means a literal is one
 pub literal_cases : (P : TokenKind → Type 0) (kind : TokenKind) (text : List ℕ) (literal : Literal) → ((it : LiteralKind) → (start : ℕ) → P (kinds.Literal it start)) → MeansLiteral kind text literal → P kind
 literal_cases P (kinds.LineComment doc) text literal a h = absurd h
 literal_cases P (kinds.BlockComment doc terminated) text literal a h = absurd h

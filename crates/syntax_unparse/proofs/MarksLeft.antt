@@ -1,4 +1,4 @@
--- The marks that levels have still to give, the innermost level first.
+-- The marks that levels have left, the innermost level first.
 use Rattle.std.proofs.Common.{◌≡◌, ◌+◌, ℕ, suc, List, [], ◌∷◌, ◌++◌, Option, Some, None, ap, ap₂, sym, ◌∙◌, append_assoc, arith}
 use Rattle.tt_base.specs.Forest.{Forest, end, leaf, node, size}
 use Rattle.tt_base.specs.Moves.{after_tree}
@@ -12,7 +12,7 @@ use Rattle.syntax_unparse.specs.Marks.{Mark, word, opens, closes, brackets_of, m
 use Rattle.syntax_unparse.specs.declared.write.Level.{Level}
 use Rattle.syntax_unparse.proofs.ShownLeft.{size_end, size_leaf, size_subtree}
 
--- the marks of what is left of levels, where the next token has a place, and what closes each
+-- the marks of the rest of levels, whose next token has place `at`, and the closing of each level
 abbrev pub marks_left : (at : ℕ) → List Level → List Mark
 marks_left at [] = []
 marks_left at (level ∷ outer) = marks at (rest_of level.rest) ++ (closes level.brackets ++ marks_left (at + size (rest_of level.rest)) outer)
@@ -22,7 +22,7 @@ abbrev pub tokens_left : List Level → ℕ
 tokens_left [] = 0
 tokens_left (level ∷ outer) = size (rest_of level.rest) + tokens_left outer
 
--- At the end of a level, what closes it comes next.
+-- At the end of a level, its closing comes next.
 pub marks_ended : (at : ℕ) (level : Level) (outer : List Level) → IsFirstElement (rest_of level.rest) None
     → marks_left at (level ∷ outer) ≡ closes level.brackets ++ marks_left at outer
 marks_ended at level outer none = by (rest_of level.rest) none
@@ -58,7 +58,7 @@ regrouped : (a b c d e : List Mark) → (a ++ (b ++ (c ++ d))) ++ e ≡ a ++ (b 
 regrouped a b c d e =
     append_assoc a (b ++ (c ++ d)) e ∙ ap (λ t. a ++ t) (append_assoc b (c ++ d) e ∙ ap (λ t. b ++ t) (append_assoc c d e))
 
--- A subtree comes first: what opens it, then what it holds.
+-- A subtree comes first: its opening, then its children.
 pub marks_subtree : (at : ℕ) (level next below : Level) (outer : List Level) (subtree : Subtree) (children : TtIter)
     → IsFirstElement (rest_of level.rest) (Some (element.Subtree subtree children)) → rest_of next.rest ≡ after_tree (rest_of level.rest) → next.brackets ≡ level.brackets
     → below.rest ≡ children → below.brackets ≡ brackets_of subtree.delimiter.kind (shown (rest_of children))
@@ -91,14 +91,14 @@ pub tokens_leaf : (at tokens : ℕ) (level next : Level) (outer : List Level) (f
 tokens_leaf at tokens level next outer found first rest count =
     omega (arith, count, size_leaf (rest_of level.rest) found first, ap size rest)
 
--- A subtree is its header, what it holds and what follows.
+-- A subtree is its header, its children and what follows.
 pub tokens_subtree : (at tokens : ℕ) (level next below : Level) (outer : List Level) (subtree : Subtree) (children : TtIter)
     → IsFirstElement (rest_of level.rest) (Some (element.Subtree subtree children)) → rest_of next.rest ≡ after_tree (rest_of level.rest) → below.rest ≡ children
     → at + tokens_left (level ∷ outer) ≡ tokens → (at + 1) + tokens_left (below ∷ next ∷ outer) ≡ tokens
 tokens_subtree at tokens level next below outer subtree children first rest held count =
     omega (arith, count, size_subtree (rest_of level.rest) subtree children first, ap size rest, ap (λ iter. size (rest_of iter)) held)
 
--- At its end a level has none.
+-- At its end a level has no tokens left.
 pub tokens_ended : (at tokens : ℕ) (level : Level) (outer : List Level) → IsFirstElement (rest_of level.rest) None
     → at + tokens_left (level ∷ outer) ≡ tokens → at + tokens_left outer ≡ tokens
 tokens_ended at tokens level outer none count = omega (arith, count, size_end (rest_of level.rest) none)

@@ -1,4 +1,4 @@
--- Trees that are not written have one fault, but for want of memory.
+-- Trees that cannot be written have one fault, unless memory runs out.
 use Rattle.std.proofs.Common.{◌≡◌, ◌≢◌, ℕ, ◌+◌, ◌^◌, ◌<◌, List, [], ◌∷◌, length, Option, None, Some, refl, sym, ◌∙◌, inl, inr, arith}
 use Rattle.tt_base.specs.Forest.{Forest}
 use Rattle.syntax_unparse.specs.Marks.{Mark, word, opening, closing, marks}

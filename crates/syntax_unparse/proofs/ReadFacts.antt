@@ -1,4 +1,4 @@
--- What the one token of a text is.
+-- The one token of a text.
 use Rattle.std.proofs.Common.{◌≡◌, ℕ, ◌<◌, List, [], ◌∷◌, length, take, refl, sym, ap, ◌∙◌, subst, arith}
 use Rattle.std.proofs.Math.Seq.{take-length}
 use Rattle.std.proofs.lemmas.Str.{chars-nil}
@@ -16,7 +16,7 @@ no_token : (text : List ℕ) → role_in (first_token_of []).kind text ≡ Leaf 
 unfolding first_token_of reading
 no_token text h = cc
 
--- so the text of one is not empty
+-- so the text of one token is not empty
 pub some_token : (text : List ℕ) → IsOneToken text → 0 < length text
 some_token [] one = absurd (no_token [] (ap (λ t. role_in (first_token_of t).kind []) (sym chars-nil) ∙ one.fine))
 some_token (byte ∷ bytes) one = omega arith

@@ -1,4 +1,4 @@
--- A text that reads back as trees is read in no other way.
+-- A text that reads back as trees has no other reading.
 use Rattle.std.proofs.Common.{◌≡◌, ℕ, List, [], Option, None, Some, sym, ap, ◌∙◌}
 use Rattle.std.specs.Str.{chars}
 use Rattle.tt_base.specs.Forest.{Forest, Root}

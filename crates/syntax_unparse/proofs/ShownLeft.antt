@@ -1,4 +1,4 @@
--- The trees that levels have still to show, the innermost level first.
+-- The trees that levels still show, the innermost level first.
 use Rattle.std.proofs.Common.{◌≡◌, ◌+◌, ℕ, suc, Bool, true, false, List, [], ◌∷◌, Some, None, refl, ap, ap₂, sym}
 use Rattle.tt_base.specs.Forest.{Forest, end, leaf, node, size}
 use Rattle.tt_base.specs.Moves.{after_tree}
@@ -24,20 +24,20 @@ abbrev pub tokens_in : List TtIter → ℕ
 tokens_in [] = 0
 tokens_in (level ∷ outer) = size (rest_of level) + tokens_in outer
 
--- a leaf shows
+-- a leaf shows one tree
 pub shown_leaf : (trees : Forest) (found : Leaf) → IsFirstElement trees (Some (element.Leaf found)) → shown trees ≡ suc (shown (after_tree trees))
 shown_leaf end found p = absurd p
 shown_leaf (leaf it rest) found p = refl
 shown_leaf (node delimiter children rest) found p = absurd p
 
--- a subtree shows what it stands for
+-- a subtree shows the trees that it counts as
 pub shown_subtree : (trees : Forest) (subtree : Subtree) (below : TtIter) → IsFirstElement trees (Some (element.Subtree subtree below))
     → shown trees ≡ stands_for subtree.delimiter.kind (shown (rest_of below)) + shown (after_tree trees)
 shown_subtree end subtree below p = absurd p
 shown_subtree (leaf it rest) subtree below p = absurd p
 shown_subtree (node delimiter children rest) subtree below p = ap₂ (λ d held. stands_for d.kind (shown held) + shown rest) (sym p.0) (sym p.2)
 
--- nothing is left
+-- an end shows nothing
 pub shown_end : (trees : Forest) → IsFirstElement trees None → shown trees ≡ 0
 shown_end end p = refl
 shown_end (leaf it rest) p = absurd p
@@ -49,14 +49,14 @@ size_leaf end found p = absurd p
 size_leaf (leaf it rest) found p = refl
 size_leaf (node delimiter children rest) found p = absurd p
 
--- A subtree is its header, what it holds and what follows.
+-- A subtree is its header, its children and what follows.
 pub size_subtree : (trees : Forest) (subtree : Subtree) (below : TtIter) → IsFirstElement trees (Some (element.Subtree subtree below))
     → size trees ≡ suc (size (rest_of below) + size (after_tree trees))
 size_subtree end subtree below p = absurd p
 size_subtree (leaf it rest) subtree below p = absurd p
 size_subtree (node delimiter children rest) subtree below p = ap (λ held. suc (size held + size rest)) (sym p.2)
 
--- Nothing is no token.
+-- An end has no tokens.
 pub size_end : (trees : Forest) → IsFirstElement trees None → size trees ≡ 0
 size_end end p = refl
 size_end (leaf it rest) p = absurd p

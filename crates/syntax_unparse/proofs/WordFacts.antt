@@ -25,7 +25,7 @@ use Rattle.syntax_parse.specs.declared.role.Role.TheVariants.{Leaf}
 use Rattle.syntax_unparse.specs.Text.{is_quote}
 use Rattle.syntax_unparse.specs.Writable.{IsOneToken, first_kind, is_name}
 
--- what takes no bytes is nothing
+-- a list of characters without bytes is empty
 no_bytes : (cs : List ℕ) → byte_length cs ≡ 0 → cs ≡ []
 no_bytes [] h = refl
 no_bytes (c ∷ cs) h = absurd (omega (arith, h, byte_length-cons c cs, encode_utf8_nonempty c))
@@ -57,14 +57,14 @@ read_whole text one = go (chars text) refl
         let kind : (reading (c ∷ cs)).0 ≡ first_kind text = sym (ap (λ t. (first_token_of t).kind) e ∙ kind_is (c ∷ cs)) in
         record { c = c; cs = cs; are = e; read = ap₂ (λ k l. (k, l)) kind (no_bytes (reading (c ∷ cs)).1 left) }
 
--- it is no empty text
+-- the text of one token is not empty
 pub some_chars : (text : List ℕ) → IsOneToken text → chars text ≢ []
 some_chars text one e = let it = read_whole text one in absurd (not_empty it.c it.cs (sym it.are ∙ e))
   where
     not_empty : (c : ℕ) (cs : List ℕ) → ◌≡◌ {A = List ℕ} (c ∷ cs) [] → ⊥
     not_empty c cs k = cc
 
--- it is read so before a stop
+-- the text is read the same before a stop
 pub ends_before : (text rest : List ℕ) → IsOneToken text → is_ended (first_kind text) ≡ true → Stops rest → reading (chars text ++ rest) ≡ (first_kind text, rest)
 ends_before text rest one ended stops =
     let it = read_whole text one in
@@ -95,7 +95,7 @@ is_wordy kinds.RawIdent = true
 is_wordy (kinds.Literal kind start) = true
 is_wordy _ = false
 
--- no word begins so
+-- no word begins with `/` and these characters
 pub not_slash : (cs : List ℕ) → is_wordy (reading (47 ∷ cs)).0 ≡ false
 unfolding reading reading_of opening symbol
 not_slash cs = go (first cs == 47) refl (first cs == 42) refl
@@ -127,7 +127,7 @@ not_hash cs = go (is_glued 35 (first cs)) refl
 pub not_star : (cs : List ℕ) → is_wordy (reading (42 ∷ cs)).0 ≡ false
 not_star cs = ap (λ p. is_wordy p.0) (sign_read 42 cs refl refl) ∙ star_is
 
--- a character with which no word begins is not its first
+-- a character that begins no word is not its first
 pub begins_not : (n : ℕ) → ((cs : List ℕ) → is_wordy (reading (n ∷ cs)).0 ≡ false) → (text : List ℕ) → IsOneToken text → is_wordy (first_kind text) ≡ true → (first (chars text) == n) ≡ false
 begins_not n none text one wordy =
     let it = read_whole text one in

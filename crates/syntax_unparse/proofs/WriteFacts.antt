@@ -1,4 +1,4 @@
--- What is written is the text of marks, as long as all of them can be written.
+-- The written text is that of the marks, as long as all of them can be written.
 use Rattle.std.proofs.Common.{◌≡◌, ℕ, ◌≤◌, inl, inr, List, [], ◌∷◌, ◌++◌, length, Option, None, Some, refl, ap, sym, ◌∙◌, subst, append_assoc, length-append, arith}
 use Rattle.tt_base.specs.Forest.{Forest}
 use Rattle.tt_base.specs.LeafText.{leaf_text}
@@ -16,7 +16,7 @@ use Rattle.syntax_unparse.specs.declared.fault.WriteFault.TheVariants.{NotWritab
 use Rattle.syntax_unparse.specs.declared.behind.Behind.TheVariants.{Opening, Apart}
 use Rattle.syntax_unparse.specs.declared.write.Last.{Last}
 
--- what refuses the marks behind a leaf refuses that leaf and them
+-- a fault of the marks after a leaf is a fault of that leaf and them
 leaf_refused : (before refused : Option ℕ) (last at : ℕ) (behind : Behind) (it : Leaf) (rest : List Mark) (answer : Option ℕ) → IsLeafRefused before last behind at it refused
     → IsRefused refused at (behind_leaf it) rest answer → IsRefused before last behind (word at it ∷ rest) answer
 leaf_refused (Some place) refused last at behind it rest answer is h = subst (λ r. IsRefused r at (behind_leaf it) rest answer) is h
@@ -24,7 +24,7 @@ leaf_refused None refused last at behind it rest answer (inl (follows, inl (read
 leaf_refused None refused last at behind it rest answer (inl (follows, inr (never, is))) h = inl (follows, inr (never, subst (λ r. IsRefused r at (behind_leaf it) rest answer) is h))
 leaf_refused None refused last at behind it rest answer (inr (never, is)) h = inr (never, subst (λ r. IsRefused r at (behind_leaf it) rest answer) is h)
 
--- what refuses the marks behind a bracket refuses what stands before it and them
+-- a fault of the marks after a bracket is a fault of what precedes it and them
 opening_refused : (before refused : Option ℕ) (last : ℕ) (behind : Behind) (pair : Bracket) (rest : List Mark) (answer : Option ℕ) → IsRefused before last behind [] refused
     → IsRefused refused last Opening rest answer → IsRefused before last behind (opening pair ∷ rest) answer
 opening_refused (Some place) refused last behind pair rest answer is h = subst (λ r. IsRefused r last Opening rest answer) is h
@@ -70,13 +70,13 @@ writes_closing old new last bracket refused is wrote = record {
   refused = λ rest answer h. closing_refused last.refused refused last.at last.behind bracket rest answer is h;
 }
 
--- what follows makes a text no shorter
+-- more marks make a text no shorter
 pub leaf_within : (last : Last) (at : ℕ) (it : Leaf) (rest : List Mark) → length (leaf_text it) ≤ length (written last.behind (word at it ∷ rest))
 leaf_within last at it rest =
     let space = space_if (wants_space last.behind it) in
     omega (arith, length-append space (leaf_text it), length-append (space ++ leaf_text it) (written (behind_leaf it) rest))
 
--- so much of trees is written, and these marks are left
+-- this much of trees is written, and these marks are left
 pub record IsWrittenTo (trees : Forest) (bytes : List ℕ) (last : Last) (left : List Mark) : Type 0 where
   pub text : bytes ++ written last.behind left ≡ text_of trees
   pub refused : (answer : Option ℕ) → Refusing last left answer → Refuses trees answer
@@ -89,7 +89,7 @@ goes_on trees old new last next left front rest are wrote before = record {
   refused = λ answer h. before.refused answer (subst (λ ms. Refusing last ms answer) (sym are) (wrote.refused rest answer h));
 }
 
--- what refuses the next marks refuses the trees
+-- a fault of the next marks is a fault of the trees
 pub fault_in : (trees : Forest) (old : List ℕ) (last : Last) (left front rest : List Mark) (fault : WriteFault) → left ≡ front ++ rest → IsFaultBefore last front fault
     → IsWrittenTo trees old last left → IsWriteFault trees fault
 fault_in trees old last left front rest (NotWritable at) are why before = absurd why

@@ -1,4 +1,4 @@
--- The chunks that marks are written as.
+-- The chunks that write marks.
 use Rattle.std.proofs.Common.{◌≡◌, ℕ, ◌+◌, Bool, true, false, ◌==◌, inl, inr, List, [], ◌∷◌, ◌++◌, Option, None, Some, refl, sym, ap, ap₂, ◌∙◌, subst, arith, append_assoc, if◌then◌else◌}
 use Rattle.std.proofs.lemmas.Bool.{eqb-true, false≢true}
 use Rattle.std.proofs.lemmas.Str.{encode_ascii}
@@ -31,7 +31,7 @@ Fits behind (word at it ∷ rest) = MayFollow behind it × ReadsAlone it × Fits
 Fits behind (opening pair ∷ rest) = MayEnd behind × Fits Opening rest
 Fits behind (closing pair ∷ rest) = MayEnd behind × Fits Apart rest
 
--- where no leaf is refused, all fit
+-- if no leaf is refused, all marks fit
 pub fits : (last : ℕ) (behind : Behind) (ms : List Mark) → IsFirstRefused last behind ms None → Fits behind ms
 fits last behind [] (inl h) = h.0
 fits last behind [] (inr h) = absurd (cc)
@@ -75,12 +75,12 @@ leaf_chunk it rest = record { text = leaf_text it; kind = first_kind (leaf_text 
 abbrev pub lifetime_chunk : Leaf → Chunk
 lifetime_chunk it = record { text = 39 ∷ leaf_text it; kind = first_kind (39 ∷ leaf_text it); role = roles.Leaf; means = sign 39 JointSpacing ∷ sort_of it ∷ [] }
 
--- whether a `'` was written last, which is written with its name
+-- whether a `'` was written last; it is written with its name
 abbrev pub quotes : Behind → Bool
 quotes Quote = true
 quotes _ = false
 
--- a leaf with what follows it, which stands behind a `'` in the first place and behind any other leaf in the second
+-- a leaf and what follows it: `quoted` after a `'`, and `plain` after any other leaf
 abbrev pub word_as : Leaf → List Mark → (quoted plain : List Chunk) → List Chunk
 word_as it rest quoted plain = if is_punct 39 it then quoted else leaf_chunk it rest ∷ plain
 
@@ -101,7 +101,7 @@ gap_joined : (due : Bool) (chunks : List Chunk) → joined (gap_if due chunks) �
 gap_joined true chunks = refl
 gap_joined false chunks = refl
 
--- behind a `'` stands its name, and behind no other leaf does one
+-- the name of a lifetime follows a `'`, and no other leaf
 pub behind_quote : (it : Leaf) → is_punct 39 it ≡ true → behind_leaf it ≡ Quote
 behind_quote (leaf_of.Punct punct) h = rw h refl
 behind_quote (leaf_of.Literal literal) h = absurd (false≢true h)
@@ -231,7 +231,7 @@ means_are Pound (word at it ∷ rest) f =
 means_are Pound (opening pair ∷ rest) f = gap_means (opens_apart Pound) (opening_chunk pair ∷ chunks_of Opening rest) ∙ ap (λ t. opening_sort (kind_of pair) ∷ t) (means_are Opening rest f.1)
 means_are Pound (closing pair ∷ rest) f = ap (λ t. closing_sort (kind_of pair) ∷ t) (means_are Apart rest f.1)
 
--- whether the brackets of marks match, where these are open, innermost first
+-- whether the brackets of marks match, if these are open, innermost first
 abbrev pub matches : List Bracket → List Mark → Bool
 matches [] [] = true
 matches (last ∷ before) [] = false
@@ -255,7 +255,7 @@ word_match before it rest plain = go before (is_punct 39 it) refl plain
     go [] false e h = rw e h
     go (last ∷ before) false e h = rw e h
 
--- the brackets of chunks match where those of the marks do
+-- the brackets of chunks match if those of the marks do
 pub match_are : (before : List Bracket) (behind : Behind) (ms : List Mark) → match before (chunks_of behind ms) ≡ matches before ms
 match_are [] behind [] = refl
 match_are (last ∷ before) behind [] = refl

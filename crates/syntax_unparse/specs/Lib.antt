@@ -1,4 +1,4 @@
--- What is written of token trees, and which can be written.
+-- The text of token trees, and which trees have one.
 pub mod Marks
 pub mod Text
 pub mod Writable

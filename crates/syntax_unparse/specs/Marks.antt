@@ -1,4 +1,4 @@
--- What is written of trees: leaves and brackets, in order.
+-- The marks of trees: leaves and brackets, in order.
 use Rattle.std.specs.Prelude.{ℕ, suc, ◌+◌, List, [], ◌∷◌, ◌++◌, Option, None, Some, nat_lt, if◌then◌else◌}
 use Rattle.tt_base.specs.Forest.{Forest, end, leaf, node, size}
 use Rattle.tt_base.specs.declared.delimiter.DelimiterKind.{DelimiterKind}
@@ -13,7 +13,7 @@ pub data Mark : Type 0 where
   opening : Bracket → Mark
   closing : Bracket → Mark
 
--- how many trees a subtree stands for: an invisible one gives way to what it holds
+-- how many trees a subtree counts as: an invisible one is replaced by its children
 abbrev pub stands_for : DelimiterKind → (held : ℕ) → ℕ
 stands_for delimits.Parenthesis held = 1
 stands_for delimits.Brace held = 1
@@ -21,13 +21,13 @@ stands_for delimits.Bracket held = 1
 stands_for delimits.Invisible held = held
 stands_for delimits.InvisibleOpaque held = 1
 
--- how many trees are left where each invisible subtree gives way to what it holds
+-- how many trees are left after each invisible subtree is replaced by its children
 abbrev pub shown : Forest → ℕ
 shown end = 0
 shown (leaf it rest) = suc (shown rest)
 shown (node delimiter children rest) = stands_for delimiter.kind (shown children) + shown rest
 
--- the brackets that a subtree is written in, by how many trees it holds: an opaque one has parentheses round two or more
+-- the brackets of a subtree, by how many trees it holds: an opaque one has parentheses around two or more
 abbrev pub brackets_of : DelimiterKind → (held : ℕ) → Option Bracket
 brackets_of delimits.Parenthesis held = Some Parenthesis
 brackets_of delimits.Brace held = Some Brace
@@ -40,12 +40,12 @@ abbrev pub opens : Option Bracket → List Mark
 opens None = []
 opens (Some pair) = opening pair ∷ []
 
--- the mark that closes it
+-- the mark that closes a subtree, if it has brackets
 abbrev pub closes : Option Bracket → List Mark
 closes None = []
 closes (Some pair) = closing pair ∷ []
 
--- the marks of trees whose first token has a place in the flat list
+-- the marks of trees whose first token has place `at` in the flat list
 abbrev pub marks : (at : ℕ) → Forest → List Mark
 marks at end = []
 marks at (leaf it rest) = word at it ∷ marks (at + 1) rest

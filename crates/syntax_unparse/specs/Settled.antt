@@ -1,4 +1,4 @@
--- What is read back of trees: their leaves and brackets in order, each punct with the spacing that it is read with.
+-- How trees are read back: their leaves and brackets in order, each punct with the spacing of its reading.
 use Rattle.std.specs.Prelude.{◌≡◌, ℕ, Bool, true, false, ◌==◌, List, [], ◌∷◌, None, if◌then◌else◌}
 use Rattle.std.specs.Str.{chars}
 use Rattle.tt_base.specs.Forest.{Forest}
@@ -16,29 +16,29 @@ use Rattle.syntax_parse.specs.Role.{kind_of}
 use Rattle.syntax_parse.specs.Spelled.{Piece, Sort, sign, opening as opening_sort, closing as closing_sort, sort_of}
 use Rattle.syntax_unparse.specs.Marks.{Mark, word, opening, closing, marks}
 
--- whether a punct stands first, or the `'` of a lifetime
+-- whether the first mark is a punct or the `'` of a lifetime
 abbrev pub joins : List Mark → Bool
 joins (word at (leaf_of.Punct punct) ∷ rest) = true
 joins _ = false
 
--- the spacing that a punct is read with before these marks: joint before a punct, where it was joint or joint hidden
+-- the spacing of a punct when it is read before these marks: joint before a punct, if it was joint or joint hidden
 abbrev pub settled_spacing : (char : ℕ) → Spacing → List Mark → Spacing
 settled_spacing char spacing rest = if char == 39 then Joint else (if is_alone spacing then Alone else (if joins rest then Joint else Alone))
 
--- what a leaf is read as before these marks
+-- the reading of a leaf before these marks
 abbrev pub settled_leaf : Leaf → List Mark → Sort
 settled_leaf (leaf_of.Punct punct) rest = sign punct.char (settled_spacing punct.char punct.spacing rest)
 settled_leaf (leaf_of.Literal literal) rest = sort_of (leaf_of.Literal literal)
 settled_leaf (leaf_of.Ident ident) rest = sort_of (leaf_of.Ident ident)
 
--- what marks are read as
+-- the reading of marks
 abbrev pub settled : List Mark → List Sort
 settled [] = []
 settled (word at it ∷ rest) = settled_leaf it rest ∷ settled rest
 settled (opening pair ∷ rest) = opening_sort (kind_of pair) ∷ settled rest
 settled (closing pair ∷ rest) = closing_sort (kind_of pair) ∷ settled rest
 
--- what pieces are, their places put aside
+-- the sorts of pieces, without their spans
 abbrev pub sorts : List Piece → List Sort
 sorts [] = []
 sorts (piece ∷ rest) = piece.sort ∷ sorts rest

@@ -11,7 +11,7 @@ use Rattle.syntax_unparse.specs.Marks.{Mark, word, opening, closing, marks}
 use Rattle.syntax_unparse.specs.declared.behind.Behind.{Behind}
 use Rattle.syntax_unparse.specs.declared.behind.Behind.TheVariants.{Opening, Apart, Joint, Slash, Pound, Quote}
 
--- what stands behind a punct: a `'` touches what follows, and so does a punct that is joint or joint hidden
+-- the state after a punct: a `'` touches what follows, and so does a punct that is joint or joint hidden
 abbrev pub behind_punct : (char : ℕ) → Spacing → Behind
 behind_punct char spacing =
     if char == 39 then Quote
@@ -19,7 +19,7 @@ behind_punct char spacing =
     else (if char == 47 then Slash
     else (if char == 35 then Pound else Joint)))
 
--- what stands behind a leaf
+-- the state after a leaf
 abbrev pub behind_leaf : Leaf → Behind
 behind_leaf (leaf_of.Punct punct) = behind_punct punct.char punct.spacing
 behind_leaf (leaf_of.Literal literal) = Apart
@@ -36,18 +36,18 @@ is_string (leaf_of.Literal literal) = is_quote (slice_get (leaf_text (leaf_of.Li
 is_string (leaf_of.Punct punct) = false
 is_string (leaf_of.Ident ident) = false
 
--- whether a space stands before a leaf
+-- whether a space precedes a leaf
 abbrev pub wants_space : Behind → Leaf → Bool
 wants_space Apart it = true
 wants_space Pound it = is_string it
 wants_space _ it = false
 
--- whether a space stands before an opening bracket
+-- whether a space precedes an opening bracket
 abbrev pub opens_apart : Behind → Bool
 opens_apart Apart = true
 opens_apart _ = false
 
--- the text of marks behind what was written last: a space before each where one stands, and none before a closing bracket
+-- the text of marks after what was written last: a space before each mark that needs one, and none before a closing bracket
 abbrev pub written : Behind → List Mark → List ℕ
 written behind [] = []
 written behind (word at it ∷ rest) = (space_if (wants_space behind it) ++ leaf_text it) ++ written (behind_leaf it) rest

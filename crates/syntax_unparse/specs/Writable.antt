@@ -1,4 +1,4 @@
--- Which leaves can be written: those whose text reads back.
+-- Which leaves can be written: those with a text that reads back.
 use Rattle.std.specs.Prelude.{◌≡◌, ◌⊎◌, ◌<◌, ◌≤◌, ◌^◌, ℕ, ◌+◌, Bool, true, false, ◌==◌, ◌||◌, IsTrue, List, [], ◌∷◌, ◌++◌, length, Option, None, Some}
 use Rattle.std.specs.Str.{chars, IsUtf8}
 use Rattle.tt_base.specs.Forest.{Forest}
@@ -22,11 +22,11 @@ use Rattle.syntax_unparse.specs.declared.behind.Behind.TheVariants.{Opening, Apa
 use Rattle.syntax_unparse.specs.declared.fault.WriteFault.{WriteFault}
 use Rattle.syntax_unparse.specs.declared.fault.WriteFault.TheVariants.{NotWritable, TooLong, Memory}
 
--- what the first token of a text is
+-- the kind of the first token of a text
 abbrev pub first_kind : (text : List ℕ) → TokenKind
 first_kind text = (first_token_of (chars text)).kind
 
--- a text, which is UTF-8 as all are, is one token, and one that stands for leaves
+-- a text (UTF-8, as all texts are) is one token that means leaves
 pub record IsOneToken (text : List ℕ) : Type 0 where
   pub utf8 : IsUtf8 text
   pub whole : (first_token_of (chars text)).len ≡ length text
@@ -47,7 +47,7 @@ is_name kinds.Ident = true
 is_name kinds.RawIdent = true
 is_name _ = false
 
--- a token with this text means the leaf, whatever stands behind it
+-- a token with this text means the leaf, whatever follows it
 abbrev pub Means : TokenKind → (text : List ℕ) → Leaf → Type 0
 Means kind text (leaf_of.Literal literal) = MeansLiteral kind text literal
 Means kind text (leaf_of.Punct punct) = punct_char kind ≡ Some punct.char
@@ -72,28 +72,28 @@ is_lifetime (kinds.Lifetime starts_with_number) = true
 is_lifetime kinds.RawLifetime = true
 is_lifetime _ = false
 
--- a `'` and the name behind it are one token, a lifetime
+-- a `'` and the name after it are one token, a lifetime
 abbrev pub MakesLifetime : Leaf → Type 0
 MakesLifetime (leaf_of.Ident ident) = IsOneToken (39 ∷ ident_text ident) × IsTrue (is_lifetime (first_kind (39 ∷ ident_text ident)))
 MakesLifetime _ = ⊥
 
--- the leaf may follow what was written last: no `//`, `/*` and `##` is made, and a `'` has its name
+-- the leaf may follow what was written last: the two make no `//`, `/*` or `##`, and a `'` has its name
 abbrev pub MayFollow : Behind → Leaf → Type 0
 MayFollow Slash it = (is_punct 47 it || is_punct 42 it) ≡ false
 MayFollow Pound it = is_punct 35 it ≡ false
 MayFollow Quote it = MakesLifetime it
 MayFollow _ it = Unit {0}
 
--- a bracket or the end may follow: behind all but a `'`
+-- a bracket or the end may follow: after anything except a `'`
 abbrev pub MayEnd : Behind → Type 0
 MayEnd Quote = ⊥
 MayEnd _ = Unit {0}
 
--- the one where P holds, and else the other
+-- `holds` if P holds, and else `fails`
 abbrev pub Answers : (P : Type 0) → (holds fails : Type 0) → Type 0
 Answers P holds fails = (P × holds) ⊎ ((P → ⊥) × fails)
 
--- the place of the first leaf that cannot be written of these marks, or of the leaf that was written last, if one cannot
+-- the place of the first leaf of these marks that cannot be written, or of the leaf that was written last; `None` if all can be written
 abbrev pub IsFirstRefused : (last : ℕ) → Behind → List Mark → Option ℕ → Type 0
 IsFirstRefused last behind [] answer = Answers (MayEnd behind) (answer ≡ None) (answer ≡ Some last)
 IsFirstRefused last behind (word at it ∷ rest) answer =
@@ -101,7 +101,7 @@ IsFirstRefused last behind (word at it ∷ rest) answer =
 IsFirstRefused last behind (opening pair ∷ rest) answer = Answers (MayEnd behind) (IsFirstRefused last Opening rest answer) (answer ≡ Some last)
 IsFirstRefused last behind (closing pair ∷ rest) answer = Answers (MayEnd behind) (IsFirstRefused last Apart rest answer) (answer ≡ Some last)
 
--- the flat place of the first leaf of trees that cannot be written, if one cannot
+-- the flat place of the first leaf of trees that cannot be written, or `None` if all can be written
 abbrev pub Refuses : Forest → Option ℕ → Type 0
 Refuses trees answer = IsFirstRefused 0 Opening (marks 0 trees) answer
 
@@ -109,7 +109,8 @@ Refuses trees answer = IsFirstRefused 0 Opening (marks 0 trees) answer
 abbrev pub IsWritable : Forest → Type 0
 IsWritable trees = Refuses trees None
 
--- why trees are not written: their text is too long; or else a leaf cannot be written, and this is the first; memory may run out at any time
+-- why trees are not written: their text is too long; or else a leaf cannot be written, and this is
+-- the first; memory may run out at any time
 abbrev pub IsWriteFault : Forest → WriteFault → Type 0
 IsWriteFault trees (NotWritable at) = Refuses trees (Some at) × (1 + length (text_of trees) < 2 ^ 32)
 IsWriteFault trees TooLong = 2 ^ 32 ≤ 1 + length (text_of trees)

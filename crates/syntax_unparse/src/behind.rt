@@ -1,4 +1,4 @@
-//! What may stand behind what was written last.
+//! What may follow what was written last.
 ghost use Rattle.std.specs.Prelude.{◌≡◌, ◌↔◌, IsTrue};
 ghost use Rattle.tt_base.specs.LeafText.{leaf_text};
 ghost use Rattle.syntax_unparse.specs.Text.{behind_leaf, behind_punct, is_string, wants_space, opens_apart};
@@ -6,24 +6,24 @@ ghost use Rattle.syntax_unparse.specs.Writable.{MayEnd};
 
 use tt_base::{Leaf, Spacing};
 
-/// What was written last, as far as it matters to what is written next.
+/// What was written last, as far as it matters for the next leaf or bracket.
 #[derive(Debug, Clone, Copy, PartialEq, Eq)]
 pub enum Behind {
     /// Nothing, or an opening bracket: what follows touches it.
     Opening,
-    /// What a space follows, where no closing bracket does: a leaf, or a closing bracket.
+    /// A leaf, or a closing bracket: a space follows, except before a closing bracket.
     Apart,
-    /// A punct that what follows touches.
+    /// A punct; what follows touches it.
     Joint,
-    /// A `/` that what follows touches.
+    /// A `/`; what follows touches it.
     Slash,
-    /// A `#` that what follows touches, but for a string.
+    /// A `#`; what follows touches it, except a string.
     Pound,
     /// The `'` of a lifetime.
     Quote,
 }
 
-// Returns what stands behind a punct.
+// Returns the state after a punct.
 fn behind_punct(char: char, spacing: Spacing) -> Behind
     ensures { result ≡ behind_punct char spacing }
 {
@@ -43,7 +43,7 @@ fn behind_punct(char: char, spacing: Spacing) -> Behind
     }
 }
 
-/// Returns what stands behind a leaf.
+/// Returns the state after a leaf.
 pub fn behind_leaf(leaf: &Leaf) -> Behind
     ensures { result ≡ behind_leaf leaf.now }
 {
@@ -67,7 +67,7 @@ fn is_string(leaf: &Leaf, text: &str) -> bool
     }
 }
 
-/// Returns whether a space stands before a leaf with this text.
+/// Returns whether a space precedes a leaf with this text.
 pub fn wants_space(behind: Behind, leaf: &Leaf, text: &str) -> bool
     requires { text.now ≡ leaf_text leaf.now }
     ensures { result ≡ wants_space behind leaf.now }
@@ -79,14 +79,14 @@ pub fn wants_space(behind: Behind, leaf: &Leaf, text: &str) -> bool
     }
 }
 
-/// Returns whether a space stands before an opening bracket.
+/// Returns whether a space precedes an opening bracket.
 pub fn opens_apart(behind: Behind) -> bool
     ensures { result ≡ opens_apart behind }
 {
     matches!(behind, Behind::Apart)
 }
 
-/// Returns whether a bracket may follow, or the end.
+/// Returns whether a bracket or the end may follow.
 pub fn may_end(behind: Behind) -> bool
     ensures { IsTrue result ↔ MayEnd behind }
 {

@@ -1,4 +1,4 @@
-//! Which brackets a subtree is written in.
+//! The brackets that subtrees are written in.
 ghost use Rattle.std.specs.Prelude.{◌≡◌, IfOk, nat_lt};
 ghost use Rattle.syntax_unparse.specs.Marks.{brackets_of, shown};
 ghost use Rattle.tt_view.specs.Iters.{rest_of};
@@ -8,13 +8,13 @@ use syntax_parse::Bracket;
 use tt_base::{Delimiter, DelimiterKind, Subtree};
 use tt_view::{TtElement, TtIter};
 
-// Returns whether two trees or more are left where each invisible subtree gives way to what it holds.
+// Returns whether two trees or more are left after each invisible subtree is replaced by its children.
 fn shows_several(alloc: Global, trees: TtIter<'_>) -> Result<bool, AllocError>
     ensures { IfOk result (λ several. several ≡ nat_lt 1 (shown (rest_of trees.entry))) }
 {
     let mut found = false;
     let mut level = trees;
-    // what is left of the levels round it, the innermost last
+    // the rests of the levels around it, the innermost last
     let mut outer = Vec::new(alloc);
     'trees: loop {
         match level.next() {

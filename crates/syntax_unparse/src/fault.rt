@@ -5,7 +5,7 @@ use thiserror::Error;
 /// Why trees are not written.
 #[derive(Debug, Clone, Copy, PartialEq, Eq, Error)]
 pub enum WriteFault {
-    /// No text that holds this leaf reads back, and this is the first such leaf: how many tokens stand before it.
+    /// No text that holds this leaf reads back, and it is the first such leaf. `at` is the number of tokens before it.
     #[error("not writable at {at}")]
     NotWritable {
         /// Its place in the flat list.
@@ -14,7 +14,7 @@ pub enum WriteFault {
     /// The text has 4,294,967,295 bytes or more.
     #[error("more than 4294967294 bytes")]
     TooLong,
-    /// A growth was refused.
+    /// Memory ran out.
     #[error("out of memory")]
     Memory,
 }

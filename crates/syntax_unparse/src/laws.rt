@@ -1,4 +1,4 @@
-//! Laws of the definitions that the contracts cite: each is the contract of a function that does nothing.
+//! Laws of the definitions that the contracts cite. Each is the contract of a function that does nothing.
 ghost use Rattle.std.specs.Prelude.{◌≡◌, ◌≢◌, ◌+◌, ◌^◌, ◌<◌, ◌++◌, codes, false, length, List, ℕ};
 ghost use Rattle.tt_base.specs.Forest.{Forest, Root};
 ghost use Rattle.tt_base.specs.LeafText.{ident_text};
@@ -19,45 +19,45 @@ ghost use Rattle.syntax_unparse.specs.declared.behind.Behind.TheVariants.{Openin
 ghost use Rattle.syntax_unparse.specs.declared.fault.WriteFault.{WriteFault};
 ghost use Rattle.syntax_unparse.specs.declared.fault.WriteFault.TheVariants.{Memory};
 
-/// What is written of trees that can be written has only valid tokens, its brackets match, and its pieces are the settled
-/// leaves and brackets of the trees.
+/// The text of trees that can be written has only valid tokens, its brackets match, and its pieces are the
+/// settled leaves and brackets of the trees.
 pub fn reads_back()
     ensures { (trees : Forest) → IsWritable trees → ReadsBack trees (text_of trees) }
 {}
 
-/// So what is read of such a text is spelled by the settled leaves and brackets of the trees, places put aside.
+/// So the trees read from such a text have the settled leaves and brackets of the trees, without their spans.
 pub fn read_as_settled()
     ensures { (trees : Forest) → (text : List ℕ) → (part : SpanPart) → (root : Root) → ReadsBack trees text → IsParse part text root
         → sorts (spelled root.children) ≡ settled (marks 0 trees) }
 {}
 
-/// And no fault of syntax is found in it.
+/// And the text has no fault of syntax.
 pub fn no_syntax_fault()
     ensures { (trees : Forest) → (text : List ℕ) → (fault : SyntaxFault) → ReadsBack trees text → IsFaultOf text fault → ⊥ }
 {}
 
-/// Trees that are not written have one fault, apart from want of memory.
+/// Trees that are not written have one fault, unless memory runs out.
 pub fn one_fault()
     ensures { (trees : Forest) → (one other : WriteFault) → IsWriteFault trees one → IsWriteFault trees other → one ≢ Memory → other ≢ Memory → one ≡ other }
 {}
 
-/// Trees that can be written, with a text that is not too long, have none.
+/// Trees that can be written, with a text that is not too long, have no fault, unless memory runs out.
 pub fn no_fault()
     ensures { (trees : Forest) → (fault : WriteFault) → IsWritable trees → 1 + length (text_of trees) < 2 ^ 32 → IsWriteFault trees fault → fault ≡ Memory }
 {}
 
-/// The text is that of Display if each subtree has the same brackets in both, or none in both, and a space stands in the text exactly
-/// where Display has one.
+/// The text is that of Display if each subtree has the same brackets in both, or none in both, and the text
+/// has a space exactly where Display has one.
 pub fn as_displayed()
     ensures { (trees : Forest) → IsDisplayed false Opening trees → text_of trees ≡ display trees }
 {}
 
-/// So it is if each subtree has brackets, no `'` is alone, and no string stands behind a `#` that is joint or joint hidden.
+/// The condition holds if each subtree has brackets, no `'` is alone, and no string follows a `#` that is joint or joint hidden.
 pub fn plain_displayed()
     ensures { (trees : Forest) → IsPlain Opening trees → IsDisplayed false Opening trees }
 {}
 
-/// An empty subtree without brackets behind a name shows as a space in Display, and leaves nothing in the Rust text.
+/// An empty subtree without brackets after a name is a space in Display, and nothing in the Rust text.
 pub fn empty_subtree()
     ensures { (name : Ident) → (delimiter : Delimiter) → (text_of (with_nothing name delimiter) ≡ ident_text name)
         × (display (with_nothing name delimiter) ≡ ident_text name ++ codes " ") }

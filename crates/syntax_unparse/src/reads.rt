@@ -1,4 +1,4 @@
-//! Whether a text reads back as what it was written of.
+//! Whether a text reads back as the leaf that it was written for.
 ghost use Rattle.std.specs.Prelude.{◌≡◌, ◌≤◌, ◌<◌, ◌+◌, ◌^◌, ◌↔◌, IsTrue, IfOk, IfErr, MatchOption, ◌∷◌, length};
 ghost use Rattle.tt_base.specs.LeafText.{leaf_text};
 ghost use Rattle.tt_base.specs.Literal.{IsLiteral, symbol_of, kind_of, suffix_len_of, span_of};
@@ -12,7 +12,7 @@ use syntax_lex::{TokenKind, first_token};
 use syntax_parse::{Role, punct_char, role_in, scan_of};
 use tt_base::{IdentIsRaw, Leaf, Literal, TtFault, token_to_literal};
 
-// Returns the one token that a text is, if it stands for leaves.
+// Returns the one token of a text, if the text is one token that means leaves.
 fn one_token(text: &str) -> Option<TokenKind>
     requires fits { length text.now < 2 ^ 32 }
     ensures { MatchOption result (IsOneToken text.now → ⊥) (λ kind. IsOneToken text.now × (kind ≡ first_kind text.now)) }
@@ -30,7 +30,7 @@ fn one_token(text: &str) -> Option<TokenKind>
     }
 }
 
-// Returns whether two literals are the same, wherever they stand.
+// Returns whether two literals are the same, whatever their spans.
 fn is_same(literal: &Literal, other: &Literal) -> bool
     ensures { IsTrue result ↔ IsLiteral literal.now (symbol_of other.now) (span_of literal.now) (kind_of other.now) (suffix_len_of other.now) }
 {
@@ -39,14 +39,14 @@ fn is_same(literal: &Literal, other: &Literal) -> bool
         && literal.symbol() == other.symbol()
 }
 
-// Returns the length of a literal's suffix is a byte.
+// Shows that the length of a literal's suffix fits into a byte.
 fn suffix_is_short(literal: &Literal)
     ensures { suffix_len_of literal.now ≤ 255 }
 {
     literal.suffix_len();
 }
 
-// Returns whether the token that a text is means the literal.
+// Returns whether the one token of a text means the literal.
 fn means_literal(
     alloc: Global,
     kind: TokenKind,
@@ -88,7 +88,7 @@ fn is_lifetime(kind: TokenKind) -> bool
     matches!(kind, TokenKind::Lifetime { .. } | TokenKind::RawLifetime)
 }
 
-// Returns whether the token that a text is means the leaf.
+// Returns whether the one token of a text means the leaf.
 fn means(alloc: Global, kind: TokenKind, text: &str, leaf: &Leaf) -> Result<bool, WriteFault>
     requires one { IsOneToken text.now }
     requires kind { kind ≡ first_kind text.now }
@@ -143,7 +143,7 @@ pub fn reads_alone(alloc: Global, text: &str, leaf: &Leaf) -> Result<bool, Write
     reads_as(alloc, text, leaf)
 }
 
-// Returns whether a `'` and the leaf behind it make a lifetime.
+// Returns whether a `'` and the leaf after it make a lifetime.
 fn makes_lifetime(alloc: Global, leaf: &Leaf) -> Result<bool, WriteFault>
     requires fits { length (leaf_text leaf.now) + 1 < 2 ^ 32 }
     ensures ok { IfOk result (λ yes. IsTrue yes ↔ MakesLifetime leaf.now) }

@@ -1,4 +1,4 @@
-//! Trees as Rust text. What is left of each subtree that was entered is kept in memory, so a tree may be as deep as that holds.
+//! Trees as Rust text. The rest of each subtree that was entered is kept in memory, so memory bounds the depth of a tree.
 ghost use Rattle.std.specs.Prelude.{◌≡◌, ◌+◌, ◌<◌, ◌≤◌, ◌^◌, ◌++◌, [], ◌∷◌, IfOk, IfErr, None, OnOk, string_bytes, length};
 ghost use Rattle.tt_base.specs.LeafText.{ident_text, leaf_text};
 ghost use Rattle.syntax_unparse.specs.Marks.{closes, opens, word};
@@ -20,8 +20,8 @@ use tt_base::{Ident, IdentIsRaw, Leaf};
 use tt_view::text::{closing, opening, space};
 use tt_view::{TokenTreesView, TtElement, TtIter};
 
-// What was written last: the place of the last leaf, what may follow, and the place of the first leaf that cannot be written, if one
-// cannot.
+// What was written last: the place of the last leaf, what may follow, and the place of the first leaf
+// that cannot be written, if there is one.
 #[derive(Clone, Copy)]
 struct Last {
     at: usize,
@@ -29,7 +29,7 @@ struct Last {
     refused: Option<usize>,
 }
 
-// What is left of a subtree that was entered, and the brackets that it is written in.
+// The rest of a subtree that was entered, and its brackets.
 #[derive(Drop)]
 struct Level<'a> {
     rest: TtIter<'a>,
@@ -44,7 +44,7 @@ fn write_ident(text: &mut String, ident: &Ident) -> Result<(), AllocError>
     text.push_str(ident.sym.as_str())
 }
 
-// Returns the text of the leaf, in the place of what stood there.
+// Replaces the text with that of the leaf.
 fn put_text(text: &mut String, leaf: &Leaf) -> Result<(), AllocError>
     ensures { OnOk result (string_bytes text.new ≡ leaf_text leaf.now) }
 {
@@ -56,7 +56,7 @@ fn put_text(text: &mut String, leaf: &Leaf) -> Result<(), AllocError>
     }
 }
 
-// Returns the text of the leaf: of a plain ident as it stands, and else put in the room.
+// Returns the text of the leaf: the symbol itself of a plain ident, and else a text written into `room`.
 fn text_in<'a>(room: &'a mut String, leaf: &'a Leaf) -> Result<&'a str, AllocError>
     ensures { IfOk result (λ text. text.now ≡ leaf_text leaf.now) }
 {
@@ -74,7 +74,7 @@ fn text_in<'a>(room: &'a mut String, leaf: &'a Leaf) -> Result<&'a str, AllocErr
     Ok(room.as_str())
 }
 
-// Returns the first leaf that cannot be written, of those before or else of the last one and of the leaf that follows with this text.
+// Returns the first leaf that cannot be written, among those before, or else the last one or the leaf that follows with this text.
 fn refused_by(
     alloc: Global,
     last: Last,
@@ -99,7 +99,7 @@ fn refused_by(
     Ok(None)
 }
 
-// Returns the first leaf that cannot be written, of those before or else of the last one before a bracket or the end.
+// Returns the first leaf that cannot be written, among those before, or else the last one, before a bracket or the end.
 fn refused_at_end(last: Last) -> Option<usize>
     ensures { Refusing last [] result }
 {
@@ -113,7 +113,7 @@ fn refused_at_end(last: Last) -> Option<usize>
     }
 }
 
-// Adds the leaf behind what was written last; `room` is for its text.
+// Adds the leaf after what was written last; `room` is for its text.
 #[tactic(auto, using(crate::proofs::WriteFacts::writes_leaf, crate::proofs::WriteFacts::leaf_within))]
 fn write_leaf(
     alloc: Global,
@@ -140,7 +140,7 @@ fn write_leaf(
     })
 }
 
-// Adds what opens a subtree, if something does.
+// Adds the opening of a subtree, if it has brackets.
 fn write_opening(
     text: &mut String,
     last: Last,
@@ -162,7 +162,7 @@ fn write_opening(
     })
 }
 
-// Adds what closes a subtree, if something does.
+// Adds the closing of a subtree, if it has brackets.
 fn write_closing(
     text: &mut String,
     last: Last,
@@ -183,7 +183,7 @@ fn write_closing(
     })
 }
 
-// Returns the text, once all is written.
+// Returns the text after all is written.
 fn ended(text: String, last: Last) -> Result<String, WriteFault>
     ensures ok { IfOk result (λ all. (string_bytes all ≡ string_bytes text) × (2 ^ 32 ≤ 1 + length (string_bytes text) → ⊥) × Refusing last [] None) }
     ensures err { IfErr result (IsFaultAtEnd (string_bytes text) last) }
@@ -197,9 +197,11 @@ fn ended(text: String, last: Last) -> Result<String, WriteFault>
     Ok(text)
 }
 
-/// Returns the Rust text of trees: that of Display, but for subtrees without brackets and for what would not read back so. An opaque
-/// subtree has parentheses where it holds two trees or more; `'` touches its name; a `#` stands apart from a string. A text that would be too
-/// long is refused as such, also if a leaf cannot be written.
+/// Returns the Rust text of trees: that of Display, except for subtrees without brackets and for texts that would not read back.
+///
+/// An opaque subtree has parentheses if it shows two trees or more. A `'` touches its name. A `#` has a space before a string.
+///
+/// Returns `TooLong` if the text is too long, also if a leaf cannot be written.
 pub fn rust_text(alloc: Global, trees: TokenTreesView<'_>) -> Result<String, WriteFault>
     ensures text { IfOk result (λ text. string_bytes text ≡ text_of (trees_of trees.entry)) }
     ensures writable { IfOk result (λ _. IsWritable (trees_of trees.entry)) }
@@ -220,7 +222,7 @@ pub fn rust_text(alloc: Global, trees: TokenTreesView<'_>) -> Result<String, Wri
         rest: trees.iter(),
         brackets: None,
     };
-    // what is left of those round it, the innermost last
+    // the rests of the levels around it, the innermost last
     let mut outer = Vec::new(alloc);
     'tokens: loop {
         match level.rest.next() {
@@ -249,7 +251,7 @@ pub fn rust_text(alloc: Global, trees: TokenTreesView<'_>) -> Result<String, Wri
     }
 }
 
-/// Returns whether trees can be written: with the fault that `rust_text` has, where it has one.
+/// Checks that trees can be written; returns the fault of `rust_text` if it has one.
 pub fn is_writable(alloc: Global, trees: TokenTreesView<'_>) -> Result<(), WriteFault>
     ensures ok { OnOk result (IsWritable (trees_of trees.entry)) }
     ensures err { IfErr result (IsWriteFault (trees_of trees.entry)) }

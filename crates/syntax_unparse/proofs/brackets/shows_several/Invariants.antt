@@ -1,4 +1,4 @@
--- The tree that was found, and those that the levels have still to give, are all trees that show.
+-- The trees found so far, and those that the levels still show, are all trees that show.
 use Rattle.std.proofs.Common.{◌≡◌, ◌+◌, ◌*◌, ◌∷◌, length, reverse}
 use Rattle.tt_view.specs.Iters.{rest_of}
 use Rattle.syntax_unparse.specs.Marks.{shown}

@@ -1,4 +1,4 @@
--- What was written, and the marks that the levels have still to give, are the whole text.
+-- The written text, and the marks that the levels have left, make the whole text.
 use Rattle.std.proofs.Common.{◌≡◌, ◌+◌, ◌*◌, ◌∷◌, length, reverse}
 use Rattle.std.specs.Prelude.{string_bytes}
 use Rattle.tt_view.specs.Views.{trees_of}
