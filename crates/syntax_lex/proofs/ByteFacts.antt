@@ -7,7 +7,7 @@ use Rattle.std.specs.Prelude.{encode_utf8, encode_utf8_all, slice_index}
 use Rattle.std.specs.Str.{chars, IsUtf8}
 use Rattle.syntax_lex.specs.Front.{behind, first}
 
--- the byte in front, and the character
+-- the first byte and the first character are the same ASCII character, or neither is
 pub first_byte : (bs : List ℕ) (k : ℕ) → IsUtf8 bs → 0 < length bs → 0 < k → k < 128 → (slice_index bs 0 == k) ≡ (first (chars bs) == k)
 first_byte bs k ([], spelled) some positive ascii = absurd (omega (arith, ap length spelled.1))
 first_byte bs k (c ∷ cs, spelled) some positive ascii =
@@ -21,7 +21,7 @@ first_byte bs k (c ∷ cs, spelled) some positive ascii =
     (cases_lt c 128))
     (cases_lt (slice_index bs 0) 128)
 
--- one is beyond ASCII where the other is
+-- the first byte is 128 or more exactly if the first character is beyond ASCII
 pub first_wide : (bs : List ℕ) → IsUtf8 bs → 0 < length bs → nat_le 128 (slice_index bs 0) ≡ nat_le 128 (first (chars bs))
 first_wide bs ([], spelled) some = absurd (omega (arith, ap length spelled.1))
 first_wide bs (c ∷ cs, spelled) some =
@@ -39,20 +39,20 @@ first_wide bs (c ∷ cs, spelled) some =
 pub first_none : (bs : List ℕ) (k : ℕ) → length bs ≡ 0 → 0 < k → chars bs ≡ [] → false ≡ (first (chars bs) == k)
 first_none bs k none positive e = sym (ap (λ x. first x == k) e ∙ ne_eqb 0 k (λ x. omega (arith, x)))
 
--- a byte below 128 is a character, and what is left behind it is a text
+-- a byte below 128 is a character, and the bytes after it are a text
 pub ascii_step : (bs : List ℕ) (i : ℕ) → IsUtf8 (drop i bs) → i < length bs → slice_index bs i < 128 → IsUtf8 (drop (i + 1) bs) × (chars (drop i bs) ≡ slice_index bs i ∷ chars (drop (i + 1) bs))
 ascii_step bs i utf8 within low =
     let e : drop i bs ≡ encode_utf8 (slice_index bs i) ++ drop (i + 1) bs = drop_more bs i 0 within ∙ ap (λ x. x ++ drop (i + 1) bs) (sym (encode_ascii (slice_index bs i) low)) in
     (IsUtf8-past_char (drop i bs) (drop (i + 1) bs) (slice_index bs i) utf8 e, chars_past_char (drop i bs) (drop (i + 1) bs) (slice_index bs i) utf8 e)
 
--- a run goes on behind a character that passes, and ends before one that does not
+-- a run goes on after a character that passes, and ends before one that does not
 pub behind_yes : (p : ℕ → Bool) (c : ℕ) (cs text : List ℕ) → text ≡ c ∷ cs → p c ≡ true → behind p cs ≡ behind p text
 behind_yes p c cs text is passes = sym (ap (behind p) is ∙ ap (λ b. cond b (behind p cs) (c ∷ cs)) passes)
 
 pub behind_no : (p : ℕ → Bool) (c : ℕ) (cs text : List ℕ) → text ≡ c ∷ cs → p c ≡ false → behind p text ≡ text
 behind_no p c cs text is fails = ap (behind p) is ∙ ap (λ b. cond b (behind p cs) (c ∷ cs)) fails ∙ sym is
 
--- what a run ends before does not pass
+-- the character after a run does not pass
 pub behind_head : (p : ℕ → Bool) (cs : List ℕ) (c : ℕ) (ds : List ℕ) → behind p cs ≡ c ∷ ds → p c ≡ false
 behind_head p [] c ds h = absurd (omega (arith, ap length h))
 behind_head p (x ∷ xs) c ds h =
@@ -74,7 +74,7 @@ wide_bytes c j wide within =
     ⊎_elim (λ low. absurd (omega (arith, inside_one c [] (encode_utf8 c) j (sym (append-nil (encode_utf8 c))) within low))) (λ high. high) (cases_lt (slice_index (encode_utf8 c) j) 128)
 
 module _ (p : ℕ → Bool) (beyond : (c : ℕ) → 128 ≤ c → p c ≡ true) where
-  -- where all beyond ASCII pass, a run of characters is a run of bytes
+  -- if all characters beyond ASCII pass, a run of characters is a run of bytes
   pub behind_bytes : (cs : List ℕ) → behind p (encode_utf8_all cs) ≡ encode_utf8_all (behind p cs)
   behind_bytes [] = refl
   behind_bytes (c ∷ cs) =

@@ -5,7 +5,7 @@ use Rattle.std.specs.Int.{is_in_range}
 use Rattle.unicode_ident.proofs.IdentLemmas.{is_xid_continue-ascii}
 use Rattle.syntax_lex.specs.Class.{is_id_continue}
 
--- of four tests the first may come third
+-- the first of four tests may come third
 pub third_first : (a b c d : Bool) → ((a || b) || c) || d ≡ (b || c) || (a || d)
 third_first true true c d = refl
 third_first true false true d = refl

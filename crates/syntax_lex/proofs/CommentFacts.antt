@@ -1,11 +1,11 @@
--- In a closed comment there are as many marks that open as there are that close.
+-- A closed comment has as many opening marks as closing marks.
 use Rattle.std.proofs.Common.{◌≡◌, ℕ, zero, suc, ◌+◌, ◌-◌, ◌<◌, ◌≤◌, Bool, true, false, ◌==◌, cond, List, [], ◌∷◌, ◌++◌, length, refl, sym, ap, subst, ◌∙◌, ⊎_elim, arith}
 use Rattle.std.proofs.lemmas.Bool.{false≢true, cases_Bool, cases_eq, eq-eqb, ne_eqb}
 use Rattle.syntax_lex.specs.Closing.{behind_comment, closes_comment, opens_comment}
 use Rattle.syntax_lex.specs.Front.{first, skip}
 use Rattle.syntax_lex.specs.Grammar.{IsCommentText, closed, opened}
 
--- the marks of a text behind its first one, or behind its first character
+-- the marks of a text after its first mark, or after its first character
 marks_opens : (c e : ℕ) (cs : List ℕ) → opens_comment c e ≡ true → (opened (c ∷ e ∷ cs) ≡ suc (opened cs)) × (closed (c ∷ e ∷ cs) ≡ closed cs)
 marks_opens c e cs o = (rw o refl, rw o refl)
 
@@ -23,12 +23,12 @@ positive : (n : ℕ) → (n ≡ 0 → ⊥) → 0 < n
 positive zero some = absurd (some refl)
 positive (suc n) some = omega arith
 
--- where nothing is joined, nothing is the second part
+-- if a joined text is empty, its second part is empty
 nil_right : (xs ys : List ℕ) → xs ++ ys ≡ [] → ys ≡ []
 nil_right [] ys is = is
 nil_right (x ∷ xs) ys is = absurd (omega (arith, ap length is))
 
--- a text with one mark more that opens
+-- a text with one more opening mark
 text_opens : (n c e : ℕ) (body : List ℕ) → opens_comment c e ≡ true → IsCommentText (n + 1) body → IsCommentText n (c ∷ e ∷ body)
 text_opens n c e body o text = record { closes = omega (arith, marks_opens c e body o, text.closes); before = go }
   where
@@ -37,7 +37,7 @@ text_opens n c e body o text = record { closes = omega (arith, marks_opens c e b
     go (x ∷ []) behind is some = omega arith
     go (x ∷ y ∷ front) behind is some = omega (arith, text.before front behind (ap (λ t. skip (skip t)) is) some, marks_opens x y front (same_two opens_comment is ∙ o))
 
--- one mark more that closes another comment
+-- a text with one more mark that closes another comment
 text_closes : (n c e : ℕ) (body : List ℕ) → opens_comment c e ≡ false → closes_comment c e ≡ true → (n ≡ 0 → ⊥) → IsCommentText (n - 1) body → IsCommentText n (c ∷ e ∷ body)
 text_closes n c e body o k some_open text = record { closes = omega (arith, marks_closes c e body o k, text.closes, positive n some_open); before = go }
   where
@@ -55,7 +55,7 @@ text_ends c e o k = record { closes = omega (arith, marks_closes c e [] o k); be
     go (x ∷ []) behind is some = omega arith
     go (x ∷ y ∷ front) behind is some = absurd (some (nil_right front behind (sym (ap (λ t. skip (skip t)) is))))
 
--- one character more that begins no mark
+-- a text with one more character that begins no mark
 text_other : (n c e : ℕ) (body : List ℕ) → opens_comment c e ≡ false → closes_comment c e ≡ false → IsCommentText n (e ∷ body) → IsCommentText n (c ∷ e ∷ body)
 text_other n c e body o k text = record { closes = omega (arith, marks_other c e body o k, text.closes); before = go }
   where
@@ -67,7 +67,7 @@ text_other n c e body o k text = record { closes = omega (arith, marks_other c e
 abbrev Form : (inner : ℕ) → (cs rest : List ℕ) → Type 0
 Form inner cs rest = (body : List ℕ) × IsCommentText inner body × (cs ≡ body ++ rest)
 
--- the same, where it is not known that the inside begins with the character
+-- the same, if the inside may begin with another character
 form_other : (n c e : ℕ) (cs rest : List ℕ) → opens_comment c e ≡ false → closes_comment c e ≡ false → Form n (e ∷ cs) rest → Form n (c ∷ e ∷ cs) rest
 form_other n c e cs rest o k ([], text, is) = absurd (omega (arith, text.closes))
 form_other n c e cs rest o k (x ∷ body, text, is) =
@@ -104,14 +104,14 @@ comment_form n (c ∷ e ∷ cs) rest h =
 pub comment_closed : (cs rest : List ℕ) → behind_comment 0 cs ≡ (true, rest) → Form 0 cs rest
 comment_closed cs rest h = comment_form 0 cs rest h
 
--- what is inside behind a mark that opens one more
+-- the inside after a mark that opens one more comment
 inside_opened : (n c e : ℕ) (body : List ℕ) → opens_comment c e ≡ true → IsCommentText n (c ∷ e ∷ body) → IsCommentText (n + 1) body
 inside_opened n c e body o text = record {
   closes = omega (arith, marks_opens c e body o, text.closes);
   before = λ front behind is some. omega (arith, marks_opens c e front o, text.before (c ∷ e ∷ front) behind (ap (λ t. c ∷ e ∷ t) is) some);
 }
 
--- what is inside behind a mark that closes one of those
+-- the inside after a mark that closes an inner comment
 inside_closed : (n c e : ℕ) (body : List ℕ) → opens_comment c e ≡ false → closes_comment c e ≡ true → (n ≡ 0 → ⊥) → IsCommentText n (c ∷ e ∷ body) → IsCommentText (n - 1) body
 inside_closed n c e body o k some_open text = record {
   closes = omega (arith, marks_closes c e body o k, text.closes, positive n some_open);
@@ -119,7 +119,7 @@ inside_closed n c e body o k some_open text = record {
       λ front behind is some. omega (arith, marks_closes c e front o k, positive n some_open, text.before (c ∷ e ∷ front) behind (ap (λ t. c ∷ e ∷ t) is) some);
 }
 
--- what is inside behind a character that begins no mark
+-- the inside after a character that begins no mark
 inside_other : (n c e : ℕ) (body : List ℕ) → opens_comment c e ≡ false → closes_comment c e ≡ false → IsCommentText n (c ∷ e ∷ body) → IsCommentText n (e ∷ body)
 inside_other n c e body o k text = record { closes = omega (arith, marks_other c e body o k, text.closes); before = go }
   where
@@ -133,7 +133,7 @@ inside_other n c e body o k text = record { closes = omega (arith, marks_other c
           text.before (c ∷ x ∷ front) behind (ap (λ t. c ∷ t) is) some,
         )
 
--- the mark that closes the comment is the last
+-- the mark that closes the comment is the last one
 nothing_behind : (c e : ℕ) (body : List ℕ) → opens_comment c e ≡ false → closes_comment c e ≡ true → IsCommentText 0 (c ∷ e ∷ body) → body ≡ []
 nothing_behind c e [] o k text = refl
 nothing_behind c e (d ∷ body) o k text =

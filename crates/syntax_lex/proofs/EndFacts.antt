@@ -1,4 +1,4 @@
--- What is left behind a token is the end of its text.
+-- What follows a token is an end of its text.
 use Rattle.std.proofs.Common.{◌≡◌, ℕ, zero, suc, ◌+◌, ◌-◌, Bool, true, false, ◌&&◌, ◌==◌, cond, List, [], ◌∷◌, drop, nat_le, refl}
 use Rattle.std.proofs.lemmas.Bool.{cond_both}
 use Rattle.syntax_lex.specs.Class.{is_decimal, is_decimal_part, is_id_start, is_id_continue, is_emoji_mark, is_odd_rest, passes}
@@ -20,7 +20,7 @@ pub on : {a b c : List ℕ} → IsEnd a b → IsEnd b c → IsEnd a c
 on h whole = h
 on h (later k) = later (on h k)
 
--- what is left of one or the other
+-- the rest after either of two readings
 pub left : {A : Type 0} (b : Bool) (x y : A × List ℕ) (cs : List ℕ) → (b ≡ true → IsEnd x.1 cs) → (b ≡ false → IsEnd y.1 cs) → IsEnd (cond b x y).1 cs
 left true x y cs h k = h refl
 left false x y cs h k = k refl
@@ -151,7 +151,7 @@ reading_of_end opens.Str text cs = on (literal_end text _ _ (behind_quote false 
 reading_of_end opens.OddWord text cs = behind_end _ cs
 reading_of_end opens.Symbol text cs = whole
 
--- what is left behind the first token is an end of what is left behind the first character
+-- the rest after the first token is an end of the rest after the first character
 pub reading_end : (c : ℕ) (cs : List ℕ) → IsEnd (reading (c ∷ cs)).1 cs
 unfolding reading
 reading_end c cs = reading_of_end (opening c (first cs) (second cs)) (c ∷ cs) cs

@@ -1,4 +1,4 @@
--- A text in quotes is closed exactly where the grammar has it.
+-- A text in quotes is closed exactly if the grammar says so.
 use Rattle.std.proofs.Common.{◌≡◌, ℕ, zero, suc, ◌≤◌, Bool, true, false, ◌&&◌, ◌==◌, cond, nat_le, List, [], ◌∷◌, ◌++◌, replicate, drop, refl, sym, ap, ◌∙◌, ⊎_elim, arith, length, length-append}
 use Rattle.std.proofs.lemmas.Bool.{false≢true, and_right, cases_eq, ne_eqb, eq-eqb, cases_Bool, and_parts, eqb-true, le-leb, lt-leb, leb-true, leb-false}
 use Rattle.syntax_lex.specs.Closing.{behind_quote, behind_raw, hashes_of}
@@ -6,7 +6,7 @@ use Rattle.syntax_lex.specs.Front.{first, skip}
 use Rattle.syntax_lex.specs.Grammar.{IsRawText, IsStringText, nothing, plain, escape}
 use Rattle.syntax_lex.proofs.ClosingFacts.{hashes_of-hash, hashes_of-other}
 
--- what stands before the closing quote; behind a backslash, one character and that
+-- the text before the closing quote; after a backslash, one character comes first
 abbrev Form : Bool → (cs rest : List ℕ) → Type 0
 Form false cs rest = (body : List ℕ) × IsStringText body × (cs ≡ body ++ 34 ∷ rest)
 Form true cs rest = (c : ℕ) × (body : List ℕ) × IsStringText body × (cs ≡ c ∷ (body ++ 34 ∷ rest))
@@ -40,7 +40,7 @@ string_read [] rest nothing = refl
 string_read (c ∷ cs) rest (plain ne nb t) = rw (ne_eqb c 34 ne, ne_eqb c 92 nb) (string_read cs rest t)
 string_read (b ∷ c ∷ cs) rest (escape e t) = rw e (string_read cs rest t)
 
--- so many hashes in front are hashes
+-- the first `n` characters are hashes
 pub hashes_front : (n : ℕ) (cs : List ℕ) → n ≤ hashes_of cs → cs ≡ replicate n 35 ++ drop n cs
 hashes_front zero cs le = refl
 hashes_front (suc n) [] le = absurd (omega arith)
@@ -48,17 +48,17 @@ hashes_front (suc n) (c ∷ cs) le =
     ⊎_elim (λ e. ap (λ d. d ∷ cs) e ∙ ap (λ t. 35 ∷ t) (hashes_front n cs (omega (arith, hashes_of-hash c cs e))))
     (λ ne. absurd (omega (arith, hashes_of-other c cs ne))) (cases_eq c 35)
 
--- no more hashes stand in front of a part
+-- a part begins with no more hashes than the whole
 pub hashes_of-append : (xs ys : List ℕ) → hashes_of xs ≤ hashes_of (xs ++ ys)
 hashes_of-append [] ys = omega arith
 hashes_of-append (x ∷ xs) ys =
     ⊎_elim (λ e. omega (arith, hashes_of-hash x xs e, hashes_of-hash x (xs ++ ys) e, hashes_of-append xs ys)) (λ ne. omega (arith, hashes_of-other x xs ne)) (cases_eq x 35)
 
--- no quote stands in an empty text
+-- an empty text has no quote
 raw_none : (n : ℕ) → IsRawText n []
 raw_none n front behind is = absurd (omega (arith, ap length is, length-append front (34 ∷ behind)))
 
--- one character more that is no closing quote
+-- one more character that is no closing quote
 raw_more : (n c : ℕ) (cs body tail : List ℕ) → ((c == 34) && nat_le n (hashes_of cs)) ≡ false → cs ≡ body ++ tail → IsRawText n body → IsRawText n (c ∷ body)
 raw_more n c cs body tail fails at inside [] behind is =
     let few : nat_le n (hashes_of cs) ≡ false = ap (λ t. t && nat_le n (hashes_of cs)) (sym (eq-eqb c 34 (ap first is))) ∙ fails in
@@ -79,14 +79,14 @@ raw_closed n (c ∷ cs) rest h =
     (c ∷ f.0, raw_more n c cs f.0 (34 ∷ (replicate n 35 ++ rest)) ne f.2 f.1, ap (λ t. c ∷ t) f.2))
     (cases_Bool ((c == 34) && nat_le n (hashes_of cs)))
 
--- a quote ends the hashes in front of it
+-- a quote ends the hashes before it
 hashes_before_quote : (xs ys : List ℕ) → hashes_of (xs ++ 34 ∷ ys) ≡ hashes_of xs
 hashes_before_quote [] ys = refl
 hashes_before_quote (x ∷ xs) ys =
     ⊎_elim (λ e. hashes_of-hash x (xs ++ 34 ∷ ys) e ∙ ap suc (hashes_before_quote xs ys) ∙ sym (hashes_of-hash x xs e))
     (λ ne. hashes_of-other x (xs ++ 34 ∷ ys) ne ∙ sym (hashes_of-other x xs ne)) (cases_eq x 35)
 
--- so many hashes are in front of what follows them, which is left behind them
+-- `n` hashes precede what follows them
 hashes_enough : (n : ℕ) (rest : List ℕ) → (n ≤ hashes_of (replicate n 35 ++ rest)) × (drop n (replicate n 35 ++ rest) ≡ rest)
 hashes_enough zero rest = (omega arith, refl)
 hashes_enough (suc n) rest = (omega (arith, (hashes_enough n rest).0), (hashes_enough n rest).1)

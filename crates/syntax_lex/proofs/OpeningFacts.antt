@@ -1,4 +1,4 @@
--- The family of a character beyond ASCII is told by that character alone.
+-- A character beyond ASCII alone determines the family.
 use Rattle.std.proofs.Common.{◌≡◌, ℕ, ◌<◌, ◌≤◌, false, ◌==◌, cond, nat_le, refl, arith}
 use Rattle.std.proofs.lemmas.Bool.{and_right, lt-leb, ne_eqb}
 use Rattle.syntax_lex.specs.Class.{is_decimal, is_emoji_mark, is_id_start, is_whitespace}

@@ -1,4 +1,4 @@
--- What the definitions compute of texts, beside tokens that were worked out by hand.
+-- What the definitions compute for texts, next to tokens that were worked out by hand.
 use Rattle.std.proofs.Common.{◌≡◌, ℕ, true, false, [], ◌∷◌, None, Some, codes, refl}
 use Rattle.ucd_emoji.proofs.Computing.{ucd_emoji}
 use Rattle.unicode_ident.proofs.Computing.{unicode_ident}

@@ -1,4 +1,4 @@
--- What closes a text is found behind a run of characters that close nothing.
+-- A run of characters that close nothing can be skipped in the search for the closing.
 use Rattle.std.proofs.Common.{◌≡◌, ℕ, true, false, ◌==◌, ◌||◌, List, [], ◌∷◌, refl, sym, ap, subst, ◌∙◌, ⊎_elim}
 use Rattle.std.proofs.lemmas.Bool.{cases_eq, eq-eqb, eqb-true, ne_eqb, not-false}
 use Rattle.syntax_lex.specs.Closing.{behind_comment, behind_quote, behind_raw}
@@ -7,7 +7,7 @@ use Rattle.syntax_lex.specs.Stop.{is_no_mark, is_no_quote, is_plain}
 use Rattle.syntax_lex.proofs.ByteFacts.{behind_head, behind_no, behind_yes}
 use Rattle.syntax_lex.proofs.ClosingFacts.{comment_step}
 
--- a string, behind what stands for itself
+-- a string, after its plain characters
 pub quote_plain : (cs : List ℕ) → behind_quote false (behind is_plain cs) ≡ behind_quote false cs
 quote_plain [] = refl
 quote_plain (c ∷ cs) =
@@ -16,13 +16,13 @@ quote_plain (c ∷ cs) =
     (λ nb. rw (ne_eqb c 34 ne, ne_eqb c 92 nb) (quote_plain cs))
     (cases_eq c 92)) (cases_eq c 34)
 
--- a raw text, behind what is no quote
+-- a raw text, after characters that are no quote
 pub raw_plain : (n : ℕ) (cs : List ℕ) → behind_raw n (behind is_no_quote cs) ≡ behind_raw n cs
 raw_plain n [] = refl
 raw_plain n (c ∷ cs) =
     ⊎_elim (λ e. ap (behind_raw n) (behind_no is_no_quote c cs _ refl (rw e refl))) (λ ne. rw (ne_eqb c 34 ne) (raw_plain n cs)) (cases_eq c 34)
 
--- a comment, behind what is no mark
+-- a comment, after characters that are no mark
 pub comment_plain : (n : ℕ) (cs : List ℕ) → behind_comment n (behind is_no_mark cs) ≡ behind_comment n cs
 comment_plain n [] = refl
 comment_plain n (c ∷ cs) =
@@ -39,7 +39,7 @@ module _ (text past : List ℕ) (passed : past ≡ behind is_plain text) where
   pub quote_closes : (c : ℕ) (more : List ℕ) → past ≡ c ∷ more → c ≡ 34 → behind_quote false text ≡ (true, more)
   quote_closes c more is e = sym quote_passed ∙ ap (behind_quote false) is ∙ rw (eq-eqb c 34 e) refl
 
-  -- and a backslash takes the next character along
+  -- and a backslash takes the next character with it
   pub quote_skips : (c : ℕ) (more rest : List ℕ) → past ≡ c ∷ more → (c ≡ 34 → ⊥) → rest ≡ skip more → behind_quote false rest ≡ behind_quote false text
   quote_skips c more rest is ne behind_it =
       let stop : (c == 34) || (c == 92) ≡ true = not-false _ (behind_head is_plain text c more (sym passed ∙ is)) in

@@ -1,4 +1,4 @@
--- A run of characters that ends before an ASCII one ends before the first byte that is it.
+-- A run of characters that ends before an ASCII character ends before the first byte with its value.
 use Rattle.std.proofs.Common.{◌≡◌, ℕ, zero, suc, ◌<◌, ◌≤◌, Bool, true, false, not, List, [], ◌∷◌, length, drop, refl, sym, ap, ◌∙◌, ⊎_elim, arith}
 use Rattle.std.proofs.lemmas.Bool.{cases_Bool, cases_lt, ne_eqb, and_parts, false_from_ne_true, false≢true, not_from_false}
 use Rattle.std.proofs.lemmas.Str.{chars-encodes}
@@ -12,7 +12,7 @@ use Rattle.syntax_lex.specs.declared.runs.Stop.{Stop}
 use Rattle.syntax_lex.specs.declared.runs.Stop.TheVariants as stop
 use Rattle.syntax_lex.proofs.ByteFacts.{behind_bytes, behind_yes, behind_no}
 
--- a run goes on with what it does not end before
+-- a run goes on with each character that does not stop it
 pub goes_on-stops : (s : Stop) (c : ℕ) → goes_on s c ≡ not (stops s c)
 goes_on-stops stop.LineEnd c = refl
 goes_on-stops stop.Quote c = refl
@@ -52,7 +52,7 @@ module _ (p : ℕ → Bool) where
   behind_whole (b ∷ bs) all = sym (behind_yes p b bs _ refl (all 0 (omega arith))) ∙ behind_whole bs (λ j l. all (suc j) (omega (arith, l)))
 
 module _ (s : Stop) (bs : List ℕ) (utf8 : IsUtf8 bs) where
-  -- what is left of the bytes spells what is left of the characters
+  -- the rest of the bytes spells the rest of the characters
   left_bytes : (left : List ℕ) → behind (goes_on s) bs ≡ left → chars left ≡ behind (goes_on s) (chars bs)
   left_bytes left is =
       let cs = utf8.0 in

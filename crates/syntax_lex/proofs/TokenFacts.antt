@@ -1,4 +1,4 @@
--- The tokens of a text: there is one list of them, and they take its bytes.
+-- The tokens of a text: there is one list of them, and they take all bytes.
 use Rattle.std.proofs.Common.{◌≡◌, ℕ, ◌+◌, ◌-◌, ◌<◌, ◌≤◌, List, [], ◌∷◌, length, sym, ap, ap₂, ◌∙◌, refl, subst, arith, length-append}
 use Rattle.std.specs.Prelude.{encode_utf8, encode_utf8_all}
 use Rattle.syntax_lex.specs.Ends.{IsEnd, whole, later}
@@ -40,18 +40,18 @@ one_list [] (y ∷ ys) text h k = absurd (k.0 h)
 one_list (x ∷ xs) [] text h k = absurd (h.0 k)
 one_list (x ∷ xs) (y ∷ ys) text h k = ap₂ (λ t ts. t ∷ ts) (h.1 ∙ sym k.1) (one_list xs ys (reading text).1 h.2 k.2)
 
--- together they take the bytes of the text
+-- together the tokens take the bytes of the text
 pub all_bytes : (tokens : List Token) (text : List ℕ) → AreTokensOf tokens text → bytes_of tokens ≡ byte_length text
 all_bytes [] text h = sym (ap byte_length h ∙ byte_length-nil)
 all_bytes (t ∷ ts) [] h = absurd (h.0 refl)
 all_bytes (t ∷ ts) (c ∷ cs) h = omega (arith, ap (λ x. x.len) h.1, (len_first c cs).1, all_bytes ts (reading (c ∷ cs)).1 h.2)
 
--- what was read is the first token
+-- the reading of a text is its first token
 pub token_is : (k : TokenKind) (n : ℕ) (cs rest : List ℕ) → reading cs ≡ (k, rest) → n ≡ byte_length cs - byte_length rest → ◌≡◌ {A = Token} (record { kind = k; len = n }) (first_token_of cs)
 unfolding first_token_of
 token_is k n cs rest read len = rw (read, len) refl
 
--- what the calls of `next` give are the tokens of the text
+-- the calls of `next` give the tokens of the text
 pub in_order : (s : Tokenize) (tokens : List Token) → Drains gives s tokens → AreTokensOf tokens (chars s.rest.now)
 in_order s [] (u, (t, same, none)) = ap (λ x. chars x.rest.now) same ∙ none.0
 in_order s (token ∷ tokens) (u, (t, (j, given, others), none)) =

@@ -9,11 +9,11 @@ use Rattle.syntax_lex.specs.declared.class.CharClass.TheVariants as class
 abbrev pub is_whitespace : ℕ → Bool
 is_whitespace c = (nat_le 9 c && nat_le c 13) || (c == 32) || (c == 0x85) || (c == 0x200e) || (c == 0x200f) || (c == 0x2028) || (c == 0x2029)
 
--- what an identifier begins with: XID_Start or `_`
+-- the first character of an identifier: XID_Start or `_`
 abbrev pub is_id_start : ℕ → Bool
 is_id_start c = is_xid_start c || (c == 95)
 
--- what it goes on with: XID_Continue
+-- the other characters of an identifier: XID_Continue
 abbrev pub is_id_continue : ℕ → Bool
 is_id_continue c = is_xid_continue c
 
@@ -21,7 +21,7 @@ is_id_continue c = is_xid_continue c
 abbrev pub is_emoji_mark : ℕ → Bool
 is_emoji_mark c = nat_le 0x80 c && is_emoji c
 
--- what an identifier with emoji goes on with: the same, emoji, and what joins them
+-- the other characters of an identifier with emoji: the same, emoji, and the joiner U+200D
 abbrev pub is_odd_rest : ℕ → Bool
 is_odd_rest c = is_id_continue c || is_emoji_mark c || (c == 0x200d)
 
@@ -45,7 +45,7 @@ is_decimal_part c = is_decimal c || (c == 95)
 abbrev pub is_hex_part : ℕ → Bool
 is_hex_part c = is_hex c || (c == 95)
 
--- what the characters of a class have in common
+-- the characters of a class
 abbrev pub passes : CharClass → ℕ → Bool
 passes class.Whitespace = is_whitespace
 passes class.IdContinue = is_id_continue

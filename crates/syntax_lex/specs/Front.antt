@@ -1,4 +1,4 @@
--- The front of a text, and what is left behind it. A text is the list of its characters.
+-- The front of a text, and the rest after it. A text is the list of its characters.
 use Rattle.std.specs.Prelude.{ℕ, Bool, List, [], ◌∷◌, length, encode_utf8_all, if◌then◌else◌}
 use Rattle.syntax_lex.specs.Class.{is_id_start, is_id_continue}
 
@@ -7,7 +7,7 @@ abbrev pub first : List ℕ → ℕ
 first [] = 0
 first (c ∷ cs) = c
 
--- what is left behind the first character
+-- the rest after the first character
 abbrev pub skip : List ℕ → List ℕ
 skip [] = []
 skip (c ∷ cs) = cs
@@ -20,12 +20,12 @@ second cs = first (skip cs)
 abbrev pub third : List ℕ → ℕ
 third cs = first (skip (skip cs))
 
--- what is left behind the characters in front that pass a test
+-- the rest after the first characters that pass a test
 abbrev pub behind : (ℕ → Bool) → List ℕ → List ℕ
 behind p [] = []
 behind p (c ∷ cs) = if p c then behind p cs else c ∷ cs
 
--- what is left behind an identifier, where one stands in front
+-- the rest after an identifier, if the text begins with one
 abbrev pub behind_name : List ℕ → List ℕ
 behind_name cs = if is_id_start (first cs) then behind is_id_continue (skip cs) else cs
 

@@ -1,4 +1,4 @@
--- Which token stands first in a text: what it is, and what is left behind it.
+-- The first token of a text: its kind, and the rest after it.
 pub mod Class
 pub mod Closing
 pub mod Comments

@@ -1,4 +1,4 @@
--- Literals of a text, of which cs stands behind what opens them, and what is left behind them.
+-- Literals of a text, and what follows them. `cs` is the text after the characters that open the literal.
 use Rattle.std.specs.Prelude.{ℕ, Bool, true, false, List, Option, is_some}
 use Rattle.syntax_lex.specs.Closing.{behind_quote, raw_text}
 use Rattle.syntax_lex.specs.Front.{first}
@@ -12,7 +12,7 @@ use Rattle.syntax_lex.specs.declared.token.TokenKind.{TokenKind}
 abbrev pub quoted : (text : List ℕ) → (Bool → LiteralKind) → Bool × List ℕ → TokenKind × List ℕ
 quoted text kind found = literal text (kind found.0) found.0 found.1
 
--- the same of a raw one, by its hashes
+-- the same for a raw literal, by its hashes
 abbrev pub raw : (text : List ℕ) → (Option ℕ → LiteralKind) → Option ℕ × List ℕ → TokenKind × List ℕ
 raw text kind found = literal text (kind found.0) (is_some found.0) found.1
 
@@ -20,30 +20,30 @@ raw text kind found = literal text (kind found.0) (is_some found.0) found.1
 abbrev pub number_literal : (text cs : List ℕ) → TokenKind × List ℕ
 number_literal text cs = literal text (number (first text) cs).0 true (number (first text) cs).1
 
--- a byte, behind `b'`
+-- a byte, after `b'`
 abbrev pub byte_literal : (text cs : List ℕ) → TokenKind × List ℕ
 byte_literal text cs = quoted text literals.Byte (quoted_char cs)
 
--- a string, behind its quote
+-- a string, after its quote
 abbrev pub str_literal : (text cs : List ℕ) → TokenKind × List ℕ
 str_literal text cs = quoted text literals.Str (behind_quote false cs)
 
--- a byte string, behind `b"`
+-- a byte string, after `b"`
 abbrev pub byte_str_literal : (text cs : List ℕ) → TokenKind × List ℕ
 byte_str_literal text cs = quoted text literals.ByteStr (behind_quote false cs)
 
--- a C string, behind `c"`
+-- a C string, after `c"`
 abbrev pub c_str_literal : (text cs : List ℕ) → TokenKind × List ℕ
 c_str_literal text cs = quoted text literals.CStr (behind_quote false cs)
 
--- a raw string, behind its `r`
+-- a raw string, after its `r`
 abbrev pub raw_str_literal : (text cs : List ℕ) → TokenKind × List ℕ
 raw_str_literal text cs = raw text literals.RawStr (raw_text cs)
 
--- a raw byte string, behind its `br`
+-- a raw byte string, after its `br`
 abbrev pub raw_byte_str_literal : (text cs : List ℕ) → TokenKind × List ℕ
 raw_byte_str_literal text cs = raw text literals.RawByteStr (raw_text cs)
 
--- a raw C string, behind its `cr`
+-- a raw C string, after its `cr`
 abbrev pub raw_c_str_literal : (text cs : List ℕ) → TokenKind × List ℕ
 raw_c_str_literal text cs = raw text literals.RawCStr (raw_text cs)

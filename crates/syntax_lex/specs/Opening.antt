@@ -1,4 +1,4 @@
--- What the first three characters of a text tell of its first token.
+-- The family of the first token, by the first three characters of a text.
 use Rattle.std.specs.Prelude.{ℕ, Bool, ◌&&◌, ◌||◌, ◌==◌, if◌then◌else◌}
 use Rattle.syntax_lex.specs.Class.{is_decimal, is_emoji_mark, is_id_start, is_whitespace}
 use Rattle.syntax_lex.specs.declared.opening.Family.{Family}
@@ -6,23 +6,23 @@ use Rattle.syntax_lex.specs.declared.opening.Family.TheVariants as opens
 use Rattle.syntax_lex.specs.declared.token.TokenKind.{TokenKind}
 use Rattle.syntax_lex.specs.declared.token.TokenKind.TheVariants as kinds
 
--- what a raw text goes on with behind its letters: a quote or a hash
+-- the first character of a raw text after its letters: a quote or a hash
 abbrev pub begins_raw : ℕ → Bool
 begins_raw c = (c == 34) || (c == 35)
 
--- behind a `/`: `//`, `/*`
+-- after a `/`: `//`, `/*`
 abbrev pub opening_slash : ℕ → Family
 opening_slash d = if d == 47 then opens.LineComment else (if d == 42 then opens.BlockComment else opens.Symbol)
 
--- behind an `r`: `r#name`, `r"`, `r#`
+-- after an `r`: `r#name`, `r"`, `r#`
 abbrev pub opening_r : (d e : ℕ) → Family
 opening_r d e = if (d == 35) && is_id_start e then opens.RawIdent else (if begins_raw d then opens.RawStr else opens.Word)
 
--- behind a `b`: `b'`, `b"`, `br"`, `br#`
+-- after a `b`: `b'`, `b"`, `br"`, `br#`
 abbrev pub opening_b : (d e : ℕ) → Family
 opening_b d e = if d == 39 then opens.Byte else (if d == 34 then opens.ByteStr else (if (d == 114) && begins_raw e then opens.RawByteStr else opens.Word))
 
--- behind a `c`: `c"`, `cr"`, `cr#`
+-- after a `c`: `c"`, `cr"`, `cr#`
 abbrev pub opening_c : (d e : ℕ) → Family
 opening_c d e = if d == 34 then opens.CStr else (if (d == 114) && begins_raw e then opens.RawCStr else opens.Word)
 
@@ -42,7 +42,7 @@ opening c d e =
     else (if is_emoji_mark c then opens.OddWord
     else opens.Symbol))))))))))
 
--- the token that a character is which begins no other
+-- the token of a single character that begins no other
 unfoldable pub symbol : ℕ → TokenKind
 symbol c =
     if c == 59 then kinds.Semi

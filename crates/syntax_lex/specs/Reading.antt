@@ -13,7 +13,7 @@ use Rattle.syntax_lex.specs.declared.token.Token.{Token}
 use Rattle.syntax_lex.specs.declared.token.TokenKind.{TokenKind}
 use Rattle.syntax_lex.specs.declared.token.TokenKind.TheVariants as kinds
 
--- The first token of a text by its family, and what is left behind the token; cs is left behind the text's first character.
+-- The first token of a text by its family, and the rest after the token; `cs` is the rest after the text's first character.
 unfoldable pub reading_of : Family → (text cs : List ℕ) → TokenKind × List ℕ
 reading_of opens.LineComment text cs = line_comment (skip cs)
 reading_of opens.BlockComment text cs = block_comment (skip cs)
@@ -33,16 +33,16 @@ reading_of opens.Str text cs = str_literal text cs
 reading_of opens.OddWord text cs = (kinds.InvalidIdent, behind is_odd_rest cs)
 reading_of opens.Symbol text cs = (symbol (first text), cs)
 
--- The first token of a text, and what is left behind it. An empty text has no token: nothing that is said of one is asked.
+-- The first token of a text, and the rest after it. An empty text has no token; the value for it has no meaning.
 unfoldable pub reading : (text : List ℕ) → TokenKind × List ℕ
 reading [] = (kinds.Unknown, [])
 reading (c ∷ cs) = reading_of (opening c (first cs) (second cs)) (c ∷ cs) cs
 
--- the first token of a text: what it is, and how many bytes it takes
+-- the first token of a text: its kind, and how many bytes it takes
 unfoldable pub first_token_of : (text : List ℕ) → Token
 first_token_of text = record { kind = (reading text).0; len = byte_length text - byte_length (reading text).1 }
 
--- These are the tokens of a text: the first is its first, and the others are those of what is left; an empty text has none.
+-- The tokens are those of a text: the first is its first, and the others are those of the rest. An empty text has none.
 abbrev pub AreTokensOf : List Token → (text : List ℕ) → Type 0
 AreTokensOf [] text = text ≡ []
 AreTokensOf (token ∷ tokens) text = (text ≢ []) × (token ≡ first_token_of text) × AreTokensOf tokens (reading text).1

@@ -5,7 +5,7 @@ use Rattle.syntax_lex.specs.Reading.{first_token_of, reading}
 use Rattle.syntax_lex.specs.declared.token.Token.{Token}
 use Rattle.syntax_lex.specs.declared.tokens.Tokenize.{Tokenize}
 
--- the first token of what is left, and then what is left behind it; nothing if nothing is left, and then nothing is left still
+-- gives the first token of the rest, and then holds the rest after it; at the end it gives nothing and stays at the end
 abbrev pub gives : Tokenize → Option Token → Tokenize → Type 0
 gives before token after =
     MatchOption token ((chars before.rest.now ≡ []) × (chars after.rest.now ≡ []))

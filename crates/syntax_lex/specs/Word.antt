@@ -9,12 +9,12 @@ use Rattle.syntax_lex.specs.declared.token.TokenKind.TheVariants.{Ident, Invalid
 abbrev pub begins_literal : ℕ → Bool
 begins_literal c = (c == 35) || (c == 34) || (c == 39)
 
--- an identifier with this behind it: `#` or a quote makes it an unknown prefix, an emoji an identifier that is none
+-- an identifier before this text: `#` or a quote makes it an unknown prefix, an emoji an invalid identifier
 abbrev pub word_before : List ℕ → TokenKind × List ℕ
 word_before cs =
     if begins_literal (first cs) then (UnknownPrefix, cs)
     else (if is_emoji_mark (first cs) then (InvalidIdent, behind is_odd_rest cs) else (Ident, cs))
 
--- An identifier behind its first character.
+-- An identifier after its first character.
 unfoldable pub word : List ℕ → TokenKind × List ℕ
 word cs = word_before (behind is_id_continue cs)

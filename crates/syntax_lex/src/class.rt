@@ -1,4 +1,4 @@
-//! Classes of characters. Unicode's tables are asked only beyond ASCII.
+//! Classes of characters. Unicode's tables are used only beyond ASCII.
 ghost use Rattle.std.specs.Prelude.{◌≡◌};
 ghost use Rattle.syntax_lex.specs.Class.{is_whitespace, is_id_start, is_id_continue, is_emoji_mark, is_decimal, is_hex, is_odd_rest, passes};
 
@@ -25,7 +25,7 @@ pub fn is_id_start(c: char) -> bool
     }
 }
 
-/// Returns whether an identifier may go on with a character: `XID_Continue` of Unicode.
+/// Returns whether an identifier may continue with a character: `XID_Continue` of Unicode.
 #[inline(always)]
 pub fn is_id_continue(c: char) -> bool
     ensures { result ≡ is_id_continue c }
@@ -45,7 +45,7 @@ pub fn is_emoji_mark(c: char) -> bool
     !c.is_ascii() && ucd_emoji::is_emoji(c)
 }
 
-// Returns whether an identifier with emoji may go on with a character.
+// Returns whether an identifier with emoji may continue with a character.
 fn is_odd_rest(c: char) -> bool
     ensures { result ≡ is_odd_rest c }
 {
@@ -68,12 +68,12 @@ pub fn is_hex(c: char) -> bool
     matches!(c, '0'..='9' | 'a'..='f' | 'A'..='F')
 }
 
-/// What the characters of a run have in common.
+/// A class of characters, for runs of them.
 #[derive(Clone, Copy)]
 pub enum CharClass {
     Whitespace,
     IdContinue,
-    /// What an identifier with emoji goes on with.
+    /// The characters with which an identifier with emoji continues.
     OddRest,
     Underscore,
     /// Digits and `_`.

@@ -1,4 +1,4 @@
-//! What closes a comment, a text in quotes and a raw text.
+//! The closing of a comment, a text in quotes and a raw text.
 ghost use Rattle.std.specs.Prelude.{◌≡◌, ◌≤◌, ◌<◌, ◌^◌, false, length, drop, min};
 ghost use Rattle.std.specs.Str.{chars};
 ghost use Rattle.syntax_lex.specs.Closing.{behind_comment, behind_quote, behind_raw, closes_comment, counted, hashes_of, opens_comment, raw_body, raw_text};
@@ -20,7 +20,7 @@ fn closes_comment(c: char, next: char) -> bool
     (c == '*') & (next == '/')
 }
 
-/// Behind `/*`: whether the comment is closed, and what is left behind it.
+/// Takes the text after `/*`. Returns whether the comment is closed, and what follows it.
 pub fn past_comment(text: &str) -> (bool, &str)
     ensures value { behind_comment 0 (chars text.now) ≡ (result.0, chars result.1.now) }
     ensures len { length result.1.now ≤ length text.now }
@@ -45,7 +45,7 @@ pub fn past_comment(text: &str) -> (bool, &str)
     (false, "")
 }
 
-/// Behind a quote: whether the text is closed, and what is left behind it.
+/// Takes the text after a quote. Returns whether it is closed, and what follows it.
 pub fn past_quote(text: &str) -> (bool, &str)
     ensures value { behind_quote false (chars text.now) ≡ (result.0, chars result.1.now) }
     ensures len { length result.1.now ≤ length text.now }
@@ -60,7 +60,7 @@ pub fn past_quote(text: &str) -> (bool, &str)
     (false, "")
 }
 
-// Returns how many hashes stand in front, but no more than so many, and what is left behind them.
+// Returns the number of hashes at the front, at most `most`, and what follows them.
 fn past_hashes(text: &str, most: usize) -> (usize, &str)
     ensures count { result.0 ≡ min most (hashes_of (chars text.now)) }
     ensures rest { chars result.1.now ≡ drop result.0 (chars text.now) }
@@ -78,7 +78,7 @@ fn past_hashes(text: &str, most: usize) -> (usize, &str)
     (count, rest)
 }
 
-// Behind the quote of a raw text with so many hashes: whether it is closed, and what is left behind it.
+// Takes a raw text with `hashes` hashes after its quote. Returns whether it is closed, and what follows it.
 fn past_raw(text: &str, hashes: usize) -> (bool, &str)
     ensures value { behind_raw hashes (chars text.now) ≡ (result.0, chars result.1.now) }
     ensures len { length result.1.now ≤ length text.now }
@@ -94,7 +94,7 @@ fn past_raw(text: &str, hashes: usize) -> (bool, &str)
     (false, "")
 }
 
-// So many hashes of a raw text, if it is closed and a byte can tell them.
+// Returns the hashes of a raw text, if it is closed and the number fits into a byte.
 fn counted(closed: bool, hashes: usize) -> Option<u8>
     ensures { result ≡ counted closed hashes }
 {
@@ -105,7 +105,7 @@ fn counted(closed: bool, hashes: usize) -> Option<u8>
     }
 }
 
-// Behind the hashes of a raw text: how many, if it is closed and they are fewer than 256, and what is left.
+// Takes a raw text after its hashes. Returns their number, if it is closed and they are fewer than 256, and what follows it.
 fn past_raw_body(text: &str, hashes: usize) -> (Option<u8>, &str)
     ensures value { raw_body hashes (chars text.now) ≡ (result.0, chars result.1.now) }
     ensures len { length result.1.now ≤ length text.now }
@@ -118,7 +118,7 @@ fn past_raw_body(text: &str, hashes: usize) -> (Option<u8>, &str)
     (counted(terminated, hashes), tail)
 }
 
-/// Behind the letters of a raw text: how many hashes it has, if it is closed and they are fewer than 256, and what is left.
+/// Takes a raw text after its letters. Returns how many hashes it has, if it is closed and they are fewer than 256, and what follows it.
 pub fn past_raw_text(text: &str) -> (Option<u8>, &str)
     ensures value { raw_text (chars text.now) ≡ (result.0, chars result.1.now) }
     ensures len { length result.1.now ≤ length text.now }

@@ -1,4 +1,4 @@
-//! Comments, behind the two characters that open them.
+//! Comments, after the two characters that open them.
 ghost use Rattle.std.specs.Prelude.{◌≡◌, ◌≤◌, length};
 ghost use Rattle.std.specs.Str.{chars};
 ghost use Rattle.syntax_lex.specs.Comments.{block_comment, block_doc, line_comment, line_doc};
@@ -9,7 +9,7 @@ use crate::front::{begins_with, goes_on_with};
 use crate::runs::{Stop, past_until};
 use crate::token::{DocStyle, TokenKind};
 
-// Returns what a line comment documents, of which this stands behind its `//`.
+// Returns what a line comment documents, by the text after its `//`.
 fn line_doc(body: &str) -> Option<DocStyle>
     ensures { result ≡ line_doc (first (chars body.now)) (second (chars body.now)) }
 {
@@ -22,7 +22,7 @@ fn line_doc(body: &str) -> Option<DocStyle>
     }
 }
 
-// Returns what a block comment documents, of which this stands behind its `/*`.
+// Returns what a block comment documents, by the text after its `/*`.
 fn block_doc(body: &str) -> Option<DocStyle>
     ensures { result ≡ block_doc (first (chars body.now)) (second (chars body.now)) }
 {
@@ -35,7 +35,7 @@ fn block_doc(body: &str) -> Option<DocStyle>
     }
 }
 
-/// Behind `//`: the comment, and what is left behind it.
+/// Takes the text after `//`. Returns the comment, and what follows it.
 #[inline(never)]
 pub fn line_comment(body: &str) -> (TokenKind, &str)
     ensures value { line_comment (chars body.now) ≡ (result.0, chars result.1.now) }
@@ -48,7 +48,7 @@ pub fn line_comment(body: &str) -> (TokenKind, &str)
     )
 }
 
-/// Behind `/*`: the comment, and what is left behind it.
+/// Takes the text after `/*`. Returns the comment, and what follows it.
 #[inline(never)]
 pub fn block_comment(body: &str) -> (TokenKind, &str)
     ensures value { block_comment (chars body.now) ≡ (result.0, chars result.1.now) }

@@ -1,9 +1,9 @@
-//! The front of a text, and what is left behind it.
+//! The front of a text, and the rest after it.
 ghost use Rattle.std.specs.Prelude.{◌≡◌, ◌-◌, ◌<◌, ◌≤◌, ◌^◌, ◌==◌, [], ◌∷◌, nat_le, length, MatchOption};
 ghost use Rattle.std.specs.Str.{chars};
 ghost use Rattle.syntax_lex.specs.Front.{first, second, skip, byte_length};
 
-/// Returns the first character, and what is left behind it.
+/// Returns the first character, and the rest after it.
 #[inline(always)]
 pub fn split_first(text: &str) -> Option<(char, &str)>
     ensures { MatchOption result (chars text.now ≡ [])
@@ -27,7 +27,7 @@ pub fn first(text: &str) -> char
     }
 }
 
-/// Returns whether a text begins with an ASCII character that is not null. No character is decoded.
+/// Returns whether a text begins with an ASCII character that is not null, without decoding a character.
 #[inline(always)]
 pub fn begins_with(text: &str, ascii: u8) -> bool
     requires some { 0 < ascii }
@@ -38,7 +38,7 @@ pub fn begins_with(text: &str, ascii: u8) -> bool
     !bytes.is_empty() && bytes[0] == ascii
 }
 
-/// Returns whether a text begins with a character beyond ASCII. No character is decoded.
+/// Returns whether a text begins with a character beyond ASCII, without decoding a character.
 #[inline(always)]
 pub fn begins_wide(text: &str) -> bool
     ensures { result ≡ nat_le 128 (first (chars text.now)) }
@@ -47,7 +47,7 @@ pub fn begins_wide(text: &str) -> bool
     !bytes.is_empty() && bytes[0] >= 128
 }
 
-/// Returns what is left behind the first character.
+/// Returns the rest after the first character.
 #[inline(always)]
 pub fn skip(text: &str) -> &str
     ensures rest { chars result.now ≡ skip (chars text.now) }
@@ -69,7 +69,7 @@ pub fn goes_on_with(text: &str, ascii: u8) -> bool
     begins_with(skip(text), ascii)
 }
 
-/// Returns how many bytes a text has more than what is left of it.
+/// Returns how many bytes precede the rest of a text.
 #[inline(always)]
 pub fn bytes_before(text: &str, rest: &str) -> u32
     requires { length text.now < 2 ^ 32 }

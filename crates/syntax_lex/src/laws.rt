@@ -1,4 +1,4 @@
-//! Laws of the definitions that the contracts cite: each is the contract of a function that does nothing.
+//! Laws of the definitions that the contracts cite. Each is the contract of a function that does nothing.
 ghost use Rattle.std.specs.Prelude.{◌≡◌, ℕ, true, false, List, ◌∷◌, ◌++◌, replicate};
 ghost use Rattle.std.specs.Iterator.{Drains};
 ghost use Rattle.std.specs.Str.{chars};
@@ -11,7 +11,7 @@ ghost use Rattle.syntax_lex.specs.Tokens.{gives};
 ghost use Rattle.syntax_lex.specs.declared.token.Token.{Token};
 ghost use Rattle.syntax_lex.specs.declared.tokens.Tokenize.{Tokenize};
 
-/// A token takes the first character at least, and what is left behind it is an end of the text.
+/// A token takes at least the first character, and the rest after it is an end of the text.
 pub fn what_is_left()
     ensures { (c : ℕ) → (cs : List ℕ) → IsEnd (reading (c ∷ cs)).1 cs }
 {}
@@ -26,28 +26,28 @@ pub fn all_bytes()
     ensures { (tokens : List Token) → (text : List ℕ) → AreTokensOf tokens text → bytes_of tokens ≡ byte_length text }
 {}
 
-/// A closed string has the text of a string, then a quote, before what is left.
+/// A closed string is the text of a string, then a quote, then the rest.
 pub fn string_closed()
     ensures { (cs rest : List ℕ) → behind_quote false cs ≡ (true, rest) → (body : List ℕ) × IsStringText body × (cs ≡ body ++ 34 ∷ rest) }
 {}
 
-/// The text of a string with a quote behind it is read as a closed string, whatever follows.
+/// The text of a string with a quote after it is read as a closed string, whatever follows.
 pub fn string_read()
     ensures { (body rest : List ℕ) → IsStringText body → behind_quote false (body ++ 34 ∷ rest) ≡ (true, rest) }
 {}
 
-/// A closed raw text of so many hashes ends with a quote and the hashes, and no quote before that has as many behind it.
+/// A closed raw text of `n` hashes ends with a quote and `n` hashes, and no earlier quote has as many after it.
 pub fn raw_closed()
     ensures { (n : ℕ) → (cs rest : List ℕ) → behind_raw n cs ≡ (true, rest) → (body : List ℕ) × IsRawText n body × (cs ≡ body ++ 34 ∷ (replicate n 35 ++ rest)) }
 {}
 
-/// A raw text of so many hashes with a quote and the hashes behind it is read as closed, whatever follows.
+/// A raw text of `n` hashes with a quote and `n` hashes after it is read as closed, whatever follows.
 pub fn raw_read()
     ensures { (n : ℕ) → (body rest : List ℕ) → IsRawText n body → behind_raw n (body ++ 34 ∷ (replicate n 35 ++ rest)) ≡ (true, rest) }
 {}
 
-/// Between `/*` and what is left behind a closed comment there is one `*/` more than `/*`, and in no part in front of its end
-/// are there more: so the `/*` at its front taken too, there are as many at its end, and more `/*` before.
+/// From `/*` to its end, a closed comment has one `*/` more than `/*`, and no shorter part from its front has more `*/` than `/*`. With the
+/// first `/*` included, the whole has as many of both, and each shorter part has more `/*`.
 pub fn comment_closed()
     ensures { (cs rest : List ℕ) → behind_comment 0 cs ≡ (true, rest) → (body : List ℕ) × IsCommentText 0 body × (cs ≡ body ++ rest) }
 {}
@@ -57,7 +57,7 @@ pub fn comment_read()
     ensures { (body rest : List ℕ) → IsCommentText 0 body → behind_comment 0 (body ++ rest) ≡ (true, rest) }
 {}
 
-/// What the calls of `next` give, up to the first `None`, are the tokens of the text.
+/// The calls of `next`, up to the first `None`, give the tokens of the text.
 pub fn in_order()
     ensures { (s : Tokenize) → (tokens : List Token) → Drains gives s tokens → AreTokensOf tokens (chars s.rest.now) }
 {}

@@ -1,4 +1,4 @@
-//! Literals of a text, of which `rest` is what stands behind what opens them.
+//! Literals of a text; `rest` is the text after the characters that open them.
 ghost use Rattle.std.specs.Prelude.{◌≡◌, ◌≤◌, ◌<◌, ◌^◌, length};
 ghost use Rattle.std.specs.Str.{chars};
 ghost use Rattle.syntax_lex.specs.Literals.{byte_literal, byte_str_literal, c_str_literal, number_literal, raw_byte_str_literal, raw_c_str_literal, raw_str_literal, str_literal};
@@ -9,7 +9,7 @@ use crate::number::number;
 use crate::quoted::{literal, quoted_char};
 use crate::token::{LiteralKind, TokenKind};
 
-/// Returns the number, behind its first digit.
+/// Returns the number, after its first digit.
 #[inline(never)]
 pub fn number_literal<'a>(text: &str, rest: &'a str) -> (TokenKind, &'a str)
     requires { length text.now < 2 ^ 32 }
@@ -20,7 +20,7 @@ pub fn number_literal<'a>(text: &str, rest: &'a str) -> (TokenKind, &'a str)
     literal(text, kind, true, tail)
 }
 
-/// Returns the byte, behind `b'`.
+/// Returns the byte, after `b'`.
 #[inline(never)]
 pub fn byte_literal<'a>(text: &str, rest: &'a str) -> (TokenKind, &'a str)
     requires { length text.now < 2 ^ 32 }
@@ -31,7 +31,7 @@ pub fn byte_literal<'a>(text: &str, rest: &'a str) -> (TokenKind, &'a str)
     literal(text, LiteralKind::Byte { terminated }, terminated, tail)
 }
 
-/// Returns the string, behind its quote.
+/// Returns the string, after its quote.
 #[inline(never)]
 pub fn str_literal<'a>(text: &str, rest: &'a str) -> (TokenKind, &'a str)
     requires { length text.now < 2 ^ 32 }
@@ -42,7 +42,7 @@ pub fn str_literal<'a>(text: &str, rest: &'a str) -> (TokenKind, &'a str)
     literal(text, LiteralKind::Str { terminated }, terminated, tail)
 }
 
-/// Returns the byte string, behind `b"`.
+/// Returns the byte string, after `b"`.
 #[inline(never)]
 pub fn byte_str_literal<'a>(text: &str, rest: &'a str) -> (TokenKind, &'a str)
     requires { length text.now < 2 ^ 32 }
@@ -53,7 +53,7 @@ pub fn byte_str_literal<'a>(text: &str, rest: &'a str) -> (TokenKind, &'a str)
     literal(text, LiteralKind::ByteStr { terminated }, terminated, tail)
 }
 
-/// Returns the C string, behind `c"`.
+/// Returns the C string, after `c"`.
 #[inline(never)]
 pub fn c_str_literal<'a>(text: &str, rest: &'a str) -> (TokenKind, &'a str)
     requires { length text.now < 2 ^ 32 }
@@ -64,7 +64,7 @@ pub fn c_str_literal<'a>(text: &str, rest: &'a str) -> (TokenKind, &'a str)
     literal(text, LiteralKind::CStr { terminated }, terminated, tail)
 }
 
-/// Returns the raw string, behind its `r`.
+/// Returns the raw string, after its `r`.
 #[inline(never)]
 pub fn raw_str_literal<'a>(text: &str, rest: &'a str) -> (TokenKind, &'a str)
     requires { length text.now < 2 ^ 32 }
@@ -80,7 +80,7 @@ pub fn raw_str_literal<'a>(text: &str, rest: &'a str) -> (TokenKind, &'a str)
     )
 }
 
-/// Returns the raw byte string, behind its `br`.
+/// Returns the raw byte string, after its `br`.
 #[inline(never)]
 pub fn raw_byte_str_literal<'a>(text: &str, rest: &'a str) -> (TokenKind, &'a str)
     requires { length text.now < 2 ^ 32 }
@@ -96,7 +96,7 @@ pub fn raw_byte_str_literal<'a>(text: &str, rest: &'a str) -> (TokenKind, &'a st
     )
 }
 
-/// Returns the raw C string, behind its `cr`.
+/// Returns the raw C string, after its `cr`.
 #[inline(never)]
 pub fn raw_c_str_literal<'a>(text: &str, rest: &'a str) -> (TokenKind, &'a str)
     requires { length text.now < 2 ^ 32 }

@@ -8,7 +8,7 @@ use crate::front::{begins_with, first, skip};
 use crate::runs::past;
 use crate::token::{Base, LiteralKind};
 
-// Returns the base that the first digit and the character behind it tell.
+// Returns the base for the first digit and the character after it.
 fn base_of(digit: char, letter: char) -> Base
     ensures { result ≡ base_of digit letter }
 {
@@ -30,7 +30,7 @@ fn class_of(base: Base) -> CharClass
     }
 }
 
-// Returns whether a digit stands in front, behind any `_`.
+// Returns whether a digit comes first, after any `_`.
 fn has_digit(base: Base, text: &str) -> bool
     ensures { result ≡ has_digit base (chars text.now) }
 {
@@ -41,7 +41,7 @@ fn has_digit(base: Base, text: &str) -> bool
     }
 }
 
-// Returns whether a point in front belongs to a number.
+// Returns whether a point at the front belongs to a number.
 fn begins_fraction(text: &str) -> bool
     ensures { result ≡ begins_fraction (chars text.now) }
 {
@@ -52,14 +52,14 @@ fn begins_fraction(text: &str) -> bool
     (next != '.') & !is_id_start(next)
 }
 
-// Returns whether a letter in front begins an exponent.
+// Returns whether a letter at the front begins an exponent.
 fn begins_exponent(text: &str) -> bool
     ensures { result ≡ begins_exponent (chars text.now) }
 {
     begins_with(text, b'e') | begins_with(text, b'E')
 }
 
-// Returns what is left behind a sign, where one stands in front.
+// Returns the rest after a sign, if one comes first.
 fn past_sign(text: &str) -> &str
     ensures rest { chars result.now ≡ behind_sign (chars text.now) }
     ensures len { length result.now ≤ length text.now }
@@ -71,7 +71,7 @@ fn past_sign(text: &str) -> &str
     }
 }
 
-// Returns a number, of which all but an exponent stands in front of a text.
+// Returns a number, and what follows it. The number is read up to its exponent, and the text begins there.
 #[tactic(auto, unfolding(crate::specs::Number::with_exponent))]
 fn with_exponent(base: Base, kind: LiteralKind, text: &str) -> (LiteralKind, &str)
     ensures value { with_exponent base kind (chars text.now) ≡ (result.0, chars result.1.now) }
@@ -91,7 +91,7 @@ fn with_exponent(base: Base, kind: LiteralKind, text: &str) -> (LiteralKind, &st
     )
 }
 
-// Returns a number, of which the whole part stands in front of a text.
+// Returns a number, and what follows it. The number is read up to its point, and the text begins there.
 #[tactic(auto, unfolding(crate::specs::Number::with_fraction))]
 fn with_fraction(base: Base, text: &str) -> (LiteralKind, &str)
     ensures value { with_fraction base (chars text.now) ≡ (result.0, chars result.1.now) }
@@ -119,7 +119,7 @@ fn with_fraction(base: Base, text: &str) -> (LiteralKind, &str)
     }
 }
 
-/// Returns the number that begins with a digit, and what is left behind it; the text begins behind that digit.
+/// Returns the number that begins with a digit, and what follows it; the text begins after that digit.
 #[tactic(auto, unfolding(crate::specs::Number::number))]
 pub fn number(digit: char, text: &str) -> (LiteralKind, &str)
     ensures value { number digit (chars text.now) ≡ (result.0, chars result.1.now) }

@@ -1,4 +1,4 @@
-//! What the first characters of a text tell of its first token.
+//! The family of the first token, by the first characters of a text.
 ghost use Rattle.std.specs.Prelude.{◌≡◌, ◌≤◌, ℕ};
 ghost use Rattle.std.specs.Str.{chars};
 ghost use Rattle.syntax_lex.specs.Front.{first, second};
@@ -30,7 +30,7 @@ pub enum Family {
     Symbol,
 }
 
-// Returns whether a raw text may go on so behind its letters.
+// Returns whether a raw text may continue with this text after its letters.
 #[inline(always)]
 fn begins_raw(text: &str) -> bool
     ensures { result ≡ begins_raw (first (chars text.now)) }
@@ -38,7 +38,7 @@ fn begins_raw(text: &str) -> bool
     begins_with(text, b'"') | begins_with(text, b'#')
 }
 
-// Returns the family behind a `/`.
+// Returns the family after a `/`.
 #[inline(always)]
 fn opening_slash(rest: &str) -> Family
     ensures { result ≡ opening_slash (first (chars rest.now)) }
@@ -52,7 +52,7 @@ fn opening_slash(rest: &str) -> Family
     }
 }
 
-// Returns the family behind an `r`.
+// Returns the family after an `r`.
 #[inline(always)]
 fn opening_r(rest: &str) -> Family
     ensures { result ≡ opening_r (first (chars rest.now)) (second (chars rest.now)) }
@@ -66,7 +66,7 @@ fn opening_r(rest: &str) -> Family
     }
 }
 
-// Returns the family behind a `b`.
+// Returns the family after a `b`.
 #[inline(always)]
 fn opening_b(rest: &str) -> Family
     ensures { result ≡ opening_b (first (chars rest.now)) (second (chars rest.now)) }
@@ -82,7 +82,7 @@ fn opening_b(rest: &str) -> Family
     }
 }
 
-// Returns the family behind a `c`.
+// Returns the family after a `c`.
 #[inline(always)]
 fn opening_c(rest: &str) -> Family
     ensures { result ≡ opening_c (first (chars rest.now)) (second (chars rest.now)) }
@@ -96,7 +96,7 @@ fn opening_c(rest: &str) -> Family
     }
 }
 
-// Returns the family that an ASCII character and those of what is left behind it tell. It is right of any character.
+// Returns the family for an ASCII character and the first characters of the rest after it. The result is right for any character.
 #[inline(always)]
 #[tactic(auto, unfolding(crate::specs::Opening::opening))]
 fn ascii_opening(c: char, rest: &str) -> Family
@@ -129,7 +129,7 @@ fn ascii_opening(c: char, rest: &str) -> Family
     }
 }
 
-// Returns the family that a character beyond ASCII tells.
+// Returns the family for a character beyond ASCII.
 #[inline(never)]
 fn wide_opening(c: char) -> Family
     requires { 128 ≤ c }
@@ -146,7 +146,7 @@ fn wide_opening(c: char) -> Family
     }
 }
 
-/// Returns the family that the first three characters tell: the first one, and those of what is left behind it.
+/// Returns the family for the first three characters: the first one, and those of the rest after it.
 #[inline(always)]
 pub fn opening(c: char, rest: &str) -> Family
     ensures { result ≡ opening c (first (chars rest.now)) (second (chars rest.now)) }
@@ -158,7 +158,7 @@ pub fn opening(c: char, rest: &str) -> Family
     }
 }
 
-/// Returns the token that a character is which begins no other.
+/// Returns the token of a single character that begins no other.
 #[inline(always)]
 #[tactic(auto, unfolding(crate::specs::Opening::symbol))]
 pub fn symbol(c: char) -> TokenKind

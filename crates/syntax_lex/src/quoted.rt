@@ -8,7 +8,7 @@ use crate::front::{begins_with, bytes_before, first, goes_on_with, skip, split_f
 use crate::runs::{past, past_name};
 use crate::token::{LiteralKind, TokenKind};
 
-/// Returns a literal of a text, behind which something is left. A suffix is read if the literal may have one.
+/// Returns a literal of a text, and what follows it. Reads a suffix if the literal may have one.
 #[tactic(auto, unfolding(crate::specs::Quoted::literal))]
 pub fn literal<'a>(
     text: &str,
@@ -29,14 +29,14 @@ pub fn literal<'a>(
     }
 }
 
-// Returns whether the reader of a character gives up at this one, which has another behind it.
+// Returns whether the reader of a character gives up at this one; `next` follows it.
 fn gives_up(c: char, next: char) -> bool
     ensures { result ≡ gives_up c next }
 {
     (c == '/') | ((c == '\n') & (next != '\''))
 }
 
-// Behind a quote: whether the character is closed, and what is left.
+// Takes the text after a quote. Returns whether the character is closed, and what follows it.
 fn past_apostrophe(text: &str) -> (bool, &str)
     ensures value { behind_apostrophe false (chars text.now) ≡ (result.0, chars result.1.now) }
     ensures len { length result.1.now ≤ length text.now }
@@ -54,7 +54,8 @@ fn past_apostrophe(text: &str) -> (bool, &str)
     (false, rest)
 }
 
-/// Behind a quote: whether the character is closed, and what is left. One character and a quote are closed, whichever it is.
+/// Takes the text after a quote. Returns whether the character is closed, and what follows it. One character and a quote are closed,
+/// whatever the character; a backslash is the exception.
 #[tactic(auto, unfolding(crate::specs::Quoted::quoted_char))]
 pub fn quoted_char(text: &str) -> (bool, &str)
     ensures value { quoted_char (chars text.now) ≡ (result.0, chars result.1.now) }
@@ -67,7 +68,7 @@ pub fn quoted_char(text: &str) -> (bool, &str)
     }
 }
 
-// Returns whether what stands behind a quote may be a lifetime.
+// Returns whether the text after a quote may be a lifetime.
 fn begins_lifetime(text: &str) -> bool
     ensures { result ≡ begins_lifetime (chars text.now) }
 {
@@ -75,14 +76,14 @@ fn begins_lifetime(text: &str) -> bool
     !goes_on_with(text, b'\'') && (is_id_start(name) | is_decimal(name))
 }
 
-// Returns whether it is a raw one.
+// Returns whether the text after a quote is a raw lifetime.
 fn begins_raw_lifetime(text: &str) -> bool
     ensures { result ≡ begins_raw_lifetime (chars text.now) }
 {
     begins_with(text, b'r') && goes_on_with(text, b'#') && is_id_start(first(skip(skip(text))))
 }
 
-/// Returns a text that begins with a quote, and that is left behind the quote: a character or a lifetime.
+/// Returns a character or a lifetime of a text, and what follows it. The text begins with a quote, and `rest` follows that quote.
 #[inline(never)]
 #[tactic(auto, unfolding(crate::specs::Quoted::apostrophe))]
 pub fn apostrophe<'a>(text: &str, rest: &'a str) -> (TokenKind, &'a str)

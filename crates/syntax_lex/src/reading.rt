@@ -18,8 +18,7 @@ use crate::token::{Token, TokenKind};
 use crate::tokens::Tokenize;
 use crate::word::word;
 
-// Returns the first token of a text, as its family tells, and what is left behind it; `c` is its first character, and `rest`
-// is what is left behind that.
+// Returns the first token of a text by its family, and the rest after it. `c` is the first character, and `rest` is the text after it.
 #[inline(never)]
 #[tactic(auto, unfolding(crate::specs::Reading::reading_of))]
 fn read_any<'a>(family: Family, c: char, text: &str, rest: &'a str) -> (TokenKind, &'a str)
@@ -49,8 +48,8 @@ fn read_any<'a>(family: Family, c: char, text: &str, rest: &'a str) -> (TokenKin
     }
 }
 
-// Returns the same. The families that nearly all tokens are of are read in place, and the result of the others is taken apart and
-// put together again, so that it can stay in registers.
+// Returns the same. It reads the families of nearly all tokens in place. It takes the result of the others apart and puts it together
+// again, so that it can stay in registers.
 #[inline(always)]
 #[tactic(auto, unfolding(crate::specs::Reading::reading_of))]
 fn read_as<'a>(family: Family, c: char, text: &str, rest: &'a str) -> (TokenKind, &'a str)
@@ -70,7 +69,7 @@ fn read_as<'a>(family: Family, c: char, text: &str, rest: &'a str) -> (TokenKind
     }
 }
 
-/// Returns the first token of a text, and what is left behind it.
+/// Returns the first token of a text, and the rest after it.
 #[inline(always)]
 #[tactic(auto, unfolding(crate::specs::Reading::reading))]
 pub fn read(text: &str) -> (TokenKind, &str)
@@ -86,14 +85,14 @@ pub fn read(text: &str) -> (TokenKind, &str)
     }
 }
 
-/// The most bytes that a text may have whose tokens are asked for, so that a `u32` tells each length.
+/// The most bytes of a text whose tokens can be read, so that a `u32` can hold each length.
 pub const MOST_TEXT_BYTES: usize = 4_294_967_295;
 
-/// Returns the first token of a text: what it is, and how many bytes it takes.
+/// Returns the first token of a text: its kind, and how many bytes it takes.
 ///
-/// Conditions: the text is not empty, and has at most [`MOST_TEXT_BYTES`] bytes. They are tested by `!text.is_empty()` and
-/// `text.len() <= MOST_TEXT_BYTES`; a call that neither a test nor a contract shows to meet them is refused when it is
-/// compiled, so nothing happens with a longer text.
+/// Conditions: the text is not empty, and has at most [`MOST_TEXT_BYTES`] bytes. The tests `!text.is_empty()` and
+/// `text.len() <= MOST_TEXT_BYTES` check them. The compiler rejects a call if neither a test nor a contract shows that it
+/// meets them, so no longer text gets here.
 #[tactic(auto, unfolding(crate::specs::Reading::first_token_of))]
 pub fn first_token(text: &str) -> Token
     requires some { 0 < length text.now }
@@ -105,10 +104,10 @@ pub fn first_token(text: &str) -> Token
     Token { kind, len }
 }
 
-/// Returns the tokens of a text, in order. Their lengths make up the text.
+/// Returns the tokens of a text, in order. Their lengths add up to that of the text.
 ///
-/// Condition: the text has at most `MOST_TEXT_BYTES` bytes, which is tested by `text.len() <= MOST_TEXT_BYTES`. A call that
-/// neither a test nor a contract shows to meet it is refused when it is compiled, so nothing happens with a longer text.
+/// Condition: the text has at most `MOST_TEXT_BYTES` bytes, which `text.len() <= MOST_TEXT_BYTES` tests. The compiler rejects a call if
+/// neither a test nor a contract shows that it meets the condition, so no longer text gets here.
 pub fn tokenize(text: &str) -> Tokenize<'_>
     requires { length text.now < 2 ^ 32 }
     ensures { result.rest.now ≡ text.now }

@@ -1,4 +1,4 @@
-//! Runs of characters in front of a text, which are passed byte by byte, or many bytes at a time.
+//! Runs of characters at the front of a text, passed byte by byte, or many bytes at a time.
 ghost use Rattle.std.specs.Prelude.{◌≡◌, ◌≤◌, ◌<◌, length};
 ghost use Rattle.std.specs.Str.{chars};
 ghost use Rattle.memchr.specs.Find.{IsFirstByte};
@@ -10,7 +10,7 @@ use crate::class::{CharClass, is_id_start};
 use crate::front::{first, skip, split_first};
 use memchr::{memchr, memchr2};
 
-// Returns what is left behind the characters in front that are of a class, decoding each.
+// Returns the rest after the first characters that are of a class. Decodes each of them.
 #[inline(never)]
 fn past_each(text: &str, class: CharClass) -> &str
     ensures rest { chars result.now ≡ behind (passes class) (chars text.now) }
@@ -26,7 +26,7 @@ fn past_each(text: &str, class: CharClass) -> &str
     rest
 }
 
-/// Returns what is left behind the characters in front that are of a class. A byte below 128 is a character, so nothing is decoded
+/// Returns the rest after the first characters that are of a class. A byte below 128 is a character, so nothing is decoded
 /// before the first character beyond ASCII.
 #[inline(always)]
 pub fn past(text: &str, class: CharClass) -> &str
@@ -48,7 +48,7 @@ pub fn past(text: &str, class: CharClass) -> &str
     ""
 }
 
-/// Returns what is left behind an identifier, where one stands in front.
+/// Returns the rest after an identifier, if the text begins with one.
 #[inline(always)]
 pub fn past_name(text: &str) -> &str
     ensures rest { chars result.now ≡ behind_name (chars text.now) }
@@ -61,7 +61,7 @@ pub fn past_name(text: &str) -> &str
     }
 }
 
-/// What a run of other characters ends before. Each of these is an ASCII character.
+/// The characters that stop a run of others. Each of them is an ASCII character.
 #[derive(Clone, Copy)]
 pub enum Stop {
     /// The end of a line.
@@ -75,7 +75,7 @@ pub enum Stop {
 }
 
 impl Stop {
-    // Where the first byte is that a run ends before.
+    // Returns the place of the first byte that stops a run.
     #[inline(always)]
     fn find(self, bytes: &[u8]) -> Option<usize>
         ensures { IsFirstByte (stops self) bytes.now result }
@@ -89,7 +89,7 @@ impl Stop {
     }
 }
 
-/// Returns what is left behind the characters in front of the first that a run ends before.
+/// Returns the rest from the first character that stops a run.
 #[inline(always)]
 pub fn past_until(text: &str, stop: Stop) -> &str
     ensures rest { chars result.now ≡ behind (goes_on stop) (chars text.now) }

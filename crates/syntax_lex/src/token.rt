@@ -1,27 +1,27 @@
-//! What a token is.
+//! The kinds of tokens.
 
-/// A token: what it is, and how many bytes it takes.
+/// A token: its kind, and how many bytes it takes.
 #[derive(Debug, Clone, Copy, PartialEq, Eq)]
 pub struct Token {
-    /// What it is.
+    /// The kind of the token.
     pub kind: TokenKind,
     /// How many bytes it takes.
     pub len: u32,
 }
 
-/// What a token is. Puncts are single characters.
+/// The kind of a token. Puncts are single characters.
 #[derive(Debug, Clone, Copy, PartialEq, Eq)]
 pub enum TokenKind {
     /// `//` and all to the end of the line.
     LineComment {
-        /// What it documents, if anything.
+        /// What the comment documents, if anything.
         doc_style: Option<DocStyle>,
     },
-    /// `/*` and all to the `*/` that closes it. Such comments stand in one another.
+    /// `/*` and all to the `*/` that closes it. Such comments nest.
     BlockComment {
-        /// What it documents, if anything.
+        /// What the comment documents, if anything.
         doc_style: Option<DocStyle>,
-        /// Whether it is closed. One that is not takes all.
+        /// Whether it is closed. A comment that is not closed takes all.
         terminated: bool,
     },
     /// A run of white space.
@@ -42,9 +42,9 @@ pub enum TokenKind {
     GuardedStrPrefix,
     /// A literal with its suffix.
     Literal {
-        /// What it is.
+        /// The kind of the literal.
         kind: LiteralKind,
-        /// The byte of the token at which the suffix begins: the token's length where it has none.
+        /// The byte of the token at which the suffix begins: the token's length if it has none.
         suffix_start: u32,
     },
     /// `'` and an identifier or number.
@@ -110,28 +110,28 @@ pub enum TokenKind {
     Unknown,
 }
 
-/// Whether a comment documents what stands behind it or what it stands in.
+/// Whether a comment documents the item after it or the item around it.
 #[derive(Debug, Clone, Copy, PartialEq, Eq)]
 pub enum DocStyle {
-    /// What stands behind it: `///`, `/**`.
+    /// The item after it: `///`, `/**`.
     Outer,
-    /// What it stands in: `//!`, `/*!`.
+    /// The item around it: `//!`, `/*!`.
     Inner,
 }
 
-/// What a literal is. One in quotes that is not closed has no suffix.
+/// The kind of a literal. A literal in quotes that is not closed has no suffix.
 #[derive(Debug, Clone, Copy, PartialEq, Eq)]
 pub enum LiteralKind {
     /// `12`, `0x1f`, `1_000`
     Int {
-        /// The base that it is written in.
+        /// The base of the number.
         base: Base,
         /// Whether no digit follows the letter of the base, as in `0x`.
         empty_int: bool,
     },
     /// `1.5`, `2.`, `1e3`
     Float {
-        /// The base that its whole part is written in.
+        /// The base of its whole part.
         base: Base,
         /// Whether no digit follows the `e`, as in `1e+`.
         empty_exponent: bool,
@@ -163,22 +163,22 @@ pub enum LiteralKind {
     },
     /// `r"a"`, `r#"a"#`
     RawStr {
-        /// How many hashes close it: `None` where it is not closed, has no quote, or has more than 255.
+        /// How many hashes close it: `None` if it is not closed, has no quote, or has more than 255.
         n_hashes: Option<u8>,
     },
     /// `br"a"`
     RawByteStr {
-        /// How many hashes close it, as of a `RawStr`.
+        /// How many hashes close it, as for a `RawStr`.
         n_hashes: Option<u8>,
     },
     /// `cr"a"`
     RawCStr {
-        /// How many hashes close it, as of a `RawStr`.
+        /// How many hashes close it, as for a `RawStr`.
         n_hashes: Option<u8>,
     },
 }
 
-/// The base that a number is written in.
+/// The base of a number.
 #[derive(Debug, Clone, Copy, PartialEq, Eq)]
 pub enum Base {
     /// `0b`

@@ -5,7 +5,7 @@ use crate::front::bytes_before;
 use crate::reading::read;
 use crate::token::Token;
 
-/// The tokens of a text in order, one at a time. It takes no memory: what it holds is what is left of the text.
+/// The tokens of a text in order, one at a time. It takes no memory: it holds only the rest of the text.
 #[derive(Drop)]
 pub struct Tokenize<'a> {
     rest: &'a str,
@@ -21,7 +21,7 @@ impl<'a> Tokenize<'a> {
         Tokenize { rest: text }
     }
 
-    /// Returns what is left of the text: the tokens that `next` has not given yet.
+    /// Returns the rest of the text: the tokens that `next` has not given yet.
     pub fn as_str(&self) -> &'a str
         ensures { result.now ≡ self.now.rest.now }
     {

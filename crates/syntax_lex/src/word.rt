@@ -10,7 +10,7 @@ use crate::front::{begins_wide, begins_with, first};
 use crate::runs::past;
 use crate::token::TokenKind;
 
-// Returns whether what stands behind an identifier makes a prefix of it.
+// Returns whether the text after an identifier makes the identifier a prefix.
 #[inline(always)]
 fn begins_literal(text: &str) -> bool
     ensures { result ≡ begins_literal (first (chars text.now)) }
@@ -26,7 +26,7 @@ fn begins_with_emoji(text: &str) -> bool
     begins_wide(text) && is_emoji_mark(first(text))
 }
 
-/// Returns an identifier, which has its first character before the text.
+/// Returns an identifier, and what follows it. Its first character comes before the text.
 #[tactic(auto, unfolding(crate::specs::Word::word))]
 #[inline(always)]
 pub fn word(text: &str) -> (TokenKind, &str)

@@ -4,7 +4,7 @@ use Rattle.syntax_lex.specs.Class.{passes}
 use Rattle.syntax_lex.specs.Front.{behind}
 use Rattle.syntax_lex.proofs.runs.past.Given as goal
 
--- what is ahead is a text, and its run is that of the whole
+-- the rest is a text, and its run ends where that of the whole ends
 abbrev pub invariant-loop-at : goal.invariant-loop-at
 invariant-loop-at l =
     (l.at ≤ length l.fn.text) × IsUtf8 (drop l.at l.fn.text) × (behind (passes l.class) (chars (drop l.at l.fn.text)) ≡ behind (passes l.class) (chars l.fn.text))
