@@ -21,7 +21,7 @@ module _ {text : List ℕ} where
   follow_both (none order) between behind = follow_from (omega (arith, order, between)) behind
   follow_both (next lies more) between behind = next lies (follow_both more between behind)
 
--- A place in a text is one in what is left of it.
+-- A place in a text that is in its rest is a place of the rest.
 boundary_left : (text : List ℕ) (at place : ℕ) → at ≤ place → IsCharBoundary text place → IsCharBoundary (drop at text) (place - at)
 boundary_left text at place before (within, begins) =
     let same : get_or (drop at text) (place - at) 0 ≡ get_or text place 0 =
@@ -30,7 +30,7 @@ boundary_left text at place before (within, begins) =
       λ lt wide. omega (arith, same, begins (omega (arith, lt, before, length-drop at text)) (omega (arith, same, wide))),
     )
 
--- Replacements that follow one another in what is left of a text fit into it.
+-- Replacements that follow one another in the rest of a text fit into it.
 pub follow_fit : {text : List ℕ} {from to : ℕ} {its : List Replacement} (writing : Writing) → writing.rest ≡ drop writing.at text → writing.at ≤ from
     → Follow text from its to → FitAll its writing
 follow_fit writing left before (none order) = tt

@@ -25,7 +25,7 @@ use Rattle.syntax_parse.specs.declared.role.Role.TheVariants.{Bad, Nothing, Open
 use Rattle.syntax_parse.proofs.TextFacts.{cut}
 use Rattle.syntax_unparse.specs.Writable.{is_lifetime}
 
--- of what a comment means that documents something, the bracket closes last
+-- a documenting comment means pieces whose bracket closes last
 doc_last : (style : DocStyle) (text : List ℕ) → ClosesLast (doc style text)
 doc_last Outer text = refl
 doc_last Inner text = refl
@@ -41,7 +41,7 @@ module _ {text : List ℕ} {to : ℕ} (part : SpanPart) (next : Option TokenKind
       (first (record { after = omega arith; range = record { order = omega (arith, some); begins = second; ends = range.ends } })
       (in_order_from (omega (arith, some)) behind))
 
-  -- The leaves of a token stand in order, and then others behind it.
+  -- The leaves of a token are in order, and then others after it.
   pub leaves_in_order : (kind : TokenKind) → (is_lifetime kind ≡ true → IsCharBoundary text (at + 1)) → InOrder text at (leaves_of part kind next at word ++ more) to
   leaves_in_order (kinds.Lifetime digit) quote = two (quote refl)
   leaves_in_order kinds.RawLifetime quote = two (quote refl)
@@ -86,7 +86,7 @@ module _ {text : List ℕ} {to : ℕ} (part : SpanPart) (next : Option TokenKind
   leaves_in_order kinds.Caret quote = here (sorts_of kinds.Caret next word) tt
   leaves_in_order kinds.Percent quote = here (sorts_of kinds.Percent next word) tt
 
-  -- So do the pieces of a token.
+  -- So are the pieces of a token.
   pub pieces_in_order : (kind : TokenKind) → (is_lifetime kind ≡ true → IsCharBoundary text (at + 1)) → InOrder text at (pieces_of part kind next at word ++ more) to
   pieces_in_order kind quote = by (role_in kind word)
     where
@@ -97,7 +97,7 @@ module _ {text : List ℕ} {to : ℕ} (part : SpanPart) (next : Option TokenKind
       by (Closes bracket) = here (closing (kind_of bracket) ∷ []) refl
       by Leaf = leaves_in_order kind quote
 
--- The pieces of the tokens that are left of a text stand in order.
+-- The pieces of the tokens in the rest of a text are in order.
 tokens_in_order : (part : SpanPart) (text : List ℕ) (at : ℕ) (rest : List ℕ) (tokens : List Token) → IsUtf8 text → IsCharBoundary text at → rest ≡ drop at text
     → AreTokensOf tokens (chars rest) → InOrder text at (pieces_from part at rest tokens) (length text)
 tokens_in_order part text at rest [] utf8 boundary left are = none boundary.0
@@ -123,7 +123,7 @@ tokens_in_order part text at rest (token ∷ tokens) utf8 boundary left (some, i
     not_empty [] ne = absurd (ne chars-nil)
     not_empty (b ∷ bs) ne = omega arith
 
--- The trees that a text is read as lie in it.
+-- The trees that are read from a text lie in it.
 pub parsed_laid : (part : SpanPart) (text : List ℕ) (root : Root) → IsUtf8 text → IsParse part text root → Laid text 0 root.children (length text)
 parsed_laid part text root utf8 it =
     laid_of_pieces root.children (subst (λ ps. InOrder text 0 ps (length text)) (sym it.spells)

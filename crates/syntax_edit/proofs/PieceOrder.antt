@@ -1,4 +1,4 @@
--- Pieces in the order of a text, and trees that are spelled by them.
+-- Pieces in the order of a text, and the trees that they spell.
 use Rattle.std.specs.Prelude.{◌==◌, if◌then◌else◌}
 use Rattle.std.proofs.Common.{◌≡◌, ◌≤◌, ◌++◌, ℕ, Bool, true, false, List, [], ◌∷◌, cond, refl, sym, subst, arith, append_assoc, append-nil}
 use Rattle.tt.specs.Forest.{Forest, end, leaf, node}
@@ -13,7 +13,7 @@ use Rattle.syntax_edit.proofs.LaidFacts.{laid_to, lies_from}
 use Rattle.syntax_parse.specs.Pieces.{placed}
 use Rattle.syntax_parse.specs.Spelled.{Piece, Sort, name, sign, value, opening, closing, sort_of, at_span, spelled}
 
--- the first byte at which what stands behind a piece of that sort begins, which stands at these
+-- the first byte at which a piece may begin after one of this sort at these bytes
 abbrev pub behind_sort : Sort → (start end : ℕ) → ℕ
 behind_sort (name text raw) start stop = start
 behind_sort (sign char spacing) start stop = if char == 59 then stop else start
@@ -43,7 +43,7 @@ behind_leaf (leaf_of.Literal it) = refl
 behind_leaf (leaf_of.Punct it) = refl
 behind_leaf (leaf_of.Ident it) = refl
 
--- Trees that are spelled by the first of some pieces in order lie in the text, and the others begin where they end.
+-- Trees lie in the text if the first of some pieces in order spell them, and the others begin where the trees end.
 laid_front : {text : List ℕ} {from to : ℕ} (trees : Forest) (more : List Piece) → InOrder text from (spelled trees ++ more) to
     → (place : ℕ) × Laid text from trees place × InOrder text place more to
 laid_front {from = from} end more it = (from, lies_end (omega arith), it)
@@ -58,7 +58,7 @@ laid_front {text} {to = to} (node delimiter children rest) more (first opens oth
     let (place, laid, others) = laid_front rest more behind in
     (place, lies_node opens (laid_to closes.after inside) closes.range laid, others)
 
--- All of them do.
+-- If all pieces spell trees, the trees lie in the text.
 pub laid_of_pieces : {text : List ℕ} {from to : ℕ} (trees : Forest) → InOrder text from (spelled trees) to → Laid text from trees to
 laid_of_pieces {text} {from} {to} trees it =
     let (place, laid, left) = laid_front trees [] (subst (λ ps. InOrder text from ps to) (sym (append-nil (spelled trees))) it) in
@@ -72,7 +72,7 @@ abbrev Chosen : Bool → Type 0 → Type 0 → Type 0
 Chosen true this that = this
 Chosen false this that = that
 
--- none of them but the last is a closing bracket or a `;`
+-- no closing bracket and no `;` comes before the last
 abbrev pub ClosesLast : List Sort → Type 0
 ClosesLast [] = Unit {0}
 ClosesLast (name text raw ∷ sorts) = ClosesLast sorts
@@ -81,7 +81,7 @@ ClosesLast (value kind symbol suffix ∷ sorts) = ClosesLast sorts
 ClosesLast (opening kind ∷ sorts) = ClosesLast sorts
 ClosesLast (closing kind ∷ sorts) = sorts ≡ []
 
--- All that stand in one place are in order, and then others behind it.
+-- All pieces with one span are in order, and then others after them.
 pub placed_in_order : {text : List ℕ} {to : ℕ} (part : SpanPart) (start stop : ℕ) (sorts : List Sort) (more : List Piece) → ClosesLast sorts → IsRange text start stop
     → InOrder text stop more to → InOrder text start (placed part start stop sorts ++ more) to
 placed_in_order {text} {to} part start stop sorts more last range behind = go sorts last

@@ -1,8 +1,8 @@
--- Worked texts of which parts are replaced. Each holds by computation.
+-- Examples of texts with replaced parts. Each holds by computation.
 use Rattle.std.proofs.Common.{◌≡◌, [], ◌∷◌, codes, refl}
 use Rattle.syntax_edit.specs.Texts.{begun, joined, with_all}
 
--- A space stands between `x=` and `1`, and none between `f(` and `1`, or `1` and `;`, or `,` and `1`.
+-- A space is added between `x=` and `1`, and none between `f(` and `1`, `1` and `;`, or `,` and `1`.
 apart : joined (codes "x=") (codes "1") ≡ codes "x= 1"
 apart = refl
 
@@ -15,7 +15,7 @@ ended = refl
 listed : joined (codes "f(x,") (codes "1") ≡ codes "f(x,1"
 listed = refl
 
--- No punct becomes joint: a space stands between `,` and `-1`, `,` and a lifetime, and `..` and `,`.
+-- No punct becomes joint: a space is added between `,` and `-1`, `,` and a lifetime, and `..` and `,`.
 not_joint : joined (codes "f(x,") (codes "-1") ≡ codes "f(x, -1"
 not_joint = refl
 

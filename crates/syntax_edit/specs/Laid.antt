@@ -8,19 +8,19 @@ use Rattle.tt.specs.Types.Leaf.{Leaf}
 use Rattle.tt.specs.Types.Leaf.TheVariants as leaf_of
 use Rattle.syntax_edit.specs.Texts.{IsRange}
 
--- the bytes from a place to another are a range of a text that begins at a byte or behind it
+-- the bytes from a place to another are a range of a text that begins at byte `from` or after it
 pub record Lies (text : List ℕ) (from start end : ℕ) : Type 0 where
   pub after : from ≤ start
   pub range : IsRange text start end
 
--- the first byte at which what stands behind a leaf may begin: where it begins, as tokens of a doc comment do; behind `;` where that ends
+-- the first byte at which a leaf's successor may begin: the leaf's start, as for tokens of a doc comment; after `;` its end
 abbrev pub byte_behind : Leaf → ℕ
 byte_behind (leaf_of.Literal it) = start_of it.span.range
 byte_behind (leaf_of.Punct it) = if it.char == 59 then end_of it.span.range else start_of it.span.range
 byte_behind (leaf_of.Ident it) = start_of it.span.range
 
--- Trees lie in a text, from a byte to another: each token begins where the one before it does, as those of a doc comment do, or behind
--- that. What a subtree holds begins before its closing bracket, and what stands behind that begins where it ends, or behind that.
+-- Trees lie in a text, from a byte to another: each token begins at the start of the one before it, as those of a doc comment do, or after
+-- it. The children of a subtree begin before its closing bracket. What follows the subtree begins at the end of that bracket or after it.
 pub data Laid (text : List ℕ) : (from : ℕ) → Forest → (to : ℕ) → Type 0 where
   lies_end : {from to : ℕ} → from ≤ to → Laid text from end to
   lies_leaf : {from to : ℕ} {it : Leaf} {rest : Forest}

@@ -1,4 +1,4 @@
--- What becomes of a text of which parts are replaced, and where its trees lie in it.
+-- A text with replaced parts, and where its trees lie in it.
 pub mod Laid
 pub mod Places
 pub mod Texts

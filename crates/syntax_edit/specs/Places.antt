@@ -1,4 +1,4 @@
--- Where trees stand that are read from a text.
+-- The places of trees that are read from a text.
 use Rattle.std.specs.Prelude.{Option, None, Some, option_map}
 use Rattle.tt.specs.Forest.{Forest}
 use Rattle.tt.specs.Moves.{first_token}
@@ -10,7 +10,7 @@ use Rattle.tt.specs.Types.SpanPart.{SpanPart}
 abbrev pub text_part : SpanPart
 text_part = record { anchor = record { file_id = record { 0 = 0 }; ast_id = record { 0 = 0 } }; ctx = record { 0 = 0 } }
 
--- where trees begin, or that span, where there are none
+-- the span where trees begin, or `instead` if there are none
 abbrev pub span_or : Option Span → (instead : Span) → Span
 span_or None instead = instead
 span_or (Some it) instead = it

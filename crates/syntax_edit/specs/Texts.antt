@@ -1,11 +1,11 @@
--- A text in which other texts take the place of parts of it.
+-- A text in which other texts replace parts of it.
 use Rattle.std.specs.Prelude.{◌≡◌, ◌⊎◌, ◌≤◌, ◌-◌, ◌++◌, ◌||◌, ◌&&◌, ◌==◌, ℕ, not, Bool, false, List, [], ◌∷◌, length, take, drop, slice_get, Option, None, Some, codes, string_bytes}
 use Rattle.std.specs.List.{list_any}
 use Rattle.std.specs.Str.{IsCharBoundary}
 use Rattle.tt.specs.TreeText.{space_if}
 use Rattle.syntax_edit.specs.declared.output.Output.{Output}
 
--- white space and brackets: a token ends before such a byte, and one begins behind it, whatever stands around
+-- white space and brackets: a token ends before such a byte, and one begins after it, whatever is around
 abbrev pub apart_bytes : List ℕ
 apart_bytes = codes " \t\n\r()[]{}"
 
@@ -16,7 +16,7 @@ separator_bytes = codes ",;"
 abbrev pub sign_bytes : List ℕ
 sign_bytes = codes ",;.:@#~?$=!<>-&|+*/^%"
 
--- whether it is one of these
+-- whether a byte is one of these
 abbrev pub is_apart : ℕ → Bool
 is_apart byte = list_any (λ it. it == byte) apart_bytes
 
@@ -26,38 +26,38 @@ is_separator byte = list_any (λ it. it == byte) separator_bytes
 abbrev pub is_sign : ℕ → Bool
 is_sign byte = list_any (λ it. it == byte) sign_bytes
 
--- whether a punct that touches a token which begins with this byte is joint: one before a punct is, and before a lifetime
+-- whether a punct that touches a token with this first byte is joint: it is before a punct or a lifetime
 abbrev pub is_joined_before : ℕ → Bool
 is_joined_before byte = is_sign byte || (byte == 39)
 
--- whether tokens of which one ends with a byte, and the other begins with one, stay as they are where they touch
+-- whether two tokens that touch stay as they are, if one ends with the byte `last` and the other begins with the byte `first`
 abbrev pub may_touch : (last first : ℕ) → Bool
 may_touch last first =
     is_apart last || (is_apart first || ((is_separator first && not (is_sign last)) || (is_separator last && not (is_joined_before first))))
 
--- whether a space stands between two texts, of which one ends with a byte and the other begins with one
+-- whether a space is needed between two texts, if one ends with a byte and the other begins with one
 abbrev pub wants_space : Option ℕ → Option ℕ → Bool
 wants_space None first = false
 wants_space (Some last) None = false
 wants_space (Some last) (Some first) = not (may_touch last first)
 
--- the one text behind the other, and a space between where their tokens could become one, or a punct joint
+-- one text after the other, with a space between them if their tokens could become one, or a punct joint
 abbrev pub joined : (before behind : List ℕ) → List ℕ
 joined before behind = before ++ space_if (wants_space (slice_get before (length before - 1)) (slice_get behind 0)) ++ behind
 
--- what takes the place of the bytes from a place to another
+-- what replaces the bytes from a place to another
 pub record Replacement : Type 0 where
   pub start : ℕ
   pub end : ℕ
   pub text : List ℕ
 
--- what is written so far, and the source that is left, which begins at a byte
+-- the text that is written so far, and the rest of the source, which begins at byte `at`
 pub record Writing : Type 0 where
   pub so_far : List ℕ
   pub rest : List ℕ
   pub at : ℕ
 
--- the source up to a replacement is written as it is, and then that
+-- the source up to a replacement is written as it is, and then the replacement
 abbrev pub replaced : Replacement → Writing → Writing
 replaced it writing =
     record {
@@ -66,17 +66,17 @@ replaced it writing =
       at = it.end;
     }
 
--- all of it is written
+-- all of the source is written
 abbrev pub finished : Writing → List ℕ
 finished writing = joined writing.so_far writing.rest
 
--- a range of a text that parts no character
+-- a range of a text that splits no character
 pub record IsRange (text : List ℕ) (start end : ℕ) : Type 0 where
   pub order : start ≤ end
   pub begins : IsCharBoundary text start
   pub ends : IsCharBoundary text end
 
--- the bytes from a place to another are left, and no character is parted there
+-- the bytes from a place to another are in the rest, and no character is split there
 pub record FitsIn (start end : ℕ) (writing : Writing) : Type 0 where
   pub left_start : writing.at ≤ start
   pub left_end : writing.at ≤ end
@@ -91,20 +91,20 @@ abbrev pub with_all : List Replacement → Writing → List ℕ
 with_all [] writing = finished writing
 with_all (it ∷ others) writing = with_all others (replaced it writing)
 
--- each of these is left of the source when its turn comes
+-- each replacement is in the rest of the source when its turn comes
 abbrev pub FitAll : List Replacement → Writing → Type 0
 FitAll [] writing = Unit {0}
 FitAll (it ∷ others) writing = FitsIn it.start it.end writing × FitAll others (replaced it writing)
 
--- a replacement is written where it is left of the source, and else nothing is
+-- a replacement is written if it is in the rest of the source, and else nothing is
 abbrev pub IsReplaced : Replacement → (old new : Writing) → Type 0
 IsReplaced it old new = (FitsIn it.start it.end old × (new ≡ replaced it old)) ⊎ ((FitsIn it.start it.end old → ⊥) × (new ≡ old))
 
--- all of these are, one by one
+-- all these replacements are written, one by one
 abbrev pub AreReplaced : List Replacement → (old new : Writing) → Type 0
 AreReplaced [] old new = new ≡ old
 AreReplaced (it ∷ others) old new = (next : Writing) × IsReplaced it old next × AreReplaced others next new
 
--- what the code's value means
+-- the meaning of the code's value
 abbrev pub writing_of : Output → Writing
 writing_of it = record { so_far = string_bytes it.text; rest = it.rest.now; at = it.at }

@@ -1,8 +1,7 @@
 //! A text in which other texts replace parts of it.
 //!
 //! `Output` copies the text up to a replaced part, adds the replacement with a space on a side at which two tokens would become one, and
-//! goes on behind the part. `parse` reads the tree of a text; `begin_at`, `start_of` and
-//! `end_of` give the bytes of its trees.
+//! continues after the part. `parse` reads the tree of a text; `begin_at`, `start_of` and `end_of` give the bytes of its trees.
 //!
 //! `specs/` also says which bytes of a text its trees are.
 #![tactic(auto)]

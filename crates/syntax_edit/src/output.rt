@@ -1,19 +1,19 @@
-//! A text in which other texts take the place of parts of it.
+//! A text in which other texts replace parts of it.
 ghost use Rattle.std.specs.Prelude.{◌≡◌, ◌≤◌, IfOk, OnOk, MatchBool, MatchOption, take, drop, slice_get, length, ◌-◌, string_bytes};
 ghost use Rattle.syntax_edit.specs.Texts.{is_apart, is_separator, is_sign, may_touch, wants_space, joined, IsRange};
 
 use std::alloc::{AllocError, Global};
 
-/// What is written so far, and the source that is left.
+/// The text that is written so far, and the rest of the source.
 #[derive(Drop)]
 pub struct Output<'t> {
     text: String,
     rest: &'t str,
-    /// The byte at which that begins.
+    /// The byte at which the rest begins.
     at: usize,
 }
 
-// Returns whether a token ends before the byte, and one begins behind it, whatever stands around.
+// Returns whether a token ends before the byte, and one begins after it, whatever is around.
 fn is_apart(byte: u8) -> bool
     ensures { result ≡ is_apart byte }
 {
@@ -23,14 +23,14 @@ fn is_apart(byte: u8) -> bool
     )
 }
 
-// Returns whether it is a comma or a semicolon.
+// Returns whether a byte is a comma or a semicolon.
 fn is_separator(byte: u8) -> bool
     ensures { result ≡ is_separator byte }
 {
     matches!(byte, b',' | b';')
 }
 
-// Returns whether it is a punct.
+// Returns whether a byte is a punct.
 fn is_sign(byte: u8) -> bool
     ensures { result ≡ is_sign byte }
 {
@@ -59,7 +59,7 @@ fn is_sign(byte: u8) -> bool
     )
 }
 
-// Returns whether tokens of which one ends with a byte, and the other begins with one, stay as they are where they touch.
+// Returns whether two tokens that touch stay as they are, if one ends with the byte `last` and the other begins with the byte `first`.
 fn may_touch(last: u8, first: u8) -> bool
     ensures { result ≡ may_touch last first }
 {
@@ -72,7 +72,7 @@ fn may_touch(last: u8, first: u8) -> bool
     is_separator(last) && !is_sign(first) && first != b'\''
 }
 
-// Returns whether a space stands between two texts.
+// Returns whether a space is needed between two texts.
 fn wants_space(before: &str, behind: &str) -> bool
     ensures { result ≡ wants_space (slice_get before.now (length before.now - 1)) (slice_get behind.now 0) }
 {
@@ -85,7 +85,7 @@ fn wants_space(before: &str, behind: &str) -> bool
     !may_touch(*last, *first)
 }
 
-// Adds a text, behind a space where their tokens could become one, or a punct joint.
+// Adds a text, after a space if their tokens could become one, or a punct joint.
 fn push_apart(text: &mut String, more: &str) -> Result<(), AllocError>
     ensures { OnOk result (string_bytes text.new ≡ joined (string_bytes text.old) more.now) }
 {
@@ -95,7 +95,7 @@ fn push_apart(text: &mut String, more: &str) -> Result<(), AllocError>
     text.push_str(more)
 }
 
-// Returns what stands before a range of a text and behind it, if it is one.
+// Returns what precedes and what follows a range of a text, if the bytes are a range of it.
 fn cut(text: &str, start: usize, end: usize) -> Option<(&str, &str)>
     ensures { MatchOption result (IsRange text.now start end → ⊥) (λ parts. IsRange text.now start end × (parts.0.now ≡ take start text.now) × (parts.1.now ≡ drop end text.now)) }
 {
@@ -110,7 +110,7 @@ fn cut(text: &str, start: usize, end: usize) -> Option<(&str, &str)>
 impl<'t> Output<'t> {
     ghost use Rattle.syntax_edit.specs.Texts.{begun, writing_of, replaced, finished, FitsIn};
 
-    /// Nothing of that source.
+    /// Returns an output with nothing of that source written.
     pub fn new(alloc: Global, source: &'t str) -> Output<'t>
         ensures { writing_of result ≡ begun source.entry.now }
     {
@@ -121,7 +121,7 @@ impl<'t> Output<'t> {
         }
     }
 
-    // Returns what is left of the source before a range and behind it, if it is left.
+    // Returns the rest of the source before a range and after it, if the range is in the rest.
     fn cut(&self, start: usize, end: usize) -> Option<(&'t str, &'t str)>
         ensures { MatchOption result (FitsIn start end (writing_of self.now) → ⊥) (λ parts. FitsIn start end (writing_of self.now) × (parts.0.now ≡ take (start - self.now.at) self.now.rest.now) × (parts.1.now ≡ drop (end - self.now.at) self.now.rest.now)) }
     {
@@ -130,8 +130,8 @@ impl<'t> Output<'t> {
         cut(self.rest, start, end)
     }
 
-    /// Writes the source up to the bytes from a place to another, and that text in place of them: whether they are left of the source.
-    /// Where they are not, nothing is written.
+    /// Writes the source up to the bytes from a place to another, and that text in place of the bytes. Returns whether the bytes are in the
+    /// rest of the source; writes nothing if they are not.
     pub fn replace(&mut self, start: usize, end: usize, other: &str) -> Result<bool, AllocError>
         ensures { IfOk result (λ fits. MatchBool fits
             (FitsIn start end (writing_of self.old) × (writing_of self.new ≡ replaced (record { start = start; end = end; text = other.now }) (writing_of self.old)))
@@ -147,7 +147,7 @@ impl<'t> Output<'t> {
         Ok(true)
     }
 
-    /// All of it.
+    /// Writes the rest of the source, and returns the whole text.
     pub fn finish(mut self) -> Result<String, AllocError>
         ensures { IfOk result (λ text. string_bytes text ≡ finished (writing_of self.entry)) }
     {

@@ -1,4 +1,4 @@
-//! Where in a text tokens and trees stand.
+//! The places of tokens and trees in a text.
 ghost use Rattle.std.specs.Prelude.{◌≡◌, IfOk, IfErr};
 ghost use Rattle.tt.specs.Iters.{rest_of};
 ghost use Rattle.tt.specs.Span.{start_of, end_of};
@@ -22,7 +22,7 @@ pub fn parse(alloc: Global, text: &str) -> Result<TopSubtree, TextFault>
     parse_to_token_tree(alloc, anchor, SyntaxContext(0), text)
 }
 
-/// Where trees begin, or that span, where there are none.
+/// Returns the span where trees begin, or `instead` if there are none.
 pub fn begin_at(trees: &TtIter<'_>, instead: Span) -> Span
     ensures { result ≡ begin_at (rest_of trees.now) instead }
 {
@@ -39,7 +39,7 @@ pub fn start_of(span: Span) -> u32
     span.range.start().raw()
 }
 
-/// Returns the byte where it ends.
+/// Returns the byte where a span ends.
 pub fn end_of(span: Span) -> u32
     ensures { result ≡ end_of span.range }
 {

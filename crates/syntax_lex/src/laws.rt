@@ -46,8 +46,8 @@ pub fn raw_read()
     ensures { (n : ℕ) → (body rest : List ℕ) → IsRawText n body → behind_raw n (body ++ 34 ∷ (replicate n 35 ++ rest)) ≡ (true, rest) }
 {}
 
-/// From `/*` to its end, a closed comment has one `*/` more than `/*`, and no shorter part from its front has more `*/` than `/*`. With the
-/// first `/*` included, the whole has as many of both, and each shorter part has more `/*`.
+/// After its first `/*`, a closed comment has one `*/` more than `/*`, and no shorter part from there has more `*/` than `/*`. With the
+/// first `/*` included, both are equally many at the end, and each shorter part has more `/*`.
 pub fn comment_closed()
     ensures { (cs rest : List ℕ) → behind_comment 0 cs ≡ (true, rest) → (body : List ℕ) × IsCommentText 0 body × (cs ≡ body ++ rest) }
 {}
