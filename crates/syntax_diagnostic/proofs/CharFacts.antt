@@ -12,11 +12,11 @@ use Rattle.syntax_diagnostic.specs.Place.{begins_char}
 low_begins : (byte : ℕ) → nat_lt byte 128 ≡ true → begins_char byte ≡ true
 low_begins byte low = rw low refl
 
--- so does one from 192 on
+-- so does a byte from 192 on
 high_begins : (byte : ℕ) → 192 ≤ byte → begins_char byte ≡ true
 high_begins byte high = grind (arith, nat_tests)
 
--- and none between
+-- and no byte between begins one
 none_begins : (bits : ℕ) → bits < 64 → begins_char (128 + bits) ≡ false
 none_begins bits low = grind (arith, nat_tests)
 
@@ -28,7 +28,7 @@ one_of false true r a b c d ea eb ec ed = eb
 one_of false false true a b c d ea eb ec ed = ec
 one_of false false false a b c d ea eb ec ed = ed
 
--- of the bytes of a character one begins it
+-- exactly one of the bytes of a character begins it
 pub one_begins : (c : ℕ) → count_by begins_char (encode c) ≡ 1
 unfolding encode
 one_begins c = one_of (nat_lt c 128) (nat_lt c 2048) (nat_lt c 65536) _ _ _ _
@@ -37,7 +37,7 @@ one_begins c = one_of (nat_lt c 128) (nat_lt c 2048) (nat_lt c 65536) _ _ _ _
     (rw (high_begins (224 + c / 4096) (omega arith), none_begins (c / 64 % 64) (omega arith), none_begins (c % 64) (omega arith)) refl)
     (rw (high_begins (240 + c / 262144) (omega arith), none_begins (c / 4096 % 64) (omega arith), none_begins (c / 64 % 64) (omega arith), none_begins (c % 64) (omega arith)) refl)
 
--- so characters have as many
+-- so characters have as many first bytes
 begun : (cs : List ℕ) → count_by begins_char (encodes cs) ≡ length cs
 begun [] = refl
 begun (c ∷ cs) = sum_by-append _ (encode c) (encodes cs) ∙ omega (arith, one_begins c, begun cs)

@@ -1,4 +1,4 @@
--- What stands before a mark, character by character.
+-- The text before a mark, character by character.
 use Rattle.std.proofs.Common.{◌≡◌, ℕ, zero, suc, ◌+◌, ◌-◌, ◌<◌, List, [], ◌∷◌, ◌++◌, refl, arith, take}
 use Rattle.std.specs.List.{flat_map}
 use Rattle.syntax_diagnostic.specs.Mark.{indent_of}

@@ -1,4 +1,4 @@
--- What is written of a fault.
+-- The text of a fault.
 use Rattle.std.specs.Prelude.{ℕ, List, [], ◌++◌, max, replicate, Option, Some, None, codes, string_bytes, String}
 use Rattle.std.specs.Global.{Global}
 use Rattle.std.specs.List.{flat_map}
@@ -12,25 +12,25 @@ use Rattle.syntax_diagnostic.specs.declared.paint.Colour.TheVariants.{Blue, Gree
 use Rattle.syntax_diagnostic.specs.declared.paint.Style.{Style}
 use Rattle.syntax_diagnostic.specs.declared.spot.Spot.{Spot}
 
--- how many columns the number of a place's line takes: one where there is no place
+-- how many columns the number of a place's line takes: one if there is no place
 abbrev pub spot_width : Option Spot → ℕ
 spot_width None = 1
 spot_width (Some spot) = number_width spot.place.line
 
--- the same of a note with a place
+-- the same for a note with a place
 abbrev pub note_width : Option PlacedNote → ℕ
 note_width None = 1
 note_width (Some note) = number_width note.spot.place.line
 
--- how many columns the numbers of lines take, the longest
+-- how many columns the longest number of a line takes
 abbrev pub width_of : Diagnostic → ℕ
 width_of diagnostic = max (spot_width diagnostic.spot) (note_width diagnostic.placed_note)
 
--- how grave it is, and what is wrong
+-- the level and the message
 abbrev pub message_line : Style → Diagnostic → List ℕ
 message_line style diagnostic = painted style (colour_of diagnostic.level) (word_of diagnostic.level) ++ codes ": " ++ line diagnostic.message.now
 
--- where it is, if it is somewhere
+-- the place of the fault, if it has one
 abbrev pub place_lines : Style → Level → (width : ℕ) → Option Spot → List ℕ
 place_lines style level width None = []
 place_lines style level width (Some spot) = spot_text style (colour_of level) width spot
@@ -52,7 +52,7 @@ abbrev pub placed_lines : Style → (width : ℕ) → Option PlacedNote → List
 placed_lines style width None = []
 placed_lines style width (Some note) = note_word style ++ line note.message.now ++ spot_text style Green width note.spot
 
--- the message, and what stands below it
+-- the message, and the lines below it
 abbrev pub diagnostic_text : Style → Diagnostic → List ℕ
 diagnostic_text style diagnostic =
     message_line style diagnostic ++ place_lines style diagnostic.level (width_of diagnostic) diagnostic.spot

@@ -1,4 +1,4 @@
--- Where a byte of a text stands, and what is told of it.
+-- The line and column of a byte of a text, and the diagnostics for it.
 pub mod Diagnostic
 pub mod Level
 pub mod Mark

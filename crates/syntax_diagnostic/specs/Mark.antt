@@ -1,4 +1,4 @@
--- What stands before the mark under a column of a line.
+-- The text before the mark under a column of a line.
 use Rattle.std.specs.Prelude.{ℕ, ◌-◌, ◌==◌, false, List, [], ◌∷◌, take, replicate, if◌then◌else◌}
 use Rattle.std.specs.List.{flat_map}
 use Rattle.std.specs.Option.{unwrap_or}

@@ -1,4 +1,4 @@
--- What is written of a place: its name, the line of the text and a mark under the column.
+-- The text of a place: its name, the line of the text and a mark under the column.
 use Rattle.std.specs.Prelude.{ℕ, ◌-◌, List, ◌++◌, length, replicate, codes, decimal}
 use Rattle.syntax_diagnostic.specs.Mark.{indent}
 use Rattle.syntax_diagnostic.specs.Paint.{painted}
@@ -16,7 +16,7 @@ line words = words ++ codes "\n"
 abbrev pub number_width : ℕ → ℕ
 number_width number = length (decimal number)
 
--- file:line:column, behind an arrow and as many spaces as the numbers of lines take columns
+-- file:line:column, after an arrow and as many spaces as the numbers of lines take columns
 abbrev pub arrow_line : Style → (width : ℕ) → Spot → List ℕ
 arrow_line style width spot = replicate width 32 ++ painted style Blue (codes "-->") ++ codes " " ++ spot.file.now ++ codes ":" ++ place_text spot.place ++ codes "\n"
 
@@ -32,7 +32,7 @@ margin style width = replicate width 32 ++ bar style
 abbrev pub number_text : Style → (width number : ℕ) → List ℕ
 number_text style width number = painted style Blue (decimal number) ++ replicate (width - number_width number) 32
 
--- the line of the text, behind its number
+-- the line of the text, after its number
 abbrev pub source_line : Style → (width : ℕ) → Spot → List ℕ
 source_line style width spot = number_text style width spot.place.line ++ bar style ++ codes " " ++ line spot.line.now
 

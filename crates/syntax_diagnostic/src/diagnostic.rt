@@ -1,4 +1,4 @@
-//! What is told of a fault, as rustc tells it.
+//! The text of a fault, in the form that rustc has.
 ghost use Rattle.std.specs.Prelude.{◌≡◌, ◌++◌, IfOk, OnOk, codes, string_bytes};
 ghost use Rattle.syntax_diagnostic.specs.Diagnostic.{diagnostic_text, message_line, note_line, note_width, note_word, notes_text, place_lines, placed_lines, spot_width, width_of};
 
@@ -7,27 +7,27 @@ use crate::paint::{Colour, Style, add_painted};
 use crate::spot::{Spot, add_line, add_spaces, add_spot, number_width};
 use std::alloc::{AllocError, Global};
 
-/// What is to be known beside a fault, and where it stands.
+/// A note on a fault, and its place.
 #[derive(Clone, Copy)]
 pub struct PlacedNote<'a> {
-    /// What is to be known.
+    /// The text of the note.
     pub message: &'a str,
-    /// Where it stands.
+    /// The place of the note.
     pub spot: Spot<'a>,
 }
 
-/// A fault as a user is told it.
+/// A fault for a user.
 #[derive(Drop)]
 pub struct Diagnostic<'a> {
     /// How grave it is.
     pub level: Level,
     /// What is wrong.
     pub message: &'a str,
-    /// Where it is, if it is somewhere in a text.
+    /// The place of the fault, if it has one in a text.
     pub spot: Option<Spot<'a>>,
-    /// What is to be known beside it, each in one line.
+    /// The notes, each in one line.
     pub notes: Vec<String>,
-    /// What is to be known beside it of another place.
+    /// A note with a place of its own.
     pub placed_note: Option<PlacedNote<'a>>,
 }
 
@@ -41,7 +41,7 @@ fn spot_width(alloc: Global, spot: Option<Spot<'_>>) -> Result<usize, AllocError
     }
 }
 
-// Returns the same of a note with a place.
+// Returns the same for a note with a place.
 fn note_width(alloc: Global, note: Option<PlacedNote<'_>>) -> Result<usize, AllocError>
     ensures { IfOk result (λ width. width ≡ note_width note.entry) }
 {
@@ -60,7 +60,7 @@ fn width_of(alloc: Global, diagnostic: &Diagnostic<'_>) -> Result<usize, AllocEr
     Ok(spot.max(note))
 }
 
-// Returns the message is added.
+// Adds the message.
 fn add_message(
     text: &mut String,
     style: Style,
@@ -74,7 +74,7 @@ fn add_message(
     add_line(text, diagnostic.message)
 }
 
-// Where it is, is added.
+// Adds the place of the fault.
 fn add_place(
     text: &mut String,
     alloc: Global,
@@ -90,7 +90,7 @@ fn add_place(
     }
 }
 
-// Returns the word before a note is added.
+// Adds the word before a note.
 fn add_note_word(text: &mut String, style: Style) -> Result<(), AllocError>
     ensures { OnOk result (string_bytes text.new ≡ string_bytes text.old ++ note_word style) }
 {
@@ -98,7 +98,7 @@ fn add_note_word(text: &mut String, style: Style) -> Result<(), AllocError>
     text.push_str(": ")
 }
 
-// Returns a note is added.
+// Adds a note.
 fn add_note(text: &mut String, style: Style, width: usize, note: &str) -> Result<(), AllocError>
     ensures { OnOk result (string_bytes text.new ≡ string_bytes text.old ++ note_line style width note.now) }
 {
@@ -110,7 +110,7 @@ fn add_note(text: &mut String, style: Style, width: usize, note: &str) -> Result
     add_line(text, note)
 }
 
-// All notes are added.
+// Adds all notes.
 fn add_notes(
     text: &mut String,
     style: Style,
@@ -125,7 +125,7 @@ fn add_notes(
     Ok(())
 }
 
-// Returns the note with a place is added.
+// Adds the note with a place.
 fn add_placed_note(
     text: &mut String,
     alloc: Global,
@@ -143,8 +143,8 @@ fn add_placed_note(
     add_spot(text, alloc, style, Colour::Green, width, &note.spot)
 }
 
-/// Returns what is written of a fault: a line with how grave it is and the message; where it has a place, that, the line of the text
-/// and a mark under it; a line for each note; and the same of a note that has a place.
+/// Returns the text of a fault: a line with the level and the message; its place, if any, the line of the text and a mark under it; a line
+/// for each note; and the same for a note with a place.
 pub fn diagnostic_text(
     alloc: Global,
     style: Style,

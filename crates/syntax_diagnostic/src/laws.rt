@@ -1,4 +1,4 @@
-//! Laws of the definitions that the contracts cite: each is the contract of a function that does nothing.
+//! Laws of the definitions that the contracts cite. Each is the contract of a function that does nothing.
 ghost use Rattle.std.specs.Prelude.{◌≡◌, ℕ, List, length, IsUtf8};
 ghost use Rattle.std.specs.List.{count_by};
 ghost use Rattle.std.specs.Str.{chars};

@@ -1,10 +1,10 @@
-//! How grave it is what is told.
+//! How grave a fault is.
 ghost use Rattle.std.specs.Prelude.{◌≡◌};
 ghost use Rattle.syntax_diagnostic.specs.Level.{colour_of, word_of};
 
 use crate::paint::Colour;
 
-/// How grave it is what is told.
+/// How grave a fault is.
 #[derive(Debug, Clone, Copy, PartialEq, Eq)]
 pub enum Level {
     /// Something is wrong.
@@ -24,7 +24,7 @@ impl Level {
         }
     }
 
-    /// Returns the colour of that, and of the mark.
+    /// Returns the colour of that word, and of the mark.
     pub(crate) fn colour(self) -> Colour
         ensures { result ≡ colour_of self }
     {

@@ -1,8 +1,8 @@
 //! Lines, columns and diagnostics of a text.
 //!
-//! `Places` keeps the line and column of each 64th byte and counts on from there, so finding a place takes no longer in a long line.
-//! A `SourceFile` has these and the list of lines. `diagnostic_text` writes a message, its place with the source line and a mark,
-//! notes, and a note with a place of its own, in the form that rustc has; `add_painted` adds colours if the `Style` has some.
+//! `Places` keeps the line and column of each 64th byte and counts on from there, so it finds a place as fast in a long line. A
+//! `SourceFile` has these and the list of lines. `diagnostic_text` writes a message, its place with the source line and a mark, notes, and
+//! a note with a place of its own, in the form that rustc has. `add_painted` adds colours if the `Style` has some.
 #![tactic(auto)]
 
 mod diagnostic;

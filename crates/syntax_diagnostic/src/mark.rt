@@ -1,4 +1,4 @@
-//! What stands before a mark under a line.
+//! The text before a mark under a line.
 ghost use Rattle.std.specs.Prelude.{◌≡◌, ◌≤◌, ◌++◌, OnOk, string_bytes, replicate};
 ghost use Rattle.syntax_diagnostic.specs.Mark.{indent, indent_of};
 
@@ -6,7 +6,7 @@ use std::alloc::AllocError;
 use syntax_lex::split_first;
 use unicode_width::UnicodeWidthChar;
 
-// So many spaces.
+// Returns `count` spaces.
 fn spaces(count: usize) -> &'static str
     requires { count ≤ 3 }
     ensures { result.now ≡ replicate count 32 }
@@ -19,7 +19,7 @@ fn spaces(count: usize) -> &'static str
     }
 }
 
-// Returns what takes as many columns in a terminal as a character.
+// Returns a text that takes as many columns in a terminal as a character.
 fn indent_of(c: char) -> &'static str
     ensures { result.now ≡ indent_of c }
 {
@@ -33,8 +33,8 @@ fn indent_of(c: char) -> &'static str
 }
 
 #[tactic(auto, using(crate::proofs::MarkFacts::indent_step, crate::proofs::MarkFacts::indent_end))]
-/// Adds what stands before the mark under a column of a line: a tab for a tab, and for another character as many spaces as
-/// it takes columns in a terminal.
+/// Adds the text before the mark under a column of a line: a tab for a tab, and for another character as many
+/// spaces as it takes columns in a terminal.
 pub fn add_indent(text: &mut String, line: &str, column: usize) -> Result<(), AllocError>
     ensures { OnOk result (string_bytes text.new ≡ string_bytes text.old ++ indent line.now column) }
 {

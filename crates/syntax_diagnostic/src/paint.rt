@@ -4,12 +4,12 @@ ghost use Rattle.syntax_diagnostic.specs.Paint.{painted, sign_of};
 
 use std::alloc::AllocError;
 
-/// Whether what is written has colours.
+/// Whether a text has colours.
 #[derive(Debug, Clone, Copy, PartialEq, Eq)]
 pub enum Style {
-    /// It has none.
+    /// It has no colours.
     Plain,
-    /// It has the signs by which a terminal turns a colour on and off.
+    /// It has the signs that turn a colour of a terminal on and off.
     Coloured,
 }
 
@@ -22,7 +22,7 @@ pub(crate) enum Colour {
     Blue,
 }
 
-// Returns what turns a colour on.
+// Returns the signs that turn a colour on.
 fn sign_of(colour: Colour) -> &'static str
     ensures { result.now ≡ sign_of colour }
 {
@@ -34,7 +34,7 @@ fn sign_of(colour: Colour) -> &'static str
     }
 }
 
-/// Words are added, in a colour where there are colours.
+/// Adds words, in a colour if the style has colours.
 pub(crate) fn add_painted(
     text: &mut String,
     style: Style,

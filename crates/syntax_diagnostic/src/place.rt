@@ -4,12 +4,12 @@ ghost use Rattle.std.specs.Prelude.{◌≡◌, ◌+◌, ◌^◌, ◌<◌, ◌≤
 
 use std::fmt;
 
-/// Where a byte of a text stands. Its text is `line:column`.
+/// The line and column of a byte of a text. Its text is `line:column`.
 #[derive(Debug, Clone, Copy, PartialEq, Eq)]
 pub struct Place {
-    /// The line: one more than the line feeds before it.
+    /// The line: one more than the line feeds before the byte.
     pub line: usize,
-    /// The column: one more than the characters between the beginning of the line and it.
+    /// The column: one more than the characters between the beginning of the line and the byte.
     pub column: usize,
 }
 
@@ -27,10 +27,10 @@ impl Place {
     ghost use Rattle.std.specs.List.{fold};
     ghost use Rattle.syntax_diagnostic.specs.Place.{next_place, place_of};
 
-    // That of the first byte.
+    // The place of the first byte.
     pub(crate) const FIRST: Place = Place { line: 1, column: 1 };
 
-    // Returns the place of what stands behind a byte at this place.
+    // Returns the place after a byte at this place.
     fn next(self, byte: u8) -> Place
         requires line { self.line + 1 < 2 ^ 64 }
         requires column { self.column + 1 < 2 ^ 64 }
@@ -49,7 +49,7 @@ impl Place {
         }
     }
 
-    // Returns the place of what stands behind these bytes, of which the first stands at this place.
+    // Returns the place after these bytes, whose first is at this place.
     pub(crate) fn past(self, bytes: &[u8]) -> Place
         requires line { self.line + length bytes.now < 2 ^ 64 }
         requires column { self.column + length bytes.now < 2 ^ 64 }
@@ -63,7 +63,7 @@ impl Place {
     }
 }
 
-/// Returns the place of a byte of a text. Behind the text it is that of the text's end.
+/// Returns the place of a byte of a text. If `at` exceeds the text, it is that of the text's end.
 #[tactic(auto, using(crate::proofs::PlaceFacts::fold_is_place, crate::proofs::PlaceFacts::taken_within))]
 pub fn place_of(text: &str, at: usize) -> Place
     ensures { result ≡ place_of text.now at }

@@ -6,10 +6,10 @@ ghost use Rattle.syntax_diagnostic.specs.Place.{place_of};
 use crate::place::Place;
 use std::alloc::{AllocError, Global};
 
-// The place of each byte of that many is kept.
+// The distance in bytes of two places that are kept.
 const STRIDE: usize = 64;
 
-/// Tells the places of the bytes of one text, each in a time that does not grow with the text.
+/// The places of the bytes of one text. The time to find a place does not grow with the text.
 #[derive(Drop)]
 pub struct Places<'a> {
     text: &'a str,
@@ -18,7 +18,7 @@ pub struct Places<'a> {
 }
 
 impl<'a> Places<'a> {
-    /// Those of a text. Fails only for want of memory: a place for each 64 bytes is kept.
+    /// Returns the places of a text. Keeps a place for each 64 bytes. Fails only if memory runs out.
 
     pub fn new(alloc: Global, text: &'a str) -> Result<Self, AllocError>
         ensures { IfOk result (λ places. places.text.now ≡ text.now) }
@@ -35,7 +35,7 @@ impl<'a> Places<'a> {
         Ok(Places { text, marks })
     }
 
-    /// The place of a byte. Behind the text it is that of the text's end.
+    /// Returns the place of a byte. If `at` exceeds the text, it is that of the text's end.
 
     pub fn place(&self, at: usize) -> Place
         ensures { result ≡ place_of self.now.text.now at }

@@ -6,7 +6,7 @@ ghost use Rattle.syntax_diagnostic.specs.Source.{without_mark};
 
 use syntax_lex::split_first;
 
-// Returns a text without a byte order mark in front.
+// Returns a text without a byte order mark at the front.
 fn without_mark(text: &str) -> &str
     ensures { chars result.now ≡ without_mark (chars text.now) }
 {
@@ -16,7 +16,7 @@ fn without_mark(text: &str) -> &str
     }
 }
 
-/// Returns the text that these bytes are, without a byte order mark in front. Where they are not UTF-8, the number of bytes that are,
+/// Returns the text of these bytes, without a byte order mark at the front. If they are not UTF-8, returns the number of bytes that are,
 /// which is the place of the first that is not.
 pub fn source_text(bytes: &[u8]) -> Result<&str, usize>
     ensures ok { IfOk result (λ text. chars text.now ≡ without_mark (chars bytes.now)) }

@@ -1,4 +1,4 @@
-//! A text with a name, and what is written of its places.
+//! A text with a name, and the places in it.
 ghost use Rattle.std.specs.Prelude.{◌≡◌, IfOk, map};
 ghost use Rattle.std.specs.Str.Lines.{lines};
 ghost use Rattle.syntax_diagnostic.specs.Place.{place_of};
@@ -8,8 +8,7 @@ use crate::places::Places;
 use crate::spot::Spot;
 use std::alloc::{AllocError, Global};
 
-/// A text with a name. It tells of each byte its line and column and the text of the line, each in a time that does not grow
-/// with the text.
+/// A text with a name. It gives the line and column of each byte and the text of the line. The time for this does not grow with the text.
 #[derive(Drop)]
 pub struct SourceFile<'a> {
     name: &'a str,
@@ -21,7 +20,7 @@ pub struct SourceFile<'a> {
 }
 
 impl<'a> SourceFile<'a> {
-    /// Returns a text of that name. Fails only for want of memory: its lines are listed.
+    /// Returns a text with that name. Lists its lines. Fails only if memory runs out.
     pub fn new(alloc: Global, name: &'a str, text: &'a str) -> Result<Self, AllocError>
         ensures name { IfOk result (λ file. file.name.now ≡ name.entry.now) }
         ensures text { IfOk result (λ file. file.text.now ≡ text.entry.now) }
@@ -36,7 +35,7 @@ impl<'a> SourceFile<'a> {
         })
     }
 
-    /// Where a byte of it stands. Behind the text it is the text's end.
+    /// Returns the place of a byte. If `at` exceeds the text, it is that of the text's end.
     pub fn spot(&self, at: usize) -> Spot<'a>
         ensures file { result.file.now ≡ self.now.name.now }
         ensures place { result.place ≡ place_of self.now.text.now at }

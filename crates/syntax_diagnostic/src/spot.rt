@@ -1,4 +1,4 @@
-//! What is written of a place in a text.
+//! The text of a place.
 ghost use Rattle.std.specs.Prelude.{◌≡◌, ◌++◌, IfOk, OnOk, codes, replicate, string_bytes};
 ghost use Rattle.syntax_diagnostic.specs.Spot.{arrow_line, bar, head_lines, line, margin, marked_line, number_text, number_width, source_line, spot_text};
 
@@ -10,11 +10,11 @@ use std::alloc::{AllocError, Global};
 /// A place in a text.
 #[derive(Clone, Copy)]
 pub struct Spot<'a> {
-    /// What the text is called.
+    /// The name of the text.
     pub file: &'a str,
     /// The place in it.
     pub place: Place,
-    /// The text of that line, without what ends it.
+    /// The text of that line, without the end of the line.
     pub line: &'a str,
 }
 
@@ -26,7 +26,7 @@ pub(crate) fn number_width(alloc: Global, number: usize) -> Result<usize, AllocE
     Ok(digits.len())
 }
 
-/// So many spaces are added.
+/// Adds `count` spaces.
 pub(crate) fn add_spaces(text: &mut String, count: usize) -> Result<(), AllocError>
     ensures { OnOk result (string_bytes text.new ≡ string_bytes text.old ++ replicate count 32) }
 {
@@ -36,7 +36,7 @@ pub(crate) fn add_spaces(text: &mut String, count: usize) -> Result<(), AllocErr
     Ok(())
 }
 
-/// Returns a line is added.
+/// Adds a line.
 pub(crate) fn add_line(text: &mut String, words: &str) -> Result<(), AllocError>
     ensures { OnOk result (string_bytes text.new ≡ string_bytes text.old ++ line words.now) }
 {
@@ -44,7 +44,7 @@ pub(crate) fn add_line(text: &mut String, words: &str) -> Result<(), AllocError>
     text.push_str("\n")
 }
 
-// Returns the line that tells the place is added; the numbers of lines take that many columns.
+// Adds the line with the place. The numbers of lines take `width` columns.
 fn add_arrow(
     text: &mut String,
     style: Style,
@@ -63,7 +63,7 @@ fn add_arrow(
     text.push_str("\n")
 }
 
-// Returns the bar behind a number is added.
+// Adds the bar after a number.
 fn add_bar(text: &mut String, style: Style) -> Result<(), AllocError>
     ensures { OnOk result (string_bytes text.new ≡ string_bytes text.old ++ bar style) }
 {
@@ -71,7 +71,7 @@ fn add_bar(text: &mut String, style: Style) -> Result<(), AllocError>
     add_painted(text, style, Colour::Blue, "|")
 }
 
-// Returns a bar with no number before it is added.
+// Adds a bar with no number before it.
 fn add_margin(text: &mut String, style: Style, width: usize) -> Result<(), AllocError>
     ensures { OnOk result (string_bytes text.new ≡ string_bytes text.old ++ margin style width) }
 {
@@ -79,7 +79,7 @@ fn add_margin(text: &mut String, style: Style, width: usize) -> Result<(), Alloc
     add_bar(text, style)
 }
 
-// Returns the number of a line is added.
+// Adds the number of a line.
 fn add_number(
     text: &mut String,
     alloc: Global,
@@ -94,7 +94,7 @@ fn add_number(
     add_spaces(text, width.saturating_sub(digits.len()))
 }
 
-// Returns the line of the text is added.
+// Adds the line of the text.
 fn add_source(
     text: &mut String,
     alloc: Global,
@@ -110,7 +110,7 @@ fn add_source(
     add_line(text, spot.line)
 }
 
-// Returns the mark under it is added.
+// Adds the mark under the line.
 fn add_mark(
     text: &mut String,
     style: Style,
@@ -127,7 +127,7 @@ fn add_mark(
     text.push_str("\n")
 }
 
-// Returns the lines above that of the text are added.
+// Adds the lines above that of the text.
 fn add_head(
     text: &mut String,
     style: Style,
@@ -141,7 +141,7 @@ fn add_head(
     text.push_str("\n")
 }
 
-/// Returns what is written of a place is added; the numbers of lines take that many columns.
+/// Adds the text of a place. The numbers of lines take `width` columns.
 pub(crate) fn add_spot(
     text: &mut String,
     alloc: Global,

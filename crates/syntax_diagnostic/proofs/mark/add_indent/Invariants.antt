@@ -1,4 +1,4 @@
--- What is added and what is still to come are what stands before the mark.
+-- The added text and the text to come make the text before the mark.
 use Rattle.std.proofs.Common.{◌≡◌, ◌-◌, ◌++◌, string_bytes, take}
 use denote.Text.{Utf8}
 use denote.Shadow.{shadow}

@@ -1,4 +1,4 @@
--- What is passed and what is to come is the whole, and no number has grown by more than a byte for each that is passed.
+-- The bytes passed and the bytes to come are all bytes, and each number grows by at most one for each byte passed.
 use Rattle.std.proofs.Common.{◌≡◌, ◌+◌, ◌≤◌, drop}
 use Rattle.std.specs.List.{fold}
 use Rattle.syntax_diagnostic.specs.Place.{next_place}

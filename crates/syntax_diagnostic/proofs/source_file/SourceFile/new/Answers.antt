@@ -1,4 +1,4 @@
--- The lines that are listed are those of the text.
+-- The listed lines are those of the text.
 use Rattle.std.proofs.Common.{Ok}
 use Rattle.std.specs.declared.alloc.AllocError.{AllocError}
 use Rattle.std.proofs.lemmas.Iterator.Consumers.{map_from_collect}
