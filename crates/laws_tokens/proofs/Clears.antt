@@ -1,4 +1,4 @@
--- A token ends in front of a text exactly where it is read alone, and is clear of the next two characters.
+-- A token ends before a text exactly if it is read alone, and is clear of the next two characters.
 use Rattle.std.proofs.Common.{◌≡◌, ◌≢◌, ◌↔◌, inl, ℕ, true, List, [], ◌∷◌, ◌++◌, length, take, refl, sym, ap, ◌∙◌, arith, append-nil}
 use Rattle.syntax_lex.specs.Front.{first, second}
 use Rattle.syntax_lex.specs.Reading.{reading}
@@ -10,7 +10,7 @@ use Rattle.laws_tokens.proofs.Twins.{Next, alike, plain, ended as no_less}
 use Rattle.laws_tokens.specs.Clear.{Clear}
 use Rattle.laws_tokens.specs.Stops.{is_ended, is_sound}
 
--- a token in front of a text ends so in front of another that goes on as that does
+-- a token that ends before a text also ends before another text that continues in the same way
 goes_on : (c : ℕ) (cs r s : List ℕ) (kind : TokenKind) → Next r s → is_sound kind ≡ true → is_ended kind ≡ true → reading (c ∷ (cs ++ r)) ≡ (kind, r) → reading (c ∷ (cs ++ s)) ≡ (kind, s)
 goes_on c cs r s kind next sound ended read = token_twin c cs [] r s kind read (record {
   fits = record { stays = no_less (omega arith) next; shut = sound_shut kind sound; known = inl (sound_known kind sound) };
@@ -18,7 +18,7 @@ goes_on c cs r s kind next sound ended read = token_twin c cs [] r s kind read (
   pointless = λ is. inl (λ e. omega (arith, ap length e));
 })
 
--- two characters of a text are its first and its second
+-- the first and the second character of the first two are those of the text
 first_two : (r : List ℕ) → (first (take 2 r) ≡ first r) × (second (take 2 r) ≡ second r)
 first_two [] = (refl, refl)
 first_two (c ∷ []) = (refl, refl)

@@ -1,4 +1,4 @@
--- Plain characters: no token goes on with one, as with the null that stands for the end.
+-- Plain characters: no token continues with one, or with the null that means the end.
 use Rattle.std.proofs.Common.{◌≡◌, ℕ, ◌<◌, Bool, true, false, ◌==◌, ◌||◌, ◌&&◌, not, List, [], ◌∷◌, refl, sym, ap, ◌∙◌, nat_le}
 use Rattle.std.proofs.lemmas.Bool.{and_parts, eqb-true, ltb-true, or_parts}
 use Rattle.std.specs.Prelude.{nat_lt}
@@ -13,7 +13,7 @@ use Rattle.laws_tokens.specs.Stops.{is_stop}
 pub no_start : (c : ℕ) → c < 128 → is_ascii_alphabetic c ≡ false → (c == 95) ≡ false → is_id_start c ≡ false
 no_start c lt other under = ap (λ b. b || (c == 95)) (is_xid_start-ascii c lt ∙ other) ∙ under
 
--- a character that no token goes on with, but white space and comments
+-- a character with which no token continues, except white space and comments
 pub record IsPlain (s : ℕ) : Type 0 where
   pub no_start : is_id_start s ≡ false
   pub no_continue : is_id_continue s ≡ false
@@ -39,13 +39,13 @@ pub record IsPlain (s : ℕ) : Type 0 where
   pub no_x : (s == 120) ≡ false
   pub no_r : (s == 114) ≡ false
 
--- what tokens go on with among the characters of ASCII
+-- the ASCII characters with which tokens continue
 goes_on : ℕ → Bool
 goes_on s =
     is_ascii_alphabetic s || (is_ascii_alphanumeric s || ((s == 95) || (nat_le 128 s || (is_decimal s || (is_hex s || (begins_literal s || ((s == 8205)
     || ((s == 34) || ((s == 35) || ((s == 39) || ((s == 42) || ((s == 43) || ((s == 45) || ((s == 46) || ((s == 47) || (((s == 101) || (s == 69)) || ((s == 98) || ((s == 111) || ((s == 120) || (s == 114))))))))))))))))))))
 
--- so another is plain
+-- so any other is plain
 plain_sign : (s : ℕ) → s < 128 → goes_on s ≡ false → IsPlain s
 unfolding goes_on
 plain_sign s lt none =
@@ -101,12 +101,12 @@ abbrev pub any_of : (x : ℕ) (xs : List ℕ) → ℕ → Bool
 any_of x [] c = c == x
 any_of x (y ∷ ys) c = (c == x) || any_of y ys c
 
--- whether each of them passes a test
+-- whether each of these passes a test
 abbrev pub each_of : (ℕ → Bool) → (x : ℕ) (xs : List ℕ) → Bool
 each_of test x [] = test x
 each_of test x (y ∷ ys) = test x && each_of test y ys
 
--- so one of them does
+-- so one of these passes it
 pub one_of : (test : ℕ → Bool) (x : ℕ) (xs : List ℕ) → each_of test x xs ≡ true → (c : ℕ) → any_of x xs c ≡ true → test c ≡ true
 one_of test x [] all c is = ap test (eqb-true c x is) ∙ all
 one_of test x (y ∷ ys) all c is =
@@ -129,7 +129,7 @@ plain_test : (s : ℕ) → is_plain s ≡ true → IsPlain s
 unfolding is_plain
 plain_test s is = let both = and_parts (nat_lt s 128) (not (goes_on s)) is in plain_sign s (ltb-true s 128 both.0) (not_true (goes_on s) both.1)
 
--- the null that stands for the end
+-- the null that means the end
 pub plain_null : IsPlain 0
 unfolding is_plain goes_on
 plain_null = plain_test 0 refl

@@ -1,4 +1,4 @@
--- A token in front of a stop is the token in front of the end.
+-- A token before a stop is the token before the end.
 use Rattle.std.proofs.Common.{◌≡◌, ◌≢◌, inr, ℕ, true, false, List, [], ◌∷◌, ◌++◌, refl, ap, ◌∙◌, append-nil}
 use Rattle.std.proofs.lemmas.Bool.{false≢true}
 use Rattle.syntax_lex.specs.Front.{first}
@@ -33,7 +33,7 @@ sound_known kinds.UnknownPrefix h = absurd (false≢true h)
 sound_known kinds.UnknownPrefixLifetime h = absurd (false≢true h)
 sound_known kind h = refl
 
--- a token that is all of a text ends there before a plain character
+-- a token that takes all of a text ends there before a plain character
 pub token_plain : (text rest : List ℕ) (kind : TokenKind) → text ≢ [] → reading text ≡ (kind, []) → is_ended kind ≡ true → IsPlain (first rest) → reading (text ++ rest) ≡ (kind, rest)
 token_plain [] rest kind some read ended plain = absurd (some refl)
 token_plain (c ∷ cs) rest kind some read ended plain = token_twin c cs [] [] rest kind (ap (λ t. reading (c ∷ t)) (append-nil cs) ∙ read) (record {

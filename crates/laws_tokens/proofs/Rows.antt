@@ -1,4 +1,4 @@
--- Tokens that are clear of what stands behind them, and some that are not, as the definitions compute.
+-- Tokens that are clear of what follows them, and some that are not, as the definitions compute.
 use Rattle.std.proofs.Common.{◌≡◌, ℕ, true, false, [], ◌++◌, codes, refl, take}
 use Rattle.ucd_emoji.proofs.Computing.{ucd_emoji}
 use Rattle.unicode_ident.proofs.Computing.{unicode_ident}
@@ -29,7 +29,7 @@ clear : Clear kinds.Ident (codes "ab") (codes "-c")
 unfolding int reading reading_of opening symbol word number with_fraction with_exponent literal quoted_char apostrophe raw_text byte_length unicode_ident ucd_emoji lib.Utf8.encode
 clear = (refl, refl, refl, refl, refl, refl, refl, refl)
 
--- what is read in their place of one that is not
+-- what is read instead of a token that is not clear
 unclear : ((reading (codes "ab" ++ take 2 (codes "c"))).1 ≡ [])
     × ((reading (codes "1" ++ take 2 (codes ".5"))).1 ≡ [])
     × ((reading (codes "1" ++ take 2 (codes "e+3"))).1 ≡ [])

@@ -1,4 +1,4 @@
--- Signs and white space, whatever stands behind them.
+-- Signs and white space, whatever follows them.
 use Rattle.std.proofs.Common.{◌≡◌, ℕ, Bool, true, false, ◌==◌, ◌||◌, ◌&&◌, not, List, [], ◌∷◌, nat_le, refl, ap, if◌then◌else◌}
 use Rattle.std.proofs.lemmas.Bool.{and_parts, ltb-true, or_parts}
 use Rattle.std.specs.Char.{is_ascii_alphabetic}
@@ -14,12 +14,12 @@ use Rattle.laws_tokens.proofs.KeepFacts.{no_start, not_true, one_of}
 use Rattle.laws_tokens.proofs.Twins.{behind_none}
 use Rattle.laws_tokens.specs.Stops.{is_glued, is_sign}
 
--- what begins a token of more characters than one, but for slashes and hashes
+-- the characters, except slashes and hashes, that begin a token of several characters
 begins_more : ℕ → Bool
 begins_more c =
     is_ascii_alphabetic c || ((c == 95) || (is_whitespace c || ((c == 114) || ((c == 98) || ((c == 99) || (is_decimal c || ((c == 39) || ((c == 34) || nat_le 0x80 c))))))))
 
--- no sign of ASCII does
+-- no ASCII sign does
 is_lone : ℕ → Bool
 is_lone c = nat_lt c 128 && not (begins_more c)
 
@@ -50,12 +50,12 @@ lone_opening c d e lone apart =
     go true h = let marks = or_parts (d == 47) (d == 42) h in rw (marks.0, marks.1) refl
     go false h = refl
 
--- a sign is a token, whatever stands behind it that makes no comment and no prefix with it
+-- a sign is a token, if what follows makes no comment and no prefix with it
 pub sign_read : (c : ℕ) (rest : List ℕ) → is_sign c ≡ true → is_glued c (first rest) ≡ false → reading (c ∷ rest) ≡ (symbol c, rest)
 unfolding reading reading_of
 sign_read c rest is apart = ap (λ f. reading_of f (c ∷ rest) rest) (lone_opening c (first rest) (second rest) (sign_lone c is) apart)
 
--- a space is a token, where no white space stands behind it
+-- a space is a token if no white space follows it
 pub space_read : (rest : List ℕ) → is_whitespace (first rest) ≡ false → reading (32 ∷ rest) ≡ (kinds.Whitespace, rest)
 unfolding reading reading_of opening
 space_read rest h = ap (λ t. (kinds.Whitespace, t)) (behind_none is_whitespace rest h)

@@ -1,4 +1,4 @@
--- The signs and the families of the lexer as tables, with what a row of each tells.
+-- The signs and the families of the lexer as tables, with the facts of each row.
 use Rattle.std.proofs.Common.{◌≡◌, ℕ, Bool, true, false, ◌==◌, ◌&&◌, List, [], ◌∷◌, refl, ap, ◌∙◌, if◌then◌else◌}
 use Rattle.std.proofs.lemmas.Bool.{and_parts, eqb-true}
 use Rattle.syntax_lex.specs.Class.{is_decimal, is_emoji_mark, is_id_start, is_whitespace}
@@ -40,11 +40,11 @@ row_passes test (row ∷ rows) c all none =
     go true e here others = ap (λ n. test n row.1) (eqb-true c row.0 e) ∙ here
     go false e here others = others
 
--- what passes for each row, and for a character that is no sign, passes for a character and its token
+-- a test that passes for each row, and for a character that is no sign, passes for a character and its token
 pub symbol_passes : (test : ℕ → TokenKind → Bool) → each_row test signs ≡ true → (c : ℕ) → test c kinds.Unknown ≡ true → test c (symbol c) ≡ true
 symbol_passes test all c none = ap (test c) (symbol_row c) ∙ row_passes test signs c all none
 
--- what the first two characters are of a text that begins with a token of a family
+-- the first two characters of a text that begins with a token of a family
 abbrev pub Facts : Family → (c d : ℕ) → Type 0
 Facts opens.LineComment c d = (c ≡ 47) × (d ≡ 47)
 Facts opens.BlockComment c d = (c ≡ 47) × (d ≡ 42)
@@ -59,7 +59,7 @@ Facts opens.Apostrophe c d = c ≡ 39
 Facts opens.Str c d = c ≡ 34
 Facts _ c d = Unit {0}
 
--- facts that are known, by either branch
+-- known facts, by either branch
 pub data Known (family : Family) (c d : ℕ) : Type 0 where
   known : Facts family c d → Known family c d
 

@@ -13,12 +13,12 @@ use Rattle.laws_tokens.proofs.KeepFacts.{IsPlain}
 use Rattle.laws_tokens.proofs.Twins.{Alike, IsShort, NoPlain, Stays, Twins, at_end, behind_none, branch, end_le, ends, front, held_of, next_of, off, off_two, run, run_next, run_stops, short_plain, stays_more, taken, unless}
 use Rattle.laws_tokens.specs.Stops.{is_number_kind}
 
--- what is left of a number stays, and is no point alone in front of r that goes on
+-- the rest of a number stays, and the number is no point alone before an `r` that continues
 pub record Holds (r s : List ℕ) (read : LiteralKind × List ℕ) : Type 0 where
   pub stays : Stays r s read.1
   pub pointless : is_number_kind read.0 ≡ true → (read.1 ≢ 46 ∷ r) ⊎ IsShort r
 
--- something of a kind is read, and what is left stays
+-- something of a kind is read, and the rest stays
 abbrev Left : (r s : List ℕ) → LiteralKind × List ℕ → Type 0
 Left r s read = Stays r s read.1
 
@@ -40,7 +40,7 @@ or_true : (b : Bool) → (b || true) ≡ true
 or_true true = refl
 or_true false = refl
 
--- whether a digit stands in front, behind any `_`
+-- whether a digit comes first, after any `_`
 digit_twins : {r s a b : List ℕ} (base : Base) → Twins r s a b → Stays r s (behind (passes (class_of base)) a) → has_digit base a ≡ has_digit base b
 digit_twins {r = r} {s = s} base ends stays = none r (run_stops p (parts_none base) stays) ∙ sym (none s (run_next p (parts_none base) stays))
   where
@@ -64,7 +64,7 @@ sign_twins {r = r} {s = s} ends stays =
     at_end (Stays r s) (Twins r s) (λ z. z) (λ c. (c == 43) || (c == 45)) (skip r) r (skip s) s (λ c p. rw (p.no_plus, p.no_minus) refl) (λ z m. m) (λ m. omega arith) (λ m. omega arith) (λ m. ends) stays
 sign_twins {r = r} {s = s} (front {c = c} t) stays = branch (Stays r s) (Twins r s) ((c == 43) || (c == 45)) _ _ _ _ (λ is m. t) (λ is m. front t) stays
 
--- an exponent, behind its letter
+-- an exponent, after its letter
 abbrev exponent_of : Base → List ℕ → LiteralKind × List ℕ
 exponent_of base cs = (Float base (not (has_digit Decimal (behind_sign cs))), behind is_decimal_part (behind_sign cs))
 
@@ -81,7 +81,7 @@ with_exponent_twins {r = r} {s = s} base kind ends stays =
 with_exponent_twins {r = r} {s = s} base kind (front {c = c} t) stays =
     branch (Left r s) (Alike r s) ((c == 101) || (c == 69)) _ _ _ _ (λ is m. exponent_twins base t m) (λ is m. record { kind = refl; left = front t }) stays
 
--- what stands behind a point that belongs to a number: digits and an exponent, or nothing of it
+-- what follows a point that belongs to a number: digits and an exponent, or nothing of it
 abbrev behind_point : Base → (digit : Bool) → List ℕ → LiteralKind × List ℕ
 behind_point base digit cs = if digit then with_exponent base (Float base false) (behind is_decimal_part cs) else (Float base false, cs)
 
@@ -110,7 +110,7 @@ point_twins {r = r} {s = s} base (front {c = c} {a = a} t) stays =
     (λ is m. with_exponent_twins base (Float base false) (run is_decimal_part (λ d p. p.no_decimal_part) (front {c = c} t) (stays_more (behind is_decimal_part (c ∷ a)) m (digits_end base (c ∷ a)))) m)
     (λ is m. record { kind = refl; left = front t }) stays
 
--- a point in front of what is left belongs to the number, as it is not left
+-- a point before the rest belongs to the number, since it is not left
 lone_point : {r s : List ℕ} (base : Base) → Holds r s (with_fraction base (46 ∷ r)) → Alike r s (with_fraction base (46 ∷ r)) (with_fraction base (46 ∷ s))
 unfolding with_fraction with_exponent
 lone_point {r = r} {s = s} base m = go (first r == 46) refl (is_id_start (first r)) refl m
@@ -148,7 +148,7 @@ with_fraction_twins {r = r} {s = s} base (front {c = c} ends) m = go (c == 46) r
 with_fraction_twins {r = r} {s = s} base (front {c = c} (front {c = d} {a = a} t)) m =
     branch (Left r s) (Alike r s) (begins_fraction (c ∷ d ∷ a)) _ _ _ _ (λ is h. point_twins base (front {c = d} t) h) (λ is h. with_exponent_twins base (Int base false) (front (front t)) h) m.stays
 
--- the digits of a base, behind its letter
+-- the digits of a base, after its letter
 abbrev digits_in : Base → (some : Bool) → List ℕ → LiteralKind × List ℕ
 digits_in base some cs = if some then with_fraction base (behind (passes (class_of base)) cs) else (Int base true, behind (passes (class_of base)) cs)
 
@@ -178,7 +178,7 @@ ten Octal h = absurd (false≢true (sym h))
 ten Decimal h = refl
 ten Hexadecimal h = absurd (false≢true (sym h))
 
--- no base is told by a plain character
+-- a plain character selects no base
 no_letter : (digit : ℕ) → NoPlain (λ c. has_letter (base_of digit c))
 no_letter digit c p = by (digit == 48)
   where
@@ -186,7 +186,7 @@ no_letter digit c p = by (digit == 48)
     by true = rw (p.no_b, p.no_o, p.no_x) refl
     by false = refl
 
--- a number, behind its first digit
+-- a number, after its first digit
 pub number_twins : {r s a b : List ℕ} (digit : ℕ) → Twins r s a b → Holds r s (number digit a) → Alike r s (number digit a) (number digit b)
 unfolding number
 number_twins {r = r} {s = s} digit ends m =

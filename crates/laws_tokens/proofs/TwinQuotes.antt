@@ -1,4 +1,4 @@
--- What is closed in two texts that begin alike: strings, raw texts, characters and comments.
+-- Closed parts of two texts that begin alike: strings, raw texts, characters and comments.
 use Rattle.std.proofs.Common.{◌≡◌, ◌⊎◌, inl, inr, ℕ, zero, suc, ◌+◌, ◌-◌, ◌<◌, ◌≤◌, Bool, true, false, ◌==◌, ◌&&◌, not, List, [], ◌∷◌, length, drop, Option, None, is_some, refl, sym, ap, ◌∙◌, subst, arith, nat_le, if◌then◌else◌}
 use Rattle.std.proofs.lemmas.Bool.{false≢true, cond_both, eqb-true, le-leb, leb-true}
 use Rattle.syntax_lex.proofs.EndFacts.{behind_apostrophe_end, behind_comment_end, behind_quote_end, behind_raw_end, drop_end, raw_body_end, skip_end}
@@ -8,22 +8,22 @@ use Rattle.syntax_lex.specs.Quoted.{behind_apostrophe, gives_up, quoted_char}
 use Rattle.laws_tokens.proofs.KeepFacts.{IsPlain}
 use Rattle.laws_tokens.proofs.Twins.{Alike, IsShort, Held, Stays, Twins, branch, end_le, ends, enough, front, held_of, little, next_of, not_taken, off, short_plain, taken}
 
--- what is found is closed, and no less than r is left
+-- the part is closed, and no less than r is left
 pub record Shut (r : List ℕ) (found : Bool × List ℕ) : Type 0 where
   pub closed : found.0 ≡ true
   pub held : Held r found.1
 
--- the same of a raw text, which is counted
+-- the same for a raw text, with its number of hashes
 pub record Counts (r : List ℕ) (found : Option ℕ × List ℕ) : Type 0 where
   pub closed : is_some found.0 ≡ true
   pub held : Held r found.1
 
--- what is closed takes something of a text, and nothing is closed in a short one
+-- a closed part takes something of a text, and a short text closes nothing
 pub record Closes {K : Type 0} (closed : K → Bool) (find : List ℕ → K × List ℕ) : Type 0 where
   pub takes : (r : List ℕ) → closed (find r).0 ≡ true → length (find r).1 < length r
   pub fails : (c : ℕ) → IsPlain c → closed (find (c ∷ [])).0 ≡ false
 
--- so nothing is closed in r
+-- so r closes nothing
 never : {K : Type 0} {closed : K → Bool} {find : List ℕ → K × List ℕ} → Closes closed find → {r : List ℕ} → closed (find r).0 ≡ true → Held r (find r).1 → ⊥
 never {closed = closed} {find = find} it {r = r} is held = not_taken held (it.takes r is) (by r is)
   where
@@ -51,13 +51,13 @@ quote_closes : (escaped : Bool) → Closes (λ b. b) (behind_quote escaped)
 quote_closes true = record { takes = quote_takes true; fails = λ c p. refl }
 quote_closes false = record { takes = quote_takes false; fails = λ c p. rw (p.no_quote) (quote_nil (c == 92)) }
 
--- behind the quote that closes a string
+-- the rest after the quote that closes a string
 pub quote_twins : {r s a b : List ℕ} (escaped : Bool) → Twins r s a b → Shut r (behind_quote escaped a) → Alike r s (behind_quote escaped a) (behind_quote escaped b)
 quote_twins escaped ends m = absurd (never (quote_closes escaped) m.closed m.held)
 quote_twins true (front t) m = quote_twins false t m
 quote_twins {r = r} {s = s} false (front {c = c} t) m = branch (Shut r) (Alike r s) (c == 34) _ _ _ _ (λ is h. record { kind = refl; left = t }) (λ is h. quote_twins (c == 92) t h) m
 
--- a raw text, behind its quote
+-- a raw text, after its quote
 raw_takes : (n : ℕ) (r : List ℕ) → (behind_raw n r).0 ≡ true → length (behind_raw n r).1 < length r
 raw_takes n [] is = absurd (false≢true is)
 raw_takes n (c ∷ cs) is =
@@ -70,7 +70,7 @@ held_more : {r left : List ℕ} (more : List ℕ) → Held r left → length lef
 held_more more (enough h) le = enough (omega (arith, h, le))
 held_more more (little h) le = little h
 
--- Hashes in front are as many in both texts, or all of what stands in front is hashes.
+-- Both texts begin with equally many hashes, or all before r is hashes.
 hash_twins : {r s a b : List ℕ} → Twins r s a b → (hashes_of a ≡ hashes_of b) ⊎ (((n : ℕ) → behind_raw n a ≡ behind_raw n r) × (drop (hashes_of a) a ≡ drop (hashes_of r) r))
 hash_twins ends = inr (λ n. refl, refl)
 hash_twins {r = r} {s = s} (front {c = c} {a = a} {b = b} t) = go (c == 35) refl (hash_twins t)
@@ -83,7 +83,7 @@ hash_twins {r = r} {s = s} (front {c = c} {a = a} {b = b} t) = go (c == 35) refl
     go true e (inl same) = inl (rw e (ap suc same))
     go true e (inr (raws, rest)) = subst (λ x. Same (x ∷ a) (x ∷ b)) (sym (eqb-true c 35 e)) (inr (raws, rest))
 
--- what is left behind hashes that stand in front
+-- the rest after hashes at the front
 drop_twins : {r s a b : List ℕ} (n : ℕ) → Twins r s a b → n ≤ hashes_of a → Held r (drop n a) → Twins r s (drop n a) (drop n b) × (n ≤ hashes_of b)
 drop_twins zero t le held = (t, omega arith)
 drop_twins {r = []} (suc n) ends le held = absurd (omega (arith, le))
@@ -100,7 +100,7 @@ drop_twins {r = r} {s = s} (suc n) (front {c = c} {a = a} {b = b} t) le held = g
         (it.0, subst (λ w. suc n ≤ (if w then suc (hashes_of b) else 0)) (sym e) (omega (arith, it.1)))
     go false e ih = let none : suc n ≤ 0 = subst (λ w. suc n ≤ (if w then suc (hashes_of a) else 0)) e le in absurd (omega (arith, none))
 
--- behind the quote and the hashes that close a raw text
+-- the rest after the quote and the hashes that close a raw text
 raw_twins : {r s a b : List ℕ} (n : ℕ) → Twins r s a b → Shut r (behind_raw n a) → Alike r s (behind_raw n a) (behind_raw n b)
 raw_twins n ends m = absurd (never (raw_closes n) m.closed m.held)
 raw_twins {r = r} {s = s} n (front {c = c} {a = a} {b = b} t) m = go (c == 34) refl (nat_le n (hashes_of a)) refl (λ h. raw_twins n t h) m
@@ -140,7 +140,7 @@ body_twins {r = r} {s = s} n (front {c = c} {a = a} t) m =
     (λ is h. let it = raw_twins n t (record { closed = closed_counted (behind_raw n a).0 n h.closed; held = h.held }) in record { kind = ap (λ b. counted b n) it.kind; left = it.left })
     (λ is h. absurd (false≢true h.closed)) m
 
--- a raw text, behind its letters
+-- a raw text, after its letters
 raw_text_takes : (r : List ℕ) → is_some (raw_text r).0 ≡ true → length (raw_text r).1 < length r
 unfolding raw_text
 raw_text_takes r is = omega (arith, body_takes (hashes_of r) (drop (hashes_of r) r) is, end_le (drop_end (hashes_of r) r))
@@ -176,7 +176,7 @@ raw_text_twins {r = r} {s = s} {a = a} {b = b} t m = by (hash_twins t)
             lone c p = rw (p.no_hash) (rw (p.no_quote) refl)
         none (c ∷ d ∷ cs) h k = h
 
--- behind the quote that closes a character
+-- the rest after the quote that closes a character
 apostrophe_takes : (escaped : Bool) (r : List ℕ) → (behind_apostrophe escaped r).0 ≡ true → length (behind_apostrophe escaped r).1 < length r
 apostrophe_takes true [] is = absurd (false≢true is)
 apostrophe_takes false [] is = absurd (false≢true is)
@@ -207,7 +207,7 @@ apostrophe_twins {r = r} {s = s} false (front {c = c} (front {c = d} t)) m =
     branch (Shut r) (Alike r s) (c == 39) _ _ _ _ (λ is h. record { kind = refl; left = front t })
     (λ is h. branch (Shut r) (Alike r s) (gives_up c d) _ _ _ _ (λ e k. absurd (false≢true k.closed)) (λ e k. apostrophe_twins (c == 92) (front {c = d} t) k) h) m
 
--- a character, behind its first quote
+-- a character, after its first quote
 char_takes : (r : List ℕ) → (quoted_char r).0 ≡ true → length (quoted_char r).1 < length r
 unfolding quoted_char
 char_takes [] is = absurd (false≢true is)
@@ -244,7 +244,7 @@ char_twins {r = r} {s = s} (front {c = c} (front {c = d} t)) closed stays =
     branch (Shut r) (Alike r s) ((d == 39) && not (c == 92)) _ _ _ _ (λ is h. record { kind = refl; left = t }) (λ is h. apostrophe_twins false (front {c = c} (front {c = d} t)) h)
     (record { closed = closed; held = held_of stays })
 
--- behind the sign that closes a comment, which takes two characters
+-- the rest after the sign that closes a comment, which takes two characters
 comment_takes : (inner c : ℕ) (r : List ℕ) → (behind_comment inner (c ∷ r)).0 ≡ true → length (behind_comment inner (c ∷ r)).1 < length r
 comment_takes inner c [] is = absurd (false≢true is)
 comment_takes inner c (e ∷ cs) is =
@@ -263,7 +263,7 @@ comment_less inner (c ∷ cs) is = omega (arith, comment_takes inner c cs is)
 comment_closes : (inner : ℕ) → Closes (λ b. b) (behind_comment inner)
 comment_closes inner = record { takes = comment_less inner; fails = λ c p. refl }
 
--- one character in front of r closes none
+-- one character before r closes no comment
 lone_comment : {r : List ℕ} (inner c : ℕ) → Shut r (behind_comment inner (c ∷ r)) → ⊥
 lone_comment {r = r} inner c m = never_two r m.closed (not_taken m.held (comment_takes inner c r m.closed))
   where

@@ -27,14 +27,14 @@ use Rattle.laws_tokens.proofs.TwinWords.{Fits, apostrophe_twins, inner, is_shut,
 use Rattle.laws_tokens.proofs.Twins.{Alike, Held, IsShort, Next, Stays, Twins, alike, branch, end_le, ends, front, held_of, name_twins, next_of, not_taken, off, plain, run, run_by, run_kept, short_plain, taken, twin_is, twins_of, unless}
 use Rattle.laws_tokens.specs.Stops.{is_number}
 
--- White space and comments to the end of a line end where no more of them follows.
+-- White space and comments to the end of a line end before r if r does not continue them.
 abbrev pub Apart : (r s left : List ℕ) → TokenKind → Type 0
 Apart r s left (kinds.LineComment doc_style) = length r < length left
 Apart r s left kinds.Whitespace = (length r < length left) ⊎ ((length r ≤ length left) × (is_whitespace (first s) ≡ false))
 Apart r s left _ = Unit {0}
 
--- What is read of a text with r behind it is read of it with s behind it: it is closed and no prefix, what is left stays, and
--- is no point alone behind a number.
+-- The reading of a text with r after it is that with s after it: it is closed and no prefix, the rest stays,
+-- and it is no point alone after a number.
 pub record Suits (r s : List ℕ) (read : TokenKind × List ℕ) : Type 0 where
   pub fits : Fits r s read
   pub apart : Apart r s read.1 read.0
@@ -69,7 +69,7 @@ spaces_twins {r = r} {s = s} t (inr (le, none)) = run_by (λ x. length r ≤ len
         by : suc (length cs) ≤ length (behind is_whitespace cs) → ⊥
         by h = omega (arith, h, end_le (behind_end is_whitespace cs))
 
--- whether a family is told by more characters than one
+-- whether several characters select a family
 abbrev pub wants_two : Family → Bool
 wants_two opens.LineComment = true
 wants_two opens.BlockComment = true
@@ -98,7 +98,7 @@ raw_twins : {r s text2 a b : List ℕ} (text : List ℕ) (kind : Option ℕ → 
     → Stays r s (literal text (kind (raw_text a).0) (is_some (raw_text a).0) (raw_text a).1).1 → Alike r s (raw text kind (raw_text a)) (raw text2 kind (raw_text b))
 raw_twins {a = a} {b = b} text kind texts t closed stays = told_twins kind is_some texts (raw_text a) (raw_text b) (raw_text_twins t (counts_of text a (kind (raw_text a).0) closed stays)) stays
 
--- no name in front of a point
+-- no name precedes a point
 point_left : (r : List ℕ) → behind_name (46 ∷ r) ≡ 46 ∷ r
 point_left r = rw (no_start 46 (omega arith) refl refl) refl
 
@@ -133,7 +133,7 @@ family_twins {a = a} opens.Str c t two m = string_twins (c ∷ a) literals.Str (
 family_twins opens.OddWord c t two m = record { kind = refl; left = run is_odd_rest (λ d p. p.no_odd) t m.fits.stays }
 family_twins opens.Symbol c t two m = record { kind = refl; left = t }
 
--- What tells a family of one character alone: the character, as where nothing stands behind it.
+-- A family that one character selects is the same if nothing follows that character.
 opening_one : (c d e : ℕ) → wants_two (opening c d e) ≡ false → opening c d e ≡ opening c 0 0
 unfolding opening
 opening_one c d e =
@@ -158,12 +158,12 @@ opening_one c d e =
     two : {b : Bool} → b ≡ true → true ≡ false → ⊥
     two is m = false≢true (sym m)
 
--- a plain character tells the family as the end does
+-- a plain character selects the same family as the end
 opening_plain : (c d e : ℕ) → IsPlain d → opening c d e ≡ opening c 0 0
 unfolding opening
 opening_plain c d e p = rw (p.no_slash, p.no_star, p.no_hash, p.no_quote, p.no_apostrophe, p.no_r) refl
 
--- one character alone tells no family of two
+-- one character alone selects no family of two
 one_tells : (c : ℕ) → wants_two (opening c 0 0) ≡ false
 unfolding opening
 one_tells c =
@@ -195,7 +195,7 @@ two_taken opens.Str c d ds two shut = absurd (false≢true two)
 two_taken opens.OddWord c d ds two shut = absurd (false≢true two)
 two_taken opens.Symbol c d ds two shut = absurd (false≢true two)
 
--- so r does not begin with the second one
+-- so the second character is not the first of r
 no_two : (r s : List ℕ) (c : ℕ) → Fits r s (reading_of (opening c (first r) (second r)) (c ∷ r) r) → wants_two (opening c (first r) (second r)) ≡ true → ⊥
 no_two [] s c m two = false≢true (sym (one_tells c) ∙ two)
 no_two (d ∷ ds) s c m two =
@@ -213,7 +213,7 @@ word_r r = ap (λ b. word_before (if b then behind is_id_continue r else 114 ∷
 no_raw_letter : (c : ℕ) → IsPlain c → begins_raw c ≡ false
 no_raw_letter c p = rw (p.no_quote, p.no_hash) refl
 
--- what stands behind two characters tells their family as s does
+-- the text after two characters selects their family as s does
 pair_twins : {r s : List ℕ} (c x : ℕ) → Fits r s (reading_of (opening c x (first r)) (c ∷ x ∷ r) (x ∷ r)) → opening c x (first r) ≡ opening c x (first s)
 unfolding opening reading_of literal
 pair_twins {r = r} {s = s} c x =
@@ -270,7 +270,7 @@ reading_twins {r = r} {s = s} c (front {c = x} ends) m =
     subst (λ g. Alike r s (reading (c ∷ x ∷ r)) (reading_of g (c ∷ x ∷ s) (x ∷ s))) (pair_twins c x m.fits) (family_twins (opening c x (first r)) c (front {c = x} ends) (λ two. ends) m)
 reading_twins c (front {c = x} (front {c = y} t)) m = family_twins (opening c x y) c (front {c = x} (front {c = y} t)) (λ two. front {c = y} t) m
 
--- so a token of a text with r behind it is that of the text with s behind it
+-- so a token of a text with r after it is that of the text with s after it
 pub token_twin : (c : ℕ) (cs l r s : List ℕ) (kind : TokenKind) → reading (c ∷ (cs ++ r)) ≡ (kind, l ++ r) → Suits r s (kind, l ++ r) → reading (c ∷ (cs ++ s)) ≡ (kind, l ++ s)
 token_twin c cs l r s kind read suits =
     let it = reading_twins c (twins_of cs r s) (subst (Suits r s) (sym read) suits) in

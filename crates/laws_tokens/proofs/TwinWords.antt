@@ -18,19 +18,19 @@ use Rattle.laws_tokens.proofs.TwinQuotes.{Shut, char_twins, no_char, and_none}
 use Rattle.laws_tokens.proofs.Twins.{Alike, IsShort, Stays, Twins, behind_none, branch, end_le, ends, front, held_of, name_twins, next_of, off, off_two, run, short_plain, stays_more, taken, unless}
 use Rattle.laws_tokens.specs.Stops.{is_closed}
 
--- whether a token is closed: each but some comments and literals
+-- whether a token is closed: each except some comments and literals
 abbrev pub is_shut : TokenKind → Bool
 is_shut (kinds.BlockComment doc_style terminated) = terminated
 is_shut (kinds.Literal kind suffix_start) = is_closed kind
 is_shut _ = true
 
--- whether it is a prefix, which what stands behind it makes one
+-- whether a token is a prefix: what follows it makes it one
 abbrev pub is_prefix : TokenKind → Bool
 is_prefix kinds.UnknownPrefix = true
 is_prefix kinds.UnknownPrefixLifetime = true
 is_prefix _ = false
 
--- what is left of a token stays, which is closed and no prefix
+-- the rest after a token stays, and the token is closed and no prefix
 pub record Fits (r s : List ℕ) (read : TokenKind × List ℕ) : Type 0 where
   pub stays : Stays r s read.1
   pub shut : is_shut read.0 ≡ true
@@ -44,7 +44,7 @@ pub byte_length-append : (xs ys : List ℕ) → byte_length (xs ++ ys) ≡ lengt
 unfolding byte_length
 byte_length-append xs ys = ap length (encodes-append xs ys) ∙ length-append (encodes xs) (encodes ys)
 
--- what two texts have in front of r and s takes the same bytes
+-- the fronts of two texts before r and s take the same bytes
 bytes_twins : {r s a b : List ℕ} → Twins r s a b → byte_length a + byte_length s ≡ byte_length b + byte_length r
 bytes_twins {r = r} {s = s} ends = omega arith
 bytes_twins (front {c = c} {a = a} {b = b} t) = omega (arith, bytes_twins t, byte_length-append (c ∷ []) a, byte_length-append (c ∷ []) b)
@@ -61,24 +61,24 @@ literal_twins {r = r} {s = s} {text = text} {text2 = text2} {cs = cs} {cs2 = cs2
     by true h = name_twins t h
     by false h = t
 
--- before its suffix a literal has no less left
+-- a literal has no less left before its suffix
 pub inner : {r s cs : List ℕ} (text : List ℕ) (kind : LiteralKind) (suffixed : Bool) → Stays r s (literal text kind suffixed cs).1 → Stays r s cs
 inner {cs = cs} text kind suffixed stays = stays_more cs stays (end_le (literal_end text kind suffixed cs))
 
--- a literal of what was found behind what opens it
+-- a literal, by what is found after the characters that open it
 pub told_twins : {r s text text2 : List ℕ} {K : Type 0} (kind : K → LiteralKind) (some : K → Bool) → Twins r s text text2 → (x y : K × List ℕ) → Alike r s x y → Stays r s (literal text (kind x.0) (some x.0) x.1).1
     → Alike r s (literal text (kind x.0) (some x.0) x.1) (literal text2 (kind y.0) (some y.0) y.1)
 told_twins {r = r} {s = s} {text = text} {text2 = text2} kind some texts x y same stays =
     subst (λ k. Alike r s (literal text (kind x.0) (some x.0) x.1) (literal text2 (kind k) (some k) y.1)) same.kind (literal_twins (kind x.0) (some x.0) texts same.left stays)
 
--- an identifier, by what stands behind it
+-- an identifier, by what follows it
 word_before_twins : {r s a b : List ℕ} → Twins r s a b → Fits r s (word_before a) → Alike r s (word_before a) (word_before b)
 word_before_twins {r = r} {s = s} ends m = go (begins_literal (first r)) refl (is_emoji_mark (first r)) refl m
   where
     word_as : (literal emoji : Bool) → List ℕ → TokenKind × List ℕ
     word_as literal emoji cs = if literal then (kinds.UnknownPrefix, cs) else (if emoji then (kinds.InvalidIdent, behind is_odd_rest cs) else (kinds.Ident, cs))
 
-    -- emoji are odd, and one in front is taken
+    -- emoji are odd, and one at the front is taken
     emoji_taken : is_emoji_mark (first r) ≡ true → length (behind is_odd_rest r) ≤ length (skip r)
     emoji_taken is = by r is
       where
@@ -106,14 +106,14 @@ word_before_twins {r = r} {s = s} (front {c = c} t) m =
     branch (Fits r s) (Alike r s) (begins_literal c) _ _ _ _ (λ is h. record { kind = refl; left = front {c = c} t })
     (λ is h. branch (Fits r s) (Alike r s) (is_emoji_mark c) _ _ _ _ (λ k j. record { kind = refl; left = run is_odd_rest (λ d p. p.no_odd) (front {c = c} t) j.stays }) (λ k j. record { kind = refl; left = front {c = c} t }) h) m
 
--- an identifier behind its first character
+-- an identifier after its first character
 pub word_twins : {r s a b : List ℕ} → Twins r s a b → Fits r s (word a) → Alike r s (word a) (word b)
 unfolding word
 word_twins {a = a} t m =
     let left = behind is_id_continue a in
     word_before_twins (run is_id_continue (λ c p. p.no_continue) t (stays_more left m.stays (end_le (word_before_end left)))) m
 
--- a name or number behind a quote
+-- a name or number after a quote
 named_twins : {r s text text2 a b : List ℕ} (number : Bool) → Twins r s text text2 → Twins r s a b → Fits r s (named text number a) → Alike r s (named text number a) (named text2 number b)
 named_twins {r = r} {s = s} {text = text} {text2 = text2} number texts ends m = go (first r == 39) refl (first r == 35) refl number m
   where
@@ -148,7 +148,7 @@ named_twins {r = r} {s = s} number texts (front {c = c} t) m =
     branch (Fits r s) (Alike r s) (c == 39) _ _ _ _ (λ is h. literal_twins (literals.Char true) false texts t h.stays)
     (λ is h. branch (Fits r s) (Alike r s) ((c == 35) && not number) _ _ _ _ (λ k j. record { kind = refl; left = front {c = c} t }) (λ k j. record { kind = refl; left = front {c = c} t }) h) m
 
--- a character is closed where its token is
+-- a character is closed if its token is
 shut_char : {r s : List ℕ} (text : List ℕ) (found : Bool × List ℕ) → Fits r s (char_literal text found) → Shut r found
 unfolding literal
 shut_char text found m = record { closed = m.shut; held = held_of (inner text (literals.Char found.0) found.0 m.stays) }
@@ -161,18 +161,18 @@ char_literal_twins : {r s text text2 a b : List ℕ} → Twins r s text text2 �
 char_literal_twins {text = text} {a = a} {b = b} texts t m =
     told_twins literals.Char (λ w. w) texts (quoted_char a) (quoted_char b) (shut_twins text t m) m.stays
 
--- a name behind a quote, and its first character
+-- a name after a quote, and its first character
 life_twins : {r s text text2 a b : List ℕ} (x : ℕ) → Twins r s text text2 → Twins r s a b → Fits r s (named text (is_decimal x) (behind is_id_continue a))
     → Alike r s (named text (is_decimal x) (behind is_id_continue a)) (named text2 (is_decimal x) (behind is_id_continue b))
 life_twins {text = text} {a = a} x texts t m =
     let left = behind is_id_continue a in
     named_twins (is_decimal x) texts (run is_id_continue (λ c p. p.no_continue) t (stays_more left m.stays (end_le (named_end text (is_decimal x) left)))) m
 
--- what may be a lifetime is no character of one backslash
+-- a text that may be a lifetime is no character of one backslash
 no_escape : (c : ℕ) → (is_id_start c || is_decimal c) ≡ true → (c == 92) ≡ false
 no_escape c is = false_from_ne_true (c == 92) (λ e. false≢true (sym (ap (λ x. is_id_start x || is_decimal x) (eqb-true c 92 e) ∙ (rw (no_start 92 (omega arith) refl refl) refl)) ∙ is))
 
--- the quote of a character that is one with it is not left
+-- the quote of a character that closes it is not left
 single_char : {r : List ℕ} (c : ℕ) → (first r == 39) ≡ true → (c == 92) ≡ false → Shut r (quoted_char (c ∷ r)) → ⊥
 unfolding quoted_char
 single_char {r = r} c quote other m = taken (λ d. d == 39) (λ d p. p.no_apostrophe) quote (omega arith) (subst (Shut r) is m).held
@@ -191,7 +191,7 @@ no_raw {r = r} {s = s} text m = by (subst (λ t. Fits r s (named text false t)) 
     by (inl never) = false≢true (sym never)
     by (inr (short, same)) = omega (arith, ap length same)
 
--- a lifetime or a character of a text, behind its quote and its first character
+-- a lifetime or a character of a text, after its quote and its first character
 abbrev behind_first : (begins : Bool) → (c : ℕ) → (text cs : List ℕ) → TokenKind × List ℕ
 behind_first begins c text cs =
     if begins then (if begins_raw_lifetime (c ∷ cs) then (kinds.RawLifetime, behind is_id_continue (skip (skip cs))) else named text (is_decimal c) (behind is_id_continue cs)) else char_literal text (quoted_char (c ∷ cs))

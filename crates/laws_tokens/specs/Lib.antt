@@ -1,3 +1,3 @@
--- What a token may have behind it.
+-- What may follow a token.
 pub mod Clear
 pub mod Stops

@@ -1,4 +1,4 @@
--- What ends a token, and which tokens are ended.
+-- What ends a token, and which tokens end there.
 use Rattle.std.specs.Prelude.{◌≡◌, ℕ, Bool, true, false, ◌==◌, ◌||◌, ◌&&◌, List, [], ◌∷◌, is_some}
 use Rattle.syntax_lex.specs.declared.token.LiteralKind.{LiteralKind}
 use Rattle.syntax_lex.specs.declared.token.LiteralKind.TheVariants as literals
@@ -33,7 +33,7 @@ is_number_kind (literals.Int base empty_int) = true
 is_number_kind (literals.Float base empty_exponent) = true
 is_number_kind _ = false
 
--- whether a space, a bracket or the end ends a token: all but comments, white space, and what is not closed
+-- whether a space, a bracket or the end ends a token: all except comments, white space, and what is not closed
 abbrev pub is_ended : TokenKind → Bool
 is_ended (kinds.LineComment doc_style) = false
 is_ended (kinds.BlockComment doc_style terminated) = false
@@ -45,7 +45,7 @@ is_ended _ = true
 abbrev pub is_sign : ℕ → Bool
 is_sign c = (c == 59) || ((c == 44) || ((c == 46) || ((c == 40) || ((c == 41) || ((c == 123) || ((c == 125) || ((c == 91) || ((c == 93) || ((c == 64) || ((c == 35) || ((c == 126) || ((c == 63) || ((c == 58) || ((c == 36) || ((c == 61) || ((c == 33) || ((c == 60) || ((c == 62) || ((c == 45) || ((c == 38) || ((c == 124) || ((c == 43) || ((c == 42) || ((c == 47) || ((c == 94) || ((c == 37)))))))))))))))))))))))))))
 
--- whether a sign is no token with this behind it: `//`, `/*`, `##`, `#"`
+-- whether a sign is no token before this character: `//`, `/*`, `##`, `#"`
 abbrev pub is_glued : (c next : ℕ) → Bool
 is_glued c next = ((c == 47) && ((next == 47) || (next == 42))) || ((c == 35) && ((next == 34) || (next == 35)))
 
@@ -54,7 +54,7 @@ abbrev pub is_number : TokenKind → Bool
 is_number (kinds.Literal kind suffix_start) = is_number_kind kind
 is_number _ = false
 
--- whether a token is sound: none but prefixes, names with emoji, and what is not closed
+-- whether a token is sound: no prefix, no name with emoji, and nothing that is not closed
 abbrev pub is_sound : TokenKind → Bool
 is_sound (kinds.BlockComment doc_style terminated) = terminated
 is_sound kinds.InvalidIdent = false

@@ -1,4 +1,4 @@
-//! Where a token of a Rust text ends, whatever stands behind it.
+//! Where a token of a Rust text ends, whatever follows it.
 #![tactic(auto)]
 
 pub mod laws;
