@@ -1,4 +1,4 @@
--- What begins a comment, and what stands behind one to the end of the line.
+-- What begins a comment, and what follows one to the end of the line.
 use Rattle.syntax_unparse.proofs.Fronts.{not_nil}
 use Rattle.std.proofs.Common.{◌≡◌, ◌⊎◌, inl, inr, ℕ, Bool, true, false, ◌==◌, ◌||◌, not, List, [], ◌∷◌, refl, sym, ap, ap₂, ◌∙◌, subst, arith, if◌then◌else◌}
 use Rattle.std.proofs.lemmas.Bool.{false≢true, and_parts, eqb-true}
@@ -20,7 +20,7 @@ slashes : (cs : List ℕ) → reading (47 ∷ 47 ∷ cs) ≡ line_comment cs
 unfolding reading reading_of opening
 slashes cs = refl
 
--- a slash and an asterisk one that is closed
+-- a slash and an asterisk begin a block comment
 star : (cs : List ℕ) → reading (47 ∷ 42 ∷ cs) ≡ block_comment cs
 unfolding reading reading_of opening
 star cs = refl
@@ -48,7 +48,7 @@ line_is : (kind : TokenKind) → is_line kind ≡ true → (is_sound kind ≡ tr
 line_is (kinds.LineComment doc) h = (refl, refl)
 line_is kind h = absurd (false≢true h)
 
--- behind a comment to the end of the line stands that end
+-- the end of the line follows a comment to the end of the line
 pub line_left : (c : ℕ) (cs : List ℕ) (kind : TokenKind) (f : ℕ) (fs : List ℕ) → reading (c ∷ cs) ≡ (kind, f ∷ fs) → is_line kind ≡ true → f ≡ 10
 line_left c cs kind f fs read line = go (is_whitespace c) refl (opens_comment c (first cs)) refl
   where

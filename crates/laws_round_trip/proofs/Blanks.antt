@@ -1,4 +1,4 @@
--- White space in front of a text that is made of chunks.
+-- White space before a text that is made of chunks.
 use Rattle.std.proofs.Common.{◌≡◌, ◌≢◌, ℕ, Bool, true, false, List, [], ◌∷◌, ◌++◌, length, Some, refl, sym, ap, ◌∙◌, subst, arith, append_assoc, if◌then◌else◌}
 use Rattle.std.proofs.lemmas.Str.{IsUtf8-append, IsUtf8-from_ascii, chars-IsAscii, chars-append, chars-nil}
 use Rattle.std.specs.Str.{chars, IsUtf8}
@@ -24,7 +24,7 @@ pub blank_read : (c : ℕ) (cs : List ℕ) → is_whitespace c ≡ true → read
 unfolding reading reading_of opening
 blank_read c cs is = rw is refl
 
--- what is left behind characters that pass a test, where all in front do
+-- the rest after characters that pass a test, if all in front pass
 behind_all : (p : ℕ → Bool) (xs r : List ℕ) → behind p xs ≡ [] → behind p (xs ++ r) ≡ behind p r
 behind_all p [] r e = refl
 behind_all p (x ∷ xs) r e = go (p x) refl (λ h. behind_all p xs r h)
@@ -49,7 +49,7 @@ pub record IsBlank (w : List ℕ) : Type 0 where
 pub space_blank : IsBlank (32 ∷ [])
 space_blank = record { utf8 = IsUtf8-from_ascii (32 ∷ []) (ascii_one 32 (omega arith)); c = 32; cs = []; letters = chars-IsAscii (32 ∷ []) (ascii_one 32 (omega arith)); begins = refl; all = refl }
 
--- white space that is all of a text is white space with a space behind it
+-- white space that takes all of a text, with a space after it, is white space
 pub blank_space : (w : List ℕ) → IsBlank w → IsBlank (w ++ 32 ∷ [])
 blank_space w it = record {
   utf8 = IsUtf8-append w (32 ∷ []) it.utf8 space_blank.utf8;
@@ -71,7 +71,7 @@ blank_some w it e = omega (arith, ap length (sym it.letters ∙ e))
 abbrev pub blank : List ℕ → Chunk
 blank w = record { text = w; kind = kinds.Whitespace; role = Nothing; means = [] }
 
--- chunks behind white space, which is one with white space that they begin with
+-- chunks after white space, which merges with white space at their beginning
 abbrev pub spaced : List ℕ → List Chunk → List Chunk
 spaced w [] = blank w ∷ []
 spaced w (n ∷ ns) = if is_whitespace (first (chars n.text)) then blank (w ++ n.text) ∷ ns else blank w ∷ n ∷ ns
@@ -110,7 +110,7 @@ empty_front : (xs ys : List ℕ) → xs ++ ys ≡ [] → xs ≡ []
 empty_front [] ys e = refl
 empty_front (x ∷ xs) ys e = absurd (omega (arith, ap length e))
 
--- white space with none behind it
+-- white space with none after it
 blank_is : (w : List ℕ) (chunks : List Chunk) → IsBlank w → behind is_whitespace (text chunks) ≡ text chunks → IsChunk (blank w) chunks
 blank_is w chunks it none = record {
   utf8 = it.utf8;
@@ -149,7 +149,7 @@ spaced_are w (n ∷ ns) it are = go (is_whitespace (first (chars n.text))) refl
             first_of [] some h = absurd (some refl)
             first_of (d ∷ ds) some h = h
 
--- and it changes nothing but the text
+-- and it changes only the text
 pub spaced_text : (w : List ℕ) (chunks : List Chunk) → joined (spaced w chunks) ≡ w ++ joined chunks
 spaced_text w [] = refl
 spaced_text w (n ∷ ns) = go (is_whitespace (first (chars n.text)))

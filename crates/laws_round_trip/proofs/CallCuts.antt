@@ -35,7 +35,7 @@ head_of e = cc
 pub tail_of : {A : Type 0} {x y : A} {xs ys : List A} → x ∷ xs ≡ y ∷ ys → xs ≡ ys
 tail_of e = cc
 
--- what stands before, behind these pieces
+-- the sorts before, after these pieces
 abbrev pub behind_pieces : List Piece → (before : List Sort) → List Sort
 behind_pieces [] before = before
 behind_pieces (piece ∷ pieces) before = behind_pieces pieces (piece.sort ∷ before)
@@ -44,7 +44,7 @@ pub behind_both : (xs ys : List Piece) (before : List Sort) → behind_pieces (x
 behind_both [] ys before = refl
 behind_both (x ∷ xs) ys before = behind_both xs ys (x.sort ∷ before)
 
--- what is left of a text behind its first token
+-- the rest of a text after its first token
 pub record Behind (t : List ℕ) (token : Token) (tokens : List Token) : Type 0 where
   pub size : length (take token.len t) ≡ token.len
   pub utf8 : IsUtf8 (drop token.len t)
@@ -65,7 +65,7 @@ behind_token t token tokens utf8 (some, is, are) =
     not_empty [] ne = absurd (ne chars-nil)
     not_empty (b ∷ bs) ne = omega arith
 
--- A token that may stand where it does, and no fault behind it.
+-- A token that may be where it is, with no fault after it.
 pub record Steps (opens : List Open) (at : ℕ) (t : List ℕ) (token : Token) (tokens : List Token) : Type 0 where
   pub next : List Open
   pub takes : step opens at token.kind (take token.len t) ≡ Ok next
@@ -83,14 +83,14 @@ steps (last ∷ before) at t token tokens fine =
     let (next, takes, behind) = steps_as (step (last ∷ before) at token.kind (take token.len t)) (λ next. fault_from next (at + token.len) (drop token.len t) tokens) fine in
     record { next = next; takes = takes; fine = behind }
 
--- So it is not bad.
+-- So the token is not bad.
 pub not_bad : (opens : List Open) (at : ℕ) (kind : TokenKind) (text : List ℕ) (next : List Open) → step opens at kind text ≡ Ok next → (why : BadToken) → role_in kind text ≡ Bad why → ⊥
 not_bad opens at kind text next takes why bad = no (fault.BadToken why at) (ap (λ r. step_as r opens at) (sym bad) ∙ takes)
   where
     no : (fault : SyntaxFault) → Err fault ≡ Ok next → ⊥
     no fault e = cc e
 
--- A number that is not bad is a literal among the pieces, and a point behind one is one behind which no call begins.
+-- A number that is not bad is a literal among the pieces, and no call begins after a point that follows it.
 number_value : (part : SpanPart) (next : Option TokenKind) (at : ℕ) (kind : TokenKind) (text : List ℕ) (before : List Sort) → ((why : BadToken) → role_in kind text ≡ Bad why → ⊥) → is_number kind ≡ true
     → follows_value (behind_pieces (pieces_of part kind next at text) before) ≡ true
 number_value part next at (kinds.Literal kind start) text before fine is =
@@ -103,7 +103,7 @@ point_sign : (part : SpanPart) (next : Option TokenKind) (at : ℕ) (kind : Toke
 point_sign part next at kinds.Dot text before is follows = ap (λ b. not b) follows
 point_sign part next at kind text before is follows = absurd (false≢true is)
 
--- whether the last of these tokens is a point right behind a number, or that is so before them, where there are none
+-- whether the last of these tokens is a point right after a number; if there are none, whether that is so before them
 abbrev pub point_behind : (number point : Bool) → List Token → Bool
 point_behind number point [] = point
 point_behind number point (token ∷ tokens) = point_behind (is_number token.kind) (number && is_dot token.kind) tokens
@@ -114,7 +114,7 @@ ends_as (a ∷ []) = refl
 ends_as (a ∷ b ∷ []) = refl
 ends_as (a ∷ b ∷ c ∷ tokens) = ends_as (b ∷ c ∷ tokens)
 
--- the tokens of a text that begins at a byte before a call, and from that on
+-- the tokens of a text that begins at a byte: those before a call, and those from its begin on
 pub record FrontOf (part : SpanPart) (at : ℕ) (t : List ℕ) (tokens : List Token) (number point : Bool) (kept : List Piece) (first : Piece) (more : List Piece) : Type 0 where
   pub before : List Token
   pub back : List Token
@@ -138,13 +138,13 @@ token_within part next at t token tokens utf8 read =
     subst (λ n. Within at (at + n) (pieces_of part token.kind next at (take token.len t))) behind.size
     (chunk_within part _ (source_chunks (drop token.len t) tokens) next at chunks.are.0)
 
--- Pieces of a token, and others behind it, begin before those end.
+-- Pieces of a token and others after it begin before the end of the others.
 pub both_within : (at len n : ℕ) (pieces left : List Piece) → Within at (at + len) pieces → Within (at + len) ((at + len) + n) left → Within at (at + (len + n)) (pieces ++ left)
 both_within at len n pieces left here there =
     within_append at (at + (len + n)) pieces left (within_wider at (at + len) at (at + (len + n)) pieces (omega arith) (omega arith) here)
     (within_wider (at + len) ((at + len) + n) at (at + (len + n)) left (omega arith) (omega arith) there)
 
--- One token more stands before it.
+-- One more token precedes the call.
 one_more : (part : SpanPart) (at : ℕ) (t : List ℕ) (token : Token) (tokens : List Token) (number point : Bool) (pieces left kept : List Piece) (first : Piece) (more : List Piece)
     → kept ≡ pieces ++ left → Within at (at + token.len) pieces
     → FrontOf part (at + token.len) (drop token.len t) tokens (is_number token.kind) (number && is_dot token.kind) left first more
@@ -168,7 +168,7 @@ one_more part at t token tokens number point pieces left kept first more are her
       fine = ap₂ (λ a u. fault_from it.opens a u it.back) (sym place) (sym text) ∙ it.fine;
     }
 
--- Pieces among which no call begins stand before it.
+-- Pieces in which no call begins precede the call.
 within : (pieces rest kept : List Piece) (first second : Piece) (more : List Piece) → NoCall pieces → is_name first.sort ≡ true → is_call_sign second.sort ≡ true
     → pieces ++ rest ≡ kept ++ (first ∷ second ∷ more) → (left : List Piece) × (kept ≡ pieces ++ left) × (rest ≡ left ++ (first ∷ second ∷ more))
 within [] rest kept first second more free named signed e = (kept, refl, e)
@@ -183,7 +183,7 @@ within (p ∷ q ∷ pieces) rest (k ∷ kept) first second more free named signe
     let (left, same, behind) = within (q ∷ pieces) rest kept first second more free.1 named signed (tail_of e) in
     (left, ap₂ (λ x xs. x ∷ xs) (sym (head_of e)) same, behind)
 
--- Where a call begins: a token before which the others stand.
+-- The token at which a call begins, with the others before it.
 pub front : (part : SpanPart) (tokens : List Token) (at : ℕ) (t : List ℕ) (opens : List Open) (before : List Sort) (number point : Bool) (kept : List Piece) (first second : Piece) (more : List Piece)
     → IsUtf8 t → AreTokensOf tokens (chars t) → fault_from opens at t tokens ≡ None
     → (number ≡ true → follows_value before ≡ true) → (point ≡ true → may_begin before ≡ false)
@@ -198,7 +198,7 @@ front part (token ∷ tokens) at t opens before number point kept first second m
     behind.utf8 behind.read stepped.fine n p named signed m others)
     (pieces_of part token.kind (next_kind tokens) at (take token.len t)) kept (pieces_told part (next_kind tokens) at (take token.len t) token.kind).shape refl e may
   where
-    -- where a call begins behind the token
+    -- the call begins after the token
     Later : Type 0
     Later =
         (sorts : List Sort) (left : List Piece) → (is_number token.kind ≡ true → follows_value sorts ≡ true) → ((number && is_dot token.kind) ≡ true → may_begin sorts ≡ false)

@@ -30,7 +30,7 @@ use Rattle.syntax_parse.specs.declared.fault.SyntaxFault.TheVariants as fault
 use Rattle.syntax_parse.specs.declared.role.Role.{Role}
 use Rattle.syntax_parse.specs.declared.role.Role.TheVariants.{Bad, Nothing, Opens, Closes, Leaf}
 
--- what holds behind a piece where these brackets are open, innermost first
+-- what holds after a piece if these brackets are open, innermost first
 abbrev BehindSort : Sort → (opens : List DelimiterKind) → (holds : List DelimiterKind → Type 0) → Type 0
 BehindSort (name text raw) opens holds = holds opens
 BehindSort (sign char spacing) opens holds = holds opens
@@ -39,12 +39,12 @@ BehindSort (opening kind) opens holds = holds (kind ∷ opens)
 BehindSort (closing kind) [] holds = ⊥
 BehindSort (closing kind) (last ∷ opens) holds = (last ≡ kind) × holds opens
 
--- the brackets of these pieces match, where these are held
+-- the brackets of these pieces match, if these are open
 abbrev pub Balanced : (opens : List DelimiterKind) → List Piece → Type 0
 Balanced opens [] = opens ≡ []
 Balanced opens (piece ∷ pieces) = BehindSort piece.sort opens (λ next. Balanced next pieces)
 
--- Those of trees do.
+-- The brackets of trees match.
 pub balanced_trees : (trees : Forest) (opens : List DelimiterKind) (more : List Piece) → Balanced opens more → Balanced opens (spelled trees ++ more)
 balanced_trees end opens more h = h
 balanced_trees (leaf (leaf_of.Literal it) rest) opens more h = balanced_trees rest opens more h
@@ -75,7 +75,7 @@ same_pair Square Parenthesis e = absurd (cc e)
 same_pair Square Brace e = absurd (cc e)
 same_pair Square Square e = refl
 
--- a token steps where brackets of its pieces and others match, and those of the others match then
+-- a token steps if the brackets of its pieces and of others match; those of the others match after it
 record Balances (opens : List Open) (at : ℕ) (role : Role) (more : List Piece) : Type 0 where
   next : List Open
   takes : step_as role opens at ≡ Ok next
@@ -91,13 +91,13 @@ balances part ahead place text kind [] at (Closes pair) more sound h = absurd h
 balances part ahead place text kind (last ∷ opens) at (Closes pair) more sound h =
     record { next = opens; takes = ap (λ b. if b then Ok opens else Err (fault.Mismatched pair at last)) (same_pair last.bracket pair h.0); matches = h.1 }
 
--- A token steps, and there is no fault behind it.
+-- A token steps, and no fault follows it.
 fault_step : (opens : List Open) (at : ℕ) (t : List ℕ) (token : Token) (tokens : List Token) (next : List Open) → step opens at token.kind (take token.len t) ≡ Ok next
     → fault_from next (at + token.len) (drop token.len t) tokens ≡ None → fault_from opens at t (token ∷ tokens) ≡ None
 fault_step [] at t token tokens next takes fine = ap (λ f. or_behind f (λ next. fault_from next (at + token.len) (drop token.len t) tokens)) takes ∙ fine
 fault_step (last ∷ opens) at t token tokens next takes fine = ap (λ f. or_behind f (λ next. fault_from next (at + token.len) (drop token.len t) tokens)) takes ∙ fine
 
--- These pieces end a call, or stand before the last of it.
+-- These pieces end a call, or precede its last piece.
 past_end : (pieces rest front : List Piece) (last : Piece) (behind : List Piece) → NoEnd pieces → is_last last.sort ≡ true → pieces ++ rest ≡ front ++ (last ∷ behind)
     → ((left : List Piece) × (front ≡ pieces ++ left) × (rest ≡ left ++ (last ∷ behind))) ⊎ ((pieces ≡ front ++ last ∷ []) × (rest ≡ behind))
 past_end [] rest front last behind free is e = inl (front, refl, e)
@@ -111,7 +111,7 @@ past_end (p ∷ q ∷ pieces) rest (f ∷ front) last behind free is e = more (p
     more (inl (left, same, others)) = inl (left, ap₂ (λ x xs. x ∷ xs) (sym (head_of e)) same, others)
     more (inr (same, others)) = inr (ap₂ (λ x xs. x ∷ xs) (head_of e) same, others)
 
--- The last of them ends where they do.
+-- The last of them ends where they end.
 last_ends : (pieces front : List Piece) (last : Piece) (stop : ℕ) → LastEnds stop pieces → pieces ≡ front ++ last ∷ [] → last.end ≡ stop
 last_ends [] [] last stop ends e = absurd (cc e)
 last_ends [] (f ∷ front) last stop ends e = absurd (cc e)
@@ -123,7 +123,7 @@ last_ends (p ∷ q ∷ pieces) [] last stop ends e = absurd (some (tail_of e))
     some h = cc h
 last_ends (p ∷ q ∷ pieces) (f ∷ front) last stop ends e = last_ends (q ∷ pieces) front last stop ends (tail_of e)
 
--- the tokens of a call that a text begins with, in which these brackets are open and match, and those behind them
+-- the tokens of a call at the front of a text, in which these open brackets match, and those after the call
 pub record EndOf (part : SpanPart) (at : ℕ) (t : List ℕ) (tokens : List Token) (from : ℕ) (held : List Open) (call : List Piece) (stop : ℕ) (pieces : List Piece) : Type 0 where
   pub inside : List Token
   pub behind : List Token
@@ -138,7 +138,7 @@ pub record EndOf (part : SpanPart) (at : ℕ) (t : List ℕ) (tokens : List Toke
   pub opens : List Open
   pub fine : fault_from opens (at + bytes_of inside) (drop (bytes_of inside) t) behind ≡ None
 
--- One token more stands in it.
+-- One more token is in the call.
 one_inside : (part : SpanPart) (at : ℕ) (t : List ℕ) (token : Token) (tokens : List Token) (from : ℕ) (held next : List Open) (first left call : List Piece) (stop : ℕ) (pieces : List Piece)
     → step held from token.kind (take token.len t) ≡ Ok next → call ≡ first ++ left → Within at (at + token.len) first
     → EndOf part (at + token.len) (drop token.len t) tokens (from + token.len) next left stop pieces → EndOf part at t (token ∷ tokens) from held call stop pieces
@@ -165,7 +165,7 @@ none_open : (opens : List Open) (at : ℕ) (t : List ℕ) → kinds_of opens ≡
 none_open [] at t e = refl
 none_open (last ∷ opens) at t e = absurd (cc e)
 
--- Where a call ends: its last token.
+-- The last token of a call.
 pub call_end : (part : SpanPart) (tokens : List Token) (at : ℕ) (t : List ℕ) (opens : List Open) (from : ℕ) (held : List Open) (front : List Piece) (last : Piece) (behind : List Piece)
     → IsUtf8 t → AreTokensOf tokens (chars t) → fault_from opens at t tokens ≡ None → is_last last.sort ≡ true → Balanced (kinds_of held) (front ++ last ∷ [])
     → pieces_from part at t tokens ≡ front ++ (last ∷ behind) → EndOf part at t tokens from held (front ++ last ∷ []) last.end behind
@@ -185,7 +185,7 @@ call_end part (token ∷ tokens) at t opens from held front last behind utf8 rea
     rest : List Piece
     rest = pieces_from part (at + token.len) (drop token.len t) tokens
 
-    -- where it ends behind the token
+    -- the call ends after the token
     Later : Type 0
     Later =
         (next : List Open) (left : List Piece) → Balanced (kinds_of next) (left ++ last ∷ []) → pieces_from part (at + token.len) (drop token.len t) tokens ≡ left ++ (last ∷ behind)

@@ -26,7 +26,7 @@ use Rattle.syntax_unparse.specs.Marks.{marks}
 use Rattle.syntax_unparse.specs.Settled.{settled, sorts}
 use Rattle.syntax_unparse.specs.Writable.{IsWritable}
 
--- the first call among pieces that gives way
+-- the first call among pieces that trees replace
 record First (before : List Sort) (pieces : List Piece) (it : Splice) (others : List Splice) (all : List Sort) : Type 0 where
   kept : List Piece
   call : List Piece
@@ -86,24 +86,24 @@ begins_call start [] h = absurd h
 begins_call start (first ∷ []) h = absurd h
 begins_call start (first ∷ second ∷ more) h = record { first = first; second = second; more = more; are = refl; begins = h.0; named = h.1; signed = h.2 }
 
--- All pieces of a text that begins at a byte begin there or behind.
+-- All pieces of a text that begins at a byte begin there or after it.
 tokens_from : (part : SpanPart) (at : ℕ) (t : List ℕ) (tokens : List Token) → IsUtf8 t → AreTokensOf tokens (chars t) → From at (pieces_from part at t tokens)
 tokens_from part at t tokens utf8 read =
     let chunks = source t tokens utf8 read in
     subst (λ u. From at (pieces_from part at u tokens)) chunks.text_is
     (subst (λ ts. From at (pieces_from part at (joined (source_chunks t tokens)) ts)) chunks.tokens_are (all_from part at (source_chunks t tokens) chunks.are))
 
--- splices are places, and what is read with them is woven
+-- splices are places, and the text with them is read as what is woven
 record Places (splices : List Splice) (at : ℕ) (t : List ℕ) (tokens : List Token) (pieces : List Piece) (all : List Sort) : Type 0 where
   are : ArePlaces splices at t tokens
   same : woven splices pieces ≡ all
 
--- The first call, where the others are done.
+-- The first call, if the others are done.
 module _ (it : Splice) (others : List Splice) (part : SpanPart) (tokens : List Token) (at : ℕ) (t : List ℕ) (pieces : List Piece) (all : List Sort) (utf8 : IsUtf8 t) (read : AreTokensOf tokens (chars t))
     (first : First [] pieces it others all) (call : Begins it.start first.call) (front : List Piece) (last : Piece) (whole : first.call ≡ front ++ last ∷ []) (stops : last.end ≡ it.end)
     (f : FrontOf part at t tokens false false first.kept call.first (call.second ∷ (call.more ++ first.rest)))
     (e : EndOf part (at + bytes_of f.before) (drop (bytes_of f.before) t) f.back 0 [] (front ++ last ∷ []) last.end first.rest) where
-  -- how many bytes stand before it, and how many in it
+  -- how many bytes precede the call, and how many it has
   abbrev n : ℕ
   n = bytes_of f.before
 
@@ -136,7 +136,7 @@ module _ (it : Splice) (others : List Splice) (part : SpanPart) (tokens : List T
       more : it.end ≡ (at + n) + m → n + m ≡ it.end - at
       more s = omega (arith, s)
 
-  -- the pieces of the call, and those behind it
+  -- the pieces of the call, and those after it
   behind_kept : From it.start (first.call ++ first.rest)
   behind_kept =
       subst (λ k. From k (first.call ++ first.rest)) (sym start)
@@ -190,7 +190,7 @@ places (it ∷ others) part tokens at t opens pieces all utf8 read fine are is =
     one_place it others part tokens at t pieces all utf8 read first call last_front last whole stops f e
     (places others part e.behind ((at + bytes_of f.before) + bytes_of e.inside) (drop (bytes_of e.inside) (drop (bytes_of f.before) t)) e.opens first.rest first.later e.utf8 e.read e.fine e.left first.behind)
 
--- So a text in which such calls give way is read as what is woven, and has no fault of syntax.
+-- So a text in which trees replace such calls is read as what is woven, and has no fault of syntax.
 pub read_woven : (part other : SpanPart) (text : List ℕ) (root again : Root) (splices : List Splice) (all : List Sort) → IsUtf8 text → IsParse part text root → IsWoven [] (spelled root.children) splices all
     → IsParse other (with_all (replacements_of splices) (begun text)) again → sorts (spelled again.children) ≡ all
 read_woven part other text root again splices all utf8 parse is new =

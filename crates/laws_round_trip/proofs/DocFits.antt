@@ -35,7 +35,7 @@ quiet_end : (n : ℕ) → bare_return (replicate n 35) ≡ false
 quiet_end zero = refl
 quiet_end (suc n) = quiet_end n
 
--- nor are the quotes round a text
+-- the quotes around a text are none either
 quiet_text : (n : ℕ) (text : List ℕ) → bare_return text ≡ false → bare_return (text_in (literals.RawStr (Some n)) text) ≡ false
 quiet_text n text quiet =
     let tail : List ℕ = text ++ 34 ∷ replicate n 35 in
@@ -46,7 +46,7 @@ raw_reads : (n : ℕ) (t : List ℕ) → reading (114 ∷ (replicate n 35 ++ 34 
 unfolding reading reading_of
 raw_reads n t = let rest : List ℕ = replicate n 35 ++ 34 ∷ t in ap (λ f. reading_of f (114 ∷ rest) rest) (raw_opens n t)
 
--- a text in a raw string reads alone, where a byte counts the hashes that it wants
+-- a text in a raw string reads alone, if the number of hashes that it needs fits into a byte
 pub doc_alone : (text : List ℕ) → IsDocText text → hashes_wanted text < 256
     → (literal : Literal) → symbol_of literal ≡ text → kind_of literal ≡ lit.StrRaw (hashes_wanted text) → suffix_len_of literal ≡ 0 → ReadsAlone (leaf_of.Literal literal)
 doc_alone text it few literal symbol sort len =

@@ -1,4 +1,4 @@
--- The text of a comment that documents something: as many hashes as it wants keep it, and it holds no bare carriage return.
+-- The text of a documenting comment: the hashes that it needs keep it, and it has no bare carriage return.
 use Rattle.std.proofs.Common.{◌≡◌, ℕ, suc, ◌+◌, ◌-◌, ◌<◌, ◌≤◌, Bool, true, false, ◌==◌, List, [], ◌∷◌, ◌++◌, length, take, drop, max, refl, sym, ap, ◌∙◌, subst, arith, if◌then◌else◌}
 use Rattle.std.proofs.Math.Seq.{take-append_seam}
 use Rattle.std.proofs.Math.Utf8.{encodes}
@@ -18,12 +18,12 @@ use Rattle.syntax_parse.specs.Doc.{behind_line_opening, behind_opening, block_te
 use Rattle.syntax_parse.specs.Inside.{bare_return, inner_return}
 use Rattle.syntax_unparse.proofs.KindFacts.{ascii_one}
 
--- the longest run is no shorter than one that is known
+-- the longest run is no shorter than a known one
 most_le : (text : List ℕ) (run most : ℕ) → most ≤ longest_run run most text
 most_le [] run most = omega arith
 most_le (x ∷ xs) run most = omega (arith, most_le xs (next_run run x) (max most (next_run run x)))
 
--- nor than a run with the hashes behind it
+-- it is no shorter than a run with the hashes after it
 run_le : (text : List ℕ) (run most : ℕ) → 0 < run → run ≤ most → run + hashes_of text ≤ longest_run run most text
 run_le [] run most some le = omega (arith, le)
 run_le (x ∷ xs) run most some le = go (x == 35) refl (run_le xs (run + 1) (max most (run + 1)) (omega arith) (omega arith))
@@ -36,12 +36,12 @@ run_le (x ∷ xs) run most some le = go (x == 35) refl (run_le xs (run + 1) (max
         let more : longest_run run most (x ∷ xs) ≡ longest_run (run + 1) (max most (run + 1)) xs = ap (λ n. longest_run n (max most n) xs) next in
         omega (arith, hash, more, inner)
 
--- nor than a quote with the hashes behind it
+-- it is no shorter than a quote with the hashes after it
 quote_le : (front behind : List ℕ) (run most : ℕ) → 1 + hashes_of behind ≤ longest_run run most (front ++ 34 ∷ behind)
 quote_le [] behind run most = run_le behind 1 (max most 1) (omega arith) (omega arith)
 quote_le (x ∷ xs) behind run most = quote_le xs behind (next_run run x) (max most (next_run run x))
 
--- hashes stand in front of the bytes of a text that has them
+-- a text has as many hashes at its front as its bytes have, or fewer
 hashes_bytes : (cs : List ℕ) → hashes_of cs ≤ hashes_of (encodes cs)
 hashes_bytes [] = omega arith
 hashes_bytes (c ∷ cs) = go (c == 35) refl (hashes_bytes cs)
@@ -54,7 +54,7 @@ hashes_bytes (c ∷ cs) = go (c == 35) refl (hashes_bytes cs)
         let same : hashes_of (encodes (c ∷ cs)) ≡ suc (hashes_of (encodes cs)) = ap hashes_of bytes in
         omega (arith, hash, same, ih)
 
--- as many hashes as a text wants keep it
+-- the hashes that a text needs keep it
 pub wanted_keep : (body : List ℕ) → IsRawText (hashes_wanted (encodes body)) body
 wanted_keep body front behind are =
     let bytes : encodes body ≡ encodes front ++ 34 ∷ encodes behind =
@@ -62,7 +62,7 @@ wanted_keep body front behind are =
     let long : hashes_wanted (encodes body) ≡ longest_run 0 0 (encodes front ++ 34 ∷ encodes behind) = ap hashes_wanted bytes in
     omega (arith, long, quote_le (encodes front) (encodes behind) 0 0, hashes_bytes behind)
 
--- what holds of a text with and without a prefix holds where it is left out
+-- what holds of a text with and without a prefix holds after the prefix is dropped
 without_prefix_is : (P : List ℕ → Type 0) (prefix text : List ℕ) → P text → ((rest : List ℕ) → text ≡ prefix ++ rest → P rest) → P (without_prefix prefix text)
 without_prefix_is P prefix text all part = go (starts_with nat_eq text prefix) refl
   where
@@ -70,7 +70,7 @@ without_prefix_is P prefix text all part = go (starts_with nat_eq text prefix) r
     go true e = part (drop (length prefix) text) ((starts_is Decides-eqb text prefix _ refl).0 e)
     go false e = all
 
--- the same of a suffix
+-- the same for a suffix
 without_suffix_is : (P : List ℕ → Type 0) (suffix text : List ℕ) → (((front : List ℕ) → text ≡ front ++ suffix → ⊥) → P text) → ((front : List ℕ) → text ≡ front ++ suffix → P front) → P (without_suffix suffix text)
 without_suffix_is P suffix text all part = go (ends_with nat_eq text suffix) refl
   where
@@ -78,7 +78,7 @@ without_suffix_is P suffix text all part = go (ends_with nat_eq text suffix) ref
     go true e = part (take (length text - length suffix) text) ((ends_is Decides-eqb text suffix _ refl).0 e)
     go false e = all (λ front is. false≢true (sym e ∙ (ends_is Decides-eqb text suffix _ refl).1 front is))
 
--- a text behind and before ASCII characters
+-- a text after and before ASCII characters
 utf8_behind : (c : ℕ) (rest : List ℕ) → c < 128 → IsUtf8 (c ∷ rest) → IsUtf8 rest
 utf8_behind c rest low utf8 = IsUtf8-past_char (c ∷ rest) rest c utf8 (ap (λ t. t ++ rest) (sym (encode_ascii c low)))
 
@@ -88,7 +88,7 @@ utf8_before xs ys last utf8 = subst IsUtf8 (take-append_seam xs ys) (IsUtf8-take
 utf8_both : (a b : ℕ) → a < 128 → b < 128 → IsUtf8 (a ∷ b ∷ [])
 utf8_both a b low few = IsUtf8-append (a ∷ []) (b ∷ []) (IsUtf8-from_ascii (a ∷ []) (ascii_one a low)) (IsUtf8-from_ascii (b ∷ []) (ascii_one b few))
 
--- the text of a comment that documents something: no carriage return of it is bare, whatever stands behind it
+-- the text of a documenting comment: it has no bare carriage return, whatever follows it
 pub record IsDocText (text : List ℕ) : Type 0 where
   pub utf8 : IsUtf8 text
   pub quiet : bare_return text ≡ false
@@ -123,7 +123,7 @@ behind_signs Inner word it =
     without_prefix_is IsDocText (codes "/*!") word it
     (λ rest e. record { utf8 = utf8_behind 33 rest (omega arith) (utf8_behind 42 (33 ∷ rest) (omega arith) (utf8_behind 47 (42 ∷ 33 ∷ rest) (omega arith) (subst IsUtf8 e it.utf8))); quiet = bare_behind (codes "/*!") rest (sym (ap bare_return e) ∙ it.quiet) })
 
--- of a comment between signs
+-- of a block comment
 pub block_doc : (style : DocStyle) (word : List ℕ) → IsUtf8 word → bare_return word ≡ false → IsDocText (block_text style word)
 block_doc style word utf8 none =
     let text = behind_opening style word in

@@ -1,4 +1,4 @@
--- What is known of a token by its kind, and of its kind by its first characters.
+-- Facts about a token by its kind, and about its kind by its first characters.
 use Rattle.std.proofs.Common.{◌≡◌, ◌⊎◌, inl, inr, ℕ, ◌+◌, Bool, true, false, ◌==◌, ◌||◌, ◌&&◌, not, List, [], ◌∷◌, length, Option, None, Some, refl, sym, ap, ap₂, ◌∙◌}
 use Rattle.std.proofs.lemmas.Bool.{false≢true}
 use Rattle.tt_base.specs.declared.span.SpanPart.{SpanPart}
@@ -71,7 +71,7 @@ leaves_same part other kinds.RawLifetime n m at to text same = refl
 leaves_same part other kind n m at to text same =
     placed_sorts part at (at + length text) (sorts_of kind n text) ∙ sorts_next kind n m text same ∙ sym (placed_sorts other to (to + length text) (sorts_of kind m text))
 
--- what a token is read as depends on what stands behind it by the spacing alone, and not on where it stands
+-- the reading of a token depends on what follows it only by the spacing, and not on where it is
 pub pieces_same : (part other : SpanPart) (kind : TokenKind) (n m : Option TokenKind) (at to : ℕ) (text : List ℕ) → SameBefore kind n m
     → sorts (pieces_of part kind n at text) ≡ sorts (pieces_of other kind m to text)
 pieces_same part other kind n m at to text same = by (role_in kind text)

@@ -39,7 +39,7 @@ word_no_life true emoji cs = refl
 word_no_life false true cs = refl
 word_no_life false false cs = refl
 
--- a test that no character in front passes is that of no character there
+-- if no character at the front passes a test, that test fails for the first character
 front_other : (t : List ℕ) (n : ℕ) → behind is_id_continue t ≡ [] → is_id_continue n ≡ false → (0 == n) ≡ false → (first t == n) ≡ false
 front_other [] n all no_part no_null = no_null
 front_other (c ∷ cs) n all no_part no_null = ne_eqb c n (λ e. cc_not (sym (ap (λ b. if b then behind is_id_continue cs else c ∷ cs) (ap is_id_continue e ∙ no_part)) ∙ all))
@@ -91,7 +91,7 @@ start_2029 = refl
 start_is : (x n : ℕ) → is_id_start x ≡ true → is_id_start n ≡ false → (x == n) ≡ false
 start_is x n start none = ne_eqb x n (λ e. false≢true (sym none ∙ ap is_id_start (sym e) ∙ start))
 
--- control characters: a name begins with none
+-- a name begins with no control character
 no_control : (x : ℕ) → is_id_start x ≡ true → (nat_le 9 x && nat_le x 13) ≡ false
 no_control x start = go (nat_le 9 x && nat_le x 13) refl
   where
@@ -175,7 +175,7 @@ raw_name_read : (z : ℕ) (zs : List ℕ) → is_id_start z ≡ true → behind 
 unfolding reading reading_of opening
 raw_name_read z zs start all = rw start (ap (λ t. (kinds.RawIdent, t)) (ap (λ b. if b then behind is_id_continue zs else z ∷ zs) start ∙ all))
 
--- what a lifetime of a kind is
+-- the parts of a lifetime of a kind
 pub record Life (lifetime : TokenKind) (front : List ℕ) : Type 0 where
   pub rest : List ℕ
   pub are : front ≡ 39 ∷ rest

@@ -1,4 +1,4 @@
--- A number that is read of a text is all of its token, and reads alone.
+-- A number that is read from a text takes all of its token, and reads alone.
 use Rattle.std.proofs.Common.{◌≡◌, ℕ, ◌-◌, Bool, true, false, ◌==◌, ◌&&◌, ◌||◌, not, List, [], ◌∷◌, ◌++◌, refl, sym, ap, ◌∙◌, if◌then◌else◌}
 use Rattle.std.proofs.lemmas.Bool.{and_parts, false≢true, ne_eqb}
 use Rattle.syntax_lex.proofs.EndFacts.{number_end}
@@ -39,12 +39,12 @@ abbrev pub is_literal_token : TokenKind → Bool
 is_literal_token (kinds.Literal kind start) = true
 is_literal_token _ = false
 
--- what is no literal is no number
+-- a token that is no literal is no number
 no_number : (kind : TokenKind) → is_literal_token kind ≡ false → is_number_token kind ≡ false
 no_number (kinds.Literal kind start) h = absurd (false≢true (sym h))
 no_number kind h = refl
 
--- no `_` is in front of what is left of a number
+-- no `_` begins the rest after a number
 abbrev NoLine : List ℕ → Type 0
 NoLine cs = (first cs == 95) ≡ false
 
@@ -111,7 +111,7 @@ number_ends digit cs = by (base_of digit (first cs))
     by Decimal = fraction_ends Decimal (behind is_decimal_part cs) (run_ends is_decimal_part cs refl)
     by Hexadecimal = lettered Hexadecimal (has_digit Hexadecimal (skip cs))
 
--- no character alone is a literal, and no name
+-- a single character is no literal, and no name
 pub symbol_none : (d : ℕ) → is_literal_token (symbol d) ≡ false
 symbol_none d = not_true (is_literal_token (symbol d)) (symbol_passes (λ n kind. not (is_literal_token kind)) refl d refl)
 
@@ -137,7 +137,7 @@ apostrophe_none text cs = go (begins_lifetime cs) (begins_raw_lifetime cs)
     go true false = named_is (first left == 39) ((first left == 35) && not (is_decimal (first cs))) (is_decimal (first cs))
     go false raw = refl
 
--- a number's text: what is left of it before its suffix begins with no `_`
+-- a number's text: its suffix begins with no `_`
 pub record IsNumber (cs : List ℕ) (start : ℕ) : Type 0 where
   pub front : List ℕ
   pub rest : List ℕ

@@ -36,7 +36,7 @@ pub bytes_are : (xs : List Chunk) → bytes_of (tokens_of xs) ≡ length (joined
 bytes_are [] = refl
 bytes_are (x ∷ xs) = omega (arith, bytes_are xs, length-append x.text (joined xs))
 
--- chunks whose tokens are of two parts are
+-- chunks whose tokens are two lists are two lists of chunks
 pub split : (chunks : List Chunk) (before rest : List Token) → tokens_of chunks ≡ before ++ rest → (front : List Chunk) × (back : List Chunk) × (chunks ≡ front ++ back) × (tokens_of front ≡ before) × (tokens_of back ≡ rest)
 split chunks [] rest e = ([], chunks, refl, refl, e)
 split [] (token ∷ before) rest e = absurd (omega (arith, ap length e))
@@ -65,7 +65,7 @@ name_apart kind = name_cases (λ k. spacing_before (Some k) ≡ Alone) kind refl
 name_white : (kind : TokenKind) → is_name kind ≡ true → kind ≡ kinds.Whitespace → ⊥
 name_white kind named is = false≢true (ap is_name (sym is) ∙ named)
 
--- no comment to the end of the line stands right before a name
+-- no comment to the end of the line comes right before a name
 no_line : (x : Chunk) (back : List Chunk) → AreChunks (x ∷ back) → begins_with_name (tokens_of back) ≡ true → is_line x.kind ≡ false
 no_line x [] are named = absurd (false≢true named)
 no_line x (n ∷ ns) are named = go (is_line x.kind) refl
@@ -92,7 +92,7 @@ point_kind : (y : Chunk) (back : List Chunk) → IsChunk y back → chars y.text
 unfolding symbol
 point_kind y back it letters = ap (λ p. is_dot p.0) (sym (ap (λ t. reading (t ++ text back)) (sym letters) ∙ it.reads) ∙ sign_read 46 (text back) refl refl)
 
--- what is kept behind a number is no point alone
+-- if the kept part follows a number, it is not only a point
 no_point : (x y : Chunk) (front back : List Chunk) → AreChunks (x ∷ y ∷ (front ++ back)) → ends_in_point (tokens_of (x ∷ y ∷ front)) ≡ false → is_number x.kind ≡ true → text (y ∷ front) ≢ 46 ∷ []
 no_point x y [] back are apart number e =
     let letters : chars y.text ≡ 46 ∷ [] = sym (append-nil (chars y.text)) ∙ ap (λ t. chars y.text ++ t) (sym chars-nil) ∙ sym (chars-append y.text [] are.1.0.utf8) ∙ e in
@@ -160,7 +160,7 @@ neutral_step (last ∷ opened) before (Closes pair) held all rest tell h = paire
     paired true k = tell opened k
     paired false k = absurd (false≢true k)
 
--- chunks whose brackets match change none that are open
+-- chunks whose brackets match do not change the open brackets
 pub neutral : (opened before : List Bracket) (xs ys : List Chunk) → match opened xs ≡ true → match (opened ++ before) (xs ++ ys) ≡ match before ys
 neutral [] before [] ys h = refl
 neutral (o ∷ opened) before [] ys h = absurd (false≢true h)

@@ -1,4 +1,4 @@
--- What the pieces of a token are like: where a call may begin among them, and where it may end.
+-- The shape of a token's pieces: where a call may begin among them, and where it may end.
 use Rattle.std.proofs.Common.{◌≡◌, ◌+◌, ℕ, true, false, List, [], ◌∷◌, length, Option, None, Some, refl}
 use Rattle.std.specs.Prelude.{◌&&◌}
 use Rattle.tt_base.specs.declared.span.SpanPart.{SpanPart}
@@ -13,7 +13,7 @@ use Rattle.syntax_parse.specs.declared.role.Role.{Role}
 use Rattle.syntax_parse.specs.declared.role.Role.TheVariants.{Bad, Nothing, Opens, Closes, Leaf}
 use Rattle.syntax_unparse.specs.Writable.{is_name as is_name_kind}
 
--- no call begins among these pieces: none of them is a name before a `!` or a `:`, and the last is no name
+-- no call begins among these pieces: no name comes before a `!` or a `:`, and the last is no name
 abbrev pub NoCall : List Piece → Type 0
 NoCall [] = Unit {0}
 NoCall (piece ∷ []) = is_name piece.sort ≡ false
@@ -31,14 +31,13 @@ LastEnds stop [] = Unit {0}
 LastEnds stop (piece ∷ []) = piece.end ≡ stop
 LastEnds stop (piece ∷ next ∷ pieces) = LastEnds stop (next ∷ pieces)
 
--- where a call may begin among the pieces of a token: a name that is a token of its own is the first of them, and in a lifetime it stands
--- behind a `'`
+-- where a call may begin among the pieces of a token: at a name that is the whole token, or at the name of a lifetime, after its `'`
 pub data Shape (kind : TokenKind) (at : ℕ) : List Piece → Type 0 where
   word : (piece : Piece) → is_name_kind kind ≡ true → piece.start ≡ at → Shape kind at (piece ∷ [])
   life : (quote piece : Piece) → (spacing : _) → quote.sort ≡ sign 39 spacing → Shape kind at (quote ∷ piece ∷ [])
   none : {pieces : List Piece} → NoCall pieces → Shape kind at pieces
 
--- what is known of the pieces of a token
+-- facts about the pieces of a token
 pub record Told (kind : TokenKind) (at : ℕ) (stop : ℕ) (pieces : List Piece) : Type 0 where
   pub shape : Shape kind at pieces
   pub ends : NoEnd pieces

@@ -67,12 +67,12 @@ life_bytes t c (d ∷ ds) utf8 letters is some = go (encodes (d ∷ ds)) whole
     go [] e = absurd (omega (arith, ap length (sym letters ∙ ap chars e ∙ ascii_first 39 [] (omega arith)), ap length chars-nil))
     go (b ∷ bs) e = subst (λ u. 1 < length u) (sym e) (omega arith)
 
--- each piece begins from a byte to before another
+-- each piece begins from a byte on and before another
 abbrev pub Within : (from to : ℕ) → List Piece → Type 0
 Within from to [] = Unit {0}
 Within from to (p ∷ ps) = (from ≤ p.start) × (p.start < to) × Within from to ps
 
--- each begins there or behind
+-- each piece begins at the byte or after it
 abbrev pub From : (from : ℕ) → List Piece → Type 0
 From from [] = Unit {0}
 From from (p ∷ ps) = (from ≤ p.start) × From from ps
@@ -118,7 +118,7 @@ chunk_within part x xs next at it = within_pieces part x.kind next at x.text (so
         let known = life_two c cs (text xs) x.kind (ap (λ t. reading (t ++ text xs)) (sym e) ∙ it.reads) life in
         life_bytes x.text c cs it.utf8 e known.0 known.1
 
--- the pieces of the front of chunks, and those of the others
+-- the pieces of the first chunks, and those of the others
 pub record Front (part : SpanPart) (at : ℕ) (front back : List Chunk) : Type 0 where
   pub pieces : List Piece
   pub are : pieces_from part at (joined (front ++ back)) (tokens_of (front ++ back)) ≡ pieces ++ pieces_from part (at + length (joined front)) (joined back) (tokens_of back)
@@ -159,7 +159,7 @@ pub from_less : (from less : ℕ) (ps : List Piece) → less ≤ from → From f
 from_less from less [] le h = tt
 from_less from less (p ∷ ps) le h = (omega (arith, le, h.0), from_less from less ps le h.1)
 
--- all pieces of chunks begin where these do, or behind
+-- all pieces of chunks begin where the chunks begin, or after it
 pub all_from : (part : SpanPart) (at : ℕ) (chunks : List Chunk) → AreChunks chunks → From at (pieces_from part at (joined chunks) (tokens_of chunks))
 all_from part at [] are = tt
 all_from part at (x ∷ xs) are =
@@ -175,7 +175,7 @@ before_none : (at : ℕ) (ps : List Piece) → From at ps → before_byte at ps 
 before_none at [] h = refl
 before_none at (p ∷ ps) h = ap (λ b. if b then p ∷ before_byte at ps else before_byte at ps) (le-ltb p.start at h.0) ∙ before_none at ps h.1
 
--- the pieces that begin before a byte are those in front
+-- the pieces that begin before a byte are those at the front
 pub before_front : (from at : ℕ) (ps qs : List Piece) → Within from at ps → From at qs → before_byte at (ps ++ qs) ≡ ps
 before_front from at [] qs h k = before_none at qs k
 before_front from at (p ∷ ps) qs h k =
@@ -185,7 +185,7 @@ from_all : (at : ℕ) (ps : List Piece) → From at ps → from_byte at ps ≡ p
 from_all at [] h = refl
 from_all at (p ∷ ps) h = ap (λ b. if b then from_byte at ps else p ∷ from_byte at ps) (le-ltb p.start at h.0) ∙ ap (λ t. p ∷ t) (from_all at ps h.1)
 
--- and the others begin there or behind
+-- and the others begin there or after it
 pub from_back : (from at : ℕ) (ps qs : List Piece) → Within from at ps → From at qs → from_byte at (ps ++ qs) ≡ qs
 from_back from at [] qs h k = from_all at qs k
 from_back from at (p ∷ ps) qs h k = ap (λ b. if b then from_byte at (ps ++ qs) else p ∷ from_byte at (ps ++ qs)) (lt-ltb p.start at h.1) ∙ from_back from at ps qs h.2 k

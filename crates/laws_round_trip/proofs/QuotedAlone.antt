@@ -1,4 +1,4 @@
--- A literal in quotes that is read of a text reads alone, also where a suffix is dropped that does not count.
+-- A literal in quotes that is read from a text reads alone, also if a suffix that does not count is dropped.
 use Rattle.std.proofs.Common.{◌≡◌, ℕ, zero, suc, ◌+◌, ◌-◌, ◌<◌, Bool, true, false, ◌||◌, inr, List, [], ◌∷◌, ◌++◌, length, take, drop, replicate, Some, refl, sym, ap, ap₂, ◌∙◌, subst, arith, append-nil, append_assoc, length-append, if◌then◌else◌}
 use Rattle.std.proofs.Math.Seq.{drop-append_seam, take-append_seam, drop-length, take-length}
 use Rattle.std.proofs.Math.Bool.{or-true}
@@ -69,7 +69,7 @@ raw_opening n = letter 114 _ (omega arith) refl (join (replicate n 35) (34 ∷ [
 raw_closing : (n : ℕ) → IsPlain (34 ∷ replicate n 35)
 raw_closing n = letter 34 _ (omega arith) refl (hashes_plain n)
 
--- what opens a literal is ASCII, and so is what closes it
+-- the characters that open and close a literal are ASCII
 opening_plain : (kind : LitKind) → IsPlain (opening_quote kind)
 opening_plain lit.Byte = letter 98 _ (omega arith) refl apostrophe
 opening_plain lit.Char = apostrophe
@@ -96,7 +96,7 @@ closing_plain lit.CStr = quote
 closing_plain (lit.CStrRaw count) = raw_closing count
 closing_plain (lit.Err unit) = no_text
 
--- how long both are is what a scan tells
+-- the scan gives the lengths of both
 hashes_long : (n : ℕ) → length {A = ℕ} (replicate n 35 ++ 34 ∷ []) ≡ n + 1
 hashes_long n = length-append (replicate n 35) (34 ∷ []) ∙ omega (arith, length-replicate {A = ℕ} n 35)
 
@@ -136,7 +136,7 @@ no_number (literals.RawStr hashes) is = refl
 no_number (literals.RawByteStr hashes) is = refl
 no_number (literals.RawCStr hashes) is = refl
 
--- of what parts a text is made with a value between quotes, and what is left behind
+-- the parts of a text with a value between quotes, and the rest after them
 parts_are : (kind : LiteralKind) (word value rest : List ℕ) (start : ℕ) → is_quoted kind ≡ true → word ≡ opening_quote (lit_of kind) ++ (value ++ (closing_quote (lit_of kind) ++ rest))
     → start ≡ length (opening_quote (lit_of kind) ++ (value ++ closing_quote (lit_of kind)))
     → parts_told word (Some (scan_of kind, start)) ≡ told word (lit_of kind) value (suffix_told rest)
@@ -166,7 +166,7 @@ text_bytes kind body =
     encodes-append (opening_quote (lit_of kind)) (body ++ closing_quote (lit_of kind))
     ∙ ap₂ (λ a b. a ++ b) before.bytes (encodes-append body (closing_quote (lit_of kind)) ∙ ap (λ b. encodes body ++ b) after.bytes)
 
--- what is written of a literal without a suffix
+-- the text of a literal without a suffix
 literal_bytes : (kind : LitKind) (value : List ℕ) (literal : Literal) → symbol_of literal ≡ value → kind_of literal ≡ kind → suffix_len_of literal ≡ 0
     → literal_text literal ≡ opening_quote kind ++ (value ++ closing_quote kind)
 literal_bytes kind value literal symbol sort len =
@@ -210,7 +210,7 @@ written_alone kind body start is fine read place role literal symbol sort len =
     means : HasParts literal (parts_told word (Some (scan_of kind, start)))
     means = subst (HasParts literal) (sym parts) (record { symbol = symbol ∙ sym (append-nil (encodes body)); span = refl; kind = sort; suffix_len = len })
 
--- a literal in quotes that is read of a text reads alone
+-- a literal in quotes that is read from a text reads alone
 pub quoted_alone : (kind : LiteralKind) (word front : List ℕ) (start : ℕ) → Quoted kind front start → is_quoted kind ≡ true → word ≡ encodes front → scalars front ≡ true
     → role_in (kinds.Literal kind start) word ≡ Leaf → has_quotes (parts_told word (Some (scan_of kind, start))).kind ≡ true
     → (literal : Literal) → symbol_of literal ≡ (parts_told word (Some (scan_of kind, start))).value ++ (parts_told word (Some (scan_of kind, start))).suffix

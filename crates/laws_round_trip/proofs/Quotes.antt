@@ -1,4 +1,4 @@
--- A literal in quotes that is read of a text: its quotes, what stands between them, and what is left behind; without that it is the same.
+-- A literal in quotes that is read from a text: its quotes, the text between them, and the suffix. Without that suffix it is the same.
 use Rattle.std.proofs.Common.{◌≡◌, ℕ, ◌-◌, ◌<◌, Bool, true, false, List, [], ◌∷◌, ◌++◌, length, replicate, Option, Some, is_some, refl, sym, ap, ap₂, ◌∙◌, subst, arith, append-nil, append_assoc, if◌then◌else◌}
 use Rattle.std.proofs.lemmas.Bool.{false≢true}
 use Rattle.tt_base.specs.LeafText.{closing_quote, opening_quote}
@@ -27,7 +27,7 @@ use Rattle.laws_tokens.proofs.Twins.{ended, plain, twin_is, twins_of}
 use Rattle.syntax_parse.proofs.ShapeParts.{char_closed}
 use Rattle.syntax_parse.specs.Pieces.{scan_of}
 
--- whether a literal of a kind has quotes: all but numbers, and literals with a suffix that they may not have
+-- whether a literal of a kind has quotes: all except numbers, and literals with a suffix that they may not have
 abbrev pub has_quotes : LitKind → Bool
 has_quotes lit.Integer = false
 has_quotes lit.Float = false
@@ -47,7 +47,7 @@ is_quoted (literals.RawStr hashes) = is_some hashes
 is_quoted (literals.RawByteStr hashes) = is_some hashes
 is_quoted (literals.RawCStr hashes) = is_some hashes
 
--- whether a token is one
+-- whether a token is such a literal
 abbrev pub is_quoted_token : TokenKind → Bool
 is_quoted_token (kinds.Literal kind start) = is_quoted kind
 is_quoted_token _ = false
@@ -56,11 +56,11 @@ pub no_quoted : (kind : TokenKind) → is_literal_token kind ≡ false → is_qu
 no_quoted (kinds.Literal kind start) h = absurd (false≢true (sym h))
 no_quoted kind h = refl
 
--- the literal that a lexer's kind tells
+-- the literal for a lexer's kind
 abbrev pub lit_of : LiteralKind → LitKind
 lit_of kind = kind_told (scan_of kind)
 
--- a literal in quotes with what is left behind it: without that it is one token of the same kind
+-- a literal in quotes with a suffix: without it the text is one token of the same kind
 pub record Quoted (kind : LiteralKind) (front : List ℕ) (start : ℕ) : Type 0 where
   pub before : List ℕ
   pub body : List ℕ
@@ -99,11 +99,11 @@ quoted_as kind front before body after rest opens closes are read =
       alone = read ∙ ap (λ n. (kinds.Literal kind n, [])) all;
     }
 
--- no name is left of nothing
+-- an empty text has no name
 name_nil : behind_name [] ≡ []
 name_nil = ap (λ b. if b then behind is_id_continue [] else []) plain_null.no_start
 
--- what is closed by a quote is closed where nothing stands behind it
+-- a text that a quote closes is also closed if nothing follows it
 abbrev pub Closes : (List ℕ → Bool × List ℕ) → (quote : ℕ) → Type 0
 Closes find quote = (cs rest : List ℕ) → find cs ≡ (true, rest) → (body : List ℕ) × (cs ≡ body ++ quote ∷ rest) × (find (body ++ quote ∷ []) ≡ (true, []))
 
@@ -120,7 +120,7 @@ char_closes cs rest h =
     let both : quoted_char (text ++ []) ≡ (true, []) = ap₂ (λ a b. (a, b)) (sym same.kind ∙ ap (λ p. p.0) found) (twin_is rest [] [] same.left (ap (λ p. p.1) found)) in
     (it.0, it.1, ap quoted_char (sym (append-nil text)) ∙ both)
 
--- a literal that is closed by a quote, behind what opens it
+-- a literal that a quote closes, after the characters that open it
 pub quoted_back : (text before cs : List ℕ) (quote : ℕ) (kind : Bool → LiteralKind) (find : List ℕ → Bool × List ℕ) (token : TokenKind)
     → before ≡ opening_quote (lit_of (kind true)) → quote ∷ [] ≡ closing_quote (lit_of (kind true)) → text ≡ before ++ cs → Closes find quote
     → ((body rest : List ℕ) → cs ≡ body ++ quote ∷ rest → reading (before ++ (body ++ quote ∷ [])) ≡ quoted (before ++ (body ++ quote ∷ [])) kind (find (body ++ quote ∷ [])))
@@ -136,7 +136,7 @@ quoted_back text before cs quote kind find token opens closes are shut reads clo
     subst (λ t. QuotedAs t text) told
     (quoted_as (kind true) text before it.0 (quote ∷ []) rest opens closes (are ∙ ap (λ t. before ++ t) it.1) read)
 
--- a raw literal of letters, hashes and a text that they keep, alone
+-- a raw literal alone: its letters, hashes and a text that these keep
 pub raw_alone : (letters body : List ℕ) (n : ℕ) (kind : Option ℕ → LiteralKind) → n < 256 → IsRawText n body
     → ((t : List ℕ) → reading (letters ++ (replicate n 35 ++ 34 ∷ t)) ≡ raw (letters ++ (replicate n 35 ++ 34 ∷ t)) kind (raw_text (replicate n 35 ++ 34 ∷ t)))
     → IsAll (kind (Some n)) ((letters ++ (replicate n 35 ++ 34 ∷ [])) ++ (body ++ 34 ∷ replicate n 35))
@@ -149,7 +149,7 @@ raw_alone letters body n kind few kept reads =
     reads tail ∙ ap (raw text kind) (raw_text_whole n body few kept) ∙ ap (λ t. (kinds.Literal (kind (Some n)) (byte_length text - byte_length []), t)) name_nil in
     subst (IsAll (kind (Some n))) (sym grouped) read
 
--- a raw literal that is closed, behind its letters
+-- a closed raw literal, after its letters
 pub raw_back : (text letters cs : List ℕ) (kind : Option ℕ → LiteralKind) (token : TokenKind)
     → ((n : ℕ) → letters ++ (replicate n 35 ++ 34 ∷ []) ≡ opening_quote (lit_of (kind (Some n)))) → ((n : ℕ) → 34 ∷ replicate n 35 ≡ closing_quote (lit_of (kind (Some n)))) → text ≡ letters ++ cs
     → ((n : ℕ) (t : List ℕ) → reading (letters ++ (replicate n 35 ++ 34 ∷ t)) ≡ raw (letters ++ (replicate n 35 ++ 34 ∷ t)) kind (raw_text (replicate n 35 ++ 34 ∷ t)))

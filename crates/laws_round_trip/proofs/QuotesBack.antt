@@ -1,4 +1,4 @@
--- Which token of a text is a literal in quotes, told by the first characters.
+-- Which token of a text is a literal in quotes, by its first characters.
 use Rattle.std.proofs.Common.{◌≡◌, ℕ, suc, ◌-◌, Bool, true, false, ◌==◌, ◌&&◌, not, List, [], ◌∷◌, ◌++◌, replicate, refl, sym, ap, ◌∙◌, subst, arith, if◌then◌else◌}
 use Rattle.std.proofs.lemmas.Bool.{eqb-true, false≢true}
 use Rattle.syntax_lex.proofs.EndFacts.{behind_end, on, skip_end}
@@ -34,13 +34,13 @@ apostrophe_opens : (d e : ℕ) → opening 39 d e ≡ opens.Apostrophe
 unfolding opening
 apostrophe_opens d e = rw (no_start 39 (omega arith) refl refl) refl
 
--- what begins no lifetime before a quote begins none where nothing is behind the quote
+-- a text that begins no lifetime before a quote begins none if nothing follows the quote
 no_lifetime : (cs body rest : List ℕ) → cs ≡ body ++ 39 ∷ rest → begins_lifetime cs ≡ false → begins_lifetime (body ++ 39 ∷ []) ≡ false
 no_lifetime cs [] rest are none = rw (no_start 39 (omega arith) refl refl) refl
 no_lifetime cs (x ∷ []) rest are none = refl
 no_lifetime cs (x ∷ y ∷ ys) rest are none = sym (ap begins_lifetime are) ∙ none
 
--- a character, behind its first quote
+-- a character, after its first quote
 apostrophe_back : (cs : List ℕ) (token : TokenKind) → reading (39 ∷ cs) ≡ (token, []) → apostrophe (39 ∷ cs) cs ≡ (token, []) → is_quoted_token token ≡ true → QuotedAs token (39 ∷ cs)
 unfolding reading reading_of apostrophe literal
 apostrophe_back cs token read h is = go (begins_lifetime cs) refl (begins_raw_lifetime cs) h
@@ -102,7 +102,7 @@ number_plain c cs =
 second_is : (c d n : ℕ) (cs : List ℕ) → c ≡ n → first cs ≡ suc d → c ∷ cs ≡ n ∷ suc d ∷ skip cs
 second_is c d n cs e k = ap (λ x. x ∷ cs) e ∙ ap (λ t. n ∷ t) (first_is cs d k)
 
--- a literal in quotes that is all of a text
+-- a literal in quotes that takes all of a text
 pub quotes_back : (c : ℕ) (cs : List ℕ) (token : TokenKind) → reading (c ∷ cs) ≡ (token, []) → is_quoted_token token ≡ true → QuotedAs token (c ∷ cs)
 unfolding reading reading_of opening literal word
 quotes_back c cs token read is = go (opening c (first cs) (second cs)) (opening_facts c (first cs) (second cs)) read

@@ -1,4 +1,4 @@
--- A raw text that its hashes keep is read as closed, and its letters are told by what stands behind them.
+-- A raw text that its hashes keep is read as closed, and what follows its letters determines them.
 use Rattle.std.proofs.Common.{◌≡◌, ℕ, zero, suc, ◌<◌, ◌≤◌, Bool, true, false, ◌==◌, ◌&&◌, List, [], ◌∷◌, ◌++◌, replicate, drop, Option, None, Some, is_some, refl, sym, ap, ◌∙◌, arith, append-nil, if◌then◌else◌}
 use Rattle.std.proofs.lemmas.Bool.{and_parts, eqb-true, false≢true, le-leb, lt-leb, lt-ltb, ltb-true}
 use Rattle.std.specs.Prelude.{nat_lt}
@@ -10,17 +10,17 @@ use Rattle.syntax_lex.specs.Opening.{opening}
 use Rattle.syntax_lex.specs.declared.opening.Family.TheVariants as opens
 use Rattle.laws_tokens.proofs.KeepFacts.{no_start}
 
--- how many hashes stand in front of what is none
+-- the number of hashes at the front, before a character that is none
 hashes_same : (xs : List ℕ) (s : ℕ) (r : List ℕ) → (s == 35) ≡ false → hashes_of (xs ++ s ∷ r) ≡ hashes_of xs
 hashes_same [] s r differs = rw differs refl
 hashes_same (x ∷ xs) s r differs = ap (λ n. if x == 35 then suc n else 0) (hashes_same xs s r differs)
 
--- so many hashes stand in front of a quote
+-- exactly `n` hashes precede a quote
 hashes_counted : (n : ℕ) (t : List ℕ) → hashes_of (replicate n 35 ++ 34 ∷ t) ≡ n
 hashes_counted zero t = refl
 hashes_counted (suc n) t = ap suc (hashes_counted n t)
 
--- and at least so many in front of anything
+-- and at least `n` precede anything
 hashes_many : (n : ℕ) (t : List ℕ) → n ≤ hashes_of (replicate n 35 ++ t)
 hashes_many zero t = omega arith
 hashes_many (suc n) t = omega (arith, hashes_many n t)
@@ -29,7 +29,7 @@ drop_counted : (n : ℕ) (t : List ℕ) → drop n (replicate n 35 ++ t) ≡ t
 drop_counted zero t = refl
 drop_counted (suc n) t = drop_counted n t
 
--- the inside of a raw text with a quote and its hashes behind it is read as closed, whatever follows
+-- the inside of a raw text with a quote and its hashes after it is read as closed, whatever follows
 pub raw_read : (n : ℕ) (body rest : List ℕ) → IsRawText n body → behind_raw n (body ++ 34 ∷ (replicate n 35 ++ rest)) ≡ (true, rest)
 raw_read n [] rest is = rw (le-leb n (hashes_of (replicate n 35 ++ rest)) (hashes_many n rest)) (ap (λ t. (true, t)) (drop_counted n rest))
 raw_read n (x ∷ xs) rest is = go (x == 34) refl (raw_read n xs rest (λ front behind e. is (x ∷ front) behind (ap (λ t. x ∷ t) e)))
@@ -54,14 +54,14 @@ raw_text_read n body rest few is =
     ∙ ap (λ found. (counted found.0 n, found.1)) (raw_read n body rest is)
     ∙ ap (λ c. (c, rest)) told
 
--- what an `r` before hashes and a quote begins
+-- an `r` before hashes and a quote begins a raw string
 pub raw_opens : (n : ℕ) (t : List ℕ) → opening 114 (first (replicate n 35 ++ 34 ∷ t)) (second (replicate n 35 ++ 34 ∷ t)) ≡ opens.RawStr
 unfolding opening
 raw_opens zero t = refl
 raw_opens (suc zero) t = rw (no_start 34 (omega arith) refl refl) refl
 raw_opens (suc (suc n)) t = rw (no_start 35 (omega arith) refl refl) refl
 
--- and a `b` or a `c` before that
+-- so do a `b` or a `c` before that
 pub raw_byte_opens : (n : ℕ) (t : List ℕ) → opening 98 114 (first (replicate n 35 ++ 34 ∷ t)) ≡ opens.RawByteStr
 unfolding opening
 raw_byte_opens zero t = refl
@@ -72,12 +72,12 @@ unfolding opening
 raw_c_opens zero t = refl
 raw_c_opens (suc n) t = refl
 
--- with nothing behind it
+-- with nothing after it
 pub raw_text_whole : (n : ℕ) (body : List ℕ) → n < 256 → IsRawText n body → raw_text (replicate n 35 ++ 34 ∷ (body ++ 34 ∷ replicate n 35)) ≡ (Some n, [])
 raw_text_whole n body few is =
     ap (λ t. raw_text (replicate n 35 ++ 34 ∷ (body ++ 34 ∷ t))) (sym (append-nil (replicate n 35))) ∙ raw_text_read n body [] few is
 
--- a raw text that is closed, behind its hashes
+-- a closed raw text, after its hashes
 record RawBody (n : ℕ) (cs : List ℕ) (found : Option ℕ × List ℕ) : Type 0 where
   body : List ℕ
   few : n < 256
@@ -89,7 +89,7 @@ record RawBody (n : ℕ) (cs : List ℕ) (found : Option ℕ × List ℕ) : Type
 abbrev body_as : (n : ℕ) → (quote : Bool) → List ℕ → Option ℕ × List ℕ
 body_as n quote cs = if quote then (counted (behind_raw n (skip cs)).0 n, (behind_raw n (skip cs)).1) else (None, skip cs)
 
--- what is counted is there
+-- a number that is counted is there
 some_told : (b : Bool) (n : ℕ) → is_some (if b then Some n else None) ≡ true → b ≡ true
 some_told true n some = refl
 some_told false n some = absurd (false≢true some)
@@ -115,7 +115,7 @@ raw_body_back n cs = go (first cs == 34) refl
           are = first_is cs 33 (eqb-true (first cs) 34 e) ∙ ap (λ t. 34 ∷ t) it.2;
         }
 
--- a raw text that is closed: its hashes, a quote, its inside, a quote and as many hashes, and what is left
+-- a closed raw text: its hashes, a quote, its inside, a quote and as many hashes, and the rest
 pub record RawText (cs : List ℕ) (found : Option ℕ × List ℕ) : Type 0 where
   pub count : ℕ
   pub body : List ℕ

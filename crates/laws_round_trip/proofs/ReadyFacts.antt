@@ -1,4 +1,4 @@
--- What may stand behind what was written last, and a token of a text.
+-- What may follow what was written last, and a token of a text.
 use Rattle.std.proofs.Common.{◌≡◌, ◌≢◌, ◌⊎◌, ℕ, Bool, true, false, ◌==◌, ◌||◌, IsTrue, inl, inr, List, [], ◌∷◌, ◌++◌, Option, None, Some, refl, sym, ap, ap₂, ◌∙◌, subst, arith, if◌then◌else◌}
 use Rattle.std.proofs.Math.Utf8.{encodes, scalars}
 use Rattle.std.specs.Str.{chars, IsUtf8}
@@ -29,14 +29,14 @@ use Rattle.syntax_unparse.specs.Writable.{IsOneToken, first_kind, is_name}
 use Rattle.syntax_unparse.specs.declared.behind.Behind.{Behind}
 use Rattle.syntax_unparse.specs.declared.behind.Behind.TheVariants.{Opening, Apart, Joint, Slash, Pound, Quote}
 
--- what a text goes on with may stand behind what was written last
+-- the rest of a text may follow what was written last
 abbrev pub Ready : Behind → (letters : List ℕ) → (next : Option TokenKind) → Type 0
 Ready Quote cs next = ⊥
 Ready Slash cs next = (((first cs == 47) || (first cs == 42)) ≡ false) × (spacing_before next ≡ JointSpacing)
 Ready Pound cs next = ((first cs == 35) ≡ false) × (spacing_before next ≡ JointSpacing)
 Ready _ cs next = Unit {0}
 
--- sorts can be written behind it, and begin with a punct where one before them is joint
+-- sorts can be written after it, and begin with a punct if one before them is joint
 abbrev pub Fit : Behind → Option TokenKind → List Sort → Type 0
 Fit behind next ss = SortFits behind ss × (spacing_before next ≡ JointSpacing → begins_sign ss ≡ true)
 
@@ -51,7 +51,7 @@ ready_no_quote Slash cs next ready = tt
 ready_no_quote Pound cs next ready = tt
 ready_no_quote Quote cs next ready = absurd ready
 
--- behind a punct that is joint stands no token that makes it alone
+-- no token that makes a punct alone follows a joint one
 pub ready_blank : (behind : Behind) (cs left : List ℕ) (kind : TokenKind) (next : Option TokenKind) → spacing_before (Some kind) ≡ Alone → Ready behind cs (Some kind) → Ready behind left next
 ready_blank Opening cs left kind next alone ready = tt
 ready_blank Apart cs left kind next alone ready = tt
@@ -125,7 +125,7 @@ pub record Read (word letters left : List ℕ) (kind : TokenKind) : Type 0 where
   pub utf8 : IsUtf8 word
   pub chars_are : chars word ≡ front
 
--- it is one token alone
+-- a token alone is one token
 pub one : (word letters left : List ℕ) (kind : TokenKind) → Read word letters left kind → is_whole kind ≡ true → role_in kind word ≡ Leaf → IsOneToken word × (first_kind word ≡ kind)
 one word letters left kind it is fine = whole_token word it.front kind it.utf8 it.chars_are (token_alone it.front left kind it.some it.read is) fine
 
@@ -171,7 +171,7 @@ pound_apart left c is = go (first left == 35) refl
         let none : punct_char (reading (35 ∷ left)).0 ≡ None = rw (no_start 35 (omega arith) refl refl, glued) refl in
         absurd (no_punct c (sym none ∙ is))
 
--- what stands behind a punct may
+-- what follows a punct may follow it
 pub ready_behind : (c : ℕ) (left : List ℕ) (next : Option TokenKind) → (c == 39) ≡ false → ((c == 47) ≡ true → ((first left == 47) || (first left == 42)) ≡ false) → ((c == 35) ≡ true → (first left == 35) ≡ false)
     → Ready (behind_punct c (spacing_before next)) left next
 ready_behind c left next other slash pound = go (spacing_two next) (c == 47) refl (c == 35) refl
@@ -191,7 +191,7 @@ ready_behind c left next other slash pound = go (spacing_two next) (c == 47) ref
     go (inr joint) false es false ep =
         of Joint (ap (behind_punct c) joint ∙ shape JointSpacing ∙ ap₂ (λ a b. if a then Slash else (if b then Pound else Joint)) es ep) tt
 
--- its spacing is settled
+-- the spacing of a punct is settled
 pub settled_is : (c : ℕ) (next : Option TokenKind) (rest : List Sort) → (c == 39) ≡ false → (spacing_before next ≡ JointSpacing → begins_sign rest ≡ true) → settled_before c (spacing_before next) rest ≡ spacing_before next
 settled_is c next rest other joins =
     ap (λ b. if b then JointSpacing else (if is_alone (spacing_before next) then Alone else (if begins_sign rest then JointSpacing else Alone))) other

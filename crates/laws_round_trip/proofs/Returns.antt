@@ -3,7 +3,7 @@ use Rattle.std.proofs.Common.{◌≡◌, ℕ, Bool, true, false, ◌==◌, ◌||
 use Rattle.std.proofs.lemmas.Bool.{eqb-true, false≢true, not-false, or_from, or_parts}
 use Rattle.syntax_parse.specs.Inside.{bare_return, begins_with_feed, inner_return}
 
--- behind a part that holds none that is bare
+-- after a part that has no bare one
 pub bare_behind : (xs ys : List ℕ) → bare_return (xs ++ ys) ≡ false → bare_return ys ≡ false
 bare_behind [] ys none = none
 bare_behind (x ∷ xs) ys none = bare_behind xs ys (or_parts _ (bare_return (xs ++ ys)) none).1
@@ -16,7 +16,7 @@ inner_behind (x ∷ xs) ys none = inner_behind xs ys (tail (xs ++ ys) none)
     tail [] h = refl
     tail (y ∷ t) h = (or_parts ((x == 13) && not (y == 10)) (inner_return (y ∷ t)) h).1
 
--- in front of what is no line feed
+-- before a character that is no line feed
 pub bare_before : (xs : List ℕ) (c : ℕ) (ys : List ℕ) → (c == 10) ≡ false → bare_return (xs ++ c ∷ ys) ≡ false → bare_return xs ≡ false
 bare_before [] c ys feed none = refl
 bare_before (x ∷ []) c ys feed none =
@@ -47,12 +47,12 @@ no_last (x ∷ y ∷ xs) last none =
     let both = or_parts ((x == 13) && not (y == 10)) (inner_return (y ∷ xs)) none in
     or_from _ (bare_return (y ∷ xs)) both.0 (no_last (y ∷ xs) (λ front e. last (x ∷ front) (ap (λ t. x ∷ t) e)) both.1)
 
--- a line feed in front stays there
+-- a line feed at the front stays there
 feed_stays : (xs ys : List ℕ) → begins_with_feed xs ≡ true → begins_with_feed (xs ++ ys) ≡ true
 feed_stays [] ys is = absurd (false≢true is)
 feed_stays (x ∷ xs) ys is = is
 
--- a text that holds none that is bare adds none
+-- a text with no bare carriage return adds none
 pub bare_joined : (xs ys : List ℕ) → bare_return xs ≡ false → bare_return (xs ++ ys) ≡ bare_return ys
 bare_joined [] ys none = refl
 bare_joined (x ∷ xs) ys none =

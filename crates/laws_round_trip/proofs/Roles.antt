@@ -1,4 +1,4 @@
--- What the roles of tokens say of their texts: all that is used of their shape.
+-- What the roles of tokens say about their texts: all facts about their shape that are used.
 use Rattle.std.proofs.Common.{◌≡◌, ◌⊎◌, ℕ, ◌<◌, Bool, true, false, IsTrue, inl, inr, List, ◌∷◌, ◌++◌, ◌&&◌, length, not, take, drop, is_none, Option, None, Some, refl, sym, ap, ap₂, ◌∙◌, arith, length-append, if◌then◌else◌}
 use Rattle.std.proofs.Math.Seq.{drop-length, take-append_seam, take-length}
 use Rattle.std.specs.Prelude.{nat_lt}
@@ -26,7 +26,7 @@ use Rattle.syntax_unparse.specs.Writable.{is_lifetime, is_name}
 abbrev pub IsEither : Role → Type 0
 IsEither role = (role ≡ Leaf) ⊎ ((why : BadToken) × (role ≡ Bad why))
 
--- what is not bad is a leaf
+-- a role that is not bad is a leaf
 pub leaf_valid : (role : Role) → IsEither role → ((why : BadToken) → role ≡ Bad why → ⊥) → role ≡ Leaf
 leaf_valid role (inl e) fine = e
 leaf_valid role (inr (why, e)) fine = absurd (fine why e)
@@ -61,7 +61,7 @@ literal_either (literals.RawStr hashes) text inside = leaf_or_bad (is_none hashe
 literal_either (literals.RawByteStr hashes) text inside = leaf_or_bad (is_none hashes) (raw_fault (drop 2 text)) inside
 literal_either (literals.RawCStr hashes) text inside = leaf_or_bad (is_none hashes) (raw_fault (drop 2 text)) inside
 
--- a leaf is one whatever its text is
+-- a token that is a leaf is one whatever its text is
 role_leaf : (role : Role) (inside : Option BadToken) → with_inside role inside ≡ Leaf → role ≡ Leaf
 role_leaf Leaf inside h = refl
 role_leaf (Bad why) None h = h
@@ -105,11 +105,11 @@ no_suffix kind start word place = ap (λ t. fault_if (takes_suffix kind && nat_l
 pub literal_two : (kind : LiteralKind) (start : ℕ) (word : List ℕ) → IsEither (role_in (kinds.Literal kind start) word)
 literal_two kind start word = literal_either kind word (literal_fault kind start word)
 
--- one that is a leaf is closed
+-- a literal that is a leaf is closed
 pub literal_closed : (kind : LiteralKind) (start : ℕ) (word : List ℕ) → role_in (kinds.Literal kind start) word ≡ Leaf → is_closed kind ≡ true
 literal_closed kind start word fine = closed_leaf kind word (literal_fault kind start word) fine
 
--- and is one without its suffix
+-- and is a leaf without its suffix
 pub literal_kept : (kind : LiteralKind) (start : ℕ) (word suffix : List ℕ) → start ≡ length word → role_in (kinds.Literal kind start) (word ++ suffix) ≡ Leaf → role_in (kinds.Literal kind start) word ≡ Leaf
 literal_kept kind start word suffix place fine =
     let longs = length-append word suffix in
@@ -134,18 +134,18 @@ none_if true h = absurd (some_none bad.BareReturn h)
     some_none : (why : BadToken) → Some why ≡ None → ⊥
     some_none why e = cc
 
--- a comment of one line that documents something, and holds no carriage return but before an end of a line where it is a leaf
+-- a documenting comment of one line; if it is a leaf, it has no carriage return except before an end of a line
 pub line_two : (style : DocStyle) (word : List ℕ) → IsEither (role_in (kinds.LineComment (Some style)) word)
 line_two style word = leaf_or_bad false bad.BareReturn (line_fault style word)
 
 pub line_role : (style : DocStyle) (word : List ℕ) → role_in (kinds.LineComment (Some style)) word ≡ Leaf → inner_return word ≡ false
 line_role style word fine = none_if (inner_return word) (first_none (fault_if (inner_return word) bad.BareReturn) (hashes_fault (line_text style word)) (none_wrong Leaf (line_fault style word) fine))
 
--- and a byte counts the hashes that its text wants
+-- and the hashes that its text needs fit into a byte
 pub line_few : (style : DocStyle) (word : List ℕ) → role_in (kinds.LineComment (Some style)) word ≡ Leaf → hashes_wanted (line_text style word) < 256
 line_few style word fine = line_wants style word fine
 
--- one between signs, which is closed and holds none that is bare where it is a leaf
+-- a documenting block comment; if it is a leaf, it is closed and has no bare carriage return
 pub block_two : (style : DocStyle) (terminated : Bool) (word : List ℕ) → IsEither (role_in (kinds.BlockComment (Some style) terminated) word)
 block_two style true word = leaf_or_bad false bad.BareReturn (block_fault style word)
 block_two style false word = leaf_or_bad true bad.UnterminatedComment (block_fault style word)
@@ -167,7 +167,7 @@ block_open style word fine = go (block_fault style word) fine
 pub name_two : (kind : TokenKind) (word : List ℕ) → IsTrue (is_name kind) → IsEither (role_in kind word)
 name_two kind word named = name_cases (λ k. IsEither (role_in k word)) kind (inl refl) (leaf_or_bad false bad.NeverRaw (raw_name_fault word)) named
 
--- a lifetime, which begins with no digit where it is a leaf
+-- a lifetime; if it is a leaf, it begins with no digit
 pub life_two : (kind : TokenKind) (word : List ℕ) → IsTrue (is_lifetime kind) → IsEither (role_in kind word)
 life_two kind word lasts = lifetime_cases (λ k. IsEither (role_in k word)) kind (λ digit. by digit) (leaf_or_bad false bad.NeverRaw (raw_name_fault (behind_apostrophe word))) lasts
   where
@@ -178,7 +178,7 @@ life_two kind word lasts = lifetime_cases (λ k. IsEither (role_in k word)) kind
 pub no_digit : (word : List ℕ) → role_in (kinds.Lifetime true) word ≡ Leaf → ⊥
 no_digit word fine = bad_leaf bad.LifetimeBeginsWithDigit fine
 
--- what the name of a lifetime is
+-- the kind of the name of a lifetime
 abbrev pub name_kind : TokenKind → TokenKind
 name_kind kinds.RawLifetime = kinds.RawIdent
 name_kind _ = kinds.Ident

@@ -1,4 +1,4 @@
--- Chunks behind chunks, where their texts are joined.
+-- Chunks after chunks, if their texts are joined.
 use Rattle.std.proofs.Common.{◌≡◌, ◌≢◌, ◌⊎◌, inl, inr, ℕ, Bool, true, false, ◌==◌, ◌||◌, ◌&&◌, not, List, [], ◌∷◌, ◌++◌, None, Some, refl, sym, ap, ap₂, ◌∙◌, ⊎_elim, subst, arith, append_assoc, append-nil, if◌then◌else◌}
 use Rattle.std.proofs.lemmas.Bool.{false≢true, and_parts, eqb-true}
 use Rattle.std.proofs.lemmas.Str.{IsUtf8-append, IsUtf8-nil, chars-append, chars-nil}
@@ -33,7 +33,7 @@ abbrev pub AreSound : List Chunk → Type 0
 AreSound [] = Unit {0}
 AreSound (x ∷ xs) = (is_sound x.kind ≡ true) × AreSound xs
 
--- these begin with a token of the kind that those begin with
+-- these begin with a token of the same kind as those
 abbrev pub BeginsAs : (old new : List Chunk) → Type 0
 BeginsAs [] new = Unit {0}
 BeginsAs (x ∷ xs) new = next_kind (tokens_of new) ≡ Some x.kind
@@ -47,7 +47,7 @@ pub record Seam (front back : List Chunk) : Type 0 where
   pub matches : (before : List Bracket) → match before new ≡ match before (front ++ back)
   pub begins : BeginsAs front new
 
--- a comment that is closed is the same whatever stands behind it
+-- a comment that is closed is the same whatever follows it
 comment_fixed : (c : ℕ) (cs : List ℕ) (kind : TokenKind) → opens_comment c (first cs) ≡ true → reading (c ∷ cs) ≡ (kind, []) → is_sound kind ≡ true → is_line kind ≡ false
     → ((r : List ℕ) → reading (c ∷ (cs ++ r)) ≡ (kind, r)) × (punct_char kind ≡ None)
 unfolding reading reading_of opening
@@ -76,7 +76,7 @@ comment_fixed c (d ∷ ds) kind opens read sound line = by (d == 47) refl (d == 
         )
     by false k false j = absurd (false≢true (sym (ap₂ (λ x y. x || y) k j) ∙ both.1))
 
--- a token is the same whatever stands behind it, or it is ended
+-- a token is the same whatever follows it, or it is ended
 abbrev Last : (c : ℕ) → (cs : List ℕ) → TokenKind → Type 0
 Last c cs kind = (((r : List ℕ) → reading (c ∷ (cs ++ r)) ≡ (kind, r)) × (punct_char kind ≡ None)) ⊎ (is_ended kind ≡ true)
 
@@ -87,7 +87,7 @@ last_is c cs kind space read sound line = go (opens_comment c (first cs)) refl
     go true e = inl (comment_fixed c cs kind e read sound line)
     go false e = inr (sym (ap (λ p. is_ended p.0) read) ∙ proper_ended c cs space e (ap (λ p. is_sound p.0) read ∙ sound))
 
--- brackets match behind a chunk as they do behind it
+-- brackets match after a chunk exactly if the same holds for others
 pub match_behind : (x : Chunk) (xs ys : List Chunk) → ((before : List Bracket) → match before xs ≡ match before ys) → (before : List Bracket) → match before (x ∷ xs) ≡ match before (x ∷ ys)
 match_behind x xs ys same [] = by_role [] x.role
   where
@@ -137,7 +137,7 @@ some_joined x xs are e = some_text x xs are (ap chars e ∙ chars-nil)
 kind_first : (x : Chunk) (xs : List Chunk) (f : ℕ) (fs : List ℕ) → AreChunks (x ∷ xs) → text (x ∷ xs) ≡ f ∷ fs → (reading (f ∷ fs)).0 ≡ x.kind
 kind_first x xs f fs are e = ap (λ t. (reading t).0) (sym e ∙ chars-append x.text (joined xs) are.0.utf8) ∙ ap (λ p. p.0) are.0.reads
 
--- a text with something in it has a last byte, and a first
+-- a text that is not empty has a last byte and a first
 last_there : (t : List ℕ) → t ≢ [] → (l : ℕ) × (last_of t ≡ Some l)
 last_there t some = let (front, l, e) = snoc t some in (l, ap last_of e ∙ last_snoc front l)
 
@@ -153,7 +153,7 @@ not_false : (b : Bool) → not b ≡ false → b ≡ true
 not_false true h = refl
 not_false false h = sym h
 
--- a token alone that touches chunks which it may touch
+-- a single token that touches chunks which may touch it
 touching : (x : Chunk) (n : Chunk) (ns : List Chunk) (c : ℕ) (cs : List ℕ) → IsChunk x [] → AreChunks (n ∷ ns) → chars x.text ≡ c ∷ cs → reading (c ∷ cs) ≡ (x.kind, []) → is_sound x.kind ≡ true → is_line x.kind ≡ false
     → is_whitespace c ≡ false → wants_space (last_of x.text) (slice_get (joined (n ∷ ns)) 0) ≡ false → IsChunk x (n ∷ ns)
 touching x n ns c cs it are letters read sound line space wants =
@@ -170,7 +170,7 @@ touching x n ns c cs it are letters read sound line space wants =
         (ap₂ (λ t u. reading (t ++ u)) letters marks ∙ it2.read ∙ ap (λ t. (x.kind, t)) (sym marks))
         (subst (λ k. SameBefore x.kind None (Some k)) (kind_first n ns f fs are marks) it2.same)
 
--- a token alone before white space that begins with a space
+-- a single token before white space that begins with a space
 spacing : (x : Chunk) (chunks : List Chunk) (c : ℕ) (cs : List ℕ) → IsChunk x [] → chars x.text ≡ c ∷ cs → reading (c ∷ cs) ≡ (x.kind, []) → is_sound x.kind ≡ true → is_line x.kind ≡ false
     → is_whitespace c ≡ false → IsChunk x (spaced (32 ∷ []) chunks)
 spacing x chunks c cs it letters read sound line space = chunk_before x more it (ap₂ (λ t u. reading (t ++ u)) letters begins ∙ by (last_is c cs x.kind space read sound line) ∙ ap (λ t. (x.kind, t)) (sym begins)) (inl (ap spacing_before (sym (spaced_next (32 ∷ []) chunks))))
@@ -185,7 +185,7 @@ spacing x chunks c cs it letters read sound line space = chunk_before x more it 
     by (inl fixed) = fixed.0 (32 ∷ text chunks)
     by (inr ended) = token_parted (c ∷ cs) (text chunks) 32 x.kind (not_nil c cs) read sound ended refl
 
--- the last chunk, and others behind it
+-- the last chunk, and others after it
 seam_end : (x : Chunk) (chunks : List Chunk) → IsChunk x [] → is_sound x.kind ≡ true → is_line x.kind ≡ false → AreChunks chunks → Seam (x ∷ []) chunks
 seam_end x chunks it sound line are =
     let (c, cs, letters) = letters_there (chars x.text) it.some in
@@ -246,7 +246,7 @@ last_append s t some =
     let (front, l, e) = snoc t some in
     ap last_of (ap (λ u. s ++ u) e ∙ sym (append_assoc s front (l ∷ []))) ∙ last_snoc (s ++ front) l ∙ sym (ap last_of e ∙ last_snoc front l)
 
--- what stands in front changes no seam
+-- a text before it changes no seam
 seam_front : (s t u : List ℕ) → t ≢ [] → with_seam (s ++ t) u ≡ s ++ with_seam t u
 seam_front s t u some =
     let space = space_if (wants_space (last_of t) (slice_get u 0)) in
@@ -254,7 +254,7 @@ seam_front s t u some =
     ∙ ap (λ w. w ++ u) (append_assoc s t space)
     ∙ append_assoc s (t ++ space) u
 
--- chunks behind chunks, with a space between where one is due
+-- chunks after chunks, with a space between them if one is due
 pub seam : (front back : List Chunk) → AreChunks front → AreSound front → ends_in_line (tokens_of front) ≡ false → AreChunks back → Seam front back
 seam [] back are sound line fine = record { new = back; are = fine; text_is = refl; means = refl; matches = λ before. refl; begins = tt }
 seam (x ∷ []) back are sound line fine = seam_end x back are.0 sound.0 line fine

@@ -1,4 +1,4 @@
--- Sorts of leaves and brackets that can be written one behind another, and trees that are spelled by them.
+-- Sorts of leaves and brackets that can be written one after another, and trees that they spell.
 use Rattle.std.proofs.Common.{◌≡◌, ◌⊎◌, ℕ, ◌+◌, Bool, true, false, ◌==◌, ◌||◌, IsTrue, inl, inr, List, [], ◌∷◌, ◌++◌, None, Some, refl, sym, ap, ap₂, ◌∙◌, subst, append-nil, append_assoc, if◌then◌else◌}
 use Rattle.tt_base.specs.Forest.{Forest, end, leaf, node, size}
 use Rattle.tt_base.specs.LeafText.{ident_text}
@@ -28,7 +28,7 @@ use Rattle.syntax_unparse.specs.Writable.{IsFirstRefused, MakesLifetime, MayEnd,
 use Rattle.syntax_unparse.specs.declared.behind.Behind.{Behind}
 use Rattle.syntax_unparse.specs.declared.behind.Behind.TheVariants.{Opening, Apart, Joint, Slash, Pound, Quote}
 
--- what marks are, as sorts
+-- marks as sorts
 abbrev pub raw : List Mark → List Sort
 raw [] = []
 raw (word at it ∷ rest) = sort_of it ∷ raw rest
@@ -44,7 +44,7 @@ NoQuote _ = Unit {0}
 abbrev pub NameAlone : (text : List ℕ) → IdentIsRaw → Type 0
 NameAlone text is_raw = (ident : Ident) → ident.sym ≡ text → ident.is_raw ≡ is_raw → ReadsAs (ident_text ident) (leaf_of.Ident ident)
 
--- and makes a lifetime with a `'` before it
+-- a name makes a lifetime with a `'` before it
 abbrev pub QuoteFits : Behind → (text : List ℕ) → IdentIsRaw → Type 0
 QuoteFits Quote text is_raw = (ident : Ident) → ident.sym ≡ text → ident.is_raw ≡ is_raw → MakesLifetime (leaf_of.Ident ident)
 QuoteFits _ text is_raw = Unit {0}
@@ -56,16 +56,16 @@ SignFollows Slash c = ((c == 47) || (c == 42)) ≡ false
 SignFollows Pound c = (c == 35) ≡ false
 SignFollows _ c = Unit {0}
 
--- it reads alone
+-- a punct reads alone
 abbrev pub SignAlone : (c : ℕ) → Type 0
 SignAlone c = (IsTrue (c == 39)) ⊎ ((kind : TokenKind) × (punct_char kind ≡ Some c))
 
--- whether a punct stands first
+-- whether the first is a punct
 abbrev pub begins_sign : List Sort → Bool
 begins_sign (sign c spacing ∷ rest) = true
 begins_sign _ = false
 
--- the spacing that a punct is read with before these
+-- the spacing of a punct when it is read before these
 abbrev pub settled_before : (c : ℕ) → Spacing → List Sort → Spacing
 settled_before c spacing rest = if c == 39 then JointSpacing else (if is_alone spacing then Alone else (if begins_sign rest then JointSpacing else Alone))
 
@@ -81,7 +81,7 @@ ValueAlone kind symbol suffix_len =
     (literal : Literal) → symbol_of literal ≡ symbol → literal_kind literal ≡ kind → suffix_len_of literal ≡ suffix_len
     → ReadsAlone (leaf_of.Literal literal)
 
--- these can be written behind what was written last, and are read with the same spacings
+-- these can be written after what was written last, and are read with the same spacings
 abbrev pub SortFits : Behind → List Sort → Type 0
 SortFits behind [] = NoQuote behind
 SortFits behind (name text is_raw ∷ rest) = NameAlone text is_raw × QuoteFits behind text is_raw × SortFits Apart rest
@@ -191,7 +191,7 @@ leaf_paired (leaf_of.Literal literal) rest p = p
 leaf_paired (leaf_of.Punct punct) rest p = p
 leaf_paired (leaf_of.Ident ident) rest p = p
 
--- a subtree in brackets, by what it holds
+-- a subtree in brackets, by its children
 round : (kind : DelimiterKind) (held : ℕ) (inner rest : List Mark) → IsPair kind
     → raw (opens (brackets_of kind held) ++ (inner ++ (closes (brackets_of kind held) ++ rest))) ≡ opening_sort kind ∷ (raw inner ++ closing_sort kind ∷ raw rest)
 round delimits.Parenthesis held inner rest is = ap (λ t. opening_sort delimits.Parenthesis ∷ t) (raw-append inner (closing Parenthesis ∷ rest))
@@ -220,6 +220,6 @@ raw_marks at (node delimiter children rest) more p =
       outer.1,
     )
 
--- the marks of trees that are spelled by such sorts are these
+-- such sorts spell trees whose marks are these
 pub marks_are : (behind : Behind) (trees : Forest) → SortFits behind (sorts (spelled trees)) → raw (marks 0 trees) ≡ sorts (spelled trees)
 marks_are behind trees f = (raw_marks 0 trees [] (subst Paired (sym (append-nil (sorts (spelled trees)))) (paired behind (sorts (spelled trees)) f))).0

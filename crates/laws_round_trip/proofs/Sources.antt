@@ -1,4 +1,4 @@
--- The tokens of a text as chunks, and those of the front of it.
+-- The tokens of a text as chunks, and those of its front.
 use Rattle.std.proofs.Common.{◌≡◌, ◌≢◌, inl, ℕ, zero, suc, ◌+◌, ◌<◌, ◌≤◌, Bool, true, false, List, [], ◌∷◌, ◌++◌, length, take, drop, Option, None, Ok, Err, refl, sym, ap, ap₂, ◌∙◌, subst, arith, if◌then◌else◌}
 use Rattle.std.proofs.lemmas.Bool.{false≢true}
 use Rattle.std.proofs.lemmas.List.{length-take-le}
@@ -77,7 +77,7 @@ source t (token ∷ tokens) utf8 (some, is, are) =
       tokens_are = ap₂ (λ n ts. record { kind = token.kind; len = n } ∷ ts) (length-take-le token.len t fits) rest.tokens_are;
     }
 
--- a token that can stand where it does, and no fault behind it
+-- a token that can be where it is, with no fault after it
 pub step_match : (before : List Open) (at : ℕ) (role : Role) (fault : List Open → Option SyntaxFault) (fits : List Bracket → Bool) → ((next : List Open) → fault next ≡ None → fits (brackets next) ≡ true)
     → or_behind (step_as role before at) fault ≡ None → match_as (brackets before) role fits ≡ true
 step_match before at (Bad why) fault fits tell h = absurd (cc)
@@ -91,7 +91,7 @@ step_match (last ∷ before) at (Closes pair) fault fits tell h = paired (same_b
     paired true k = tell before k
     paired false k = absurd (cc)
 
--- where there is no fault, the brackets of the chunks match
+-- if there is no fault, the brackets of the chunks match
 pub match_source : (before : List Open) (at : ℕ) (t : List ℕ) (tokens : List Token) → fault_from before at t tokens ≡ None → match (brackets before) (source_chunks t tokens) ≡ true
 match_source [] at t [] fine = refl
 match_source (last ∷ before) at t [] fine = absurd (cc)
@@ -102,7 +102,7 @@ match_source (last ∷ before) at t (token ∷ tokens) fine =
     step_match (last ∷ before) at (role_in token.kind (take token.len t)) (λ next. fault_from next (at + token.len) (drop token.len t) tokens) (λ next. match next (source_chunks (drop token.len t) tokens))
     (λ next h. match_source next (at + token.len) (drop token.len t) tokens h) fine
 
--- what can stand where it does is not bad, and what is behind it can
+-- a token that can be where it is is not bad, and the tokens after it can be there too
 sound_step : (before : List Bracket) (role : Role) (fits : List Bracket → Bool) → match_as before role fits ≡ true → ((why : BadToken) → role ≡ Bad why → ⊥) × (next : List Bracket) × (fits next ≡ true)
 sound_step before (Bad why) fits h = absurd (false≢true h)
 sound_step before Nothing fits h = ((λ why e. absurd (cc)), before, h)

@@ -25,7 +25,7 @@ use Rattle.syntax_unparse.specs.Settled.{settled, sorts}
 use Rattle.syntax_unparse.specs.Text.{text_of}
 use Rattle.syntax_unparse.specs.Writable.{IsWritable}
 
--- a text that is joined with nothing is the text
+-- a text that is joined with an empty text is the text
 seam_nil : (a : List ℕ) → with_seam a [] ≡ a
 seam_nil a = by (last_of a)
   where
@@ -49,7 +49,7 @@ abbrev pub spliced : List Splice → (at : ℕ) → List ℕ → List ℕ
 spliced [] at t = t
 spliced (it ∷ others) at t = with_seam (take (it.start - at) t) (with_seam (text_of it.trees) (spliced others it.end (drop (it.end - at) t)))
 
--- it is what is written
+-- the spliced text is what is written
 pub written_all : (splices : List Splice) (so_far rest : List ℕ) (at : ℕ) → with_all (replacements_of splices) (record { so_far = so_far; rest = rest; at = at }) ≡ with_seam so_far (spliced splices at rest)
 written_all [] so_far rest at = refl
 written_all (it ∷ others) so_far rest at =
@@ -59,7 +59,7 @@ written_all (it ∷ others) so_far rest at =
     ∙ seam_assoc (with_seam so_far kept) (text_of it.trees) more
     ∙ seam_assoc so_far kept (with_seam (text_of it.trees) more)
 
--- where tokens of the front of chunks have no fault, the brackets of these match
+-- if the tokens of the first chunks have no fault, the brackets of these match
 match_front : (before : List Open) (at : ℕ) (front back : List Chunk) → AreChunks (front ++ back) → fault_from before at (joined (front ++ back)) (tokens_of front) ≡ None → match (brackets before) front ≡ true
 match_front [] at [] back are fine = refl
 match_front (last ∷ before) at [] back are fine = absurd (cc)
@@ -82,7 +82,7 @@ match_front before at (x ∷ front) back are fine =
     from [] = refl
     from (last ∷ before) = refl
 
--- brackets match behind chunks as they do behind them
+-- brackets match after chunks exactly if the same holds for others
 match_same : (front xs ys : List Chunk) → ((before : List Bracket) → match before xs ≡ match before ys) → (before : List Bracket) → match before (front ++ xs) ≡ match before (front ++ ys)
 match_same [] xs ys same before = same before
 match_same (x ∷ front) xs ys same before = match_behind x (front ++ xs) (front ++ ys) (match_same front xs ys same) before
@@ -109,7 +109,7 @@ module _ (it : Splice) (others : List Splice) (at : ℕ) (kept inside rest : Lis
       (whole ∙ ap (λ t. joined kept ++ t) (joined-append inside rest) ∙ sym (append_assoc (joined kept) (joined inside) (joined rest)))
       ∙ drop-append_seam (joined kept ++ joined inside) (joined rest)
 
-  -- what is woven of three parts
+  -- the result of weaving three parts
   pub woven_parts : (part : SpanPart) → woven (it ∷ others) (pieces_from part at (joined (kept ++ (inside ++ rest))) (tokens_of (kept ++ (inside ++ rest))))
       ≡ means_of kept ++ (settled (marks 0 it.trees) ++ woven others (pieces_from part it.end (joined rest) (tokens_of rest)))
   woven_parts part =
@@ -134,7 +134,7 @@ module _ (it : Splice) (others : List Splice) (at : ℕ) (kept inside rest : Lis
       behind_from : From it.end (pieces_from part it.end (joined rest) (tokens_of rest))
       behind_from = all_from part it.end rest (are_back inside rest (are_back kept (inside ++ rest) are))
 
--- one splice, where the others are done
+-- one splice, if the others are done
 splice_one : (it : Splice) (others : List Splice) (at : ℕ) (kept inside rest : List Chunk) → AreChunks (kept ++ (inside ++ rest)) → AreSound (kept ++ (inside ++ rest))
     → it.start ≡ at + length (joined kept) → it.end ≡ it.start + length (joined inside) → begins_with_name (tokens_of (inside ++ rest)) ≡ true → match [] inside ≡ true → ends_in_point (tokens_of kept) ≡ false
     → IsWritable it.trees → Spliced others it.end rest → Spliced (it ∷ others) at (kept ++ (inside ++ rest))

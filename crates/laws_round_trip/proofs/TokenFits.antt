@@ -1,4 +1,4 @@
--- What each token of a text is read as can be written behind what stands before it.
+-- The reading of each token of a text can be written after what precedes it.
 use Rattle.std.proofs.Common.{◌≡◌, ℕ, zero, suc, ◌+◌, ◌<◌, true, false, IsTrue, inl, inr, List, [], ◌∷◌, ◌++◌, length, append-nil, Option, Some, refl, sym, ap, ◌∙◌, subst, arith}
 use Rattle.std.proofs.Math.Utf8.{encodes, scalars}
 use Rattle.std.proofs.lemmas.Bool.{eqb-true}
@@ -43,7 +43,7 @@ use Rattle.syntax_unparse.specs.declared.behind.Behind.{Behind}
 use Rattle.syntax_unparse.specs.declared.behind.Behind.TheVariants.{Opening, Apart, Quote}
 use Rattle.unicode_ident.proofs.Computing.{unicode_ident}
 
--- what stands for a doc comment
+-- the pieces that a doc comment means
 doc_read : reading (100 ∷ 111 ∷ 99 ∷ []) ≡ (kinds.Ident, [])
 unfolding unicode_ident
 doc_read = name_read 100 (111 ∷ 99 ∷ []) refl refl
@@ -59,7 +59,7 @@ doc_name ident text raw =
     let alone = whole_token (codes "doc") (codes "doc") kinds.Ident (IsUtf8-from_ascii (codes "doc") doc_ascii) (chars-IsAscii (codes "doc") doc_ascii) doc_read refl in
     name_alone (codes "doc") ident alone.0 (ap is_name alone.1) text raw
 
--- what follows a token can be written behind what may stand before it
+-- what follows a token can be written after all that may precede it
 abbrev Behinds : (left : List ℕ) (next : Option TokenKind) (rest : List Sort) → Type 0
 Behinds left next rest = (b : Behind) → Ready b left next → Fit b next rest
 
@@ -115,16 +115,16 @@ life_fits behind word letters left kind next rest it is fine lasts digit ready m
         subst (λ t. QuoteFits Quote (without_raw_prefix t) (rawness_of t)) (sym tail_is)
         (λ ident text raw. subst (λ t. IsOneToken (39 ∷ t) × IsTrue (is_lifetime (first_kind (39 ∷ t)))) (sym (name_text tail ident text raw)) makes)
 
--- sorts that a token of a role is read as
+-- the sorts that a token of a role is read as
 abbrev SortsAs : (role : Role) (part : SpanPart) (kind : TokenKind) (next : Option TokenKind) (at : ℕ) (word : List ℕ) → List Sort
 SortsAs role part kind next at word = sorts (pieces_as role part kind next at word)
 
--- sorts in one place
+-- sorts with one span
 placed_are : (part : SpanPart) (start stop : ℕ) (ss : List Sort) → sorts (placed part start stop ss) ≡ ss
 placed_are part start stop [] = refl
 placed_are part start stop (s ∷ ss) = ap (λ t. s ∷ t) (placed_are part start stop ss)
 
--- what a token is read as can be written
+-- the reading of a token can be written
 pub token_fits : (behind : Behind) (part : SpanPart) (at : ℕ) (word letters left : List ℕ) (kind : TokenKind) (next : Option TokenKind) (rest : List Sort) → Told kind → Read word letters left kind
     → ((why : BadToken) → role_in kind word ≡ Bad why → ⊥) → Ready behind letters (Some kind) → Behinds left next rest → Fit behind (Some kind) (sorts (pieces_of part kind next at word) ++ rest)
 token_fits behind part at word letters left kind next rest (blank role alone) it fine ready more =

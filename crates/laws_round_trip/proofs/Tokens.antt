@@ -1,4 +1,4 @@
--- A token where what stands behind it changes.
+-- A token if what follows it changes.
 use Rattle.std.proofs.Common.{◌≡◌, ◌≢◌, ◌⊎◌, inl, inr, ℕ, ◌<◌, true, false, List, [], ◌∷◌, ◌++◌, length, refl, sym, ap, ap₂, ◌∙◌, subst, arith, append-nil, append_assoc, length-append}
 use Rattle.std.proofs.lemmas.Bool.{false≢true}
 use Rattle.syntax_lex.specs.Comments.{block_comment}
@@ -14,13 +14,13 @@ use Rattle.laws_tokens.proofs.TwinReads.{Apart, Suits, block_twins, reading_twin
 use Rattle.laws_tokens.proofs.Twins.{IsShort, ended, enough, kept, plain, short, twin_is, twins_le, twins_of}
 use Rattle.laws_tokens.specs.Stops.{is_ended}
 
--- it stands apart from the end, but for a comment to the end of a line
+-- a token is apart from the end, except a comment to the end of a line
 line_apart : (r left : List ℕ) (kind : TokenKind) → is_line kind ≡ false → length r ≡ length left → Apart r [] left kind
 line_apart r left (kinds.LineComment doc) h e = absurd (false≢true (sym h))
 line_apart r left kinds.Whitespace h e = inr (omega (arith, e), refl)
 line_apart r left kind h e = tt
 
--- and from anything where something is kept behind it
+-- and from anything, if something is kept after it
 kept_apart : (r s left : List ℕ) (kind : TokenKind) → length r < length left → Apart r s left kind
 kept_apart r s left (kinds.LineComment doc) more = more
 kept_apart r s left kinds.Whitespace more = inl more
@@ -30,14 +30,14 @@ pub some_length : (xs : List ℕ) → xs ≢ [] → 0 < length xs
 some_length [] some = absurd (some refl)
 some_length (x ∷ xs) some = omega arith
 
--- what stands in front of the same end is the same
+-- texts before the same end are the same
 front_same : (xs ys r : List ℕ) → xs ++ r ≡ ys ++ r → xs ≡ ys
 front_same [] [] r e = refl
 front_same [] (y ∷ ys) r e = absurd (omega (arith, ap length e, length-append ys r))
 front_same (x ∷ xs) [] r e = absurd (omega (arith, ap length e, length-append xs r))
 front_same (x ∷ xs) (y ∷ ys) r e = ap₂ (λ a t. a ∷ t) (ap first e) (front_same xs ys r (ap skip e))
 
--- a token with something kept behind it is the same whatever stands behind that
+-- a token with a kept part after it is the same whatever follows that part
 kept_twin : (text kept_part r s : List ℕ) (kind : TokenKind) → text ≢ [] → kept_part ≢ [] → reading (text ++ (kept_part ++ r)) ≡ (kind, kept_part ++ r) → is_sound kind ≡ true
     → ((is_number kind ≡ true → kept_part ≢ 46 ∷ []) ⊎ (r ≡ [])) → reading (text ++ (kept_part ++ s)) ≡ (kind, kept_part ++ s)
 kept_twin [] l r s kind some more read sound other = absurd (some refl)
@@ -60,18 +60,18 @@ pub token_kept : (text kept_part rest other : List ℕ) (kind : TokenKind) → t
     → (is_number kind ≡ true → kept_part ≢ 46 ∷ []) → reading (text ++ (kept_part ++ other)) ≡ (kind, kept_part ++ other)
 token_kept text l rest other kind some more read sound number = kept_twin text l rest other kind some more read sound (inl number)
 
--- it is that of what is kept
+-- the token is that of the kept part
 pub kept_alone : (text kept_part rest : List ℕ) (kind : TokenKind) → text ≢ [] → kept_part ≢ [] → reading (text ++ (kept_part ++ rest)) ≡ (kind, kept_part ++ rest) → is_sound kind ≡ true
     → (is_number kind ≡ true → kept_part ≢ 46 ∷ []) → reading (text ++ kept_part) ≡ (kind, kept_part)
 kept_alone text l rest kind some more read sound number =
     subst (λ t. reading (text ++ t) ≡ (kind, t)) (append-nil l) (token_kept text l rest [] kind some more read sound number)
 
--- and the same with more behind what is kept
+-- and the same with more after the kept part
 pub kept_more : (text kept_part other : List ℕ) (kind : TokenKind) → text ≢ [] → kept_part ≢ [] → reading (text ++ kept_part) ≡ (kind, kept_part) → is_sound kind ≡ true
     → reading (text ++ (kept_part ++ other)) ≡ (kind, kept_part ++ other)
 kept_more text l other kind some more read sound = kept_twin text l [] other kind some more (subst (λ t. reading (text ++ t) ≡ (kind, t)) (sym (append-nil l)) read) sound (inr refl)
 
--- a token in front of what is left is the token alone
+-- a token before a rest is the token alone
 pub alone : (c : ℕ) (cs r : List ℕ) (kind : TokenKind) → reading (c ∷ (cs ++ r)) ≡ (kind, r) → is_sound kind ≡ true → is_line kind ≡ false → reading (c ∷ cs) ≡ (kind, [])
 alone c cs r kind read sound line = ap (λ t. reading (c ∷ t)) (sym (append-nil cs)) ∙ token_twin c cs [] r [] kind read (record {
   fits = record { stays = ended (omega arith) (plain plain_null); shut = sound_shut kind sound; known = inl (sound_known kind sound) };
@@ -79,7 +79,7 @@ alone c cs r kind read sound line = ap (λ t. reading (c ∷ t)) (sym (append-ni
   pointless = λ is. inl (λ e. omega (arith, ap length e));
 })
 
--- a comment that is closed is the same whatever stands behind it
+-- a comment that is closed is the same whatever follows it
 pub block_more : (cs r : List ℕ) (kind : TokenKind) → block_comment cs ≡ (kind, []) → is_sound kind ≡ true → block_comment (cs ++ r) ≡ (kind, r)
 block_more cs r kind read sound =
     let at : block_comment (cs ++ []) ≡ (kind, []) = ap block_comment (append-nil cs) ∙ read in
@@ -96,7 +96,7 @@ whole_sound kinds.GuardedStrPrefix h = absurd (false≢true h)
 whole_sound (kinds.Literal kind start) h = (h, refl)
 whole_sound kind h = (refl, refl)
 
--- so a token of a text is the same token where it is all of the text
+-- so a token of a text is the same token if it takes all of the text
 pub token_alone : (text rest : List ℕ) (kind : TokenKind) → text ≢ [] → reading (text ++ rest) ≡ (kind, rest) → is_whole kind ≡ true → reading text ≡ (kind, [])
 token_alone [] rest kind some read is = absurd (some refl)
 token_alone (c ∷ cs) rest kind some read is = let it = whole_sound kind is in alone c cs rest kind read it.0 it.1
@@ -105,7 +105,7 @@ pub token_parted : (text rest : List ℕ) (c : ℕ) (kind : TokenKind) → text 
     → reading (text ++ c ∷ rest) ≡ (kind, c ∷ rest)
 token_parted text rest c kind some read sound ends parts = token_plain text (c ∷ rest) kind some read ends (plain_parting c parts)
 
--- none of two characters or more ends with such a character
+-- no token of two characters or more ends with such a character
 pub never_last : (front : List ℕ) (c : ℕ) (kind : TokenKind) → front ≢ [] → reading (front ++ c ∷ []) ≡ (kind, []) → is_sound kind ≡ true → is_ended kind ≡ true → is_parting c ≢ true
 never_last [] c kind some read sound ends parts = some refl
 never_last (d ∷ ds) c kind some read sound ends parts =

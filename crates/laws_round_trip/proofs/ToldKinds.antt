@@ -1,4 +1,4 @@
--- What each kind of token is to what is written.
+-- What each kind of token means for the written text.
 use Rattle.std.proofs.Common.{◌≡◌, ℕ, Bool, true, false, ◌==◌, ◌&&◌, not, IsTrue, List, ◌∷◌, Option, None, Some, refl, ap, sym, ◌∙◌, if◌then◌else◌}
 use Rattle.std.proofs.lemmas.Bool.{eqb-true}
 use Rattle.tt_base.specs.declared.punct.Spacing.TheVariants.{Alone}
@@ -25,7 +25,7 @@ use Rattle.syntax_parse.specs.declared.role.Role.TheVariants.{Bad, Nothing, Open
 use Rattle.syntax_unparse.specs.Writable.{is_lifetime, is_name}
 use Rattle.laws_tokens.proofs.Tables.{symbol_passes}
 
--- what a kind of token is to what is written
+-- what a kind of token means for the written text
 pub data Told : TokenKind → Type 0 where
   line : (style : DocStyle) → Told (kinds.LineComment (Some style))
   block : (style : DocStyle) → (terminated : Bool) → Told (kinds.BlockComment (Some style) terminated)
@@ -88,7 +88,7 @@ is_of : ℕ → Option ℕ → Bool
 is_of d None = true
 is_of d (Some n) = d == n
 
--- a character whose symbol is this punct is the punct's
+-- a character that gives this punct is the punct's
 symbol_back : (d c : ℕ) → punct_char (symbol d) ≡ Some c → d ≡ c
 unfolding is_of
 symbol_back d c h = eqb-true d c (sym (ap (is_of d) h) ∙ symbol_passes (λ n kind. is_of n (punct_char kind)) refl d refl)

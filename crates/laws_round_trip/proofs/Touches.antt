@@ -1,4 +1,4 @@
--- Where two texts touch: what their last and first bytes tell of the tokens there.
+-- Where two texts touch: what their last and first bytes say about the tokens there.
 use Rattle.std.proofs.Common.{◌≡◌, ◌≢◌, ◌⊎◌, inl, inr, ℕ, ◌-◌, ◌<◌, Bool, true, false, ◌==◌, ◌||◌, ◌&&◌, not, List, [], ◌∷◌, ◌++◌, length, Option, None, Some, refl, sym, ap, ◌∙◌, ⊎_elim, subst, arith, append-nil, length-append}
 use Rattle.std.proofs.lemmas.Bool.{false≢true, and_parts, eqb-true}
 use Rattle.std.proofs.lemmas.Str.{IsCharBoundary-before_ascii, IsUtf8-take, chars-append, chars-nil, encode_ascii, encodes-chars}
@@ -32,7 +32,7 @@ abbrev Each : (ℕ → Type 0) → List ℕ → Type 0
 Each P [] = Unit {0}
 Each P (x ∷ xs) = P x × Each P xs
 
--- so there is it for one of them
+-- so each of them has it
 one_listed : (P : ℕ → Type 0) (bytes : List ℕ) (b : ℕ) → Each P bytes → list_any (λ it. it == b) bytes ≡ true → P b
 one_listed P [] b all is = absurd (false≢true is)
 one_listed P (x ∷ xs) b (here, others) is = go (x == b) refl (one_listed P xs b others) is
@@ -41,7 +41,7 @@ one_listed P (x ∷ xs) b (here, others) is = go (x == b) refl (one_listed P xs 
     go true e more h = subst P (eqb-true x b e) here
     go false e more h = more h
 
--- one of the bytes that stand apart
+-- one of the bytes that separate tokens
 apart_cases : (P : ℕ → Type 0) (b : ℕ) → P 32 → P 9 → P 10 → P 13 → P 40 → P 41 → P 91 → P 93 → P 123 → P 125 → is_apart b ≡ true → P b
 apart_cases P b p32 p9 p10 p13 p40 p41 p91 p93 p123 p125 = one_listed P apart_bytes b (p32, (p9, (p10, (p13, (p40, (p41, (p91, (p93, (p123, (p125, tt))))))))))
 
@@ -49,7 +49,7 @@ apart_cases P b p32 p9 p10 p13 p40 p41 p91 p93 p123 p125 = one_listed P apart_by
 separator_cases : (P : ℕ → Type 0) (b : ℕ) → P 44 → P 59 → is_separator b ≡ true → P b
 separator_cases P b p44 p59 = one_listed P separator_bytes b (p44, (p59, tt))
 
--- a byte of ASCII that parts tokens
+-- an ASCII byte that separates tokens
 pub record Parts (b : ℕ) : Type 0 where
   pub ascii : b < 128
   pub parts : is_parting b ≡ true
@@ -80,7 +80,7 @@ apart_alone f =
     (bracket_alone 41 refl (λ fs. sign_read 41 fs refl refl)) (bracket_alone 91 refl (λ fs. sign_read 91 fs refl refl)) (bracket_alone 93 refl (λ fs. sign_read 93 fs refl refl))
     (bracket_alone 123 refl (λ fs. sign_read 123 fs refl refl)) (bracket_alone 125 refl (λ fs. sign_read 125 fs refl refl))
 
--- a sign that is a token whatever stands behind it
+-- a sign that is a token whatever follows it
 abbrev pub Lone : ℕ → Type 0
 Lone l = (r : List ℕ) → reading (l ∷ r) ≡ (symbol l, r)
 
@@ -166,7 +166,7 @@ last_letter front l lt utf8 =
     let fine : IsUtf8 front = subst IsUtf8 (take-append_seam front (l ∷ [])) (IsUtf8-take (front ++ l ∷ []) (length front) utf8 boundary) in
     chars-append front (l ∷ []) fine ∙ ap (λ t. chars front ++ t) (ascii_first l [] lt ∙ ap (λ t. l ∷ t) chars-nil)
 
--- a text with something in it has a last byte
+-- a text that is not empty has a last byte
 pub snoc : (t : List ℕ) → t ≢ [] → (front : List ℕ) × (l : ℕ) × (t ≡ front ++ l ∷ [])
 snoc [] some = absurd (some refl)
 snoc (x ∷ []) some = ([], x, refl)
@@ -179,7 +179,7 @@ last_snoc front l = ap (slice_get (front ++ l ∷ [])) (omega (arith, length-app
     at [] = refl
     at (x ∷ front) = at front
 
--- a token whose last byte parts tokens is that byte
+-- a token whose last byte separates tokens is that byte
 pub lone_last : (t : List ℕ) (c : ℕ) (cs : List ℕ) (l : ℕ) (kind : TokenKind) → IsUtf8 t → chars t ≡ c ∷ cs → last_of t ≡ Some l → Parts l → reading (c ∷ cs) ≡ (kind, []) → is_sound kind ≡ true → is_ended kind ≡ true
     → c ∷ cs ≡ l ∷ []
 lone_last t c cs l kind utf8 letters last parts read sound ended =
@@ -204,12 +204,12 @@ not_true : (b : Bool) → not b ≡ true → b ≡ true → ⊥
 not_true true h k = false≢true h
 not_true false h k = false≢true k
 
--- what a token is, and how it stands to what it touches
+-- the token, and how it touches what follows
 pub record Touch (c : ℕ) (cs : List ℕ) (kind : TokenKind) (f : ℕ) (fs : List ℕ) : Type 0 where
   pub read : reading (c ∷ (cs ++ f ∷ fs)) ≡ (kind, f ∷ fs)
   pub same : SameBefore kind None (Some (reading (f ∷ fs)).0)
 
--- a token is the same where it touches a text that may touch it
+-- a token is the same before a text that may touch it
 pub touch : (t u : List ℕ) (c : ℕ) (cs : List ℕ) (kind : TokenKind) (f : ℕ) (fs : List ℕ) (l b : ℕ) → IsUtf8 t → IsUtf8 u → chars t ≡ c ∷ cs → chars u ≡ f ∷ fs → last_of t ≡ Some l → slice_get u 0 ≡ Some b
     → reading (c ∷ cs) ≡ (kind, []) → is_sound kind ≡ true → is_ended kind ≡ true → is_whitespace c ≡ false → may_touch l b ≡ true → Touch c cs kind f fs
 touch t u c cs kind f fs l b utf8 fine letters marks last byte read sound ended space may =

@@ -23,7 +23,7 @@ use Rattle.syntax_unparse.specs.Writable.{IsWritable, MeansLiteral, ReadsAlone, 
 use Rattle.syntax_unparse.specs.declared.behind.Behind.{Behind}
 use Rattle.syntax_unparse.specs.declared.behind.Behind.TheVariants.{Opening, Apart, Joint, Slash, Pound, Quote}
 
--- none of the chunks is a comment to the end of a line
+-- no chunk is a comment to the end of a line
 abbrev NoLines : List Chunk → Type 0
 NoLines [] = Unit {0}
 NoLines (x ∷ xs) = (is_line x.kind ≡ false) × NoLines xs

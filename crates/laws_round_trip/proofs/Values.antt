@@ -1,4 +1,4 @@
--- Literals that are read of a text read alone.
+-- Literals that are read from a text read alone.
 use Rattle.std.proofs.Common.{◌≡◌, ℕ, ◌-◌, Bool, true, false, ◌==◌, inr, List, [], ◌∷◌, ◌++◌, length, take, drop, Some, refl, sym, ap, ap₂, ◌∙◌, subst, arith, append-nil, if◌then◌else◌}
 use Rattle.std.proofs.Math.Seq.{drop-append_seam}
 use Rattle.std.proofs.Math.Utf8.{encodes, scalars}
@@ -64,7 +64,7 @@ plain_text literal plain = go (kind_of literal) refl plain
     go lit.CStr e h = absurd (false≢true (sym h))
     go (lit.CStrRaw count) e h = absurd (false≢true (sym h))
 
--- a suffix that begins with no `_` counts
+-- a suffix that does not begin with `_` counts
 suffix_counts : (rest : List ℕ) → scalars rest ≡ true → (first rest == 95) ≡ false → suffix_told (encodes rest) ≡ encodes rest
 suffix_counts rest fine line = go (bytes_eq (encodes rest) (codes "_")) refl
   where

@@ -1,4 +1,4 @@
--- A token of a text, as bytes: what stands for leaves is one token alone.
+-- A token of a text, as bytes: one that means leaves is one token alone.
 use Rattle.std.proofs.Common.{◌≡◌, ◌≢◌, ℕ, ◌+◌, ◌<◌, ◌&&◌, true, List, [], ◌∷◌, ◌++◌, length, take, drop, refl, sym, ap, ap₂, ◌∙◌, subst, arith}
 use Rattle.std.proofs.Math.Seq.{drop-append_seam, take-append_seam}
 use Rattle.std.proofs.Math.Utf8.{encodes, scalars}
@@ -29,7 +29,7 @@ pub scalars-front : (xs ys : List ℕ) → scalars (xs ++ ys) ≡ true → scala
 scalars-front [] ys h = refl
 scalars-front (x ∷ xs) ys h = let both = and_parts _ _ h in ap₂ (λ a b. a && b) both.0 (scalars-front xs ys both.1)
 
--- the first token of a text: its characters, and what is left
+-- the first token of a text: its characters, and the rest
 pub record Word (bs : List ℕ) (token : Token) : Type 0 where
   pub front : List ℕ
   pub left : List ℕ
@@ -81,7 +81,7 @@ word_of bs c cs utf8 e =
       rest_chars = ap chars rest ∙ chars-encodes left (scalars-back front left fine);
     }
 
--- what is read of all of a text is one token
+-- a reading that takes all of a text is one token
 pub whole_token : (word front : List ℕ) (kind : TokenKind) → IsUtf8 word → chars word ≡ front → reading front ≡ (kind, []) → role_in kind word ≡ Leaf → IsOneToken word × (first_kind word ≡ kind)
 whole_token word front kind utf8 are read fine =
     let token : first_token_of (chars word) ≡ record { kind = kind; len = length word } =
@@ -97,7 +97,7 @@ first_word bs token utf8 some is = subst (Word bs) (sym is) (go (chars bs) refl)
     go [] e = absurd (some e)
     go (c ∷ cs) e = word_of bs c cs utf8 e
 
--- a token that stands for leaves is one token alone
+-- a token that means leaves is one token alone
 pub one_alone : (bs : List ℕ) (token : Token) → Word bs token → is_whole token.kind ≡ true → role_in token.kind (take token.len bs) ≡ Leaf
     → IsOneToken (take token.len bs) × (first_kind (take token.len bs) ≡ token.kind)
 one_alone bs token it is fine = whole_token (take token.len bs) it.front token.kind it.utf8 it.chars_are (token_alone it.front it.left token.kind it.some it.read is) fine

@@ -1,4 +1,4 @@
--- What is read of a text in which trees are spliced.
+-- The reading of a text with trees spliced in.
 use Rattle.std.proofs.Common.{◌≡◌, ℕ, true, ◌++◌, false, List, [], Option, None, Some, sym, ap, ap₂, ◌∙◌, subst}
 use Rattle.std.specs.Str.{chars, IsUtf8}
 use Rattle.tt_base.specs.Forest.{Root}
@@ -20,7 +20,7 @@ use Rattle.syntax_parse.specs.declared.fault.SyntaxFault.{SyntaxFault}
 use Rattle.syntax_unparse.proofs.Chunks.{joined, match, no_fault, pieces_are, tokens_are, tokens_of}
 use Rattle.syntax_unparse.specs.Settled.{sorts}
 
--- the tokens of the text, without a fault, and what they are read as
+-- the tokens of the text, without a fault, and their reading
 record Reads (part : SpanPart) (source : List ℕ) (tokens : List Token) (splices : List Splice) : Type 0 where
   new : List Token
   read : AreTokensOf new (chars (with_all (replacements_of splices) (begun source)))
@@ -44,7 +44,7 @@ reads part text tokens splices utf8 read fine places =
           (pieces_are other 0 done.new done.are ∙ done.means part ∙ ap₂ (λ t ts. woven splices (pieces_from part 0 t ts)) it.text_is it.tokens_are);
     }
 
--- the text is read as the pieces of the source, and the settled trees in place of each range
+-- the text is read as the pieces of the source, with the settled trees in place of each range
 pub read_spliced : (part other : SpanPart) (text : List ℕ) (root again : Root) (splices : List Splice) → IsUtf8 text → (parse : IsParse part text root) → ArePlaces splices 0 text parse.tokens
     → IsParse other (with_all (replacements_of splices) (begun text)) again → sorts (spelled again.children) ≡ woven splices (spelled root.children)
 read_spliced part other text root again splices utf8 parse places back =
@@ -53,7 +53,7 @@ read_spliced part other text root again splices utf8 parse places back =
     let same : back.tokens ≡ it.new = one_list back.tokens it.new (chars new) back.read it.read in
     ap sorts (back.spells ∙ ap (pieces_from other 0 new) same) ∙ it.spells other ∙ ap (woven splices) (sym parse.spells)
 
--- and it has no fault
+-- and the text has no fault
 pub no_fault_spliced : (part : SpanPart) (text : List ℕ) (root : Root) (splices : List Splice) (fault : SyntaxFault) → IsUtf8 text → (parse : IsParse part text root) → ArePlaces splices 0 text parse.tokens
     → IsFaultOf (with_all (replacements_of splices) (begun text)) fault → ⊥
 no_fault_spliced part text root splices fault utf8 parse places found =

@@ -1,4 +1,4 @@
--- Trees that were read of a text can be written, and are read again.
+-- Trees that were read from a text can be written, and are read again.
 use Rattle.std.proofs.Common.{◌≡◌, ℕ, ◌+◌, Bool, true, false, List, [], ◌∷◌, take, drop, Option, None, Some, Ok, Err, refl, sym, ap, ◌∙◌, subst, if◌then◌else◌}
 use Rattle.std.specs.Str.{chars, IsUtf8}
 use Rattle.tt_base.specs.Forest.{Root}
@@ -33,7 +33,7 @@ use Rattle.syntax_unparse.specs.declared.behind.Behind.TheVariants.{Opening}
 some_none : (fault : SyntaxFault) → Some fault ≡ None → ⊥
 some_none fault h = cc
 
--- where there is no fault, the token is valid, and there is none behind it
+-- if there is no fault, the token is valid, and no fault follows it
 step_fine : (role : Role) (before : List Open) (at : ℕ) (faults : List Open → Option SyntaxFault) → or_behind (step_as role before at) faults ≡ None
     → ((why : BadToken) → role ≡ Bad why → ⊥) × ((next : List Open) × (faults next ≡ None))
 step_fine (Bad why) before at faults h = absurd (some_none _ h)
@@ -66,7 +66,7 @@ as_read bs token it = record {
   chars_are = it.chars_are;
 }
 
--- what a text is read as can be written
+-- the reading of a text can be written
 pub tokens_fit : (part : SpanPart) (at : ℕ) (bs : List ℕ) (tokens : List Token) (before : List Open) (behind : Behind) → IsUtf8 bs → AreTokensOf tokens (chars bs) → fault_from before at bs tokens ≡ None
     → Ready behind (chars bs) (next_kind tokens) → Fit behind (next_kind tokens) (sorts (pieces_from part at bs tokens))
 tokens_fit part at bs [] before behind utf8 are fine ready = (ready_no_quote behind (chars bs) None ready, λ h. absurd (alone_joint h))
@@ -86,13 +86,13 @@ read_fits : (part : SpanPart) (text : List ℕ) (root : Root) → IsUtf8 text �
 read_fits part text root utf8 parse =
     subst (λ t. SortFits Opening (sorts t)) (sym parse.spells) (tokens_fit part 0 text parse.tokens [] Opening utf8 parse.read parse.fine tt).0
 
--- trees that were read can be written, where their few read alone
+-- trees that were read can be written, if their leaves read alone
 pub read_is_writable : (part : SpanPart) (text : List ℕ) (root : Root) → IsUtf8 text → IsParse part text root → IsWritable root.children
 read_is_writable part text root utf8 parse =
     let fits = read_fits part text root utf8 parse in
     writable 0 Opening (marks 0 root.children) (subst (SortFits Opening) (sym (marks_are Opening root.children fits)) fits)
 
--- and what is written of them is read as they are, places put aside
+-- and their text is read as the same trees, spans aside
 pub read_again : (part other : SpanPart) (text : List ℕ) (root again : Root) → IsUtf8 text → IsParse part text root → IsParse other (text_of root.children) again
     → sorts (spelled again.children) ≡ sorts (spelled root.children)
 read_again part other text root again utf8 parse back =

@@ -1,4 +1,4 @@
--- Where calls stand among the pieces of a text, and what is read of it where trees take their place.
+-- Where calls are among the pieces of a text, and how the text is read if trees replace them.
 use Rattle.std.specs.Prelude.{◌≡◌, ℕ, Bool, true, false, not, ◌==◌, ◌&&◌, ◌||◌, List, [], ◌∷◌, ◌++◌}
 use Rattle.tt_base.specs.Forest.{Forest}
 use Rattle.laws_round_trip.specs.Splices.{Splice}
@@ -7,7 +7,7 @@ use Rattle.syntax_unparse.specs.Marks.{marks}
 use Rattle.syntax_unparse.specs.Settled.{settled}
 use Rattle.syntax_unparse.specs.Writable.{IsWritable}
 
--- a literal is the latest of these leaves and brackets, the latest first
+-- whether a literal is the latest of these leaves and brackets, the latest first
 abbrev pub follows_value : (before : List Sort) → Bool
 follows_value [] = false
 follows_value (name text raw ∷ before) = false
@@ -16,7 +16,7 @@ follows_value (value kind symbol suffix ∷ before) = true
 follows_value (opening kind ∷ before) = false
 follows_value (closing kind ∷ before) = false
 
--- behind these the name of a call may begin: not behind a `'`, and not behind a `.` that follows a literal
+-- whether the name of a call may begin after these: not after a `'`, and not after a `.` that follows a literal
 abbrev pub may_begin : (before : List Sort) → Bool
 may_begin [] = true
 may_begin (name text raw ∷ before) = true
@@ -25,7 +25,7 @@ may_begin (value kind symbol suffix ∷ before) = true
 may_begin (opening kind ∷ before) = true
 may_begin (closing kind ∷ before) = true
 
--- whether it is a name
+-- whether a piece is a name
 abbrev pub is_name : Sort → Bool
 is_name (name text raw) = true
 is_name (sign char spacing) = false
@@ -33,7 +33,7 @@ is_name (value kind symbol suffix) = false
 is_name (opening kind) = false
 is_name (closing kind) = false
 
--- whether it is a `!` or a `:`
+-- whether a piece is a `!` or a `:`
 abbrev pub is_call_sign : Sort → Bool
 is_call_sign (name text raw) = false
 is_call_sign (sign char spacing) = (char == 33) || (char == 58)
@@ -41,7 +41,7 @@ is_call_sign (value kind symbol suffix) = false
 is_call_sign (opening kind) = false
 is_call_sign (closing kind) = false
 
--- whether it is a closing bracket or a `;`
+-- whether a piece is a closing bracket or a `;`
 abbrev pub is_last : Sort → Bool
 is_last (name text raw) = false
 is_last (sign char spacing) = char == 59
@@ -66,8 +66,8 @@ pub record IsTaken (pieces : List Piece) (start end : ℕ) : Type 0 where
   pub begins : BeginsCall start pieces
   pub ends : EndsCall end pieces
 
--- what a text is read as that is spelled by these pieces, behind those leaves and brackets, where splices take the place of parts: each
--- piece stays, or trees take the place of those of a call
+-- the reading of a text with these pieces, after those leaves and brackets, if splices replace parts: each
+-- piece stays, or trees replace those of a call
 pub data IsWoven : (before : List Sort) → List Piece → List Splice → List Sort → Type 0 where
   ends : {before : List Sort} → IsWoven before [] [] []
   keeps : {before : List Sort} {piece : Piece} {pieces : List Piece} {splices : List Splice} {woven : List Sort}

@@ -1,4 +1,4 @@
--- Trees that take the place of parts of a text, and what is read of the text then.
+-- Trees that replace parts of a text, and how the text is read then.
 use Rattle.std.specs.Prelude.{◌≡◌, ℕ, ◌+◌, ◌-◌, Bool, true, false, ◌&&◌, List, [], ◌∷◌, ◌++◌, drop, None, nat_lt, if◌then◌else◌}
 use Rattle.tt_base.specs.Forest.{Forest}
 use Rattle.syntax_edit.specs.Texts.{Replacement}
@@ -14,7 +14,7 @@ use Rattle.syntax_unparse.specs.Settled.{settled, sorts}
 use Rattle.syntax_unparse.specs.Text.{text_of}
 use Rattle.syntax_unparse.specs.Writable.{IsWritable, is_name}
 
--- trees that take the place of the bytes from a place to another
+-- trees that replace the bytes from a place to another
 pub record Splice : Type 0 where
   pub start : ℕ
   pub end : ℕ
@@ -24,7 +24,7 @@ pub record Splice : Type 0 where
 abbrev pub replacement_of : Splice → Replacement
 replacement_of it = record { start = it.start; end = it.end; text = text_of it.trees }
 
--- the texts of all of them
+-- the texts of all splices
 abbrev pub replacements_of : List Splice → List Replacement
 replacements_of [] = []
 replacements_of (it ∷ others) = replacement_of it ∷ replacements_of others
@@ -39,15 +39,15 @@ abbrev pub is_dot : TokenKind → Bool
 is_dot kinds.Dot = true
 is_dot _ = false
 
--- whether the last token is a point, right behind a number
+-- whether the last token is a point right after a number
 abbrev pub ends_in_point : List Token → Bool
 ends_in_point [] = false
 ends_in_point (first ∷ []) = false
 ends_in_point (first ∷ second ∷ []) = is_number first.kind && is_dot second.kind
 ends_in_point (first ∷ second ∷ third ∷ tokens) = ends_in_point (second ∷ third ∷ tokens)
 
--- Where trees are spliced into a text of these tokens, which begins at a byte: tokens give way that begin with a name and have
--- matching brackets, behind no point right behind a number; and the trees can be written.
+-- Where trees are spliced into a text of these tokens, which begins at byte `at`. The trees replace tokens that begin with a name and have
+-- matching brackets. No point right after a number precedes these tokens. The trees can be written.
 pub record IsPlace (it : Splice) (at : ℕ) (text : List ℕ) (tokens : List Token) : Type 0 where
   pub before : List Token
   pub inside : List Token
@@ -60,7 +60,7 @@ pub record IsPlace (it : Splice) (at : ℕ) (text : List ℕ) (tokens : List Tok
   pub apart : ends_in_point before ≡ false
   pub writable : IsWritable it.trees
 
--- all of them, in order: each begins where the one before it ends, or behind
+-- all splices, in order: each begins at the end of the one before it or after it
 abbrev pub ArePlaces : List Splice → (at : ℕ) → (text : List ℕ) → List Token → Type 0
 ArePlaces [] at text tokens = Unit {0}
 ArePlaces (it ∷ others) at text tokens = (place : IsPlace it at text tokens) × ArePlaces others it.end (drop (it.end - at) text) place.behind
@@ -70,12 +70,12 @@ abbrev pub before_byte : ℕ → List Piece → List Piece
 before_byte at [] = []
 before_byte at (piece ∷ pieces) = if nat_lt piece.start at then piece ∷ before_byte at pieces else before_byte at pieces
 
--- the pieces that begin there or behind
+-- the pieces that begin at a byte or after it
 abbrev pub from_byte : ℕ → List Piece → List Piece
 from_byte at [] = []
 from_byte at (piece ∷ pieces) = if nat_lt piece.start at then from_byte at pieces else piece ∷ from_byte at pieces
 
--- what is read of the text then: the pieces outside of the places, and the settled leaves and brackets of the trees in each place
+-- the reading of the text then: the pieces outside of the places, and the settled leaves and brackets of the trees in each place
 abbrev pub woven : List Splice → List Piece → List Sort
 woven [] pieces = sorts pieces
 woven (it ∷ others) pieces = sorts (before_byte it.start pieces) ++ (settled (marks 0 it.trees) ++ woven others (from_byte it.end pieces))

@@ -1,10 +1,10 @@
--- Which tokens are told by their own text alone.
+-- Which tokens depend only on their own text.
 use Rattle.std.specs.Prelude.{Bool, true, false}
 use Rattle.syntax_lex.specs.declared.token.TokenKind.{TokenKind}
 use Rattle.syntax_lex.specs.declared.token.TokenKind.TheVariants as kinds
 use Rattle.laws_tokens.specs.Stops.{is_closed}
 
--- whether a token is the same with nothing behind it: all but comments, white space, prefixes, names with emoji, and what is not closed
+-- whether a token is the same if nothing follows it: all except comments, white space, prefixes, names with emoji, and what is not closed
 abbrev pub is_whole : TokenKind → Bool
 is_whole (kinds.LineComment doc_style) = false
 is_whole (kinds.BlockComment doc_style terminated) = false

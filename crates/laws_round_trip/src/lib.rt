@@ -1,4 +1,4 @@
-//! What is read of a Rust text can be written and is read again, also when trees replace parts of the text.
+//! Trees read from a Rust text can be written and are read again, also when trees replace parts of the text.
 #![tactic(auto)]
 
 pub mod laws;

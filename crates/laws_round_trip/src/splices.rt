@@ -1,5 +1,5 @@
-//! Laws: a token of a text is the same where what stands behind it changes, so a text in which trees take the place of parts
-//! is read as its own pieces and as those trees.
+//! Laws: a token of a text stays the same if what follows it changes. So a text in which trees replace parts is
+//! read as its own pieces and as those trees.
 ghost use Rattle.std.specs.Prelude.{◌≡◌, ◌≢◌, ℕ, true, false, List, [], ◌∷◌, ◌++◌};
 ghost use Rattle.std.specs.Str.{IsUtf8};
 ghost use Rattle.tt_base.specs.Forest.{Root};
@@ -17,57 +17,57 @@ ghost use Rattle.syntax_parse.specs.Spelled.{Sort, spelled};
 ghost use Rattle.syntax_parse.specs.declared.fault.SyntaxFault.{SyntaxFault};
 ghost use Rattle.syntax_unparse.specs.Settled.{sorts};
 
-/// A token of a text with something kept behind it is the same token, and ends there, whatever stands behind what is kept:
-/// so is each sound one, but for a number where a point alone is kept.
+/// A token of a text with a kept part after it is the same token, and ends there, whatever follows the kept part. This holds for each sound
+/// token, except a number if the kept part is only a point.
 pub fn token_kept()
     ensures { (text kept rest other : List ℕ) → (kind : TokenKind) → text ≢ [] → kept ≢ [] → reading (text ++ (kept ++ rest)) ≡ (kind, kept ++ rest) → is_sound kind ≡ true
         → (is_number kind ≡ true → kept ≢ 46 ∷ [])
         → reading (text ++ (kept ++ other)) ≡ (kind, kept ++ other) }
 {}
 
-/// A sound token that is all of a text is the same token, and ends there, where white space of ASCII, a bracket, a comma or a
-/// semicolon stands behind it: so is each but comments and white space.
+/// A sound token that takes all of a text is the same token, and ends there, if white space of ASCII, a bracket, a comma or a semicolon
+/// follows it. This holds for all sound tokens except comments and white space.
 pub fn token_parted()
     ensures { (text rest : List ℕ) → (c : ℕ) → (kind : TokenKind) → text ≢ [] → reading text ≡ (kind, []) → is_sound kind ≡ true → is_ended kind ≡ true → is_parting c ≡ true
         → reading (text ++ c ∷ rest) ≡ (kind, c ∷ rest) }
 {}
 
-/// And none of two characters or more ends with such a character.
+/// And no such token of two characters or more ends with such a character.
 pub fn never_last()
     ensures { (front : List ℕ) → (c : ℕ) → (kind : TokenKind) → front ≢ [] → reading (front ++ c ∷ []) ≡ (kind, []) → is_sound kind ≡ true → is_ended kind ≡ true
         → is_parting c ≢ true }
 {}
 
-/// Two texts that are joined are read as both, where the first ends in no comment to the end of a line.
+/// Two joined texts are read as both, if the first does not end in a comment to the end of a line.
 pub fn read_joined()
     ensures { (part other again_part : SpanPart) → (front back : List ℕ) → (first second again : Root) → IsUtf8 front → IsUtf8 back → (parse : IsParse part front first) → IsParse other back second
         → ends_in_line parse.tokens ≡ false → IsParse again_part (joined front back) again
         → sorts (spelled again.children) ≡ sorts (spelled first.children) ++ sorts (spelled second.children) }
 {}
 
-/// A text that was read, with trees in the place of parts of it, is read as its pieces outside of the places, and as the
-/// settled leaves and brackets of the trees in each place.
+/// A text in which trees replace parts is read as its pieces outside of the places, and as the settled leaves
+/// and brackets of the trees in each place.
 pub fn read_spliced()
     ensures { (part other : SpanPart) → (text : List ℕ) → (root again : Root) → (splices : List Splice) → IsUtf8 text → (parse : IsParse part text root)
         → ArePlaces splices 0 text parse.tokens → IsParse other (with_all (replacements_of splices) (begun text)) again
         → sorts (spelled again.children) ≡ woven splices (spelled root.children) }
 {}
 
-/// And no fault of syntax is found in it.
+/// And that text has no fault of syntax.
 pub fn no_fault_spliced()
     ensures { (part : SpanPart) → (text : List ℕ) → (root : Root) → (splices : List Splice) → (fault : SyntaxFault) → IsUtf8 text → (parse : IsParse part text root)
         → ArePlaces splices 0 text parse.tokens → IsFaultOf (with_all (replacements_of splices) (begun text)) fault → ⊥ }
 {}
 
-/// Calls among the pieces of a text that was read, each of which begins behind no `'` and behind no point that follows a literal,
-/// give way to trees: then the text is read as the other pieces, and as the settled leaves and brackets of the trees.
+/// Trees replace calls among the pieces of a text. Each call begins after no `'` and after no point that follows a literal. Then the text
+/// is read as the other pieces, and as the settled leaves and brackets of the trees.
 pub fn read_woven()
     ensures { (part other : SpanPart) → (text : List ℕ) → (root again : Root) → (splices : List Splice) → (all : List Sort) → IsUtf8 text → IsParse part text root
         → IsWoven [] (spelled root.children) splices all → IsParse other (with_all (replacements_of splices) (begun text)) again
         → sorts (spelled again.children) ≡ all }
 {}
 
-/// And no fault of syntax is found in it.
+/// And that text has no fault of syntax.
 pub fn no_fault_woven()
     ensures { (part : SpanPart) → (text : List ℕ) → (root : Root) → (splices : List Splice) → (all : List Sort) → (fault : SyntaxFault) → IsUtf8 text → IsParse part text root
         → IsWoven [] (spelled root.children) splices all → IsFaultOf (with_all (replacements_of splices) (begun text)) fault → ⊥ }
