@@ -1,4 +1,4 @@
-//! Templates, each with a pattern and an input, and what they are filled with, or why they are not.
+//! Templates, each with a pattern and an input: the tokens that fill the template, or why it is not filled.
 use crate::texts::{holds, matcher_of, tree_of};
 use mbe_matcher::Found;
 use mbe_rules::{FillError, Template};
@@ -6,7 +6,7 @@ use std::alloc::Global;
 use std::test::Fail;
 use tt::{DelimiterKind, Leaf, Subtree, TokenTree, TopSubtree};
 
-// Returns how a header is written: its bracket, and how many tokens it holds, which are few.
+// Writes a header: its bracket, and how many tokens it holds, which are few.
 fn push_header(text: &mut String, header: &Subtree) -> Option<()> {
     let bracket = match header.delimiter.kind {
         DelimiterKind::Parenthesis => '(',
@@ -18,7 +18,7 @@ fn push_header(text: &mut String, header: &Subtree) -> Option<()> {
     text.push(char::from_digit(header.len, 10)?).ok()
 }
 
-// Returns how a leaf is written: its text, and a space.
+// Writes a leaf: its text, and a space.
 fn push_leaf(text: &mut String, leaf: &Leaf) -> Option<()> {
     match leaf {
         Leaf::Ident(ident) => text.push_str(ident.sym.as_str()).ok()?,
@@ -41,7 +41,7 @@ fn written(alloc: Global, tree: &TopSubtree) -> Option<String> {
     Some(text)
 }
 
-// Returns what a template is filled with, or why it is not; nothing where the input is read in no way, or in many.
+// Returns the filled template, or why it is not filled; nothing if the input is read in no way, or in many.
 fn filled(
     alloc: Global,
     pattern: &str,
@@ -59,7 +59,7 @@ fn filled(
     Some(template.fill(alloc, matcher.binders(), binding, delimiter))
 }
 
-// Returns whether it is filled with these tokens.
+// Returns whether the filled template has these tokens.
 fn is_filled(
     alloc: Global,
     pattern: &str,
@@ -71,7 +71,7 @@ fn is_filled(
     Some(written(alloc, &tree)?.as_str() == tokens)
 }
 
-// Uses; lists with separators, without, of one and of none; what stands outside used in each round; lists in lists; options.
+// Uses; lists with separators and without, with one round and with none; an outer variable used in each round; lists in lists; options.
 const FILLED: [(&str, &str, &str, &str); 20] = [
     ("", "", "", ""),
     ("$x:tt", "a", "$x $x", "a a "),
@@ -129,7 +129,8 @@ fn all_are_filled(alloc: Global) -> bool {
     true
 }
 
-// Returns why it is not: whether numbers of rounds differ, or there is none, and the flat place of the `$` of the repetition.
+// Returns why the template is not filled: whether numbers of rounds differ, or there is no round, and the
+// flat place of the `$` of the repetition.
 fn fault_of(error: FillError) -> Option<(bool, usize)> {
     match error {
         FillError::LengthsDiffer(at) => Some((true, at)),
@@ -138,7 +139,7 @@ fn fault_of(error: FillError) -> Option<(bool, usize)> {
     }
 }
 
-// Different numbers of rounds, in the first round or in a later one, and none where one is wanted; the first of several.
+// Different numbers of rounds, in the first round or in a later one, and no round although one is needed; the first of several.
 const REFUSED: [(&str, &str, &str, bool, usize); 7] = [
     (
         "$($x:ident)* ; $($y:ident)*",
@@ -185,7 +186,7 @@ const REFUSED: [(&str, &str, &str, bool, usize); 7] = [
     ),
 ];
 
-// Returns whether it is refused so.
+// Returns whether the template is not filled for that reason.
 fn is_refused(
     alloc: Global,
     pattern: &str,

@@ -3,8 +3,8 @@ use crate::texts::holds;
 use crate::ways::are_ways;
 use std::test::Fail;
 
-// A pattern, an input, and in how many ways that is an instance: each of these fragments takes as far as the grammar reaches, so it
-// leaves no choice, and takes no less.
+// A pattern, an input, and in how many ways the input is an instance. Each of these fragments takes as much as the grammar
+// allows, and no less, so it leaves no choice.
 const PIECES: [(&str, &str, usize); 46] = [
     ("$e:expr", "a + b * c", 1),
     ("$e:expr", "a b", 0),

@@ -1,4 +1,4 @@
-//! Worked rows on macros, by the calls of `mbe_grammar`, `mbe_matcher` and `mbe_rules`.
+//! Examples of macros, by the calls of `mbe_grammar`, `mbe_matcher` and `mbe_rules`.
 #![tactic(auto)]
 
 #[cfg(test)]

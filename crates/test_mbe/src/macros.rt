@@ -1,4 +1,4 @@
-//! Macros, each with an input and what comes of it, and trees that are no macro.
+//! Macros, each with an input and its expansion, and trees that are no macro.
 use crate::texts::{holds, tree_of};
 use crate::written::written;
 use mbe_pattern::PatternError;
@@ -6,8 +6,8 @@ use mbe_rules::{ArmFault, Expansion, FillError, MacroRules, TemplateError};
 use std::alloc::Global;
 use std::test::Fail;
 
-// Returns what comes of an input, as a text: its tokens, or that no arm takes it and where the farthest stops, that the one of that number takes it in two ways, or that it
-// is not filled.
+// Returns the result for an input as a text: its tokens, or that no arm takes it and where the farthest stops, or the number of the arm
+// that takes it in two ways, or that the template is not filled.
 fn told(alloc: Global, arms: &str, input: &str) -> Option<String> {
     let arms = tree_of(alloc, arms)?;
     let input = tree_of(alloc, input)?;
@@ -33,9 +33,10 @@ fn numbered(alloc: Global, word: &str, number: usize) -> Option<String> {
     Some(text)
 }
 
-// The first arm that takes the input answers, in the brackets of its template; where it takes it in two ways, no later one does; nor
-// where its template is not filled. A list, a tail, words that are not variables, and macros of the forms that people write: a map, a
-// count by recursion, an enum with a visibility and values, lists in lists, a loop with its lifetime, a macro handed on.
+// The first arm that takes the input answers, in the brackets of its template. If it takes the input in two ways, or its
+// template is not filled, no later arm answers.
+// A list, a tail, words that are not variables, and common forms of macros: a map, a count by recursion, an enum with a visibility and
+// values, lists in lists, a loop with its lifetime, a macro that is handed on.
 const EXPANSIONS: [(&str, &str, &str); 25] = [
     ("() => {}", "", "{0"),
     ("() => {a};", "", "{1a "),
@@ -108,8 +109,8 @@ const EXPANSIONS: [(&str, &str, &str); 25] = [
     ),
 ];
 
-// What a fragment of Rust's grammar took: an expression, a type or a pattern of more than one token stands as one subtree, others stand
-// as the trees that they are.
+// What a fragment of Rust's grammar took: an expression, a type or a pattern of more than one token is one
+// subtree. Others are the trees as they are.
 const PIECES: [(&str, &str, &str); 10] = [
     ("($e:expr) => {$e * 2}", "a + b", "{6<3a + b * 2 "),
     ("($e:expr) => {$e * 2}", "a", "{3a * 2 "),
@@ -143,7 +144,7 @@ const PIECES: [(&str, &str, &str); 10] = [
     ),
 ];
 
-// Returns what comes of what comes of an input, by other arms.
+// Returns the result of expanding an expansion by other arms.
 fn told_again(alloc: Global, arms: &str, input: &str, others: &str) -> Option<String> {
     let arms = tree_of(alloc, arms)?;
     let input = tree_of(alloc, input)?;
@@ -159,7 +160,7 @@ fn told_again(alloc: Global, arms: &str, input: &str, others: &str) -> Option<St
     }
 }
 
-// What stands as one is taken as one: by `tt`, and by its own fragment, which then writes it as it is, or as a part of more.
+// A subtree of a fragment is taken as one: by `tt`, and by its own fragment, which then writes it as it is, or as a part of more.
 const AGAIN: [(&str, &str, &str, &str); 5] = [
     (
         "($e:expr) => {$e * 2}",
@@ -227,7 +228,7 @@ fn kind_of(fault: ArmFault) -> (&'static str, usize) {
     }
 }
 
-// Returns the same of a pattern's.
+// Returns the same for the fault of a pattern.
 fn pattern_kind(error: PatternError) -> (&'static str, usize) {
     match error {
         PatternError::BeginsNothing(at) => ("begins nothing", at),
@@ -239,8 +240,8 @@ fn pattern_kind(error: PatternError) -> (&'static str, usize) {
     }
 }
 
-// What is wrong, with the number of the arm and the place: among all trees what is wrong with the form of an arm, and in a pattern or a
-// template what is wrong with that. A pattern's fault comes before that of the arrow behind it.
+// Faults, with the number of the arm and the place: the place is among all trees for the form of an arm, and in a pattern or a template for
+// its own fault. A pattern's fault comes before that of the arrow after it.
 const FAULTS: [(&str, usize, &str, usize); 17] = [
     ("", 0, "no pattern", 0),
     (";", 0, "no pattern", 0),
@@ -261,7 +262,7 @@ const FAULTS: [(&str, usize, &str, usize); 17] = [
     ("(a) => {$(b)*}", 0, "nothing repeats", 0),
 ];
 
-// Returns whether that is wrong.
+// Returns whether the arms have that fault.
 fn has_fault(alloc: Global, arms: &str, arm: usize, kind: &str, place: usize) -> Option<bool> {
     let arms = tree_of(alloc, arms)?;
     let error = MacroRules::new(alloc, arms.token_trees().iter()).err()?;

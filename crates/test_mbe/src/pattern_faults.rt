@@ -1,10 +1,10 @@
-//! Patterns beside others that differ in little, in which something is wrong.
+//! Faulty patterns, next to sound ones that differ only a little.
 use crate::texts::{holds, tree_of};
 use mbe_matcher::{Matcher, PatternError};
 use std::alloc::Global;
 use std::test::Fail;
 
-// Returns whether nothing is wrong with the one pattern, and that with the other.
+// Returns whether the one pattern is sound, and the other has that fault.
 fn is_told(alloc: Global, sound: &str, faulty: &str, fault: PatternError) -> Option<bool> {
     let sound = tree_of(alloc, sound)?;
     let faulty = tree_of(alloc, faulty)?;
@@ -15,8 +15,8 @@ fn is_told(alloc: Global, sound: &str, faulty: &str, fault: PatternError) -> Opt
     Some(error == fault)
 }
 
-// A sound pattern, a faulty one, and what is wrong with that: a `$` that begins nothing, fragments that are none, a name that is given
-// twice, repetitions that may take no tree, a separator before `?`; and the first of several.
+// A sound pattern, a faulty one, and its fault: a `$` that begins nothing, unknown fragments, a name that is given twice, repetitions that
+// may take no tree, a separator before `?`; and the first of several.
 const FAULTS: [(&str, &str, PatternError); 60] = [
     ("a", "$", PatternError::BeginsNothing(0)),
     ("$crate", "$$crate", PatternError::BeginsNothing(0)),

@@ -1,11 +1,11 @@
-//! Texts, and how many of their trees a fragment takes: the compiler takes as many of each.
+//! Texts, and the number of trees that a fragment takes of each. The compiler takes the same number.
 use crate::reach::{Row, all_are_taken};
 use mbe_pattern::GrammarFragment;
 use std::test::Fail;
 
-// A list of arguments that `>>` closes, and one with `>=` behind it; a comparison; a struct literal, but not behind `if`; an operator
-// without an operand; what is behind a block as a statement; operators that another stands behind; `_` and `const` blocks, which
-// `expr_2021` begins with neither of; calls behind jumps and closures.
+// A list of arguments that `>>` closes, and one with `>=` after it; a comparison; a struct literal, but not after `if`; an operator
+// without an operand; what follows a block as a statement; operators with another after them; `_` and `const` blocks, with which no
+// `expr_2021` begins; calls after jumps and closures.
 const ROWS: [Row; 9] = [
     Row {
         fragment: GrammarFragment::Expr,

@@ -1,5 +1,5 @@
-//! Texts in which each name of the table takes part, three times or more. Most were made by chance from the table and near it; the
-//! compiler takes as many of their trees.
+//! Texts in which each name of the table occurs three times or more. Most were generated at random from the table and near it. The
+//! compiler takes the same number of their trees.
 use crate::reach::{Row, all_are_taken};
 use mbe_pattern::GrammarFragment;
 use std::test::Fail;

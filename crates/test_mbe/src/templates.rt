@@ -1,4 +1,4 @@
-//! Templates, each with a pattern and its parts, or what is wrong with it and where.
+//! Templates, each with a pattern and its parts, or with its fault and the place.
 use crate::texts::{holds, matcher_of, tree_of};
 use mbe_matcher::Binder;
 use mbe_pattern::{RepeatKind, Tail};
@@ -6,7 +6,7 @@ use mbe_rules::{Part, Template, TemplateError};
 use std::alloc::Global;
 use std::test::Fail;
 
-// Returns the name of the variable of that number.
+// Returns the name of the variable with that number.
 fn name_of(binders: &[Binder], number: usize) -> Option<&str> {
     match &binders.get(number)?.name {
         Some(name) => Some(name.as_str()),
@@ -14,7 +14,7 @@ fn name_of(binders: &[Binder], number: usize) -> Option<&str> {
     }
 }
 
-// Returns how the end of a repetition is written: with `,` where it has a separator.
+// Returns the text for the end of a repetition: with `,` if it has a separator.
 fn written_tail(tail: &Tail) -> &'static str {
     match (tail.separator.is_empty(), tail.kind) {
         (true, RepeatKind::ZeroOrMore) => ")* ",
@@ -26,7 +26,7 @@ fn written_tail(tail: &Tail) -> &'static str {
     }
 }
 
-// Returns how a part is written that is no use.
+// Returns the text for a part that is no use.
 fn written_part(part: &Part) -> &'static str {
     match part {
         Part::Use(..) => "$",
@@ -61,7 +61,7 @@ fn has_parts(alloc: Global, pattern: &str, template: &str, parts: &str) -> Optio
 }
 
 // Uses, in repetitions and subtrees; names that are no variables, `$crate`, `$_`, a `$` before nothing and before itself; raw names;
-// repetitions without a tail, in other brackets, and with `$` for a separator.
+// repetitions without a tail, in other brackets, and with `$` as a separator.
 const PARTS: [(&str, &str, &str); 24] = [
     ("", "", "} "),
     ("$x:tt", "$x", "$x } "),
@@ -106,7 +106,8 @@ fn are_parts(alloc: Global) -> bool {
     true
 }
 
-// Returns what is wrong: whether a variable repeats still, and the flat place of its `$`, or of that of a repetition in which nothing repeats.
+// Returns the fault: whether a variable still repeats, and the flat place of its `$`; or of the `$`
+// of a repetition in which nothing repeats.
 fn fault_of(error: TemplateError) -> Option<(bool, usize)> {
     match error {
         TemplateError::StillRepeats(at) => Some((true, at)),
@@ -115,7 +116,7 @@ fn fault_of(error: TemplateError) -> Option<(bool, usize)> {
     }
 }
 
-// Returns whether that is wrong with a template, at that flat place.
+// Returns whether a template has that fault, at that flat place.
 fn has_fault(
     alloc: Global,
     pattern: &str,

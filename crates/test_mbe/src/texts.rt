@@ -1,4 +1,4 @@
-//! What rows are made of: trees and matchers of texts.
+//! The trees and matchers of texts, for the examples.
 use mbe_matcher::Matcher;
 use std::alloc::Global;
 use std::test::Fail;
@@ -20,7 +20,7 @@ pub(crate) fn matcher_of(alloc: Global, pattern: &str) -> Option<Matcher> {
     Matcher::new(alloc, pattern.token_trees().iter()).ok()
 }
 
-/// Returns a test passes where what it asks is so.
+/// Passes a test if its condition holds.
 pub(crate) fn holds(is_so: bool) -> Result<(), Fail> {
     if is_so {
         Ok(())

@@ -5,7 +5,7 @@ use std::alloc::Global;
 use std::test::Fail;
 use tt::TopSubtree;
 
-// In how many ways an input is an instance of a pattern, where there is an answer: 2 stands for more, too.
+// Returns in how many ways an input is an instance of a pattern, if there is an answer: 2 also means more.
 fn ways(alloc: Global, pattern: &str, input: &str) -> Option<usize> {
     let pattern = tree_of(alloc, pattern)?;
     let matcher = Matcher::new(alloc, pattern.token_trees().iter()).ok()?;
@@ -18,7 +18,7 @@ fn ways(alloc: Global, pattern: &str, input: &str) -> Option<usize> {
     }
 }
 
-// Returns the flat place of an input where a pattern stops of which it is no instance.
+// Returns the flat place of an input at which a pattern stops, if the input is no instance of it.
 fn stop(alloc: Global, pattern: &str, input: &str) -> Option<usize> {
     let pattern = tree_of(alloc, pattern)?;
     let matcher = Matcher::new(alloc, pattern.token_trees().iter()).ok()?;
@@ -29,9 +29,9 @@ fn stop(alloc: Global, pattern: &str, input: &str) -> Option<usize> {
     }
 }
 
-// Before the first token, behind some, in a subtree, at its end, behind it; behind a round, behind a separator, in a round and in a
-// repetition of it; where one of two ways comes farther; before a token of which the input has the beginning only; behind a `vis` that
-// takes nothing, and behind one that takes three tokens; where nothing is left; behind an expression, and before what is none.
+// Before the first token, after some, in a subtree, at its end, after it; after a round, after a separator, in a round and in a repetition
+// of it; if one of two ways gets farther; before a token whose beginning alone the input has; after a `vis` that takes nothing, and after
+// one that takes three tokens; if nothing is left; after an expression, and before something that is none.
 const STOPS: [(&str, &str, usize); 28] = [
     ("", "a", 0),
     ("a", "", 0),
@@ -72,8 +72,8 @@ fn are_stopped(alloc: Global) -> bool {
     true
 }
 
-// A list with a comma at its end or none, what may be left out twice, fragments, subtrees, repetitions inside of others, names, and
-// `$crate`; visibilities, which may be nothing, beside each other and where rounds end.
+// A list with a comma at its end or none, options given twice, fragments, subtrees, nested repetitions, names, and `$crate`; visibilities,
+// which may be empty, next to each other and at the end of rounds.
 const WAYS: [(&str, &str, usize); 101] = [
     ("$($x:ident),* $(,)?", "", 1),
     ("$($x:ident),* $(,)?", "a", 1),
@@ -178,7 +178,7 @@ const WAYS: [(&str, &str, usize); 101] = [
     ("$v:vis $x:tt", "pub", 0),
 ];
 
-// Returns whether each input is an instance in so many ways.
+// Returns whether each input is an instance in that number of ways.
 pub(crate) fn are_ways(alloc: Global, rows: &[(&str, &str, usize)]) -> bool {
     for (pattern, input, wanted) in rows {
         if ways(alloc, pattern, input) != Some(*wanted) {
@@ -188,7 +188,7 @@ pub(crate) fn are_ways(alloc: Global, rows: &[(&str, &str, usize)]) -> bool {
     true
 }
 
-// Returns the idents that the variable of that number took, each with a space behind it.
+// Returns the idents that the variable with that number took, each with a space after it.
 fn idents(alloc: Global, binding: &Binding<'_>, number: usize) -> Option<String> {
     let mut names = String::new(alloc);
     for trees in binding.trees(alloc, number).ok()?.iter() {
@@ -199,7 +199,7 @@ fn idents(alloc: Global, binding: &Binding<'_>, number: usize) -> Option<String>
     Some(names)
 }
 
-// Where the rounds of the innermost of these repetitions end, each time.
+// Returns where the rounds of the innermost of these repetitions end, each time.
 fn ends(alloc: Global, binding: &Binding<'_>, nest: &[usize]) -> Option<Vec<usize>> {
     match nest.last() {
         Some(number) => binding.ends(alloc, *number).ok(),
@@ -207,7 +207,7 @@ fn ends(alloc: Global, binding: &Binding<'_>, nest: &[usize]) -> Option<Vec<usiz
     }
 }
 
-// Returns whether these are the idents that the variable took, and the ends of the rounds round it.
+// Returns whether the variable took these idents, and the rounds around it end there.
 fn is_bound(
     alloc: Global,
     binding: &Binding<'_>,
@@ -232,7 +232,7 @@ fn is_named(binder: &Binder, name: &str) -> bool {
     }
 }
 
-// Returns whether the input is an instance in one way, which binds that to the variable of that name.
+// Returns whether the input is an instance in one way, with those idents for the variable of that name.
 fn binds(
     alloc: Global,
     matcher: &Matcher,
@@ -258,8 +258,8 @@ fn matcher_of(alloc: Global, pattern: &str) -> Option<Matcher> {
     Matcher::new(alloc, pattern.token_trees().iter()).ok()
 }
 
-// A pattern, an input, a name, the idents that are bound to it, and where rounds end round it: lists, empty ones, lists in lists, two
-// names beside each other, a subtree, and rounds in which something may be left out.
+// A pattern, an input, a name, the idents of its variable, and where rounds around it end: lists, empty ones, lists in lists, two names
+// next to each other, a subtree, and rounds with optional parts.
 const BOUND: [(&str, &str, &str, &str, &[usize]); 12] = [
     ("$($x:ident),* $(,)?", "a, b,", "x", "a b ", &[2]),
     ("$($x:ident),* $(,)?", ",", "x", "", &[0]),

@@ -2,7 +2,7 @@
 use std::alloc::Global;
 use tt::{DelimiterKind, Leaf, Subtree, TokenTree, TopSubtree};
 
-// Returns how a header is written: its bracket, and how many tokens it holds, fewer than 36, as one digit or letter.
+// Writes a header: its bracket, and how many tokens it holds, fewer than 36, as one digit or letter.
 fn push_header(text: &mut String, header: &Subtree) -> Option<()> {
     let bracket = match header.delimiter.kind {
         DelimiterKind::Parenthesis => '(',
@@ -14,7 +14,7 @@ fn push_header(text: &mut String, header: &Subtree) -> Option<()> {
     text.push(char::from_digit(header.len, 36)?).ok()
 }
 
-// Returns how a leaf is written: its text, and a space.
+// Writes a leaf: its text, and a space.
 fn push_leaf(text: &mut String, leaf: &Leaf) -> Option<()> {
     match leaf {
         Leaf::Ident(ident) => text.push_str(ident.sym.as_str()).ok()?,
