@@ -1,4 +1,4 @@
-//! Worked rows on tokens, trees and texts, by the calls of `syntax_lex`, `syntax_parse` and `syntax_unparse`.
+//! Examples of tokens, trees and texts, by the calls of `syntax_lex`, `syntax_parse` and `syntax_unparse`.
 #![tactic(auto)]
 
 #[cfg(test)]

@@ -1,8 +1,8 @@
-//! The first token of a text, and what a text is cut into.
+//! The first token of a text, and all tokens of a text.
 use std::test::Fail;
 use syntax_lex::{Base, DocStyle, LiteralKind, MOST_TEXT_BYTES, TokenKind, first_token, tokenize};
 
-// Texts, each with what its first token is and how many bytes it takes.
+// Texts, each with the kind of its first token and how many bytes it takes.
 const ROWS: [(&str, TokenKind, u32); 25] = [
     ("a", TokenKind::Ident, 1),
     ("r#a", TokenKind::RawIdent, 3),
@@ -169,7 +169,7 @@ const ROWS: [(&str, TokenKind, u32); 25] = [
     ("€", TokenKind::Unknown, 3),
 ];
 
-// More of each family, and of what ends it.
+// More of each family, and of the characters that end it.
 const MORE_ROWS: [(&str, TokenKind, u32); 13] = [
     (
         "\"a\\\"b\"u8 c",
@@ -257,7 +257,7 @@ fn are_first(rows: &[(&str, TokenKind, u32)]) -> bool {
     true
 }
 
-// Returns whether a text is cut into tokens of these lengths.
+// Returns whether the tokens of a text have these lengths.
 fn has_lengths(text: &str, lengths: &[u32]) -> bool {
     if text.len() > MOST_TEXT_BYTES {
         return false;

@@ -99,7 +99,7 @@ const REFUSED: [(&str, &str); 35] = [
     ("é \"a\rb\"", "bare carriage return at 3"),
 ];
 
-// Literals with what no literal of their kind may hold.
+// Literals with something that no literal of their kind may hold.
 const NO_LITERALS: [(&str, &str); 26] = [
     ("é '\\q'", "unknown escape at 3"),
     ("日 \"\\q\"", "unknown escape at 4"),
@@ -151,7 +151,7 @@ const ESCAPES: [(&str, &str); 5] = [
     ),
 ];
 
-// What stands before and behind one sign over and over, how many of these, and what is told of it.
+// The text before and after a sign that is repeated, how often it is repeated, and the reason for the refusal.
 const MANY: [(&str, &str, usize, &str, &str); 8] = [
     ("é 1", "u", 255, "", ""),
     ("é 1", "u", 256, "", "suffix of more than 255 bytes at 3"),
@@ -163,7 +163,7 @@ const MANY: [(&str, &str, usize, &str, &str); 8] = [
     ("日 r", "#", 256, "\"", "more than 255 hashes at 4"),
 ];
 
-// Returns whether each text of many signs is told so; one that is read has an empty answer here.
+// Returns whether each text with a repeated sign has that answer; the answer is empty if the text is read.
 fn are_many_told(alloc: Global) -> Result<bool, TtFault> {
     for (before, sign, count, behind, wanted) in &MANY {
         let mut text = String::from_str(alloc, before)?;
@@ -179,7 +179,7 @@ fn are_many_told(alloc: Global) -> Result<bool, TtFault> {
     Ok(true)
 }
 
-// Returns why the text is refused; empty where it is read.
+// Returns why the text is refused; empty if it is read.
 fn refusal(alloc: Global, text: &str) -> Result<String, TtFault> {
     match read(alloc, text) {
         Ok(_tree) => Ok(String::new(alloc)),
@@ -204,7 +204,7 @@ fn told(alloc: Global, text: &str) -> Result<String, TtFault> {
     }
 }
 
-// Returns whether each of the texts is told so.
+// Returns whether each of the texts has that answer.
 fn are_told(alloc: Global, rows: &[(&str, &str)]) -> Result<bool, TtFault> {
     for (text, wanted) in rows {
         let found = told(alloc, text)?;
@@ -215,7 +215,7 @@ fn are_told(alloc: Global, rows: &[(&str, &str)]) -> Result<bool, TtFault> {
     Ok(true)
 }
 
-// Returns a test passes where what it asks is so.
+// Passes a test if its condition holds.
 fn holds(is_so: Result<bool, TtFault>) -> Result<(), Fail> {
     match is_so {
         Ok(true) => Ok(()),

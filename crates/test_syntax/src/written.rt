@@ -9,7 +9,7 @@ use tt::{
     TtFault,
 };
 
-// Texts, and what is written of the trees that are read of them.
+// Texts, and the Rust text of the trees that are read from them.
 const READ: [(&str, &str); 8] = [
     ("", ""),
     ("a  b /* c */ r#fn", "a b r#fn"),
@@ -27,14 +27,14 @@ const READ: [(&str, &str); 8] = [
 // A part of a tree.
 #[derive(Clone, Copy)]
 enum Part<'a> {
-    // a subtree of a kind with so many tokens below it
+    // a subtree of a kind, and how many tokens it holds
     Opens(DelimiterKind, u32),
     Name(&'a str),
     Sign(char, Spacing),
     Value(LitKind, &'a str),
 }
 
-// Trees that are made of parts, with their texts, or with why they are not written.
+// Trees made of parts, with their texts, or with why they are not written.
 const MADE: [(&[Part<'static>], &str); 27] = [
     (&[Part::Name("a"), Part::Name("b")], "a b"),
     (
@@ -199,7 +199,7 @@ const MADE: [(&[Part<'static>], &str); 27] = [
     ),
 ];
 
-// Returns the place of all that is made here.
+// Returns the one span of all that is made here.
 fn nowhere() -> Span {
     Span {
         range: TextRange::empty(TextSize::new(0)),
@@ -236,7 +236,7 @@ fn token(alloc: Global, part: Part) -> Result<TokenTree, TtFault> {
     })
 }
 
-// Returns the tree of these parts below an invisible top.
+// Returns the tree of these parts under an invisible top.
 fn made(alloc: Global, parts: &[Part]) -> Result<TopSubtree, TtFault> {
     let mut list = Vec::new(alloc);
     let Ok(len) = u32::try_from(parts.len()) else {
@@ -250,7 +250,7 @@ fn made(alloc: Global, parts: &[Part]) -> Result<TopSubtree, TtFault> {
     Ok(TopSubtree::from_serialized(alloc, list)?)
 }
 
-// Returns the Rust text of a tree, or why it is not written; whether it can be is told alike.
+// Returns the Rust text of a tree, or why it is not written, if `is_writable` returns the same fault; else an empty text.
 fn told(alloc: Global, tree: &TopSubtree) -> Result<String, TtFault> {
     match rust_text(alloc, tree.token_trees()) {
         Ok(text) => Ok(text),
@@ -264,7 +264,7 @@ fn told(alloc: Global, tree: &TopSubtree) -> Result<String, TtFault> {
     }
 }
 
-// Returns what is written of the tree of a text.
+// Returns the Rust text of the tree of a text, or why it has none.
 fn read_and_told(alloc: Global, text: &str) -> Result<String, TtFault> {
     match parse_to_token_tree(alloc, nowhere().anchor, SyntaxContext(0), text) {
         Ok(tree) => told(alloc, &tree),
@@ -272,7 +272,7 @@ fn read_and_told(alloc: Global, text: &str) -> Result<String, TtFault> {
     }
 }
 
-// Returns whether all trees are written so that are read of texts.
+// Returns whether all trees that are read from texts have that Rust text.
 fn are_read(alloc: Global) -> Result<bool, TtFault> {
     for (text, wanted) in &READ {
         let found = read_and_told(alloc, text)?;
@@ -283,7 +283,7 @@ fn are_read(alloc: Global) -> Result<bool, TtFault> {
     Ok(true)
 }
 
-// Returns whether all trees are written so that are made of parts.
+// Returns whether all trees that are made of parts have that Rust text.
 fn are_made(alloc: Global) -> Result<bool, TtFault> {
     for (parts, wanted) in &MADE {
         let tree = made(alloc, parts)?;
@@ -295,7 +295,7 @@ fn are_made(alloc: Global) -> Result<bool, TtFault> {
     Ok(true)
 }
 
-// Returns a test passes where what it asks is so.
+// Passes a test if its condition holds.
 fn holds(is_so: Result<bool, TtFault>) -> Result<(), Fail> {
     match is_so {
         Ok(true) => Ok(()),
