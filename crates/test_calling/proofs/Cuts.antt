@@ -1,4 +1,4 @@
--- What one more piece is of the trees that are left.
+-- The effect of one more piece on the trees that are left.
 use Rattle.std.proofs.Common.{◌≡◌, ◌⊎◌, inl, inr, Bool, true, false, cond, List, [], ◌∷◌, ◌++◌, Some, map, refl, ap, sym, ◌∙◌}
 use Rattle.std.specs.List.{AllByRecursion, FoldsTo}
 use Rattle.tt.specs.Iters.{tree_of}
@@ -12,7 +12,7 @@ use Rattle.test_calling.specs.Commas.{is_comma}
 use Rattle.test_calling.specs.ViewTrees.{view_trees}
 
 module _ {X : Type 0} (test : X → Bool) where
-  -- none of them passes
+  -- no tree passes
   abbrev pub NonePasses : List X → Type 0
   NonePasses = AllByRecursion (λ x. test x ≡ false)
 
@@ -26,18 +26,18 @@ module _ {X : Type 0} (test : X → Bool) where
   cut_last [] fail = refl
   cut_last (y ∷ xs) fail = rw fail.0 (ap (onto_first y) (cut_last xs fail.1))
 
--- what is to come of the pieces
+-- the pieces to come
 abbrev pub to_come : {F : Type 0} → Split F → List (List Tree)
 to_come s = cond (is_done s) [] (slice_split is_comma (list_of (left_in s)))
 
 module _ {F : Type 0} (step : F → TtElement → Bool → F → Type 0)
     (answers : (p : F) (e : TtElement) (b : Bool) (q : F) → step p e b q → b ≡ is_comma (tree_of e)) where
-  -- Those of which the answer was no are no commas.
+  -- The elements with the answer no are no commas.
   no_commas : (p : F) (asked : List TtElement) (q : F) → FoldsTo (λ x e y. step x e false y) p asked q → NonePasses is_comma (map tree_of asked)
   no_commas p [] q folds = tt
   no_commas p (e ∷ asked) q (next, one, more) = (sym (answers p e false next one), no_commas next asked q more)
 
-  -- A piece, and what is then to come, are what was to come.
+  -- A piece, and the pieces to come after it, are the pieces that were to come before it.
   pub one_piece : (s t : Split F) (piece : TokenTreesView) → GivesPiece step s (Some piece) t → to_come s ≡ view_trees piece ∷ to_come t
   one_piece s t piece (going, (asked, are, counted, told)) = rw going (either told)
     where

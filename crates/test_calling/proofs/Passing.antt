@@ -1,4 +1,4 @@
--- What was passed of a list of trees, and what is left, are the list.
+-- The trees of a list that were passed, and those that are left, are the list.
 use Rattle.std.proofs.Common.{◌≡◌, Bool, true, false, codes, refl, ap, if◌then◌else◌}
 use Rattle.tt.specs.Expectations.{first_leaf_as, as_punct, is_punct_of}
 use Rattle.tt.specs.Forest.{Forest, end, leaf, node, join}

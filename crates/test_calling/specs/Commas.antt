@@ -13,6 +13,6 @@ is_comma (tip (leaf_of.Punct punct)) = punct.char == 44
 is_comma (tip (leaf_of.Ident ident)) = false
 is_comma (branch delimiter children) = false
 
--- the trees behind a comma, if one is first, and else all
+-- the trees after a comma, if one is first, and else all
 abbrev pub after_comma : Forest → Forest
 after_comma trees = if is_punct_of (codes ",") (first_leaf_as as_punct trees) then after_tree trees else trees

@@ -1,4 +1,4 @@
--- What a rule makes of inputs, and why it makes nothing of them.
+-- How a rule expands inputs, and why it does not.
 use Rattle.std.specs.Prelude.{◌≡◌, ◌⊎◌, Option, None, Some}
 use Rattle.tt.specs.Forest.{Forest, Root}
 use Rattle.test_calling.specs.declared.macros.MacroFault.{MacroFault}
@@ -7,7 +7,7 @@ use Rattle.mbe_rule.specs.declared.fault.RuleFault.TheVariants.{Memory}
 use Rattle.mbe_rule.specs.Expansions.{IsNoInstance, IsExpansion, IsExpandFault}
 use Rattle.mbe_rule.specs.Faults.{rule_fault}
 
--- the tree that comes of an input, if it is an instance
+-- the tree that an input expands to, or `None` if it is no instance
 abbrev pub IsExpanded : (pattern template : Root) → (input : Forest) → Option Root → Type 0
 IsExpanded pattern template input None = IsNoInstance pattern.children input
 IsExpanded pattern template input (Some tree) = IsExpansion pattern.children template input tree

@@ -38,7 +38,7 @@ impl From<ExpandError> for ArmsFault {
     }
 }
 
-/// Returns what the macro of these arms makes of an input.
+/// Returns the expansion of an input by the macro of these arms.
 pub fn expand_macro(
     alloc: Global,
     arms: TokenTreesView<'_>,

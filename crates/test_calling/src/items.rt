@@ -1,4 +1,4 @@
-//! Trees with a comma behind them that may be left out.
+//! Trees, each with an optional comma after it.
 ghost use Rattle.std.specs.Prelude.{◌≡◌};
 ghost use Rattle.tt.specs.Forest.{join};
 ghost use Rattle.tt.specs.Iters.{rest_of};
@@ -8,7 +8,7 @@ ghost use Rattle.test_calling.specs.Commas.{after_comma};
 
 use tt::{TokenTreesView, TtIter};
 
-// Passes a comma, if one is next, and else goes back to where it was.
+// Passes a comma if one is next, and else goes back to where it was.
 fn pass_comma(siblings: &mut TtIter<'_>)
     ensures { rest_of siblings.new ≡ after_comma (rest_of siblings.old) }
 {
@@ -18,7 +18,7 @@ fn pass_comma(siblings: &mut TtIter<'_>)
     }
 }
 
-/// Returns the next tree, and the comma behind it where there is one: what the iterator has passed then.
+/// Returns the next tree, with the comma after it if there is one. The iterator passes both.
 pub fn item<'a>(siblings: &mut TtIter<'a>) -> TokenTreesView<'a>
     ensures rest { rest_of siblings.new ≡ after_comma (after_tree (rest_of siblings.old)) }
     ensures passed { join (trees_of result) (rest_of siblings.new) ≡ rest_of siblings.old }

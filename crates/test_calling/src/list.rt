@@ -1,4 +1,4 @@
-//! From flat lists to trees and back, and whether two lists are one.
+//! From flat lists to trees and back, and whether two lists are the same.
 ghost use Rattle.std.specs.Prelude.{◌≡◌, ◌↔◌, IfOk, IsTrue};
 ghost use Rattle.tt.specs.Forest.{flat_root};
 
@@ -16,7 +16,7 @@ pub fn flat_list(alloc: Global, tree: &TopSubtree) -> Result<Vec<TokenTree>, TtF
     Ok(list)
 }
 
-/// Packs a flat list and reads it back: what is read is the very list.
+/// Packs a flat list and reads it back: the result is the same list.
 pub fn round_trip(alloc: Global, tokens: Vec<TokenTree>) -> Result<Vec<TokenTree>, TtFault>
     ensures { IfOk result (λ list. list.items ≡ tokens.items) }
 {
@@ -24,7 +24,7 @@ pub fn round_trip(alloc: Global, tokens: Vec<TokenTree>) -> Result<Vec<TokenTree
     flat_list(alloc, &tree)
 }
 
-/// Returns whether two flat lists are the same. They are packed, and what is stored is compared.
+/// Returns whether two flat lists are the same. Packs them and compares what is stored.
 pub fn same_tree(
     alloc: Global,
     left: Vec<TokenTree>,

@@ -38,14 +38,14 @@ impl From<TtFault> for MacroFault {
     }
 }
 
-/// What comes of two inputs: of each a tree, or none where it is no instance.
+/// The expansions of two inputs: a tree each, or none if the input is no instance.
 #[derive(Drop)]
 pub struct Expansions {
     pub left: Option<TopSubtree>,
     pub right: Option<TopSubtree>,
 }
 
-/// Returns what the rule of a pattern and a template makes of two inputs. It is made once.
+/// Returns the expansions of two inputs by the rule of a pattern and a template. Makes the rule once.
 pub fn expand_both(
     alloc: Global,
     pattern: &TopSubtree,

@@ -7,7 +7,7 @@ ghost use Rattle.test_calling.specs.Names.{is_name, names};
 
 use tt::{Leaf, TokenTreesView, TtElement, TtIter};
 
-// Returns whether the leaf is an ident of that text.
+// Returns whether the leaf is an ident with that text.
 fn is_name(leaf: &Leaf, name: &str) -> bool
     ensures { result ≡ is_name name.now leaf.now }
 {
@@ -17,7 +17,7 @@ fn is_name(leaf: &Leaf, name: &str) -> bool
     }
 }
 
-/// Returns whether an ident of that text stands anywhere in the trees.
+/// Returns whether an ident with that text is anywhere in the trees.
 pub fn mentions(siblings: TtIter<'_>, name: &str) -> bool
     ensures { result ≡ names name.now (rest_of siblings.entry) }
 {
@@ -33,7 +33,7 @@ pub fn mentions(siblings: TtIter<'_>, name: &str) -> bool
     false
 }
 
-/// Returns how many tokens the trees have. A header tells how many it holds, so nothing below the siblings is read.
+/// Returns how many tokens the trees have. A header gives the number of tokens that it holds, so nothing below the siblings is read.
 pub fn count_tokens(trees: TokenTreesView<'_>) -> usize
     ensures { result ≡ size (trees_of trees.entry) }
 {

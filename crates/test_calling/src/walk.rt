@@ -7,7 +7,7 @@ use std::alloc::Global;
 use tt::buffer::Cursor;
 use tt::{TokenTreesView, TtFault};
 
-// Goes one place on: past a leaf, into a subtree, or out of the one that ends here.
+// Goes one place on: over a leaf, into a subtree, or out of the one that ends here.
 fn go_on(cursor: &mut Cursor<'_>) -> Result<(), TtFault>
     requires { is_over (events_ahead cursor.old) ≡ false }
     ensures { OnOk result (cursor.new ≡ one_on cursor.old) }
@@ -19,7 +19,7 @@ fn go_on(cursor: &mut Cursor<'_>) -> Result<(), TtFault>
     Ok(())
 }
 
-/// Goes through all places of the walk, and gives the trees that were crossed, which are all of them.
+/// Goes through all places of the walk, and returns the trees that were crossed, which are all of them.
 pub fn crossed_by_walk<'a>(
     alloc: Global,
     trees: TokenTreesView<'a>,

@@ -1,4 +1,4 @@
--- What was read, and the tokens to come, are the flat list.
+-- The tokens read, and those to come, are the flat list.
 use Rattle.std.proofs.Common.{◌≡◌, ◌++◌}
 use Rattle.tt.specs.Forest.{flat, flat_root}
 use Rattle.tt.specs.SubtreeViews.{flat_rest}

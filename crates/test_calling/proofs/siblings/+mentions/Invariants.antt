@@ -1,4 +1,4 @@
--- The siblings that were asked do not have the name.
+-- The siblings that were tested do not have the name.
 use Rattle.std.proofs.Common.{◌≡◌, ◌≤◌}
 use Rattle.tt.specs.Forest.{size}
 use Rattle.tt.specs.Iters.{rest_of}

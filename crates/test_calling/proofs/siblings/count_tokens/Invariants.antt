@@ -1,4 +1,4 @@
--- What was counted, and the tokens to come, are all.
+-- The tokens counted, and those to come, are all.
 use Rattle.std.proofs.Common.{◌≡◌, ◌+◌}
 use Rattle.tt.specs.Forest.{size}
 use Rattle.tt.specs.Iters.{rest_of}
