@@ -5,8 +5,8 @@ use std::alloc::Global;
 use std::test::Fail;
 use tt_base::TtFault;
 
-// Lines that are no command, each for one rule of `docs/CONSOLE.md`: a text for each topic with the number of
-// its lines, a line feed between them.
+// Lines that are no command, each for one rule of `docs/CONSOLE.md`: one text for each topic, with the number
+// of its lines and a line feed between them.
 const BAD_LINES: [(u32, &[u8]); 13] = [
     // No command.
     (
@@ -51,7 +51,7 @@ const BAD_LINES: [(u32, &[u8]); 13] = [
       load 0 ff \n\
       load 0  ff",
     ),
-    // Trees that are changed.
+    // Changed trees.
     (
         37,
         b"kind 0\n\
@@ -204,7 +204,7 @@ const BAD_LINES: [(u32, &[u8]); 13] = [
       item lit rbstr:256 0 0:0@0..1#0 a\n\
       item lit str:1 0 0:0@0..1#0 a",
     ),
-    // One space parts words, and nothing else does.
+    // Exactly one space separates words.
     (
         6,
         b"show\t0\n\
@@ -237,7 +237,7 @@ fn no_commands(alloc: Global, text: &[u8]) -> Result<u32, TtFault> {
     Ok(found)
 }
 
-// Returns the index of the first text of which not all lines are no command.
+// Returns the index of the first text in which a line is a command.
 fn first_wrong(alloc: Global) -> Result<usize, TtFault> {
     let mut index = 0usize;
     for (rows, text) in &BAD_LINES {
@@ -263,7 +263,7 @@ const OF_TWO_LINES: [&[u8]; 4] = [
     b"\nshow 0",
 ];
 
-// Returns whether none of them is a command.
+// Returns whether none of the texts is a command.
 fn are_no_commands(alloc: Global) -> Result<bool, TtFault> {
     for text in &OF_TWO_LINES {
         if Command::parse(alloc, text)?.is_some() {

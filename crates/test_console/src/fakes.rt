@@ -1,11 +1,11 @@
-//! A reader and a writer that fail where they are told to.
+//! A reader and a writer that fail at a given call.
 use std::alloc::Global;
 use std::io::{Error, ErrorKind, Read, Result, Write};
 
-/// At which read, from 1 on, a `FakeReader` fails, and how. At 0 it does not.
+/// The read, counted from 1, at which a `FakeReader` fails, and how. At 0 it does not fail.
 pub type ReadFailure = (u64, ErrorKind);
 
-/// A reader that gives one byte a read, and fails at one of its reads.
+/// A reader that gives one byte for each read, and fails at one of its reads.
 #[derive(Drop)]
 pub struct FakeReader<'a> {
     rest: &'a [u8],
@@ -14,7 +14,7 @@ pub struct FakeReader<'a> {
 }
 
 impl<'a> FakeReader<'a> {
-    /// Returns a reader of that text that fails so.
+    /// Returns a reader of that text with that failure.
     pub fn new(text: &'a [u8], failure: ReadFailure) -> FakeReader<'a> {
         FakeReader {
             rest: text,
@@ -42,7 +42,7 @@ impl Read for FakeReader<'_> {
     }
 }
 
-/// At which call, from 1 on, a `FakeWriter` fails, and how.
+/// The call, counted from 1, at which a `FakeWriter` fails, and how.
 #[derive(Clone, Copy, PartialEq, Eq)]
 pub enum WriteFailure {
     Never,
@@ -51,7 +51,7 @@ pub enum WriteFailure {
     Flush(u64),
 }
 
-/// A writer that takes three bytes a write.
+/// A writer that takes three bytes for each write.
 #[derive(Drop)]
 pub struct FakeWriter {
     taken: Vec<u8>,
@@ -61,7 +61,7 @@ pub struct FakeWriter {
 }
 
 impl FakeWriter {
-    /// Returns a writer that took nothing yet, and fails so.
+    /// Returns an empty writer with that failure.
     pub fn new(alloc: Global, failure: WriteFailure) -> FakeWriter {
         FakeWriter {
             taken: Vec::new(alloc),
@@ -71,7 +71,7 @@ impl FakeWriter {
         }
     }
 
-    /// Returns what was taken.
+    /// Returns the bytes that were taken.
     pub fn into_taken(self) -> Vec<u8> {
         self.taken
     }

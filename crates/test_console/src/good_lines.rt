@@ -1,13 +1,13 @@
-//! Lines, each with the command that it stands for.
+//! Lines, each with the command that it means.
 use app_language::Command;
 use std::alloc::Global;
 use std::test::Fail;
 use tt_base::TtFault;
 
-// Lines, each with an equals sign and the Debug text of its command, in which all fields are: a text for each topic with the
-// number of its lines, a line feed between them.
+// Lines, each with an equals sign and the Debug text of its command, which has all fields. One text for each topic, with the number
+// of its lines and a line feed between them.
 const LINES: [(u32, &[u8]); 7] = [
-    // Slots, and what takes no more than a slot, a number or a character.
+    // Slots, and commands that take only a slot, a number or a character.
     (
         37,
         b"clear=Clear\n\
@@ -56,7 +56,7 @@ const LINES: [(u32, &[u8]); 7] = [
       push punct joint 1:2@3..3#4 ,=Push(Punct(Punct { char: ',', spacing: Joint, span: 1:2@3..3#4 }))\n\
       close 1:2@3..3#4=Close(1:2@3..3#4)",
     ),
-    // Trees that are changed.
+    // Changed trees.
     (
         9,
         b"kind 15 bracket=Kind(Slot { number: 15 }, Bracket)\n\
@@ -114,7 +114,7 @@ const LINES: [(u32, &[u8]); 7] = [
     ),
 ];
 
-// Returns the Debug text of what the line stands for.
+// Returns the Debug text of the command that the line means.
 fn told(alloc: Global, line: &[u8]) -> Result<String, TtFault> {
     match Command::parse(alloc, line)? {
         Some(command) => Ok(format!(in alloc; "{command:?}")?),
@@ -122,12 +122,12 @@ fn told(alloc: Global, line: &[u8]) -> Result<String, TtFault> {
     }
 }
 
-// Returns whether that is this text.
+// Returns whether the line means the command with this text.
 fn stands_for(alloc: Global, line: &[u8], command: &[u8]) -> Result<bool, TtFault> {
     Ok(told(alloc, line)?.as_bytes() == command)
 }
 
-// Returns whether the row's line stands for its command.
+// Returns whether the row's line means its command.
 fn is_right(alloc: Global, row: &[u8]) -> Result<bool, TtFault> {
     let mut parts = row.split(|byte| *byte == b'=');
     match (parts.next(), parts.next()) {
@@ -148,7 +148,7 @@ fn right_rows(alloc: Global, text: &[u8]) -> Result<u32, TtFault> {
     Ok(found)
 }
 
-// Returns the index of the first text of which not all rows are right.
+// Returns the index of the first text in which a row is not right.
 fn first_wrong(alloc: Global) -> Result<usize, TtFault> {
     let mut index = 0usize;
     for (rows, text) in &LINES {

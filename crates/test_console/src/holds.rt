@@ -2,7 +2,7 @@
 use std::test::Fail;
 use tt_base::TtFault;
 
-/// Returns a test passes where what it asks is so.
+/// Passes a test if its condition holds.
 pub(crate) fn holds(is_so: Result<bool, TtFault>) -> Result<(), Fail> {
     match is_so {
         Ok(true) => Ok(()),

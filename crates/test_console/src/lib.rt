@@ -1,4 +1,4 @@
-//! Worked rows on lines and runs, by the calls of `app_language` and `app_console`: known values beside what the calls give.
+//! Examples of lines and runs, by the calls of `app_language` and `app_console`: known values next to those of the calls.
 #![tactic(auto)]
 
 #[cfg(test)]

@@ -18,18 +18,18 @@ equal 0 0";
 
 const ALL: &[u8] = b"ok\nok\nok\nok\n(a ;)\nyes\n";
 
-// How many bytes the answers to the first lines have, behind each number of line feeds that are read.
+// How many bytes the answers to the first lines have, by the number of line feeds that are read: 0 to 5.
 const ANSWERED: [usize; 6] = [0, 3, 6, 9, 12, 18];
 
-// How often a `FakeWriter` is written to while SCRIPT is read byte by byte: it takes three bytes a write.
+// How often a `FakeWriter` gets a write while SCRIPT is read byte by byte: it takes three bytes for each write.
 const WRITES: u64 = 8;
 
-// How often it is flushed: before each read, one of which is at the end of the input, and at the end.
+// How often it is flushed: before each read, of which the last is at the end of the input, and at the end.
 const FLUSHES: u64 = SCRIPT.len() as u64 + 2;
 
 const NO_READ: ReadFailure = (0, ErrorKind::Other);
 
-// What is known of a run over fakes, when it has ended.
+// The facts of a run over fakes after its end.
 #[derive(Drop)]
 struct Ran {
     ended: Result<End, RunFault>,
@@ -38,7 +38,7 @@ struct Ran {
     taken: Vec<u8>,
 }
 
-// Returns a run over the script, read byte by byte, and a writer, which fail so.
+// Returns a run over the script, read byte by byte, and a writer, with these failures.
 fn run_over(alloc: Global, read: ReadFailure, write: WriteFailure) -> Ran {
     let mut reader = Noted::new(FakeReader::new(SCRIPT, read));
     let mut writer = Noted::new(FakeWriter::new(alloc, write));
@@ -50,7 +50,7 @@ fn run_over(alloc: Global, read: ReadFailure, write: WriteFailure) -> Ran {
     }
 }
 
-// Returns whether a run that fails nowhere answers all.
+// Returns whether a run without a failure answers all.
 fn answers_all(alloc: Global, failure: WriteFailure) -> bool {
     let ran = run_over(alloc, NO_READ, failure);
     ran.ended == Ok(End::Clean) && ran.failed == (false, false) && ran.taken.as_slice() == ALL
@@ -61,7 +61,7 @@ fn a_byte_at_a_time(rt: HostRuntime) -> Result<(), Fail> {
     holds(Ok(answers_all(rt.alloc(), WriteFailure::Never)))
 }
 
-// Returns how many line feeds stand in front of the read after so many bytes.
+// Returns how many line feeds precede the read after `given` bytes.
 fn lines_before(given: usize) -> usize {
     let mut lines = 0usize;
     for byte in SCRIPT.iter().take(given) {
@@ -72,12 +72,12 @@ fn lines_before(given: usize) -> usize {
     lines
 }
 
-// Returns what is answered where the read after so many bytes fails.
+// Returns the answers if the read after `given` bytes fails.
 fn answered(given: usize) -> Option<&'static [u8]> {
     ALL.get(..*ANSWERED.get(lines_before(given))?)
 }
 
-// Returns whether a run whose read after so many bytes fails so answers the lines before that read.
+// Returns whether a run answers the lines before the read that fails in that way, after `given` bytes.
 fn read_fails(alloc: Global, given: usize, kind: ErrorKind) -> bool {
     let at = (given as u64).saturating_add(1);
     let ran = run_over(alloc, (at, kind), WriteFailure::Never);
@@ -86,7 +86,7 @@ fn read_fails(alloc: Global, given: usize, kind: ErrorKind) -> bool {
         && Some(ran.taken.as_slice()) == answered(given)
 }
 
-// Returns whether it does so at each read.
+// Returns whether that holds for each read.
 fn reads_fail(alloc: Global, kind: ErrorKind) -> bool {
     for given in 0..SCRIPT.len() + 1 {
         if !read_fails(alloc, given, kind) {
@@ -102,7 +102,7 @@ fn each_read_fails(rt: HostRuntime) -> Result<(), Fail> {
     holds(Ok(reads_fail(rt.alloc(), ErrorKind::Interrupted)))
 }
 
-// Returns whether a run over a writer that fails so sees it, by the run and by `failed`, and loses no answer before it.
+// Returns whether a run over a writer with that failure reports it, by its result and by `failed`, and loses no answer before it.
 fn write_fails(alloc: Global, failure: WriteFailure) -> bool {
     let ran = run_over(alloc, NO_READ, failure);
     ran.ended == Err(RunFault::Write)
@@ -110,7 +110,7 @@ fn write_fails(alloc: Global, failure: WriteFailure) -> bool {
         && ALL.starts_with(ran.taken.as_slice())
 }
 
-// Returns whether it does so at each write.
+// Returns whether that holds for each write.
 fn writes_fail(alloc: Global) -> bool {
     for at in 1..WRITES + 1 {
         if !write_fails(alloc, WriteFailure::Error(at))
@@ -127,7 +127,7 @@ fn each_write_fails(rt: HostRuntime) -> Result<(), Fail> {
     holds(Ok(writes_fail(rt.alloc())))
 }
 
-// Returns whether it does so at each flush.
+// Returns whether that holds for each flush.
 fn flushes_fail(alloc: Global) -> bool {
     for at in 1..FLUSHES + 1 {
         if !write_fails(alloc, WriteFailure::Flush(at)) {
@@ -142,7 +142,7 @@ fn each_flush_fails(rt: HostRuntime) -> Result<(), Fail> {
     holds(Ok(flushes_fail(rt.alloc())))
 }
 
-// Returns whether no write and no flush comes behind those.
+// Returns whether no write and no flush comes after those.
 fn are_all(alloc: Global) -> bool {
     answers_all(alloc, WriteFailure::Error(WRITES + 1))
         && answers_all(alloc, WriteFailure::NoByte(WRITES + 1))
@@ -167,7 +167,7 @@ const RULE_FAULTS: [(RuleFault, &str); 5] = [
     (RuleFault::Memory, "5 out of memory"),
 ];
 
-// Returns whether each fault of a rule is told so.
+// Returns whether each fault of a rule has that text.
 fn are_rule_faults(alloc: Global) -> Result<bool, TtFault> {
     for (fault, text) in &RULE_FAULTS {
         if !is_told_as(alloc, *fault, text)? {
@@ -182,7 +182,7 @@ fn rule_fault_texts(rt: HostRuntime) -> Result<(), Fail> {
     holds(are_rule_faults(rt.alloc()))
 }
 
-// Returns whether the faults of a run are told so.
+// Returns whether the faults of a run have that text.
 fn are_run_faults(alloc: Global) -> Result<bool, TtFault> {
     let (read, write) = (RunFault::Read, RunFault::Write);
     let told = format!(in alloc; "{read}, {write}, {}", RunFault::Memory)?;
