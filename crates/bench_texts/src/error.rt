@@ -17,13 +17,13 @@ pub enum BenchError {
     /// The text has more bytes than a `u32` counts.
     #[error("the text has more than 4294967295 bytes")]
     TooLong,
-    /// A text has no tree.
+    /// A text is refused: it has no tree.
     #[error("{0}")]
     Refused(TextFault),
-    /// The tree of a text that is to be written cannot be.
+    /// A tree that the program writes cannot be written.
     #[error("{0}")]
     NotWritten(WriteFault),
-    /// Memory for what is shown was refused.
+    /// Memory ran out for the shown text.
     #[error("{0}")]
     Show(TtFault),
     /// There is no U+0001 between the arms and the input.
@@ -38,7 +38,7 @@ pub enum BenchError {
     /// The arm that takes it cannot be filled.
     #[error("{0}")]
     NotExpanded(ExpandError),
-    /// Memory for the machine of the grammar was refused.
+    /// Memory ran out for the machine of the grammar.
     #[error("no memory")]
     NoMemory,
     /// Input, output or the clock failed, or the input is no UTF-8.

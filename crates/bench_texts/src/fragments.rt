@@ -1,4 +1,4 @@
-//! Fragments of Rust's grammar, one after the other: how long taking them takes beside reading the text, or how many there are.
+//! Fragments of Rust's grammar, one after the other: the time of taking them or of reading the text, or how many there are.
 use crate::error::BenchError;
 use crate::reading::tree_of;
 use crate::rounds::nanos_of_round;
@@ -8,7 +8,7 @@ use std::alloc::Global;
 use std::time::CpuClock;
 use tt::TopSubtree;
 
-/// What a round does. It lets go of what it makes.
+/// The work of a round. A round drops what it makes.
 #[derive(Clone, Copy)]
 pub enum Timing {
     /// Reads the text into a tree.
@@ -18,7 +18,7 @@ pub enum Timing {
 }
 
 impl Timing {
-    /// Returns the timing of that name.
+    /// Returns the timing with that name.
     pub fn named(word: &str) -> Option<Timing> {
         match word {
             "read" => Some(Timing::Read),
@@ -28,7 +28,7 @@ impl Timing {
     }
 }
 
-/// Returns the fragment of that name.
+/// Returns the fragment with that name.
 pub fn fragment_named(word: &str) -> Option<GrammarFragment> {
     match word {
         "expr" => Some(GrammarFragment::Expr),
@@ -42,7 +42,7 @@ pub fn fragment_named(word: &str) -> Option<GrammarFragment> {
     }
 }
 
-// How many fragments there are, how many trees they are, and how many trees no fragment takes.
+// How many fragments there are, how many trees they take, and how many trees no fragment takes.
 #[derive(Clone, Copy)]
 struct Taken {
     pieces: usize,
@@ -81,7 +81,7 @@ fn take_all(
     Ok(taken)
 }
 
-// One round.
+// Does one round.
 fn round(
     alloc: Global,
     text: &str,
@@ -100,8 +100,8 @@ fn round(
     Ok(())
 }
 
-/// Prints one line: the nanoseconds of a round if there are rounds, the tokens of the text's tree, how many fragments it has, how many trees
-/// these are, and how many trees no fragment takes.
+/// Prints one line: the nanoseconds of a round if there are rounds, the tokens of the text's tree, how many fragments it has, how many
+/// trees they take, and how many trees no fragment takes.
 pub fn run(
     rt: &HostRuntime,
     text: &str,

@@ -1,4 +1,4 @@
-//! What the arguments ask for.
+//! The job that the arguments name.
 use crate::error::BenchError;
 use crate::fragments::{self, fragment_named};
 use crate::{macros, trees};
@@ -6,7 +6,7 @@ use mbe_pattern::GrammarFragment;
 use std::env;
 use std::rt::Env;
 
-/// What the arguments ask for: a subject, and what to time and how many rounds, or nothing to show it.
+/// A job: a subject, and what to time and the number of rounds, or nothing to show it.
 #[derive(Clone, Copy)]
 pub enum Job {
     Tokens(Option<u32>),

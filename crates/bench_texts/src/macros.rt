@@ -1,4 +1,4 @@
-//! A macro and an input: how long making the macro or expanding the input takes, or the expansion on a line.
+//! A macro and an input: the time of making the macro or of expanding the input, or the expansion on a line.
 use crate::error::BenchError;
 use crate::reading::{BETWEEN_TEXTS, tree_of};
 use crate::rounds::nanos_of_round;
@@ -8,7 +8,7 @@ use std::io::{BufWriter, Write};
 use std::time::CpuClock;
 use tt::{DelimiterKind, TokenTree, TopSubtree};
 
-/// What a round does. It lets go of what it makes.
+/// The work of a round. A round drops what it makes.
 #[derive(Clone, Copy)]
 pub enum Timing {
     /// Makes the macro.
@@ -18,7 +18,7 @@ pub enum Timing {
 }
 
 impl Timing {
-    /// Returns the timing of that name.
+    /// Returns the timing with that name.
     pub fn named(word: &str) -> Option<Timing> {
         match word {
             "new" => Some(Timing::New),
@@ -28,7 +28,7 @@ impl Timing {
     }
 }
 
-// The arms, the macro that they are, and an input.
+// The arms, their macro, and an input.
 #[derive(Drop)]
 struct Macro {
     arms: TopSubtree,
@@ -45,7 +45,7 @@ fn rules_of(alloc: Global, arms: &TopSubtree) -> Result<MacroRules, BenchError> 
 }
 
 impl Macro {
-    // Of the text of the arms, U+0001, and that of the input.
+    // Returns the macro and the input for a text: that of the arms, U+0001, and that of the input.
     fn of_texts(alloc: Global, texts: &str) -> Result<Macro, BenchError> {
         let (arms, input) = texts.split_once(BETWEEN_TEXTS).ok_or(BenchError::OneText)?;
         let arms = tree_of(alloc, arms)?;
@@ -63,7 +63,7 @@ impl Macro {
         }
     }
 
-    // One round.
+    // Does one round.
     fn round(&self, alloc: Global, timing: Timing) -> Result<(), BenchError> {
         match timing {
             Timing::New => {
@@ -93,7 +93,7 @@ impl Macro {
     }
 }
 
-// Returns the bracket that a subtree is written with.
+// Returns the bracket for a subtree.
 fn bracket(kind: DelimiterKind) -> char {
     match kind {
         DelimiterKind::Parenthesis => '(',
@@ -119,8 +119,8 @@ fn show_tree<W: Write>(out: &mut W, tree: &TopSubtree) -> Result<(), BenchError>
     Ok(())
 }
 
-/// Times so many rounds and prints a line: the nanoseconds of a round, and the tokens of the arms, of the input and of the expansion. Or shows
-/// the expansion.
+/// Times the rounds and prints a line: the nanoseconds of a round, and the tokens of the arms, of the input and
+/// of the expansion. Or shows the expansion.
 pub fn run(rt: &HostRuntime, texts: &str, job: Option<(Timing, u32)>) -> Result<(), BenchError> {
     let alloc = rt.alloc();
     let made = Macro::of_texts(alloc, texts)?;

@@ -33,7 +33,7 @@ fn main(rt: HostRuntime) -> ExitCode {
     }
 }
 
-// Does what the arguments ask for.
+// Does the job that the arguments name.
 fn run(rt: &HostRuntime) -> Result<(), BenchError> {
     let job = Job::from_args(rt)?;
     let mut text = String::new(rt.alloc());

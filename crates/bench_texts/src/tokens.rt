@@ -1,4 +1,4 @@
-//! The tokens of a text: how long reading them takes, or each on a line.
+//! The tokens of a text: the time of reading them, or each on a line.
 ghost use Rattle.std.specs.Prelude.{◌<◌, ◌^◌, length};
 
 use crate::error::BenchError;
@@ -8,8 +8,8 @@ use std::io::{BufWriter, Write};
 use std::time::CpuClock;
 use syntax_lex::{MOST_TEXT_BYTES, tokenize};
 
-/// Times so many rounds and prints a line: the nanoseconds of a round, the bytes of the text and its tokens. Or shows the tokens of each
-/// text, a line for each token and a line `--` behind each text.
+/// Times the rounds and prints a line: the nanoseconds of a round, the bytes of the text and its tokens. Or shows the tokens of each text,
+/// a line for each token and a line `--` after each text.
 pub fn run(rt: &HostRuntime, text: &str, rounds: Option<u32>) -> Result<(), BenchError> {
     match rounds {
         Some(rounds) => {
@@ -48,7 +48,7 @@ fn count(text: &str) -> u64
     count
 }
 
-// Writes the tokens of a text: at which byte each begins, how many it takes, and its kind.
+// Writes the tokens of a text: the byte at which each begins, how many bytes it takes, and its kind.
 fn show<W: Write>(out: &mut W, text: &str) -> Result<(), BenchError> {
     if text.len() > MOST_TEXT_BYTES {
         return Err(BenchError::TooLong);

@@ -1,4 +1,4 @@
-//! The tree of a text: how long reading or writing it takes, or its Debug text.
+//! The tree of a text: the time of reading or writing it, or its Debug text.
 use crate::error::BenchError;
 use crate::reading::{BETWEEN_TEXTS, read, tree_of};
 use crate::rounds::nanos_of_round;
@@ -8,7 +8,7 @@ use std::time::CpuClock;
 use syntax_unparse::rust_text;
 use tt::{TopSubtree, debug_text, display_text};
 
-/// What a round does. It lets go of what it makes.
+/// The work of a round. A round drops what it makes.
 #[derive(Clone, Copy)]
 pub enum Timing {
     /// Reads the text into a tree.
@@ -20,7 +20,7 @@ pub enum Timing {
 }
 
 impl Timing {
-    /// Returns the timing of that name.
+    /// Returns the timing with that name.
     pub fn named(word: &str) -> Option<Timing> {
         match word {
             "time" => Some(Timing::Read),
@@ -31,8 +31,8 @@ impl Timing {
     }
 }
 
-/// Times so many rounds and prints a line: the nanoseconds of a round, the bytes of the text and the tokens of its tree. Or shows the tree of
-/// each text, or why it has none, and a line of U+0001 behind each.
+/// Times the rounds and prints a line: the nanoseconds of a round, the bytes of the text and the tokens of its tree. Or shows the tree of
+/// each text, or why it has none, and a line of U+0001 after each.
 pub fn run(rt: &HostRuntime, text: &str, job: Option<(Timing, u32)>) -> Result<(), BenchError> {
     let alloc = rt.alloc();
     match job {
@@ -59,7 +59,7 @@ pub fn run(rt: &HostRuntime, text: &str, job: Option<(Timing, u32)>) -> Result<(
     Ok(())
 }
 
-// One round with the text or with its tree.
+// Does one round with the text or with its tree.
 fn round(alloc: Global, text: &str, tree: &TopSubtree, timing: Timing) -> Result<(), BenchError> {
     match timing {
         Timing::Read => {
