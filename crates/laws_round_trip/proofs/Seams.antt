@@ -87,7 +87,7 @@ last_is c cs kind space read sound line = go (opens_comment c (first cs)) refl
     go true e = inl (comment_fixed c cs kind e read sound line)
     go false e = inr (sym (ap (λ p. is_ended p.0) read) ∙ proper_ended c cs space e (ap (λ p. is_sound p.0) read ∙ sound))
 
--- brackets match after a chunk exactly if the same holds for others
+-- two lists of chunks that match the same open brackets also do so with one chunk before them
 pub match_behind : (x : Chunk) (xs ys : List Chunk) → ((before : List Bracket) → match before xs ≡ match before ys) → (before : List Bracket) → match before (x ∷ xs) ≡ match before (x ∷ ys)
 match_behind x xs ys same [] = by_role [] x.role
   where

@@ -82,7 +82,7 @@ match_front before at (x ∷ front) back are fine =
     from [] = refl
     from (last ∷ before) = refl
 
--- brackets match after chunks exactly if the same holds for others
+-- two lists of chunks that match the same open brackets also do so with the same chunks before them
 match_same : (front xs ys : List Chunk) → ((before : List Bracket) → match before xs ≡ match before ys) → (before : List Bracket) → match before (front ++ xs) ≡ match before (front ++ ys)
 match_same [] xs ys same before = same before
 match_same (x ∷ front) xs ys same before = match_behind x (front ++ xs) (front ++ ys) (match_same front xs ys same) before
