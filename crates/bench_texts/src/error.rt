@@ -35,13 +35,13 @@ pub enum BenchError {
     /// No arm takes the input in one way.
     #[error("no arm takes the input in one way")]
     NoTree,
-    /// The arm that takes it cannot be filled.
+    /// The arm that takes the input cannot be filled.
     #[error("{0}")]
     NotExpanded(ExpandError),
     /// Memory ran out for the machine of the grammar.
     #[error("no memory")]
     NoMemory,
-    /// Input, output or the clock failed, or the input is no UTF-8.
+    /// Input, output or the clock failed, or the input is not UTF-8.
     #[error(transparent)]
     Io(#[from] io::Error),
 }

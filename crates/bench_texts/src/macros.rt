@@ -76,8 +76,8 @@ impl Macro {
         Ok(())
     }
 
-    // Writes the expansion of the input on one line: its tokens, with a bracket and the number of tokens in it for a subtree; or `no match`,
-    // `ambiguous ARM`, `lengths ARM PLACE` or `no round ARM PLACE`.
+    // Writes the expansion of the input on one line: its tokens, with a bracket and the number of tokens in it for a subtree; or `no match
+    // PLACE`, `ambiguous ARM`, `lengths ARM PLACE` or `no round ARM PLACE`.
     fn show<W: Write>(&self, out: &mut W, alloc: Global) -> Result<(), BenchError> {
         match self.rules.expand(alloc, self.input.token_trees().iter()) {
             Ok(Expansion::Tree(tree)) => show_tree(out, &tree)?,

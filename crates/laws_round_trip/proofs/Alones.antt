@@ -25,7 +25,7 @@ star : (cs : List ℕ) → reading (47 ∷ 42 ∷ cs) ≡ block_comment cs
 unfolding reading reading_of opening
 star cs = refl
 
--- what begins a comment
+-- the two characters that begin a comment
 marks_of : (c d : ℕ) → opens_comment c d ≡ true → (c ≡ 47) × ((d ≡ 47) ⊎ (d ≡ 42))
 marks_of c d h =
     let both = and_parts (c == 47) ((d == 47) || (d == 42)) h in

@@ -65,7 +65,7 @@ behind_token t token tokens utf8 (some, is, are) =
     not_empty [] ne = absurd (ne chars-nil)
     not_empty (b ∷ bs) ne = omega arith
 
--- A token that may be where it is, with no fault after it.
+-- A token that may be at its place, with no fault after it.
 pub record Steps (opens : List Open) (at : ℕ) (t : List ℕ) (token : Token) (tokens : List Token) : Type 0 where
   pub next : List Open
   pub takes : step opens at token.kind (take token.len t) ≡ Ok next

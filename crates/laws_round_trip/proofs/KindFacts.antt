@@ -71,7 +71,7 @@ leaves_same part other kinds.RawLifetime n m at to text same = refl
 leaves_same part other kind n m at to text same =
     placed_sorts part at (at + length text) (sorts_of kind n text) ∙ sorts_next kind n m text same ∙ sym (placed_sorts other to (to + length text) (sorts_of kind m text))
 
--- the reading of a token depends on what follows it only by the spacing, and not on where it is
+-- the reading of a token depends on what follows it only by the spacing, and not on its place
 pub pieces_same : (part other : SpanPart) (kind : TokenKind) (n m : Option TokenKind) (at to : ℕ) (text : List ℕ) → SameBefore kind n m
     → sorts (pieces_of part kind n at text) ≡ sorts (pieces_of other kind m to text)
 pieces_same part other kind n m at to text same = by (role_in kind text)

@@ -39,7 +39,7 @@ word_no_life true emoji cs = refl
 word_no_life false true cs = refl
 word_no_life false false cs = refl
 
--- if no character at the front passes a test, that test fails for the first character
+-- if all characters of a text continue a name, its first is no character that does not
 front_other : (t : List ℕ) (n : ℕ) → behind is_id_continue t ≡ [] → is_id_continue n ≡ false → (0 == n) ≡ false → (first t == n) ≡ false
 front_other [] n all no_part no_null = no_null
 front_other (c ∷ cs) n all no_part no_null = ne_eqb c n (λ e. cc_not (sym (ap (λ b. if b then behind is_id_continue cs else c ∷ cs) (ap is_id_continue e ∙ no_part)) ∙ all))

@@ -27,7 +27,7 @@ prefix_back word = go (starts_with nat_eq word (codes "r#")) refl
     go true e = sym ((starts_is Decides-eqb word (codes "r#") _ refl).0 e)
     go false e = refl
 
--- the leaf that a name is read as has its text
+-- the leaf of a name that is read has its text
 pub name_text : (word : List ℕ) (ident : Ident) → ident.sym ≡ without_raw_prefix word → ident.is_raw ≡ rawness_of word → ident_text ident ≡ word
 name_text word ident text raw = ap₂ (λ r t. raw_prefix r ++ t) raw text ∙ prefix_back word
 

@@ -137,7 +137,7 @@ apostrophe_none text cs = go (begins_lifetime cs) (begins_raw_lifetime cs)
     go true false = named_is (first left == 39) ((first left == 35) && not (is_decimal (first cs))) (is_decimal (first cs))
     go false raw = refl
 
--- a number's text: its suffix begins with no `_`
+-- a number's text: the rest at its suffix begins with no `_`
 pub record IsNumber (cs : List ℕ) (start : ℕ) : Type 0 where
   pub front : List ℕ
   pub rest : List ℕ

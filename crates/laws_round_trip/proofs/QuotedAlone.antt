@@ -136,7 +136,7 @@ no_number (literals.RawStr hashes) is = refl
 no_number (literals.RawByteStr hashes) is = refl
 no_number (literals.RawCStr hashes) is = refl
 
--- the parts of a text with a value between quotes, and the rest after them
+-- the parts of a text with a value between quotes and a rest after them
 parts_are : (kind : LiteralKind) (word value rest : List ℕ) (start : ℕ) → is_quoted kind ≡ true → word ≡ opening_quote (lit_of kind) ++ (value ++ (closing_quote (lit_of kind) ++ rest))
     → start ≡ length (opening_quote (lit_of kind) ++ (value ++ closing_quote (lit_of kind)))
     → parts_told word (Some (scan_of kind, start)) ≡ told word (lit_of kind) value (suffix_told rest)

@@ -1,4 +1,5 @@
--- A literal in quotes that is read from a text: its quotes, the text between them, and the suffix. Without that suffix it is the same.
+-- A literal in quotes that is read from a text: its quotes, the text between them, and the rest of the
+-- token. Without that rest it is the same.
 use Rattle.std.proofs.Common.{◌≡◌, ℕ, ◌-◌, ◌<◌, Bool, true, false, List, [], ◌∷◌, ◌++◌, length, replicate, Option, Some, is_some, refl, sym, ap, ap₂, ◌∙◌, subst, arith, append-nil, append_assoc, if◌then◌else◌}
 use Rattle.std.proofs.lemmas.Bool.{false≢true}
 use Rattle.tt_base.specs.LeafText.{closing_quote, opening_quote}
@@ -60,7 +61,7 @@ no_quoted kind h = refl
 abbrev pub lit_of : LiteralKind → LitKind
 lit_of kind = kind_told (scan_of kind)
 
--- a literal in quotes with a suffix: without it the text is one token of the same kind
+-- a literal in quotes and the rest of its token: without that rest the text is one token of the same kind
 pub record Quoted (kind : LiteralKind) (front : List ℕ) (start : ℕ) : Type 0 where
   pub before : List ℕ
   pub body : List ℕ

@@ -98,7 +98,7 @@ joins_raw (word at (leaf_of.Ident ident) ∷ rest) = refl
 joins_raw (opening pair ∷ rest) = refl
 joins_raw (closing pair ∷ rest) = refl
 
--- marks that are such sorts are read as these
+-- marks that are such sorts are read as these sorts
 pub settled_are : (behind : Behind) (ms : List Mark) → SortFits behind (raw ms) → settled ms ≡ raw ms
 settled_are behind [] f = refl
 settled_are behind (word at (leaf_of.Ident ident) ∷ rest) f = ap (λ t. sort_of (leaf_of.Ident ident) ∷ t) (settled_are Apart rest f.2)
@@ -220,6 +220,6 @@ raw_marks at (node delimiter children rest) more p =
       outer.1,
     )
 
--- such sorts spell trees whose marks are these
+-- the marks of trees that such sorts spell are these sorts
 pub marks_are : (behind : Behind) (trees : Forest) → SortFits behind (sorts (spelled trees)) → raw (marks 0 trees) ≡ sorts (spelled trees)
 marks_are behind trees f = (raw_marks 0 trees [] (subst Paired (sym (append-nil (sorts (spelled trees)))) (paired behind (sorts (spelled trees)) f))).0

@@ -77,7 +77,7 @@ source t (token ∷ tokens) utf8 (some, is, are) =
       tokens_are = ap₂ (λ n ts. record { kind = token.kind; len = n } ∷ ts) (length-take-le token.len t fits) rest.tokens_are;
     }
 
--- a token that can be where it is, with no fault after it
+-- a token that can be at its place, with no fault after it
 pub step_match : (before : List Open) (at : ℕ) (role : Role) (fault : List Open → Option SyntaxFault) (fits : List Bracket → Bool) → ((next : List Open) → fault next ≡ None → fits (brackets next) ≡ true)
     → or_behind (step_as role before at) fault ≡ None → match_as (brackets before) role fits ≡ true
 step_match before at (Bad why) fault fits tell h = absurd (cc)
@@ -102,7 +102,7 @@ match_source (last ∷ before) at t (token ∷ tokens) fine =
     step_match (last ∷ before) at (role_in token.kind (take token.len t)) (λ next. fault_from next (at + token.len) (drop token.len t) tokens) (λ next. match next (source_chunks (drop token.len t) tokens))
     (λ next h. match_source next (at + token.len) (drop token.len t) tokens h) fine
 
--- a token that can be where it is is not bad, and the tokens after it can be there too
+-- a token that can be at its place is not bad, and the tokens after it can be at theirs
 sound_step : (before : List Bracket) (role : Role) (fits : List Bracket → Bool) → match_as before role fits ≡ true → ((why : BadToken) → role ≡ Bad why → ⊥) × (next : List Bracket) × (fits next ≡ true)
 sound_step before (Bad why) fits h = absurd (false≢true h)
 sound_step before Nothing fits h = ((λ why e. absurd (cc)), before, h)

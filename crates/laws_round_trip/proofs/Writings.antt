@@ -53,7 +53,7 @@ from : (before : List Open) (at : ℕ) (text : List ℕ) (token : Token) (tokens
 from [] at text token tokens = refl
 from (last ∷ before) at text token tokens = refl
 
--- the first token as one that is read
+-- the first token, as one that is read
 as_read : (bs : List ℕ) (token : Token) → (it : Word bs token) → Read (take token.len bs) (chars bs) it.left token.kind
 as_read bs token it = record {
   front = it.front;

@@ -49,17 +49,17 @@ is_last (value kind symbol suffix) = false
 is_last (opening kind) = false
 is_last (closing kind) = true
 
--- the first of these pieces is a name that begins at a byte, and a `!` or a `:` is the second
+-- the first of these pieces is a name that begins at byte `start`, and the second is a `!` or a `:`
 abbrev pub BeginsCall : (start : ℕ) → List Piece → Type 0
 BeginsCall start [] = ⊥
 BeginsCall start (first ∷ []) = ⊥
 BeginsCall start (first ∷ second ∷ others) = (first.start ≡ start) × (is_name first.sort ≡ true) × (is_call_sign second.sort ≡ true)
 
--- the last of them ends at a byte, and is a closing bracket or a `;`
+-- the last of these pieces ends at byte `end`, and is a closing bracket or a `;`
 abbrev pub EndsCall : (end : ℕ) → List Piece → Type 0
 EndsCall end pieces = (front : List Piece) × (last : Piece) × (pieces ≡ front ++ last ∷ []) × (last.end ≡ end) × (is_last last.sort ≡ true)
 
--- these are the pieces of a call, which is whole trees and a range of a text
+-- the pieces of a call: they are whole trees and a range of a text
 pub record IsTaken (pieces : List Piece) (start end : ℕ) : Type 0 where
   pub trees : Forest
   pub spelled : pieces ≡ spelled trees

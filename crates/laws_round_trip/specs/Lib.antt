@@ -1,6 +1,6 @@
--- What can be written of what was read.
+-- Trees that were read, and whether they can be written.
 pub mod Whole
--- What may change behind a token, and what is read of a text in which trees are spliced.
+-- What may change after a token, and how a text with trees spliced in is read.
 pub mod Calls
 pub mod Kept
 pub mod Splices

@@ -13,7 +13,7 @@ use Rattle.laws_tokens.proofs.KeepFacts.{IsPlain}
 use Rattle.laws_tokens.proofs.Twins.{Alike, IsShort, NoPlain, Stays, Twins, at_end, behind_none, branch, end_le, ends, front, held_of, next_of, off, off_two, run, run_next, run_stops, short_plain, stays_more, taken, unless}
 use Rattle.laws_tokens.specs.Stops.{is_number_kind}
 
--- the rest of a number stays, and the number is no point alone before an `r` that continues
+-- the rest after a number stays, and it is not a single point before r, unless r is short
 pub record Holds (r s : List ℕ) (read : LiteralKind × List ℕ) : Type 0 where
   pub stays : Stays r s read.1
   pub pointless : is_number_kind read.0 ≡ true → (read.1 ≢ 46 ∷ r) ⊎ IsShort r

@@ -27,14 +27,15 @@ use Rattle.laws_tokens.proofs.TwinWords.{Fits, apostrophe_twins, inner, is_shut,
 use Rattle.laws_tokens.proofs.Twins.{Alike, Held, IsShort, Next, Stays, Twins, alike, branch, end_le, ends, front, held_of, name_twins, next_of, not_taken, off, plain, run, run_by, run_kept, short_plain, taken, twin_is, twins_of, unless}
 use Rattle.laws_tokens.specs.Stops.{is_number}
 
--- White space and comments to the end of a line end before r if r does not continue them.
+-- More than r is left after a comment to the end of a line. So it is after white space, or no less than r
+-- is left and s begins with no white space.
 abbrev pub Apart : (r s left : List ℕ) → TokenKind → Type 0
 Apart r s left (kinds.LineComment doc_style) = length r < length left
 Apart r s left kinds.Whitespace = (length r < length left) ⊎ ((length r ≤ length left) × (is_whitespace (first s) ≡ false))
 Apart r s left _ = Unit {0}
 
--- The reading of a text with r after it is that with s after it: it is closed and no prefix, the rest stays,
--- and it is no point alone after a number.
+-- When the reading of a text with r after it is also that with s after it: the token is closed and no prefix, and the rest stays. The rest
+-- after a number is not a single point before r, unless r is short.
 pub record Suits (r s : List ℕ) (read : TokenKind × List ℕ) : Type 0 where
   pub fits : Fits r s read
   pub apart : Apart r s read.1 read.0

@@ -168,7 +168,7 @@ life_twins {text = text} {a = a} x texts t m =
     let left = behind is_id_continue a in
     named_twins (is_decimal x) texts (run is_id_continue (λ c p. p.no_continue) t (stays_more left m.stays (end_le (named_end text (is_decimal x) left)))) m
 
--- a text that may be a lifetime is no character of one backslash
+-- a text that may be a lifetime begins with no backslash
 no_escape : (c : ℕ) → (is_id_start c || is_decimal c) ≡ true → (c == 92) ≡ false
 no_escape c is = false_from_ne_true (c == 92) (λ e. false≢true (sym (ap (λ x. is_id_start x || is_decimal x) (eqb-true c 92 e) ∙ (rw (no_start 92 (omega arith) refl refl) refl)) ∙ is))
 

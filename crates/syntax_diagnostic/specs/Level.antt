@@ -5,7 +5,7 @@ use Rattle.syntax_diagnostic.specs.declared.level.Level.TheVariants.{Error, Warn
 use Rattle.syntax_diagnostic.specs.declared.paint.Colour.{Colour}
 use Rattle.syntax_diagnostic.specs.declared.paint.Colour.TheVariants.{Red, Yellow}
 
--- the word that a message begins with
+-- the first word of a message
 abbrev pub word_of : Level → List ℕ
 word_of Error = codes "error"
 word_of Warning = codes "warning"

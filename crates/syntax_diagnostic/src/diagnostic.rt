@@ -19,9 +19,9 @@ pub struct PlacedNote<'a> {
 /// A fault for a user.
 #[derive(Drop)]
 pub struct Diagnostic<'a> {
-    /// How grave it is.
+    /// How grave the fault is.
     pub level: Level,
-    /// What is wrong.
+    /// The message.
     pub message: &'a str,
     /// The place of the fault, if it has one in a text.
     pub spot: Option<Spot<'a>>,

@@ -9,7 +9,7 @@ use crate::paint::Colour;
 pub enum Level {
     /// Something is wrong.
     Error,
-    /// Something is left as it is.
+    /// Something is left unchanged.
     Warning,
 }
 

@@ -8,7 +8,7 @@ use Rattle.syntax_lex.specs.declared.token.LiteralKind.{LiteralKind}
 use Rattle.syntax_lex.specs.declared.token.LiteralKind.TheVariants as literals
 use Rattle.syntax_lex.specs.declared.token.TokenKind.{TokenKind}
 
--- a literal in quotes, by whether it is closed and what is left: only one that is closed has a suffix
+-- a literal in quotes, by whether it is closed and the rest: only a closed one has a suffix
 abbrev pub quoted : (text : List ℕ) → (Bool → LiteralKind) → Bool × List ℕ → TokenKind × List ℕ
 quoted text kind found = literal text (kind found.0) found.0 found.1
 

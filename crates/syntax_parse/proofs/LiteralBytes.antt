@@ -1,4 +1,4 @@
--- A text between quotes, read byte by byte, is seen as the characters and escapes that it is made of.
+-- A text between quotes, read byte by byte, is read as its characters and escapes.
 use Rattle.std.proofs.Common.{◌≡◌, ℕ, ◌+◌, ◌/◌, ◌%◌, ◌<◌, ◌≤◌, true, false, ◌&&◌, ◌==◌, cond, nat_le, List, [], ◌∷◌, ◌++◌, None, Some, refl, sym, ap, ◌∙◌, ⊎_elim, arith}
 use Rattle.std.proofs.lemmas.Bool.{and_right, cases_lt, le-leb, le-ltb, lt-leb, lt-ltb, ne_eqb, or_from, or_right}
 use Rattle.std.proofs.lemmas.Str.{encode_ascii}
@@ -14,7 +14,7 @@ use Rattle.syntax_parse.specs.declared.fault.BadToken.TheVariants as bad
 some_is_none : (why : BadToken) → Some why ≡ None → ⊥
 some_is_none why e = cc
 
--- what is wrong stays wrong
+-- a fault stays
 wrong_stays : (kind : LiteralKind) (why : BadToken) (count : ℕ) (bytes : List ℕ) → fault_behind kind (Wrong why) count bytes ≡ Some why
 wrong_stays kind why count [] = refl
 wrong_stays kind why count (b ∷ bytes) = wrong_stays kind why count bytes
@@ -52,7 +52,7 @@ at_lead kind count a bytes high =
     ap (λ r. fault_behind kind r (counted (begins_one Plain a) count) bytes) (plain_wide kind a (omega (arith, high)))
     ∙ ap (λ t. fault_behind kind Plain (counted t count) bytes) (or_right (nat_lt a 128) (nat_le 192 a) (le-leb 192 a high))
 
--- a byte that goes on with a character
+-- a byte that continues a character
 abbrev Follows : ℕ → Type 0
 Follows a = (128 ≤ a) × (a < 192)
 
@@ -90,13 +90,13 @@ all_next kind count (a ∷ more) bytes follow =
     ∙ ap (λ t. fault_behind kind Plain (counted t count) (more ++ bytes)) (or_from (nat_lt a 128) (nat_le 192 a) (le-ltb a 128 follow.0.0) (lt-leb 192 a follow.0.1))
     ∙ all_next kind count more bytes follow.1
 
--- a character of several bytes, where none is wanted
+-- a character of several bytes, outside of an escape
 pub at_wide : (kind : LiteralKind) (count c : ℕ) (cs : List ℕ) → 128 ≤ c → fault_behind kind Plain count (encodes (c ∷ cs)) ≡ fault_behind kind Plain (counted true count) (encodes cs)
 at_wide kind count c cs wide =
     let w = wide_shape c wide in
     ap (λ t. fault_behind kind Plain count (t ++ encodes cs)) w.is ∙ at_lead kind count w.lead (w.more ++ encodes cs) w.high ∙ all_next kind (counted true count) w.more (encodes cs) w.follow
 
--- within an escape
+-- the state is within an escape
 abbrev pub IsWithin : Reached → Type 0
 IsWithin Plain = ⊥
 IsWithin (Wrong why) = ⊥
@@ -118,7 +118,7 @@ wide_wrong kind Unicode c within wide = (bad.BadUnicodeEscape, rw (wide_is c 123
 wide_wrong kind UnicodeOpen c within wide = (bad.BadUnicodeEscape, ap unicode_first (wide_hex c wide))
 wide_wrong kind (UnicodeDigits count value) c within wide = (bad.BadUnicodeEscape, rw (wide_is c 95 wide (omega arith), wide_is c 125 wide (omega arith), wide_hex c wide) refl)
 
--- within an escape stands no character beyond ASCII
+-- no character beyond ASCII is within an escape
 pub low_within : (kind : LiteralKind) (reached : Reached) (count c : ℕ) (cs : List ℕ) → IsWithin reached → fault_behind kind reached count (encodes (c ∷ cs)) ≡ None → c < 128
 low_within kind reached count c cs within none =
     ⊎_elim (λ low. low)

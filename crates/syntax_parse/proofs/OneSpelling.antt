@@ -1,4 +1,4 @@
--- Trees that are spelled alike are the same.
+-- Trees with the same spelling are equal.
 use Rattle.std.proofs.Common.{◌≡◌, List, [], ◌∷◌, ◌++◌, refl, sym, ap, ap₂, ◌∙◌, subst, append_assoc, append-nil}
 use Rattle.tt_base.proofs.Equality.{same_literal}
 use Rattle.tt_base.proofs.Ranges.{same_range}
@@ -15,11 +15,11 @@ use Rattle.tt_base.specs.declared.punct.Punct.{Punct}
 use Rattle.tt_base.specs.declared.span.Span.{Span}
 use Rattle.syntax_parse.specs.Spelled.{Piece, Sort, name, sign, value, opening, closing, at_span, piece_of, sort_of, spelled}
 
--- a span is told by its part and its numbers
+-- the part and the numbers of a span determine it
 span_is : (a b : Span) → part_of a ≡ part_of b → start_of a.range ≡ start_of b.range → end_of a.range ≡ end_of b.range → a ≡ b
 span_is a b part starts ends = ap₂ (λ p r. span_in p r) part (same_range a.range b.range starts ends)
 
--- a piece tells its span
+-- a piece determines its span
 at_span_is : (x y : Sort) (a b : Span) → at_span x a ≡ at_span y b → (x ≡ y) × (a ≡ b)
 at_span_is x y a b e = (ap (λ p. p.sort) e, span_is a b (ap (λ p. p.part) e) (ap (λ p. p.start) e) (ap (λ p. p.end) e))
 
@@ -35,7 +35,7 @@ ident_is a b sorts spans =
     let raws : a.is_raw ≡ b.is_raw = cc in
     ap (λ t. record a { sym = t }) texts ∙ ap (λ r. record a { sym = b.sym; is_raw = r }) raws ∙ ap (λ s. record b { span = s }) spans
 
--- a piece tells its leaf
+-- a piece determines its leaf
 leaf_is : (a b : Leaf) → piece_of a ≡ piece_of b → a ≡ b
 leaf_is (leaf_of.Literal a) (leaf_of.Literal b) e =
     let told = at_span_is _ _ _ _ e in
@@ -82,7 +82,7 @@ delimiter_is : (a b : Delimiter) → a.kind ≡ b.kind → a.open_span ≡ b.ope
 delimiter_is a b kinds opens closes =
     ap (λ k. delimiter k a.open_span a.close) kinds ∙ ap (λ s. delimiter b.kind s a.close) opens ∙ ap (λ s. delimiter b.kind b.open_span s) closes
 
--- trees in front of what begins with no tree
+-- trees before pieces that begin no tree
 front_is : (a b : Forest) (xs ys : List Piece) → IsBehind xs → IsBehind ys → spelled a ++ xs ≡ spelled b ++ ys → (a ≡ b) × (xs ≡ ys)
 front_is end end xs ys h k e = (refl, e)
 front_is end (leaf it rest) xs ys h k e = absurd (no_closing it (subst IsBehind e h))

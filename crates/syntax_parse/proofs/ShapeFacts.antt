@@ -60,7 +60,7 @@ is_closed (literals.RawStr hashes) = is_some hashes
 is_closed (literals.RawByteStr hashes) = is_some hashes
 is_closed (literals.RawCStr hashes) = is_some hashes
 
--- what was read is no literal, or one that is not closed, or has a shape
+-- the reading is no literal, or one that is not closed, or has a shape
 abbrev pub ShapeAs : TokenKind → (left text : List ℕ) → Type 0
 ShapeAs (kinds.Literal kind place) left text = is_closed kind ≡ true → Shape text left (ahead_of kind) (after_of kind) place
 ShapeAs _ left text = Unit {0}

@@ -75,7 +75,7 @@ behind_u kind count (c ∷ cs) takes none =
     (λ other. absurd (no_wrong kind bad.BadUnicodeEscape count (encodes cs) (unicode_open c) (ap (λ t. cond t UnicodeOpen (Wrong bad.BadUnicodeEscape)) (ne_eqb c 123 other)) stepped))
     (cases_eq c 123)
 
--- what a backslash and one character make, by what they are
+-- the state after a backslash and one character, by the kind of the character
 abbrev after : (kind : LiteralKind) (c : ℕ) → (is_simple is_zero is_x is_u ends : Bool) → Reached
 after kind c is_simple is_zero is_x is_u ends =
     cond is_simple Plain (cond is_zero (behind_one kind true) (cond is_x Hex (cond is_u Unicode (cond ends Plain (Wrong bad.UnknownEscape)))))

@@ -76,7 +76,7 @@ hex_two kind high (Some low) count bytes none =
     })
     (cases_Bool (nat_le 8 high && not (takes_high kind)))
 
--- an escape, or a character, in front of a text with nothing wrong
+-- an escape, or a character, at the front of a text with nothing wrong
 pub record Unit (kind : LiteralKind) (count : ℕ) (text : List ℕ) : Type 0 where
   pub unit : List ℕ
   pub rest : List ℕ
@@ -105,7 +105,7 @@ abbrev pub capped_behind : (before : ℕ) → List ℕ → ℕ
 capped_behind before [] = before
 capped_behind before (c ∷ cs) = capped_behind (with_digit before (unwrap_or (hex_digit c) 0)) cs
 
--- two numbers are the same, or none is that of a character
+-- two numbers are equal, or both are too large for a character
 abbrev pub Alike : ℕ → ℕ → Type 0
 Alike a b = (a ≡ b) ⊎ ((1114112 ≤ a) × (1114112 ≤ b))
 

@@ -50,7 +50,7 @@ inner_return (byte ∷ next ∷ bytes) = ((byte == 13) && not (next == 10)) || i
 abbrev pub before_suffix : (place : ℕ) → (text : List ℕ) → List ℕ
 before_suffix place text = take (min place (length text)) text
 
--- what is wrong, if something is
+-- this fault, if something is wrong
 abbrev pub fault_if : (wrong : Bool) → BadToken → Option BadToken
 fault_if wrong why = if wrong then Some why else None
 

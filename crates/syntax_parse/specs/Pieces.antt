@@ -121,7 +121,7 @@ abbrev pub lifetime : SpanPart → (start : ℕ) → (text : List ℕ) → List 
 lifetime part start text =
     piece part start (start + 1) (sign 39 Joint) ∷ (piece part (start + 1) (start + length text) (name_of (behind_apostrophe text)) ∷ [])
 
--- the leaves of a token of a kind before another kind, whose text begins at a byte
+-- the leaves of a token of a kind, with the kind of the next token; its text begins at byte `start`
 abbrev pub leaves_of : SpanPart → TokenKind → (next : Option TokenKind) → (start : ℕ) → (text : List ℕ) → List Piece
 leaves_of part (kinds.Lifetime starts_with_number) next start text = lifetime part start text
 leaves_of part kinds.RawLifetime next start text = lifetime part start text
@@ -135,6 +135,6 @@ pieces_as (Opens bracket) part kind next start text = piece part start (start + 
 pieces_as (Closes bracket) part kind next start text = piece part start (start + length text) (closing (kind_of bracket)) ∷ []
 pieces_as Leaf part kind next start text = leaves_of part kind next start text
 
--- the pieces of a token of a kind before another kind, whose text begins at a byte
+-- the pieces of a token of a kind, with the kind of the next token; its text begins at byte `start`
 abbrev pub pieces_of : SpanPart → TokenKind → (next : Option TokenKind) → (start : ℕ) → (text : List ℕ) → List Piece
 pieces_of part kind next start text = pieces_as (role_in kind text) part kind next start text

@@ -1,4 +1,4 @@
--- What a token is to a tree.
+-- The role of a token for a tree.
 use Rattle.std.specs.Prelude.{ℕ, List, Option, Some, drop, Bool, true, false, not, is_none, is_some, if◌then◌else◌}
 use Rattle.syntax_lex.specs.declared.token.Base.{Base}
 use Rattle.syntax_lex.specs.declared.token.Base.TheVariants.{Decimal}
@@ -81,7 +81,7 @@ abbrev pub with_inside : Role → (inside : Option BadToken) → Role
 with_inside Leaf (Some why) = Bad why
 with_inside role _ = role
 
--- what a token with this text is to a tree
+-- the role of a token with this text
 abbrev pub role_in : TokenKind → (text : List ℕ) → Role
 role_in (kinds.Literal kind suffix_start) text = with_inside (literal_role kind text) (literal_fault kind suffix_start text)
 role_in (kinds.LineComment (Some style)) text = with_inside (role_of (kinds.LineComment (Some style))) (line_fault style text)

@@ -1,4 +1,4 @@
-//! What the leaves of a text are made of.
+//! The parts of the leaves of a text.
 ghost use Rattle.std.specs.Prelude.{◌≡◌, ◌≤◌, codes};
 ghost use Rattle.tt_base.specs.Span.{start_of, end_of, part_of};
 ghost use Rattle.syntax_parse.specs.Doc.{without_prefix};

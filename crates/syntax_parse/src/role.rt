@@ -1,4 +1,4 @@
-//! What a token is to a tree.
+//! The role of a token for a tree.
 ghost use Rattle.std.specs.Prelude.{◌≡◌, drop, is_none};
 ghost use Rattle.syntax_parse.specs.RawLiteral.{raw_fault};
 ghost use Rattle.syntax_parse.specs.Role.{comment_role, float_role, literal_role, or_leaf, role_in, role_of, with_inside};
@@ -10,7 +10,7 @@ use crate::leaves::behind_apostrophe;
 use crate::raw::{behind_letters, raw_fault, raw_name_fault};
 use syntax_lex::{Base, LiteralKind, TokenKind};
 
-/// What a token is to a tree.
+/// The role of a token for a tree.
 #[derive(Debug, Clone, Copy, PartialEq, Eq)]
 pub enum Role {
     /// A token that is not valid.

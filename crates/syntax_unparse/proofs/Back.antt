@@ -60,7 +60,7 @@ punct_apart char spacing rest other f = go (is_alone spacing) refl (char == 47) 
         of Joint (behind ∙ ap₂ (λ b d. if b then Apart else (if d then Slash else (if char == 35 then Pound else Joint))) ea es ∙ ap (λ b. if b then Pound else Joint) ep)
         (λ g. glue_other char (first (text (chunks_of Joint rest))) es ep)
 
--- what follows a space is no punct
+-- the token after a space is no punct
 gap_next : (due : Bool) (chunks : List Chunk) → spacing_before (next_kind (tokens_of chunks)) ≡ Alone → spacing_before (next_kind (tokens_of (gap_if due chunks))) ≡ Alone
 gap_next true chunks h = refl
 gap_next false chunks h = h
@@ -229,7 +229,7 @@ reads_back trees writable =
       spells = λ part. subst (λ t. sorts (pieces_from part 0 t (tokens_of chunks)) ≡ settled (marks 0 trees)) written_as (pieces_are part 0 chunks are ∙ means_are Opening (marks 0 trees) f);
     }
 
--- so does each answer that is such a text
+-- so does each answer with that text
 pub back_on : (trees : Forest) (answer : Result (String Global) WriteFault) → IfOk answer (λ bytes. string_bytes bytes ≡ text_of trees) → IfOk answer (λ bytes. IsWritable trees)
     → IfOk answer (λ bytes. ReadsBack trees (string_bytes bytes))
 back_on trees (Ok bytes) is writable = subst (ReadsBack trees) (sym is) (reads_back trees writable)

@@ -19,7 +19,7 @@ use Rattle.syntax_unparse.specs.Text.{behind_leaf, opens_apart, text_of, wants_s
 use Rattle.syntax_unparse.specs.declared.behind.Behind.{Behind}
 use Rattle.syntax_unparse.specs.declared.behind.Behind.TheVariants.{Opening, Apart, Joint, Slash, Pound, Quote}
 
--- a leaf has a space before it if a subtree there has one
+-- a leaf has a space before it exactly if a subtree there has one
 space_same : (behind : Behind) (it : Leaf) → touches_pound behind it ≡ false → wants_space behind it ≡ opens_apart behind
 space_same Opening it h = refl
 space_same Apart it h = refl
@@ -28,7 +28,7 @@ space_same Slash it h = refl
 space_same Pound it h = h
 space_same Quote it h = refl
 
--- and a space after it if Display has one
+-- and a space after it exactly if Display has one
 after_same : (it : Leaf) → is_lone_quote it ≡ false → opens_apart (behind_leaf it) ≡ space_after is_alone it
 after_same (leaf_of.Literal literal) h = refl
 after_same (leaf_of.Ident ident) h = refl
@@ -69,7 +69,7 @@ bare delimits.Bracket held none = cc
 bare delimits.Invisible held none = (refl, refl)
 bare delimits.InvisibleOpaque held none = (refl, refl)
 
--- a space before a subtree without brackets is one before its first tree
+-- a space before a subtree without brackets is a space before its first tree
 space_first : (due : Bool) (trees : Forest) → TakesSpace due trees → space_if due ++ siblings_text is_alone false trees ≡ siblings_text is_alone due trees
 space_first true end takes = absurd takes
 space_first true (leaf it rest) takes = refl
@@ -136,7 +136,7 @@ plain_all behind (node delimiter children rest) h = inl (h.0, refl, plain_all Op
 pub plain_displayed : (trees : Forest) → IsPlain Opening trees → IsDisplayed false Opening trees
 plain_displayed trees h = plain_all Opening trees h
 
--- Display shows an empty subtree without brackets as a space where one is due, and the Rust text does not
+-- Display shows an empty subtree without brackets as a space if one is due, and the Rust text does not
 pub empty_subtree : (name : Ident) (delimiter : Delimiter) → (text_of (with_nothing name delimiter) ≡ ident_text name) × (display (with_nothing name delimiter) ≡ ident_text name ++ codes " ")
 unfolding display
 empty_subtree name delimiter = (append-nil (ident_text name), refl)

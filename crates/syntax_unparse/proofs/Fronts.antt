@@ -206,7 +206,7 @@ pub reads_as : (it : Leaf) → is_punct 39 it ≡ false → ReadsAlone it → Re
 reads_as it other (inl quote) = absurd (false≢true (sym other ∙ quote))
 reads_as it other (inr reads) = reads
 
--- a leaf with what follows it begins with no white space
+-- a leaf and what follows it begin with no white space
 pub word_front : (it : Leaf) (rest : List Mark) → ReadsAlone it → Fits (behind_leaf it) rest
     → is_whitespace (first (text (word_as it rest (chunks_of Quote rest) (chunks_of (behind_leaf it) rest)))) ≡ false
 word_front it rest reads f = go (is_punct 39 it) refl
@@ -217,7 +217,7 @@ word_front it rest reads f = go (is_punct 39 it) refl
         let told = reads_as it e reads in
         rw e (ap is_whitespace (leaf_front it rest (chunks_of (behind_leaf it) rest) told.0) ∙ no_space (leaf_text it) told.0)
 
--- signs that are no glue
+-- signs that do not join the next
 pub glue_none : (c n : ℕ) → (n == 47) ≡ false → (n == 42) ≡ false → (n == 34) ≡ false → (n == 35) ≡ false → is_glued c n ≡ false
 glue_none c n a b d e = rw (a, b, d, e) (go (c == 47) (c == 35))
   where
@@ -243,7 +243,7 @@ punct_front punct rest chunks told =
     let known = punct_known (first_kind (encode_utf8 punct.char)) punct.char told.1 in
     leaf_front (leaf_of.Punct punct) rest chunks told.0 ∙ ap (λ t. first (chars t)) known.bytes ∙ ap first known.chars
 
--- what touches a `/` makes no comment with it
+-- a text that touches a `/` makes no comment with it
 pub slash_front : (ms : List Mark) → Fits Slash ms → is_glued 47 (first (text (chunks_of Slash ms))) ≡ false
 slash_front [] f = ap (λ t. is_glued 47 (first t)) chars-nil
 slash_front (opening Parenthesis ∷ rest) f = ap (λ t. is_glued 47 (first t)) (ascii_first 40 (joined (chunks_of Opening rest)) (omega arith))
@@ -279,7 +279,7 @@ no_string_name ident told =
     ap (λ t. first t == 34) it.are
     ∙ ne_eqb it.c 34 (λ e. false≢true (sym (not_string it.cs) ∙ ap (λ c. is_name (reading (c ∷ it.cs)).0) (sym e) ∙ ap (λ p. is_name p.0) it.read ∙ told.1.0))
 
--- what touches a `#` makes no prefix with it
+-- a text that touches a `#` makes no prefix with it
 pub pound_front : (ms : List Mark) → Fits Pound ms → is_glued 35 (first (text (chunks_of Pound ms))) ≡ false
 pound_front [] f = ap (λ t. is_glued 35 (first t)) chars-nil
 pound_front (opening Parenthesis ∷ rest) f = ap (λ t. is_glued 35 (first t)) (ascii_first 40 (joined (chunks_of Opening rest)) (omega arith))

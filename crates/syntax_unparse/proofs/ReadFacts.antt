@@ -21,7 +21,7 @@ pub some_token : (text : List ℕ) → IsOneToken text → 0 < length text
 some_token [] one = absurd (no_token [] (ap (λ t. role_in (first_token_of t).kind []) (sym chars-nil) ∙ one.fine))
 some_token (byte ∷ bytes) one = omega arith
 
--- the scan of a literal that is all of a text fits the text
+-- the scan of a literal that takes all of a text fits the text
 pub scanned_alone : (text : List ℕ) (kind : TokenKind) → kind ≡ first_kind text → IsOneToken text → IsScanned kind text
 scanned_alone text kind is one =
     subst (λ k. IsScanned k text) (sym is)

@@ -1,4 +1,4 @@
--- A leaf's text that reads alone: how it begins, and that it reads the same before a stop.
+-- A leaf's text that reads alone: its first character, and that it reads the same before a stop.
 use Rattle.std.proofs.Common.{◌≡◌, ◌≢◌, ℕ, ◌-◌, Bool, true, false, ◌==◌, ◌||◌, List, [], ◌∷◌, ◌++◌, refl, sym, ap, ap₂, ◌∙◌, arith}
 use Rattle.std.proofs.lemmas.Bool.{false≢true, ne_eqb}
 use Rattle.std.specs.Str.{chars}
@@ -39,7 +39,7 @@ no_token : (text : List ℕ) → role_in (first_token_of []).kind text ≡ Leaf 
 unfolding first_token_of reading
 no_token text h = cc
 
--- a text that is one token is read as it, with nothing left
+-- a text that is one token is read as that token, with nothing left
 pub record IsReadWhole (text : List ℕ) : Type 0 where
   pub c : ℕ
   pub cs : List ℕ

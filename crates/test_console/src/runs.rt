@@ -24,7 +24,7 @@ const ANSWERED: [usize; 6] = [0, 3, 6, 9, 12, 18];
 // How often a `FakeWriter` gets a write while SCRIPT is read byte by byte: it takes three bytes for each write.
 const WRITES: u64 = 8;
 
-// How often it is flushed: before each read, of which the last is at the end of the input, and at the end.
+// How often it is flushed: before each read, also the one at the end of the input, and at the end.
 const FLUSHES: u64 = SCRIPT.len() as u64 + 2;
 
 const NO_READ: ReadFailure = (0, ErrorKind::Other);
