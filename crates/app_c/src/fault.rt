@@ -1,7 +1,7 @@
 //! The faults that calls return, and their numbers.
 
-/// The reason why a call wrote no bytes. Its number is the result of the call; 0 means no fault. A number is used once, and never for
-/// another fault.
+/// The reason why a call wrote no bytes. Its number is the result of the call; 0 means no
+/// fault. A number is used once, and never for another fault.
 #[derive(Clone, Copy)]
 pub enum Fault {
     /// Memory ran out.

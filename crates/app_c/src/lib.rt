@@ -1,8 +1,8 @@
 //! Texts, trees in bytes and macros, for callers in other languages (docs/EMBEDDING.md).
 //!
-//! Each function takes its input as slices and writes into a slice of the caller. It returns 0 or the number of a `Fault`; it sets `written`
-//! to the number of bytes that it writes, or would write if there were room for them, and `at` to the place of the fault. It keeps
-//! nothing between calls.
+//! Each function takes its input as slices and writes into a slice of the caller. It returns 0 or
+//! the number of a `Fault`; it sets `written` to the number of bytes that it writes, or would write
+//! if there were room for them, and `at` to the place of the fault. It keeps nothing between calls.
 #![tactic(auto)]
 
 ghost use Rattle.app_c.specs.Answers.{Answers};

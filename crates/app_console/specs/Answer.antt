@@ -36,11 +36,11 @@ none_open_line = line (codes "none open")
 abbrev pub still_open_line : List ℕ
 still_open_line = line (codes "still open")
 
--- what the command compares is the same
+-- the answer to the command is yes
 abbrev pub yes_line : List ℕ
 yes_line = line (codes "yes")
 
--- it is not the same
+-- the answer to the command is no
 abbrev pub no_line : List ℕ
 no_line = line (codes "no")
 

@@ -71,8 +71,8 @@ unfilled_line (filling.Tree fault) = fault_line fault
 abbrev pub IsMadeByArms : (arms input : Root) → Root → Type 0
 IsMadeByArms arms input tree = (spelled : List Arm) × Spell arms.children spelled × IsExpansion spelled 0 0 input.children (expansion.Tree tree)
 
--- the answer says that the input is an instance of no pattern, or of one in different ways, or why the template of the first such arm is
--- not filled
+-- the answer says that the input is an instance of no pattern, or of one in different ways,
+-- or why the template of the first such arm is not filled
 abbrev pub TellsNoExpansion : List Arm → (input : Root) → (answer : List ℕ) → Type 0
 TellsNoExpansion spelled input answer =
     (((at : ℕ) × IsExpansion spelled 0 0 input.children (expansion.NoMatch at)) × (answer ≡ no_match_line))

@@ -212,8 +212,8 @@ impl Answer {
         Answer::fixed(b"ambiguous\n")
     }
 
-    /// Returns `rule`, the number of the arm and that of its fault, for trees that are no macro; `fault 1` if memory ran out. Made without
-    /// memory.
+    /// Returns `rule`, the number of the arm and that of its fault, for trees that are no
+    /// macro; `fault 1` if memory ran out. Made without memory.
     pub(crate) fn no_macro(error: RulesError) -> Answer
         ensures { result ≡ rules_line error }
     {

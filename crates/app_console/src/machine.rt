@@ -19,8 +19,8 @@ use std::marker::Model;
 use std::mem;
 use tt::{TokenTree, TopSubtree, TopSubtreeBuilder, TtFault};
 
-/// The state that the commands change: 16 slots, each empty or a tree; a list of tokens; and a builder, or none. A contract sees it as a
-/// plain value.
+/// The state that the commands change: 16 slots, each empty or a tree; a list of tokens;
+/// and a builder, or none. A contract sees it as a plain value.
 #[derive(Drop)]
 pub struct Machine {
     slots: [Option<TopSubtree>; 16],

@@ -23,8 +23,8 @@ use std::marker::Model;
 use std::mem;
 use tt_base::TtFault;
 
-// The machine, the line that began in an earlier block, the number of lines answered, the answers, and the texts of the lines, which all
-// lines share.
+// The machine, the line that began in an earlier block, the number of lines answered, the
+// answers, and the texts of the lines, which all lines share.
 #[derive(Drop)]
 struct Session {
     machine: Machine,

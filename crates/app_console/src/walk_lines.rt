@@ -19,8 +19,8 @@ fn write_here(text: &mut String, here: Option<TokenTree>) -> Result<(), AllocErr
     }
 }
 
-/// Returns the places of the walk through the trees, as a cursor comes to them: a header when a subtree is entered, and `close` when it is
-/// left.
+/// Returns the places of the walk through the trees, as a cursor comes to them: a header
+/// when a subtree is entered, and `close` when it is left.
 pub(crate) fn walk_lines(alloc: Global, trees: TokenTreesView<'_>) -> Result<String, AllocError>
     ensures { IfOk result (λ text. string_bytes text ≡ listed event_words (walk (trees_of trees.entry))) }
 {

@@ -121,7 +121,7 @@ impl Command {
         Command::parse_with(&mut texts, line)
     }
 
-    /// The same for a line without a line feed, which is not searched for again. `texts` makes the texts.
+    /// The same for a line without a line feed, which is not searched for again. The texts of tokens come from `texts`.
     #[inline(always)]
     pub fn parse_with(texts: &mut Texts, line: &[u8]) -> Result<Option<Command>, TtFault>
         requires one_line { IsOneLine line.now }

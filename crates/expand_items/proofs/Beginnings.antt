@@ -10,7 +10,7 @@ use Rattle.tt.specs.Types.Leaf.TheVariants as leaf_of
 use Rattle.expand_items.specs.Items.{other, call_behind, call_from, definition_behind, is_at_colons, is_at_root, is_at_sign, item_from, item_in, may_begin_item, name_in}
 use Rattle.mbe_pattern.specs.Units.{is_at_word, is_at_punct, unit_size}
 
--- If neither sign comes first, neither `!` nor `:` does.
+-- If no sign comes first, no `!` and no `:` does.
 no_sign : (trees : Forest) → is_at_sign trees ≡ false → (is_at_punct (codes "!") trees ≡ false) × (is_at_punct (codes ":") trees ≡ false)
 no_sign end e = (refl, refl)
 no_sign (node delimiter children rest) e = (refl, refl)

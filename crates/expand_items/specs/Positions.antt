@@ -29,8 +29,8 @@ is_items siblings.Items = true
 is_items siblings.Statements = false
 is_items siblings.Others = false
 
--- with one word more: the first of `mod`, `impl`, `trait` and `fn` says what the braces of an item contain, and `extern` says it if none of
--- them follows
+-- with one word more: the first of `mod`, `impl`, `trait` and `fn` says what the braces of
+-- an item contain, and `extern` says it if none of them follows
 abbrev pub head_told : (word : List ℕ) → Head → Head
 head_told word it =
     if bytes_eq word (codes "mod") || (bytes_eq word (codes "impl") || bytes_eq word (codes "trait")) then head.Items
@@ -121,7 +121,8 @@ behind_leaf (leaf_of.Literal literal) trees it = behind false it
 behind_leaf (leaf_of.Punct punct) trees it = behind_punct punct.char trees it
 behind_leaf (leaf_of.Ident ident) trees it = behind_ident ident it
 
--- behind a subtree of a kind: an attribute changes nothing, parentheses leave `#[macro_use]` in force, and braces end a statement or an item
+-- behind a subtree of a kind: an attribute changes nothing, parentheses leave
+-- `#[macro_use]` in force, and braces end a statement or an item
 abbrev pub behind_subtree : DelimiterKind → Position → Position
 behind_subtree kind it =
     if it.is_attribute then record it { is_attribute = false } else record (behind (is_brace kind) it) { is_used = it.is_used && is_parenthesis kind }

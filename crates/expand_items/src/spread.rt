@@ -107,10 +107,10 @@ fn add_parts(
     Ok(())
 }
 
-/// Adds sibling trees that have these attributes before the first of them: before each other one it adds the conditions among the
-/// attributes. An expression goes into braces with the spans of that delimiter. Returns whether it adds them: if the trees are no run of
-/// items or statements, or there are none, it adds nothing. The fault is `Memory`, or `TooManyTokens` if the builder would hold more than
-/// 4,294,967,295 tokens.
+/// Adds sibling trees that have these attributes before the first of them: before each other one it adds the
+/// conditions among the attributes. An expression goes into braces with the spans of that delimiter. Returns
+/// whether it adds them: if the trees are no run of items or statements, or there are none, it adds nothing.
+/// The fault is `Memory`, or `TooManyTokens` if the builder would hold more than 4,294,967,295 tokens.
 pub fn put_under(
     alloc: Global,
     siblings: Siblings,

@@ -33,7 +33,7 @@ past_subtree {text} {place} {to} {delimiter} {children} {rest} is laid = by (sub
         → (place ≤ end_of delimiter.close.range) × IsCharBoundary text (end_of delimiter.close.range) × Laid text (end_of delimiter.close.range) rest to
     by (lies_node opens inside closes behind) = (omega (arith, opens.after, laid_order inside, closes.order), closes.ends, behind)
 
--- If a subtree follows the first `suc n` trees, it is a range up to where it closes, and the other trees lie behind it.
+-- If a subtree follows the first `suc n` trees: from the beginning of the trees to its close is a range, and the other trees lie behind it.
 to_subtree : {text : List ℕ} {from to : ℕ} (n : ℕ) (other : Span) {delimiter : Delimiter} {children rest trees : Forest} → Laid text from trees to
     → after_trees (suc n) trees ≡ node delimiter children rest
     → Lies text from (start_of (begin_at trees other).range) (end_of delimiter.close.range) × Laid text (end_of delimiter.close.range) rest to
@@ -48,8 +48,8 @@ to_subtree n other (lies_node opens inside shuts behind) stands =
     let (order, closes, others) = past_subtree stands (laid_behind n (laid_past inside shuts behind)) in
     (record { after = opens.after; range = record { order = order; begins = opens.range.begins; ends = closes } }, others)
 
--- A call without its `;` is a range of the text, from where its first token begins to where its subtree closes. The trees behind it lie
--- behind that.
+-- A call without its `;` is a range of the text, from where its first token begins to where
+-- its subtree closes. The trees behind it lie behind that.
 subtree_laid : {text : List ℕ} {from to : ℕ} (root : List ℕ) (trees : Forest) (it : Call) → item_in root trees ≡ calls it → Laid text from trees to
     → Lies text from (start_of (begin_at trees it.name.span).range) (end_of it.delimiter.close.range)
     × Laid text (end_of it.delimiter.close.range) (after_trees it.len trees) to
@@ -93,8 +93,8 @@ last_of true true false d is = absurd (cc is)
 last_of true false c d is = absurd (cc is)
 last_of false b c d is = absurd (cc is)
 
--- A call without attributes is a range of the text, from where its first token begins to where it ends. The trees behind it lie behind
--- that.
+-- A call without attributes is a range of the text, from where its first token begins to
+-- where it ends. The trees behind it lie behind that.
 bare_laid : {text : List ℕ} {from to : ℕ} (root : List ℕ) (trees : Forest) (it : Call) (position : Position) → item_in root trees ≡ calls it
     → Laid text from trees to
     → Lies text from (start_of (begin_at trees it.name.span).range) (end_of (end_in position it trees).range)

@@ -57,8 +57,8 @@ module _ (close : Span) (closes : List Span) (others : Outcome) (outer : List Ou
   pub finished_close : (inner : Span) → finished (inner ∷ close ∷ closes) (nothing ∷ others ∷ outer) stack ≡ finished (close ∷ closes) (others ∷ outer) (close_innermost inner stack)
   finished_close inner = ap (λ s. finished (close ∷ closes) (others ∷ outer) (close_innermost inner s)) (append-end stack)
 
--- Whatever the rest expands to, the expansion of the trees is built once that is: what is known, the levels, and what is built, at first
--- and now.
+-- Whatever the rest expands to, the expansion of the trees is built once that is: what is
+-- known, the levels, and what is built, at first and now.
 pub record IsGoing (setting : Setting) (limit : ℕ) (siblings : Siblings) (trees : Forest) (before : Known) (old : Stack) (levels : List Level) (now : Known) (stack : Stack) : Type 0 where
   pub finishes : (after : Known) (outcomes : List Outcome) → Ends setting false limit levels now after outcomes
       → (outcome : Outcome) × Comes setting false limit (begun_among siblings) 0 before trees after outcome × (finished (closes_of levels) outcomes stack ≡ append (trees_left outcome) old)

@@ -55,12 +55,12 @@ as_texts (becomes first last trees behind) = ap (λ rs. replacement first last t
 abbrev pub BeforePoint : (before : List Sort) → Forest → (plain : ℕ) → Type 0
 BeforePoint before trees plain = follows_value before ≡ true → is_at_punct (codes ".") trees ≡ true → 1 < plain
 
--- behind these leaves and brackets, the latest first, no call begins where none may: so many trees are taken as they are
+-- behind these leaves and brackets, the latest first, no call begins at a place at which none may: so many trees are taken as they are
 pub record IsHeld (before : List Sort) (trees : Forest) (plain : ℕ) : Type 0 where
   pub begins : plain ≡ 0 → may_begin before ≡ true
   pub point : BeforePoint before trees plain
 
--- Behind a punct no call begins where none may.
+-- Behind a punct no call begins at a place at which none may.
 held_punct : (char : ℕ) (spacing : Spacing) (before : List Sort) (plain behind : ℕ) → ((char == 46) ≡ true → follows_value before ≡ true → 1 < plain) → ((char == 39) ≡ true → 0 < behind)
     → max (plain - 1) behind ≡ 0 → may_begin (sign char spacing ∷ before) ≡ true
 held_punct char spacing before plain behind point quote none = by (char == 39) refl (char == 46) refl (follows_value before) refl

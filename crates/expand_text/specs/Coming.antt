@@ -24,8 +24,8 @@ use Rattle.mbe_rules.specs.Expansions.{IsExpansion}
 use Rattle.mbe_rules.specs.declared.macro_rules.Expansion.TheVariants as expansion
 use Rattle.mbe_pattern.specs.Units.{front_trees, is_brace, is_at_punct}
 
--- the first tree is taken as it is: no call is expanded any more, or it is one of the plain trees, or it begins neither a definition nor a
--- call
+-- the first tree is taken as it is: no call is expanded any more, or it is one of the plain
+-- trees, or it begins neither a definition nor a call
 abbrev pub IsPlain : Setting → Known → Position → (plain : ℕ) → Forest → Type 0
 IsPlain setting known position plain trees = (known.is_over ≡ true) ⊎ ((0 < plain) ⊎ (item_at setting.root position trees ≡ other))
 

@@ -117,7 +117,8 @@ pub(crate) fn place(
     Ok(None)
 }
 
-// Adds a call's attributes, and behind them what it expands to, placed. If that fails, adds the call itself and a finding.
+// Adds a call's attributes, and behind them what it expands to, in its place. If the result
+// does not fit there, adds the call itself and a finding.
 #[cycle(expansion)]
 fn pass_call(
     setting: &Setting,
@@ -139,8 +140,8 @@ fn pass_call(
     Ok(())
 }
 
-/// Expands sibling trees into the builder, with at most `limit` nested expansions. It calls itself for each expansion, so at most `limit`
-/// deep.
+/// Expands sibling trees into the builder, with at most `limit` nested expansions. It calls
+/// itself for each expansion, so at most `limit` deep.
 #[cycle(expansion)]
 pub(crate) fn expand_trees(
     setting: &Setting,

@@ -38,8 +38,8 @@ pub enum MacroFault {
     /// would read back as something else; if that is no token, it is the beginning of the call.
     #[error("what this becomes cannot be written")]
     NotWritable,
-    /// The text of the expansion would have 4,294,967,295 bytes or more, so the call is left as it is. The byte is the beginning of the
-    /// call.
+    /// The text of the expansion would have 4,294,967,295 bytes or more, so the call is
+    /// left as it is. The byte is the beginning of the call.
     #[error("what this becomes is too long a text")]
     TooLong,
     /// As a tree, the arms of a definition (with the root's word for each `$crate`) or the expansion of a call exceed a limit, so the

@@ -18,8 +18,8 @@ pub struct ExpandOptions<'a> {
 }
 
 impl<'a> ExpandOptions<'a> {
-    /// The usual options: all macros, with at most 128 nested expansions. `$crate` becomes `crate`, and calls that are not expanded stay as
-    /// they are.
+    /// The usual options: all macros, with at most 128 nested expansions. `$crate` becomes
+    /// `crate`, and calls that are not expanded stay as they are.
     pub fn usual() -> ExpandOptions<'a>
         ensures limit { result.limit ≡ 128 }
         ensures root { result.root.now ≡ codes "crate" }

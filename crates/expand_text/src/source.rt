@@ -27,8 +27,8 @@ pub(crate) enum Written {
     Faulty(u32, MacroFault),
 }
 
-// Writes the expansion of a call as a text, or returns why it has none. The call begins at the byte `begin`. The tree must be within the
-// limits.
+// Writes the expansion of a call as a text, or returns why it has none. The call begins at
+// the byte `begin`. The tree must be within the limits.
 fn write_tree(
     alloc: Global,
     begin: u32,

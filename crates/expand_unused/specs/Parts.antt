@@ -19,7 +19,8 @@ use Rattle.expand_unused.specs.Places.{First, drops, takes, others, first_in, be
 use Rattle.syntax_edit.specs.Places.{begin_at}
 use Rattle.expand_items.specs.Items.{Definition}
 
--- the definition of a macro that may go: its name, the bytes at which its attributes or it begin and at which it ends, and the words in its arms
+-- the definition of a macro that may go: its name, the bytes at which its attributes or it
+-- begin and at which it ends, and the words in its arms
 pub record Rules : Type 0 where
   pub name : List ℕ
   pub start : ℕ

@@ -17,8 +17,8 @@ abbrev pub may_go : (only : Option (List ℕ)) → (name : List ℕ) → Bool
 may_go None name = true
 may_go (Some it) name = bytes_eq it name
 
--- what comes first: a definition that may go; a number of trees that are taken as they are, which are a call or a definition that stays; or
--- something else
+-- what comes first: a definition that may go; a number of trees that are taken as they are,
+-- which are a call or a definition that stays; or something else
 pub data First : Type 0 where
   drops : Definition → First
   takes : (len : ℕ) → First
@@ -41,7 +41,7 @@ no_attributes = record { since = None; sign = None }
 abbrev pub begun : Place
 begun = at.Free no_attributes
 
--- the next trees, in that number, are part of a definition, or are taken as they are
+-- so many of the next trees are part of a definition, or are taken as they are
 abbrev pub passing : ℕ → Place
 passing zero = begun
 passing (suc left) = at.Passed left

@@ -44,7 +44,7 @@ fn take_words(
     }
 }
 
-// Adds a definition of that name, with the words in its arms.
+// Adds a definition of that name to the waiting ones, with the words in its arms.
 fn wait(
     alloc: Global,
     waiting: &mut IndexMap<Symbol, Vec<Symbol>>,
@@ -59,7 +59,7 @@ fn wait(
     Ok(())
 }
 
-// Adds a part of a text, if it may go.
+// Adds a part of a text to the waiting ones, if it may go.
 fn wait_part(
     alloc: Global,
     waiting: &mut IndexMap<Symbol, Vec<Symbol>>,
@@ -77,7 +77,7 @@ fn wait_part(
     }
 }
 
-// Adds all parts that may go.
+// Returns all definitions that may go, as waiting ones.
 fn all_waiting(alloc: Global, parts: &[Part]) -> Result<IndexMap<Symbol, Vec<Symbol>>, AllocError>
     ensures { IfOk result (λ waiting. IsWaiting (map part_of parts.now) (waiting_in waiting)) }
 {
