@@ -19,7 +19,7 @@ use Rattle.mbe_rules.specs.declared.error.TemplateError.TheVariants as template
 use Rattle.mbe_rules.specs.declared.fill_error.FillError.{FillError}
 use Rattle.mbe_rules.specs.declared.fill_error.FillError.TheVariants as filling
 
--- the number of a pattern's fault, 4 for none; exhausted memory has none
+-- the number of a pattern's fault (4 is not used); exhausted memory has none
 abbrev pub pattern_number : PatternError → Option ℕ
 pattern_number (pattern.BeginsNothing at) = Some 2
 pattern_number (pattern.UnknownFragment at) = Some 3
