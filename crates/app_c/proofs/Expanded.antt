@@ -1,4 +1,4 @@
--- What comes of a text is told of the bytes that spell it.
+-- The expansion of a text, for the bytes that spell the text.
 use Rattle.std.proofs.Common.{◌≡◌, ℕ, List, None, refl, subst}
 use Rattle.std.specs.Prelude.{IsUtf8, string_bytes}
 use Rattle.app_c.specs.ExpandedTexts.{IsExpandedText, IsUsual}
@@ -6,7 +6,7 @@ use Rattle.expand_text.specs.Expansion.{IsExpanded, first_fault}
 use Rattle.expand_text.specs.declared.options.ExpandOptions.{ExpandOptions}
 use Rattle.expand_text.specs.declared.text.Expanded.{Expanded}
 
--- A text is expanded in the usual way.
+-- A text is expanded with the usual options.
 pub is_expanded : (options : ExpandOptions) (source text : List ℕ) (expanded : Expanded) → IsUsual options → text ≡ source → IsUtf8 source
     → IsExpanded options text expanded → first_fault expanded.findings.items ≡ None → IsExpandedText source (string_bytes expanded.text)
 is_expanded options source text expanded usual same utf8 is fine =

@@ -1,12 +1,12 @@
--- What follows from what is known of a result.
+-- Consequences of what is known of a result.
 use Rattle.std.specs.Prelude.{Result, Ok, Err, IfOk, IfErr}
 
--- What was known of a value gives way to what follows from it.
+-- What is known of the value is replaced by what follows from it.
 pub if_ok : {T E : Type 0} {P Q : T → Type 0} (result : Result T E) → ((it : T) → P it → Q it) → IfOk result P → IfOk result Q
 if_ok (Ok it) f h = f it h
 if_ok (Err fault) f h = h
 
--- The same of an error.
+-- The same for an error.
 pub if_err : {T E : Type 0} {P Q : E → Type 0} (result : Result T E) → ((it : E) → P it → Q it) → IfErr result P → IfErr result Q
 if_err (Ok it) f h = h
 if_err (Err fault) f h = f fault h

@@ -6,7 +6,7 @@ use Rattle.syntax_unparse.specs.Settled.{ReadsBack}
 use Rattle.syntax_unparse.specs.Text.{text_of}
 use Rattle.syntax_unparse.specs.Writable.{IsWritable}
 
--- What is written of these is the tree's text.
+-- The text of these trees is the text of the tree.
 pub is_text : (root : Root) (trees : Forest) (text : List ℕ) → trees ≡ root.children → text ≡ text_of trees → IsWritable trees → ReadsBack trees text → IsTextOf root text
 is_text root trees text same is writable back =
     record { writable = subst IsWritable same writable; is = is ∙ ap text_of same; back = subst (λ t. ReadsBack t text) same back }

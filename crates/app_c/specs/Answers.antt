@@ -1,10 +1,10 @@
--- What a caller finds behind a call: the output, how many bytes were or would be written, the place of a fault, and the answer.
+-- What a caller finds after a call: the output, how many bytes were or would be written, the place of a fault, and the result.
 use Rattle.std.specs.Prelude.{◌≡◌, ◌⊎◌, ◌<◌, ◌≤◌, ◌++◌, ℕ, List, drop, length}
 use Rattle.app_c.specs.declared.failure.Failure.{Failure}
 use Rattle.app_c.specs.declared.fault.Fault.TheVariants.{NoRoom}
 use Rattle.app_c.specs.Faults.{number_of}
 
--- the output holds these bytes, and behind them what stood there before
+-- the output holds these bytes, and behind them what was there before
 pub record IsWritten (made before after : List ℕ) : Type 0 where
   pub fits : length made ≤ length before
   pub front : after ≡ made ++ drop (length made) before
@@ -14,19 +14,19 @@ pub record HasNoRoom (made before after : List ℕ) : Type 0 where
   pub short : length before < length made
   pub same : after ≡ before
 
--- the caller is given these bytes and their number; or their number alone, where there is no room for them all
+-- the caller gets these bytes and their number; or only the number, if there is no room for all of them
 pub record Gives (made before after : List ℕ) (written at result : ℕ) : Type 0 where
   pub number : written ≡ length made
   pub place : at ≡ 0
   pub answer : ((result ≡ 0) × IsWritten made before after) ⊎ ((result ≡ number_of NoRoom) × HasNoRoom made before after)
 
--- the caller is told of a fault and its place
+-- the caller gets a fault and its place
 pub record Tells (failure : Failure) (written at result : ℕ) : Type 0 where
   pub number : written ≡ 0
   pub place : at ≡ failure.at
   pub answer : result ≡ number_of failure.fault
 
--- the caller is given bytes that are right; or told of a fault that is, and then the output is as it was
+-- the caller gets bytes that are right; or a fault that is, and then the output is as before
 abbrev pub Answers : (IsMade : List ℕ → Type 0) → (IsFailure : Failure → Type 0) → (before after : List ℕ) → (written at result : ℕ) → Type 0
 Answers IsMade IsFailure before after written at result =
     ((made : List ℕ) × IsMade made × Gives made before after written at result)

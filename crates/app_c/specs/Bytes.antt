@@ -8,15 +8,15 @@ use Rattle.app_c.specs.declared.failure.Failure.{Failure}
 use Rattle.app_c.specs.Failures.{bytes_failure, input_failure}
 use Rattle.app_c.specs.Faults.{number_of}
 
--- the bytes are those of no tree, and why
+-- the bytes are those of no tree, with the reason
 abbrev pub AreOfNoTree : (bytes : List ℕ) → Failure → Type 0
 AreOfNoTree bytes failure = (fault : BytesFault) × IsRefused bytes fault × (failure ≡ bytes_failure fault)
 
--- the same of the bytes of an input
+-- the same for the bytes of an input
 abbrev pub IsNoInput : (bytes : List ℕ) → Failure → Type 0
 IsNoInput bytes failure = (fault : BytesFault) × IsRefused bytes fault × (failure ≡ input_failure fault)
 
--- the bytes are those of a tree; or it is told why they are those of none, and at which byte
+-- the bytes are those of a tree; or they are those of none, with the reason and the byte
 abbrev pub IsChecked : (bytes : List ℕ) → (at result : ℕ) → Type 0
 IsChecked bytes at result =
     ((root : Root) × AreBytesOf root bytes × (at ≡ 0) × (result ≡ 0))

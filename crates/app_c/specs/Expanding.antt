@@ -1,4 +1,4 @@
--- What a macro makes of an input, where its arms, the input and what is made are trees in bytes.
+-- The expansion of an input by a macro, with the arms, the input and the result as trees in bytes.
 use Rattle.std.specs.Prelude.{◌≡◌, ◌⊎◌, ℕ, List}
 use Rattle.tt_base.specs.Forest.{Root}
 use Rattle.tt_bytes.specs.Format.{AreBytesOf}
@@ -14,18 +14,18 @@ use Rattle.mbe_rules.specs.declared.rules_error.ExpandError.{ExpandError}
 use Rattle.mbe_rules.specs.declared.rules_error.RulesError.{RulesError}
 use Rattle.mbe_rules.specs.declared.macro_rules.Expansion.TheVariants as expansion
 
--- the tree is what the macro of these arms makes of the input
+-- the tree is the expansion of the input by the macro of these arms
 abbrev pub IsExpansionOf : (arms input : Root) → Root → Type 0
 IsExpansionOf arms input tree = (spelled : List Arm) × Spell arms.children spelled × IsExpansion spelled 0 0 input.children (expansion.Tree tree)
 
--- the arms make nothing of the input, and why
+-- the arms expand the input to nothing, with the reason
 abbrev pub MakeNothing : List Arm → (input : Root) → Failure → Type 0
 MakeNothing spelled input failure =
     ((at : ℕ) × IsExpansion spelled 0 0 input.children (expansion.NoMatch at) × (failure ≡ at_place NoMatch at))
     ⊎ (((arm : ℕ) × IsExpansion spelled 0 0 input.children (expansion.Ambiguous arm) × (failure ≡ at_place Ambiguous arm))
     ⊎ ((error : ExpandError) × IsExpandError spelled 0 input.children error × (failure ≡ expand_failure error)))
 
--- the trees are no macro, or it makes nothing of the input, and why
+-- the trees are no macro, or it expands the input to nothing, with the reason
 abbrev pub HasNoExpansion : (arms input : Root) → Failure → Type 0
 HasNoExpansion arms input failure =
     ((error : RulesError) × IsRulesError arms.children error × (failure ≡ rules_failure error))
@@ -36,7 +36,7 @@ pub record AreGiven (arms input : List ℕ) (macro given : Root) : Type 0 where
   pub spells_arms : AreBytesOf macro arms
   pub spells_input : AreBytesOf given input
 
--- the bytes of what the macro of arms makes of an input
+-- the bytes of the expansion of an input by the macro of these arms
 pub record AreBytesOfExpansion (arms input bytes : List ℕ) : Type 0 where
   pub macro : Root
   pub given : Root
@@ -45,7 +45,7 @@ pub record AreBytesOfExpansion (arms input bytes : List ℕ) : Type 0 where
   pub made : IsExpansionOf macro given tree
   pub spells : AreBytesOf tree bytes
 
--- what is made has no bytes, and why
+-- the expansion has no bytes, with the reason
 pub record IsTooLarge (arms input : List ℕ) (failure : Failure) : Type 0 where
   pub macro : Root
   pub given : Root
@@ -54,7 +54,7 @@ pub record IsTooLarge (arms input : List ℕ) (failure : Failure) : Type 0 where
   pub made : IsExpansionOf macro given tree
   pub none : HasNoBytes tree failure
 
--- nothing is made, and why
+-- no expansion exists, with the reason
 pub record IsNotMade (arms input : List ℕ) (failure : Failure) : Type 0 where
   pub macro : Root
   pub given : Root

@@ -1,4 +1,4 @@
--- Why a call gave no bytes, and where: what each fault of the libraries below is told as.
+-- Why a call wrote no bytes, and where: the fault of this library for each fault of the libraries below.
 use Rattle.std.specs.Prelude.{ℕ}
 use Rattle.tt_base.specs.declared.fault.TtFault.{TtFault}
 use Rattle.tt_base.specs.declared.fault.TtFault.TheVariants as limit
@@ -34,7 +34,7 @@ use Rattle.syntax_unparse.specs.declared.fault.WriteFault.TheVariants as writing
 abbrev pub at_place : Fault → (at : ℕ) → Failure
 at_place fault at = record { fault = fault; at = at }
 
--- a fault that has no place
+-- a fault without a place
 abbrev pub placeless : Fault → Failure
 placeless fault = at_place fault 0
 
@@ -52,7 +52,7 @@ limit_fault limit.TooManySymbols = told.TooManySymbols
 limit_fault limit.TooManyBytes = told.TooManyBytes
 limit_fault limit.PointsSpent = told.OtherLimit
 
--- a token that is not valid
+-- the fault of a token
 abbrev pub bad_token : BadToken → Fault
 bad_token bad.UnterminatedComment = told.UnterminatedComment
 bad_token bad.UnterminatedLiteral = told.UnterminatedLiteral
@@ -117,7 +117,7 @@ input_failure (bytes.NoText at) = at_place told.InputWithoutText at
 input_failure (bytes.NoTree at) = at_place told.InputWithoutTree at
 input_failure (bytes.StoredOtherwise at) = at_place told.InputStoredOtherwise at
 
--- what is wrong with a pattern
+-- the fault of a pattern
 abbrev pub pattern_fault : PatternError → Fault
 pattern_fault (pattern.BeginsNothing at) = told.BeginsNothing
 pattern_fault (pattern.UnknownFragment at) = told.UnknownFragment
@@ -126,13 +126,13 @@ pattern_fault (pattern.NeedlessSeparator at) = told.NeedlessSeparator
 pattern_fault (pattern.EmptyRepetition at) = told.EmptyRepetition
 pattern_fault pattern.Memory = told.Memory
 
--- what is wrong with a template
+-- the fault of a template
 abbrev pub template_fault : TemplateError → Fault
 template_fault (template.StillRepeats at) = told.StillRepeats
 template_fault (template.NothingRepeats at) = told.NothingRepeats
 template_fault template.Memory = told.Memory
 
--- what is wrong with an arm
+-- the fault of an arm
 abbrev pub arm_fault : ArmFault → Fault
 arm_fault (arm.NoPattern at) = told.NoPattern
 arm_fault (arm.Pattern error) = pattern_fault error
@@ -156,7 +156,7 @@ fill_fault (filling.Tree fault) = limit_fault fault
 abbrev pub expand_failure : ExpandError → Failure
 expand_failure error = at_place (fill_fault error.fault) error.arm
 
--- what is wrong with a macro of a text, or with a call of one
+-- the fault of a macro of a text, or of a call of one
 abbrev pub macro_fault : MacroFault → Fault
 macro_fault (found.Definition error) = arm_fault error.fault
 macro_fault found.Left = told.Left
@@ -169,7 +169,7 @@ macro_fault found.NotWritable = told.NotWritable
 macro_fault found.TooLong = told.MadeTooLong
 macro_fault (found.TooLarge fault) = limit_fault fault
 
--- a text whose macros are not expanded
+-- a text that cannot be expanded
 abbrev pub expand_text_failure : ExpandTextError → Failure
 expand_text_failure (expanding.Text fault) = text_failure fault
 expand_text_failure (expanding.Macro it) = at_place (macro_fault it.fault) it.at

@@ -1,9 +1,9 @@
--- The numbers of the faults that calls answer.
+-- The numbers of the faults that calls return.
 use Rattle.std.specs.Prelude.{ℕ}
 use Rattle.app_c.specs.declared.fault.Fault.{Fault}
 use Rattle.app_c.specs.declared.fault.Fault.TheVariants as fault
 
--- the number of a fault; 0 is none
+-- the number of a fault; 0 means no fault
 abbrev pub number_of : Fault → ℕ
 number_of fault.Memory = 1
 number_of fault.NoRoom = 2

@@ -1,4 +1,4 @@
--- What callers in other languages are answered.
+-- What callers in other languages get back.
 pub mod Answers
 pub mod Bytes
 pub mod ExpandedTexts

@@ -21,7 +21,7 @@ use Rattle.syntax_unparse.specs.declared.fault.WriteFault.{WriteFault}
 abbrev pub text_part : SpanPart
 text_part = record { anchor = record { file_id = record { 0 = 0 }; ast_id = record { 0 = 0 } }; ctx = record { 0 = 0 } }
 
--- the text is not UTF-8, and at which byte
+-- the text is not UTF-8, with the byte
 pub record IsNoText (text : List ℕ) (failure : Failure) : Type 0 where
   pub none : IsUtf8 text → ⊥
   pub told : failure ≡ at_place NotUtf8 (utf8_valid_len text)
@@ -31,29 +31,29 @@ pub record IsTreeOf (text : List ℕ) (root : Root) : Type 0 where
   pub utf8 : IsUtf8 text
   pub parse : IsParse text_part text root
 
--- a text has no tree, and why
+-- a text has no tree, with the reason
 abbrev pub HasNoTree : (text : List ℕ) → Failure → Type 0
 HasNoTree text failure = IsNoText text failure ⊎ ((fault : TextFault) × IsRefusal text_part text fault × (failure ≡ text_failure fault))
 
--- a tree has no bytes, and why
+-- a tree has no bytes, with the reason
 abbrev pub HasNoBytes : Root → Failure → Type 0
 HasNoBytes root failure = (fault : TtFault) × IsBytesRefusal root fault × (failure ≡ placeless (limit_fault fault))
 
--- these are the bytes of the tree of a text
+-- the bytes of the tree of a text
 abbrev pub AreBytesOfText : (text bytes : List ℕ) → Type 0
 AreBytesOfText text bytes = (root : Root) × IsTreeOf text root × AreBytesOf root bytes
 
--- why a text has none
+-- why a text has no such bytes
 abbrev pub HasNone : (text : List ℕ) → Failure → Type 0
 HasNone text failure = HasNoTree text failure ⊎ ((root : Root) × IsTreeOf text root × HasNoBytes root failure)
 
--- this is the Rust text of a tree, all of whose leaves can be written, and it reads back
+-- the Rust text of a tree whose leaves can all be written, and which reads back
 pub record IsTextOf (root : Root) (text : List ℕ) : Type 0 where
   pub writable : IsWritable root.children
   pub is : text ≡ text_of root.children
   pub back : ReadsBack root.children text
 
--- a tree has no text, and why
+-- a tree has no text, with the reason
 abbrev pub HasNoText : Root → Failure → Type 0
 HasNoText root failure = (fault : WriteFault) × IsWriteFault root.children fault × (failure ≡ write_failure fault)
 
@@ -61,6 +61,6 @@ HasNoText root failure = (fault : WriteFault) × IsWriteFault root.children faul
 abbrev pub IsTextOfBytes : (bytes text : List ℕ) → Type 0
 IsTextOfBytes bytes text = (root : Root) × AreBytesOf root bytes × IsTextOf root text
 
--- why there is none
+-- why the bytes have no such text
 abbrev pub HaveNoText : (bytes : List ℕ) → Failure → Type 0
 HaveNoText bytes failure = AreOfNoTree bytes failure ⊎ ((root : Root) × AreBytesOf root bytes × HasNoText root failure)

@@ -1,10 +1,10 @@
-//! What a call answers.
+//! What a call returns to its caller.
 ghost use Rattle.app_c.specs.Answers.{Gives, Tells};
 
 use crate::failure::Failure;
 use crate::fault::Fault;
 
-/// Gives the bytes that were made to the caller, if there is room for them all.
+/// Copies the bytes into the caller's output, if there is room for all of them.
 pub(crate) fn give(made: &[u8], out: &mut [u8], written: &mut usize, at: &mut usize) -> u32
     ensures { Gives made.now out.old out.new written.new at.new result }
 {
@@ -18,7 +18,7 @@ pub(crate) fn give(made: &[u8], out: &mut [u8], written: &mut usize, at: &mut us
     0
 }
 
-/// Tells the caller of a fault.
+/// Reports a fault to the caller.
 pub(crate) fn tell(failure: Failure, written: &mut usize, at: &mut usize) -> u32
     ensures { Tells failure written.new at.new result }
 {

@@ -9,7 +9,7 @@ use std::alloc::Global;
 use tt::TopSubtree;
 use tt_bytes::{from_bytes, to_bytes};
 
-/// The tree that has these bytes.
+/// Returns the tree that has these bytes.
 pub(crate) fn tree_of_bytes(alloc: Global, bytes: &[u8]) -> Result<TopSubtree, Failure>
     ensures ok { IfOk result (λ tree. AreBytesOf tree bytes.now) }
     ensures err { IfErr result (AreOfNoTree bytes.now) }
@@ -20,7 +20,7 @@ pub(crate) fn tree_of_bytes(alloc: Global, bytes: &[u8]) -> Result<TopSubtree, F
     }
 }
 
-/// The tree that has these bytes, which are those of an input.
+/// Returns the tree that has these bytes, which are those of an input.
 pub(crate) fn input_of_bytes(alloc: Global, bytes: &[u8]) -> Result<TopSubtree, Failure>
     ensures ok { IfOk result (λ tree. AreBytesOf tree bytes.now) }
     ensures err { IfErr result (IsNoInput bytes.now) }
@@ -31,7 +31,7 @@ pub(crate) fn input_of_bytes(alloc: Global, bytes: &[u8]) -> Result<TopSubtree, 
     }
 }
 
-/// The bytes of the tree.
+/// Returns the bytes of the tree.
 pub(crate) fn bytes_of_tree(alloc: Global, tree: &TopSubtree) -> Result<Vec<u8>, Failure>
     ensures ok { IfOk result (λ bytes. AreBytesOf tree.now bytes.items) }
     ensures err { IfErr result (HasNoBytes tree.now) }

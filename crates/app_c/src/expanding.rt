@@ -1,4 +1,4 @@
-//! Texts whose macros are expanded.
+//! Expanded texts.
 ghost use Rattle.std.specs.Prelude.{IfOk, IfErr, string_bytes};
 ghost use Rattle.app_c.specs.ExpandedTexts.{IsExpandedText, IsNotExpanded, IsUsual};
 
@@ -7,7 +7,7 @@ use crate::text::text_in;
 use expand_text::{ExpandOptions, USUAL_LIMIT, expand_text};
 use std::alloc::Global;
 
-// How a text is expanded.
+// Returns the usual options.
 fn usual() -> ExpandOptions<'static>
     ensures { IsUsual result }
 {
@@ -19,7 +19,7 @@ fn usual() -> ExpandOptions<'static>
     }
 }
 
-/// The text in which each call of a macro that is in scope is replaced by what comes of it.
+/// Returns the text in which each call of a macro in scope is replaced by its expansion.
 pub(crate) fn expanded_text(alloc: Global, text: &[u8]) -> Result<String, Failure>
     ensures ok { IfOk result (λ made. IsExpandedText text.now (string_bytes made)) }
     ensures err { IfErr result (IsNotExpanded text.now) }

@@ -1,4 +1,4 @@
-//! Why a call gave no bytes, and where: what each fault of the libraries below is told as.
+//! Why a call wrote no bytes, and where: the fault of this library for each fault of the libraries below.
 ghost use Rattle.std.specs.Prelude.{◌≡◌};
 ghost use Rattle.app_c.specs.Failures.{arm_fault, bad_token, bytes_failure, expand_failure, expand_text_failure, fill_fault, input_failure, limit_fault, macro_fault, pattern_fault, placeless, rules_failure, syntax_failure, template_fault, text_failure, write_failure};
 
@@ -11,21 +11,21 @@ use syntax_unparse::WriteFault;
 use tt::TtFault;
 use tt_bytes::BytesFault;
 
-/// Why a call gave no bytes, and the place where that shows.
+/// The reason why a call wrote no bytes, and the place at which it shows.
 #[derive(Clone, Copy)]
 pub(crate) struct Failure {
     pub(crate) fault: Fault,
     pub(crate) at: usize,
 }
 
-// A fault that has no place.
+// Returns a fault without a place.
 fn placeless(fault: Fault) -> Failure
     ensures { result ≡ placeless fault }
 {
     Failure { fault, at: 0 }
 }
 
-// What limit of trees is passed, or that memory is.
+// Returns the fault of an exceeded limit of trees, or of memory.
 fn limit_fault(fault: TtFault) -> Fault
     ensures { result ≡ limit_fault fault }
 {
@@ -39,14 +39,14 @@ fn limit_fault(fault: TtFault) -> Fault
     }
 }
 
-/// Of trees that are past a limit.
+/// Returns the failure of trees that exceed a limit.
 pub(crate) fn limit_failure(fault: TtFault) -> Failure
     ensures { result ≡ placeless (limit_fault fault) }
 {
     placeless(limit_fault(fault))
 }
 
-// What is wrong with a token.
+// Returns the fault of a token.
 fn bad_token(why: BadToken) -> Fault
     ensures { result ≡ bad_token why }
 {
@@ -79,7 +79,7 @@ fn bad_token(why: BadToken) -> Fault
     }
 }
 
-// Of tokens that are no trees.
+// Returns the failure of tokens that are no trees.
 fn syntax_failure(fault: SyntaxFault) -> Failure
     ensures { result ≡ syntax_failure fault }
 {
@@ -95,7 +95,7 @@ fn syntax_failure(fault: SyntaxFault) -> Failure
     }
 }
 
-/// Of a text that is refused.
+/// Returns the failure of a text that is refused.
 pub(crate) fn text_failure(fault: TextFault) -> Failure
     ensures { result ≡ text_failure fault }
 {
@@ -106,7 +106,7 @@ pub(crate) fn text_failure(fault: TextFault) -> Failure
     }
 }
 
-/// Of trees that are not written.
+/// Returns the failure of trees that are not written.
 pub(crate) fn write_failure(fault: WriteFault) -> Failure
     ensures { result ≡ write_failure fault }
 {
@@ -120,7 +120,7 @@ pub(crate) fn write_failure(fault: WriteFault) -> Failure
     }
 }
 
-/// Of bytes that are those of no tree.
+/// Returns the failure of bytes that are those of no tree.
 pub(crate) fn bytes_failure(fault: BytesFault) -> Failure
     ensures { result ≡ bytes_failure fault }
 {
@@ -135,7 +135,7 @@ pub(crate) fn bytes_failure(fault: BytesFault) -> Failure
     Failure { fault, at }
 }
 
-/// Of the bytes of an input that are those of no tree.
+/// Returns the failure of the bytes of an input that are those of no tree.
 pub(crate) fn input_failure(fault: BytesFault) -> Failure
     ensures { result ≡ input_failure fault }
 {
@@ -150,7 +150,7 @@ pub(crate) fn input_failure(fault: BytesFault) -> Failure
     Failure { fault, at }
 }
 
-// What is wrong with a pattern.
+// Returns the fault of a pattern.
 fn pattern_fault(error: PatternError) -> Fault
     ensures { result ≡ pattern_fault error }
 {
@@ -164,7 +164,7 @@ fn pattern_fault(error: PatternError) -> Fault
     }
 }
 
-// What is wrong with a template.
+// Returns the fault of a template.
 fn template_fault(error: TemplateError) -> Fault
     ensures { result ≡ template_fault error }
 {
@@ -175,7 +175,7 @@ fn template_fault(error: TemplateError) -> Fault
     }
 }
 
-// What is wrong with an arm.
+// Returns the fault of an arm.
 fn arm_fault(fault: ArmFault) -> Fault
     ensures { result ≡ arm_fault fault }
 {
@@ -190,7 +190,7 @@ fn arm_fault(fault: ArmFault) -> Fault
     }
 }
 
-/// Of trees that are no macro: with the number of the arm.
+/// Returns the failure of trees that are no macro, with the number of the arm.
 pub(crate) fn rules_failure(error: RulesError) -> Failure
     ensures { result ≡ rules_failure error }
 {
@@ -200,7 +200,7 @@ pub(crate) fn rules_failure(error: RulesError) -> Failure
     }
 }
 
-// Why a template is not filled.
+// Returns why a template is not filled.
 fn fill_fault(fault: FillError) -> Fault
     ensures { result ≡ fill_fault fault }
 {
@@ -211,7 +211,7 @@ fn fill_fault(fault: FillError) -> Fault
     }
 }
 
-/// Of a macro that does not expand an input: with the number of the arm.
+/// Returns the failure of a macro that does not expand an input, with the number of the arm.
 pub(crate) fn expand_failure(error: ExpandError) -> Failure
     ensures { result ≡ expand_failure error }
 {
@@ -221,7 +221,7 @@ pub(crate) fn expand_failure(error: ExpandError) -> Failure
     }
 }
 
-// What is wrong with a macro of a text, or with a call of one.
+// Returns the fault of a macro of a text, or of a call of one.
 fn macro_fault(fault: MacroFault) -> Fault
     ensures { result ≡ macro_fault fault }
 {
@@ -238,7 +238,7 @@ fn macro_fault(fault: MacroFault) -> Fault
     }
 }
 
-/// Of a text whose macros are not expanded.
+/// Returns the failure of a text that cannot be expanded.
 pub(crate) fn expand_text_failure(error: ExpandTextError) -> Failure
     ensures { result ≡ expand_text_failure error }
 {

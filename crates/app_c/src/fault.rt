@@ -1,11 +1,12 @@
-//! The faults that calls answer, and their numbers.
+//! The faults that calls return, and their numbers.
 
-/// Why a call gave no bytes. Its number is the answer of the call; 0 is no fault. A number is given once, and never to another.
+/// The reason why a call wrote no bytes. Its number is the result of the call; 0 means no
+/// fault. A number is used once, and never for another fault.
 #[derive(Clone, Copy)]
 pub enum Fault {
-    /// Memory was refused.
+    /// Memory ran out.
     Memory = 1,
-    /// What is made is longer than the output. Nothing is written there.
+    /// The result is longer than the output. Nothing is written there.
     NoRoom = 2,
     /// The text is not UTF-8.
     NotUtf8 = 3,
@@ -19,19 +20,19 @@ pub enum Fault {
     TooManySymbols = 7,
     /// The trees have too many bytes.
     TooManyBytes = 8,
-    /// Another limit of trees is passed.
+    /// Another limit of trees is exceeded.
     OtherLimit = 9,
-    /// A closing bracket where none is open.
+    /// A closing bracket without an open one.
     Unopened = 10,
-    /// A closing bracket that is no pair with the innermost that is open.
+    /// A closing bracket that does not match the innermost open one.
     Mismatched = 11,
-    /// The innermost bracket that is open at the end.
+    /// The innermost bracket still open at the end.
     Unclosed = 12,
-    /// `/*` with no `*/` that closes it.
+    /// `/*` without a closing `*/`.
     UnterminatedComment = 20,
-    /// A literal that nothing closes.
+    /// A literal that is never closed.
     UnterminatedLiteral = 21,
-    /// The hashes of a raw literal with no quote behind them.
+    /// The hashes of a raw literal without a quote behind them.
     RawWithoutQuote = 22,
     /// More than 255 hashes.
     TooManyHashes = 23,
@@ -41,97 +42,97 @@ pub enum Fault {
     NeverRaw = 25,
     /// A character that begins no token.
     UnknownCharacter = 26,
-    /// A name right before a quote or a `#`, which is no prefix of a literal.
+    /// A name right before a quote or a `#` that is no prefix of a literal.
     UnknownPrefix = 27,
-    /// A name with emoji in it.
+    /// A name that contains emoji.
     InvalidIdent = 28,
     /// `##` or `#"`.
     GuardedPrefix = 29,
-    /// The letter of a base with no digit behind it.
+    /// The letter of a base without a digit behind it.
     NoDigits = 30,
-    /// The `e` of a float with no digit behind it.
+    /// The `e` of a float without a digit behind it.
     EmptyExponent = 31,
     /// A float that is not written in base ten.
     FloatOfAnotherBase = 32,
-    /// A digit that the number's base has not.
+    /// A digit that the number's base does not have.
     ForeignDigit = 33,
     /// A byte or a byte string with a character beyond ASCII.
     BeyondAscii = 34,
-    /// A carriage return that no line feed follows.
+    /// A carriage return without a line feed behind it.
     BareReturn = 35,
-    /// An escape that such a literal has not.
+    /// An escape that such a literal does not have.
     UnknownEscape = 36,
     /// `\x` without two digits of base 16.
     BadHexEscape = 37,
-    /// `\x80` or more where it would be no character.
+    /// `\x80` or more, if that would be no character.
     HexEscapeTooLarge = 38,
-    /// `\u` that gives no character.
+    /// `\u` that spells no character.
     BadUnicodeEscape = 39,
-    /// A character that stands in a character literal behind a backslash alone.
+    /// A character that a character literal allows only behind a backslash.
     WantsEscape = 40,
-    /// A character literal with nothing in it.
+    /// A character literal without a character.
     EmptyChar = 41,
-    /// A character literal with several characters in it.
+    /// A character literal with several characters.
     SeveralChars = 42,
     /// A null in a C string.
     NullInCStr = 43,
     /// `'` and a digit.
     LifetimeBeginsWithDigit = 44,
-    /// The bytes end where more have to come.
+    /// The bytes end too early.
     BytesTooShort = 60,
-    /// The bytes are of another format, or another version of this one.
+    /// The bytes have another format, or another version of this one.
     BytesOfOtherFormat = 61,
-    /// A symbol's text is no UTF-8.
+    /// A symbol's text is not UTF-8.
     BytesWithoutText = 62,
-    /// The bytes hold no tree.
+    /// The bytes contain no tree.
     BytesWithoutTree = 63,
-    /// The bytes hold a tree that has others.
+    /// The bytes contain a tree that is stored as other bytes.
     BytesStoredOtherwise = 64,
-    /// The bytes of the input end where more have to come.
+    /// The bytes of the input end too early.
     InputTooShort = 70,
-    /// The bytes of the input are of another format.
+    /// The bytes of the input have another format.
     InputOfOtherFormat = 71,
-    /// A symbol's text in the bytes of the input is no UTF-8.
+    /// A symbol's text in the bytes of the input is not UTF-8.
     InputWithoutText = 72,
-    /// The bytes of the input hold no tree.
+    /// The bytes of the input contain no tree.
     InputWithoutTree = 73,
-    /// The bytes of the input hold a tree that has others.
+    /// The bytes of the input contain a tree that is stored as other bytes.
     InputStoredOtherwise = 74,
-    /// No pattern stands where an arm should begin.
+    /// No pattern comes where an arm should begin.
     NoPattern = 81,
     /// A `$` of a pattern begins nothing.
     BeginsNothing = 82,
-    /// No fragment has the name that a variable gives.
+    /// A variable names a fragment that does not exist.
     UnknownFragment = 83,
-    /// A call is left as it is. That is no fault, so no export answers it.
+    /// A call is left as it is. That is no fault, so no export returns it.
     Left = 84,
-    /// A name is given to two variables.
+    /// Two variables have the same name.
     NameTwice = 85,
-    /// A repetition has a separator and never two rounds.
+    /// A repetition has a separator but never two rounds.
     NeedlessSeparator = 86,
-    /// What a repetition repeats may take no tree.
+    /// The body of a repetition may match zero trees.
     EmptyRepetition = 87,
-    /// `=>` does not stand behind a pattern.
+    /// No `=>` follows a pattern.
     NoArrow = 88,
-    /// No template stands behind `=>`.
+    /// No template follows `=>`.
     NoTemplate = 89,
-    /// A variable is used in fewer repetitions than it stands in.
+    /// A variable is used in fewer repetitions than it is declared in.
     StillRepeats = 90,
     /// Nothing repeats in a repetition of a template.
     NothingRepeats = 91,
-    /// Behind a template stands neither the end nor `;`.
+    /// Neither the end nor `;` follows a template.
     NoSemicolon = 92,
-    /// No arm takes the input.
+    /// No arm matches the input.
     NoMatch = 100,
-    /// An arm takes the input in two ways.
+    /// An arm matches the input in two ways.
     Ambiguous = 101,
     /// Variables of a repetition have different numbers of rounds.
     LengthsDiffer = 102,
-    /// A repetition that wants a round has none.
+    /// A repetition that needs a round has none.
     NoRound = 103,
-    /// Too many expansions stand one inside the other.
+    /// Too many expansions are nested.
     TooDeep = 104,
-    /// A leaf of the tree is written as no text that reads back.
+    /// A leaf of the tree cannot be written as a text that reads back.
     NotWritable = 105,
     /// The text would have 4,294,967,295 bytes or more.
     MadeTooLong = 106,
@@ -141,7 +142,7 @@ impl Fault {
     ghost use Rattle.std.specs.Prelude.{◌≡◌};
     ghost use Rattle.app_c.specs.Faults.{number_of};
 
-    /// The fault's number.
+    /// Returns the fault's number.
     pub fn number(&self) -> u32
         ensures { result ≡ number_of self.now }
     {

@@ -1,8 +1,8 @@
 //! Texts, trees in bytes and macros, for callers in other languages (docs/EMBEDDING.md).
 //!
-//! Each function takes its input as slices and writes into a slice of the caller. It returns 0 or the number of a `Fault`; it sets `written`
-//! to the number of bytes that it writes, or would write if there were room for them, and `at` to the place of the fault. It keeps
-//! nothing between calls.
+//! Each function takes its input as slices and writes into a slice of the caller. It returns 0 or
+//! the number of a `Fault`; it sets `written` to the number of bytes that it writes, or would write
+//! if there were room for them, and `at` to the place of the fault. It keeps nothing between calls.
 #![tactic(auto)]
 
 ghost use Rattle.app_c.specs.Answers.{Answers};
@@ -26,7 +26,7 @@ use crate::macros::expanded_bytes;
 use crate::text::{bytes_of_text, text_of_bytes};
 use std::alloc::Global;
 
-/// The bytes of the tree of a Rust text.
+/// Writes the bytes of the tree of a Rust text.
 #[unsafe(no_mangle)]
 pub extern "C" fn tt_text_to_bytes(
     alloc: Global,
@@ -43,7 +43,7 @@ pub extern "C" fn tt_text_to_bytes(
     }
 }
 
-/// The Rust text of the tree that has these bytes.
+/// Writes the Rust text of the tree that has these bytes.
 #[unsafe(no_mangle)]
 pub extern "C" fn tt_bytes_to_text(
     alloc: Global,
@@ -60,7 +60,7 @@ pub extern "C" fn tt_bytes_to_text(
     }
 }
 
-/// The text in which each call of a macro that is in scope is replaced by what comes of it, in the usual way.
+/// Writes the text in which each call of a macro in scope is replaced by its expansion, with the usual options.
 #[unsafe(no_mangle)]
 pub extern "C" fn tt_expand_text(
     alloc: Global,
@@ -77,7 +77,7 @@ pub extern "C" fn tt_expand_text(
     }
 }
 
-/// The bytes of what a macro makes of an input. Its arms and the input are trees in bytes.
+/// Writes the bytes of the expansion of an input by a macro. The macro's arms and the input are trees in bytes.
 #[unsafe(no_mangle)]
 pub extern "C" fn tt_expand_bytes(
     alloc: Global,
@@ -95,7 +95,7 @@ pub extern "C" fn tt_expand_bytes(
     }
 }
 
-/// Whether bytes are those of a tree.
+/// Checks whether bytes are those of a tree.
 #[unsafe(no_mangle)]
 pub extern "C" fn tt_check_bytes(alloc: Global, bytes: &[u8], at: &mut usize) -> u32
     ensures { IsChecked bytes.now at.new result }

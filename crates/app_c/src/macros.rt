@@ -9,7 +9,7 @@ use mbe_rules::{Expansion, MacroRules};
 use std::alloc::Global;
 use tt::TopSubtree;
 
-// What the macro of these arms makes of the input.
+// Returns the expansion of the input by the macro of these arms.
 fn expanded(alloc: Global, arms: &TopSubtree, input: &TopSubtree) -> Result<TopSubtree, Failure>
     ensures ok { IfOk result (IsExpansionOf arms.now input.now) }
     ensures err { IfErr result (HasNoExpansion arms.now input.now) }
@@ -31,7 +31,7 @@ fn expanded(alloc: Global, arms: &TopSubtree, input: &TopSubtree) -> Result<TopS
     }
 }
 
-/// The bytes of what the macro of arms makes of an input.
+/// Returns the bytes of the expansion of an input by the macro of these arms.
 pub(crate) fn expanded_bytes(alloc: Global, arms: &[u8], input: &[u8]) -> Result<Vec<u8>, Failure>
     ensures ok { IfOk result (λ bytes. AreBytesOfExpansion arms.now input.now bytes.items) }
     ensures err { IfErr result (HasNoBytesOf arms.now input.now) }

@@ -10,7 +10,7 @@ use syntax_parse::parse_to_token_tree;
 use syntax_unparse::rust_text;
 use tt::{ErasedFileAstId, FileId, SpanAnchor, SyntaxContext, TopSubtree};
 
-/// The text that these bytes are.
+/// Returns the text of these bytes.
 pub(crate) fn text_in(bytes: &[u8]) -> Result<&str, Failure>
     ensures ok { IfOk result (λ text. (text.now ≡ bytes.now) × IsUtf8 bytes.now) }
     ensures err { IfErr result (IsNoText bytes.now) }
@@ -24,7 +24,7 @@ pub(crate) fn text_in(bytes: &[u8]) -> Result<&str, Failure>
     }
 }
 
-// The tree of a text.
+// Returns the tree of a text.
 fn tree_of_text(alloc: Global, bytes: &[u8]) -> Result<TopSubtree, Failure>
     ensures ok { IfOk result (IsTreeOf bytes.now) }
     ensures err { IfErr result (HasNoTree bytes.now) }
@@ -40,7 +40,7 @@ fn tree_of_text(alloc: Global, bytes: &[u8]) -> Result<TopSubtree, Failure>
     }
 }
 
-/// The bytes of the tree of a text.
+/// Returns the bytes of the tree of a text.
 pub(crate) fn bytes_of_text(alloc: Global, text: &[u8]) -> Result<Vec<u8>, Failure>
     ensures ok { IfOk result (λ bytes. AreBytesOfText text.now bytes.items) }
     ensures err { IfErr result (HasNone text.now) }
@@ -49,7 +49,7 @@ pub(crate) fn bytes_of_text(alloc: Global, text: &[u8]) -> Result<Vec<u8>, Failu
     bytes_of_tree(alloc, &tree)
 }
 
-// The text of a tree.
+// Returns the text of a tree.
 fn text_of_tree(alloc: Global, tree: &TopSubtree) -> Result<String, Failure>
     ensures ok { IfOk result (λ text. IsTextOf tree.now (string_bytes text)) }
     ensures err { IfErr result (HasNoText tree.now) }
@@ -60,7 +60,7 @@ fn text_of_tree(alloc: Global, tree: &TopSubtree) -> Result<String, Failure>
     }
 }
 
-/// The text of the tree that has these bytes.
+/// Returns the text of the tree that has these bytes.
 pub(crate) fn text_of_bytes(alloc: Global, bytes: &[u8]) -> Result<String, Failure>
     ensures ok { IfOk result (λ text. IsTextOfBytes bytes.now (string_bytes text)) }
     ensures err { IfErr result (HaveNoText bytes.now) }

@@ -14,7 +14,7 @@ use Rattle.mbe_rules.specs.declared.rules_error.RulesError.{RulesError}
 use Rattle.tt.specs.Fault.{fault_text}
 use Rattle.tt.specs.Types.TtFault.{TtFault}
 
--- the number of a rule, as people count: from 1, and as far as 64 bits go
+-- the number of a rule, counted from 1, up to the largest 64-bit number
 abbrev pub rule_number : (arm : ℕ) → ℕ
 rule_number arm = min (arm + 1) 18446744073709551615
 
@@ -26,7 +26,7 @@ about before name behind = before ++ codes "`" ++ name ++ codes "`" ++ behind
 abbrev pub about_rule : (arm : ℕ) (name behind : List ℕ) → List ℕ
 about_rule arm name behind = about (codes "rule " ++ decimal (rule_number arm) ++ codes " of ") name behind
 
--- what is wrong with a pattern
+-- the fault of a pattern
 abbrev pub pattern_message : PatternError → List ℕ
 pattern_message (pattern.BeginsNothing at) = codes "this `$` begins no variable and no repetition"
 pattern_message (pattern.UnknownFragment at) = codes "this variable names an unknown fragment"
@@ -35,13 +35,13 @@ pattern_message (pattern.NeedlessSeparator at) = codes "a `?` repetition takes n
 pattern_message (pattern.EmptyRepetition at) = codes "this repetition matches empty input"
 pattern_message pattern.Memory = codes "out of memory"
 
--- what is wrong with a template
+-- the fault of a template
 abbrev pub template_message : TemplateError → List ℕ
 template_message (template.StillRepeats at) = codes "this variable is still repeating at this depth"
 template_message (template.NothingRepeats at) = codes "this repetition contains no variable that repeats"
 template_message template.Memory = codes "out of memory"
 
--- what is wrong with a rule
+-- the fault of a rule
 abbrev pub rule_message : (name : List ℕ) (arm : ℕ) → ArmFault → List ℕ
 rule_message name arm (rule.NoPattern at) = about_rule arm name (codes " has no pattern")
 rule_message name arm (rule.Pattern error) = pattern_message error
@@ -51,7 +51,7 @@ rule_message name arm (rule.Template error) = template_message error
 rule_message name arm (rule.NoSemicolon at) = about_rule arm name (codes " has no `;` after it")
 rule_message name arm rule.Memory = codes "out of memory"
 
--- what is wrong with a definition of that name
+-- the fault of a definition of that name
 abbrev pub definition_message : (name : List ℕ) → RulesError → List ℕ
 definition_message name error = rule_message name error.arm error.fault
 
@@ -61,7 +61,7 @@ fill_message name arm (filling.LengthsDiffer at) = about_rule arm name (codes " 
 fill_message name arm (filling.NoRound at) = about_rule arm name (codes " needs at least one round here")
 fill_message name arm (filling.Tree fault) = about_rule arm name (codes " writes too much: " ++ fault_text fault)
 
--- which limit of trees the macro of that name or its expansion passes
+-- the limit of trees that the macro of that name or its expansion exceeds
 abbrev pub size_message : (name : List ℕ) → TtFault → List ℕ
 size_message name fault = about [] name (codes " is too large: " ++ fault_text fault)
 

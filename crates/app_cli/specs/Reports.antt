@@ -76,11 +76,11 @@ pub record IsPlainText (style : Style) (level : Level) (message told : List ℕ)
   pub no_placed_note : it.placed_note ≡ None
   pub is : told ≡ diagnostic_text style it
 
--- the last line: how many errors and warnings there are, if there are some
+-- the last line: the number of errors and warnings, if there are any
 abbrev pub IsSummary : Style → Counts → List ℕ → Type 0
 IsSummary style counts told = MatchOption (level_of counts) (told ≡ []) (λ level. IsPlainText style level (message_of counts) told)
 
--- all findings are told, and the expanded text is the output, unless a finding is an error
+-- all findings are reported, and the expanded text is the output, unless a finding is an error
 pub record IsReport (style : Style) (file text : List ℕ) (limit : ℕ) (found : Expanded) (report : Report) : Type 0 where
   pub told : AreFindingTexts style file text limit found.findings.items (string_bytes report.told)
   pub counts : report.counts ≡ counts_of found.findings.items

@@ -18,10 +18,10 @@ const LIMIT: &str = "limit";
 
 const DROP_RULES: &str = "drop-rules";
 
-// The most expansions that may be asked for, one inside the other: what the usual stack holds.
+// The largest limit that the options allow for nested expansions: what the usual stack holds.
 const MOST_LIMIT: u64 = 1000;
 
-// A command that reads a file.
+// Returns a command that reads a file.
 fn reads<'a>(
     alloc: Global,
     name: &'a str,
@@ -31,12 +31,12 @@ fn reads<'a>(
     Command::new(alloc, name).about(about).arg(file)
 }
 
-// The file that a command reads.
+// Returns the argument for the file that a command reads.
 fn file<'a>(alloc: Global) -> Arg<'a> {
     Arg::new(alloc, FILE).help("The file that is read; - is standard input")
 }
 
-// The files that a command reads.
+// Returns the argument for the files that a command reads.
 fn files<'a>(alloc: Global) -> Arg<'a> {
     Arg::new(alloc, FILE)
         .required(true)
@@ -45,7 +45,7 @@ fn files<'a>(alloc: Global) -> Arg<'a> {
         .help("The files that are read; - is standard input")
 }
 
-// A command that expands macros.
+// Returns a command that expands macros.
 fn expands<'a>(
     alloc: Global,
     name: &'a str,
@@ -78,7 +78,7 @@ fn expands<'a>(
         .arg(limit)
 }
 
-// The command that writes what calls of macros become.
+// Returns the command that writes the text with its calls expanded.
 fn expand<'a>(alloc: Global) -> Result<Command<'a>, AllocError> {
     let drops = Arg::new(alloc, DROP_RULES)
         .long(DROP_RULES)
@@ -88,25 +88,25 @@ fn expand<'a>(alloc: Global) -> Result<Command<'a>, AllocError> {
     expands(alloc, "expand", about, file(alloc))?.arg(drops)
 }
 
-// The command that tells what is wrong in macros.
+// Returns the command that reports faults in macros.
 fn check<'a>(alloc: Global) -> Result<Command<'a>, AllocError> {
     let about = "Tells what is wrong in the macros of texts and in calls of them";
     expands(alloc, "check", about, files(alloc))
 }
 
-// The command that writes tokens.
+// Returns the command that writes tokens.
 fn tokens<'a>(alloc: Global) -> Result<Command<'a>, AllocError> {
     let about = "Writes a line for each token: its bytes, its kind and its text";
     reads(alloc, "tokens", about, file(alloc))
 }
 
-// The command that writes a tree.
+// Returns the command that writes a tree.
 fn tree<'a>(alloc: Global) -> Result<Command<'a>, AllocError> {
     let about = "Writes the tree of a text, a line for each token, with lines and columns";
     reads(alloc, "tree", about, file(alloc))
 }
 
-// The command that writes a tree as bytes.
+// Returns the command that writes a tree as bytes.
 fn pack<'a>(alloc: Global) -> Result<Command<'a>, AllocError> {
     let out = Arg::new(alloc, OUT)
         .short('o')
@@ -117,13 +117,13 @@ fn pack<'a>(alloc: Global) -> Result<Command<'a>, AllocError> {
     reads(alloc, "pack", about, file(alloc).required(true))?.arg(out)
 }
 
-// The command that writes the text of such bytes.
+// Returns the command that writes the text of such bytes.
 fn unpack<'a>(alloc: Global) -> Result<Command<'a>, AllocError> {
     let about = "Writes the tree of such a piece as Rust text";
     reads(alloc, "unpack", about, file(alloc).required(true))
 }
 
-// All that there is.
+// Returns the whole command line.
 fn command<'a>(alloc: Global) -> Result<Command<'a>, AllocError> {
     Command::new(alloc, "cuvolemin")
         .bin_name("cuvolemin")?
@@ -139,48 +139,47 @@ fn command<'a>(alloc: Global) -> Result<Command<'a>, AllocError> {
         .subcommand(unpack(alloc)?)
 }
 
-/// What these words, of which the first is the program's name, ask for. An `Err` is a mistake in them, or the answer to
-/// `--help` or `--version`.
+/// Parses these words, the first of which is the program's name. An `Err` is a mistake in them, or the answer to `--help` or `--version`.
 pub fn parse<'a>(alloc: Global, words: &'a [String]) -> Result<ArgMatches<'a>, Error> {
     command(alloc)?.try_get_matches_from(words)
 }
 
-/// The file that a command is to read, if one is named.
+/// Returns the file that a command reads, if one is named.
 pub fn file_of<'a>(matches: &ArgMatches<'a>) -> Option<&'a str> {
     matches.get_str(FILE)
 }
 
-/// The files that a command is to read, if some are named.
+/// Returns the files that a command reads, if some are named.
 pub fn files_of<'m, 'a>(matches: &'m ArgMatches<'a>) -> Option<&'m [&'a str]> {
     matches.get_strs(FILE)
 }
 
-/// Whether calls that are not expanded are gone into.
+/// Returns whether the walk enters calls that are not expanded.
 pub fn is_everywhere(matches: &ArgMatches<'_>) -> bool {
     matches.get_flag(EVERYWHERE)
 }
 
-/// Whether definitions that nothing needs are left out.
+/// Returns whether definitions that nothing needs are left out.
 pub fn drops_rules(matches: &ArgMatches<'_>) -> bool {
     matches.get_flag(DROP_RULES)
 }
 
-/// The name that `$crate` is to become.
+/// Returns the name that `$crate` becomes.
 pub fn root_of<'a>(matches: &ArgMatches<'a>) -> &'a str {
     matches.get_str(CRATE).unwrap_or("crate")
 }
 
-/// The one name whose macros are to be expanded, if one is given.
+/// Returns the only name whose macros are expanded, if one is given.
 pub fn only_of<'a>(matches: &ArgMatches<'a>) -> Option<&'a str> {
     matches.get_str(ONLY)
 }
 
-/// How many expansions may stand one inside the other.
+/// Returns the limit of nested expansions.
 pub fn limit_of(matches: &ArgMatches<'_>) -> usize {
     matches.get_one(LIMIT).unwrap_or(USUAL_LIMIT)
 }
 
-/// The file that a command is to write.
+/// Returns the file that a command writes.
 pub fn out_of<'a>(matches: &ArgMatches<'a>) -> &'a str {
     matches.get_str(OUT).unwrap_or("")
 }

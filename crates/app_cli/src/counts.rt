@@ -1,4 +1,4 @@
-//! How many errors and warnings were told.
+//! The number of errors and warnings.
 ghost use Rattle.std.specs.Prelude.{◌≡◌, ◌+◌, ◌^◌, ◌<◌, ◌++◌, IfOk, codes, nat_lt, string_bytes};
 ghost use Rattle.std.specs.Process.{exit_status};
 ghost use Rattle.app_cli.specs.Counts.{all_counted, counted, counts_of, level_of, message_of, status_of, word};
@@ -8,23 +8,23 @@ use std::alloc::{AllocError, Global};
 use std::process::ExitCode;
 use syntax_diagnostic::Level;
 
-/// How many errors and warnings were told.
+/// The number of errors and warnings.
 #[derive(Clone, Copy)]
 pub struct Counts {
-    /// How many errors.
+    /// The number of errors.
     pub errors: usize,
-    /// How many warnings.
+    /// The number of warnings.
     pub warnings: usize,
 }
 
-// The word for so many.
+// Returns the word for that number.
 fn word<'x>(count: usize, one: &'x str, many: &'x str) -> &'x str
     ensures { result.now ≡ word count one.entry.now many.entry.now }
 {
     if count == 1 { one } else { many }
 }
 
-// So many of a thing.
+// Returns the number and its word.
 fn counted(alloc: Global, count: usize, one: &str, many: &str) -> Result<String, AllocError>
     ensures { IfOk result (λ text. string_bytes text ≡ counted count one.now many.now) }
 {
@@ -34,7 +34,7 @@ fn counted(alloc: Global, count: usize, one: &str, many: &str) -> Result<String,
     Ok(text)
 }
 
-// Both of these.
+// Returns both texts, joined by `and`.
 fn both(alloc: Global, errors: &str, warnings: &str) -> Result<String, AllocError>
     ensures { IfOk result (λ text. string_bytes text ≡ errors.now ++ codes " and " ++ warnings.now) }
 {
@@ -42,7 +42,7 @@ fn both(alloc: Global, errors: &str, warnings: &str) -> Result<String, AllocErro
 }
 
 impl Counts {
-    /// None.
+    /// No errors and no warnings.
     pub const NONE: Counts = Counts {
         errors: 0,
         warnings: 0,
@@ -54,7 +54,7 @@ impl Counts {
         warnings: 0,
     };
 
-    /// Those of what is found.
+    /// Returns the counts of the findings.
     pub fn of(findings: &[Finding]) -> Counts
         ensures { result ≡ counts_of findings.now }
     {
@@ -64,7 +64,7 @@ impl Counts {
         }
     }
 
-    /// Those of both, as far as a number of 64 bits goes.
+    /// Returns the sums of both, up to the largest 64-bit number.
     pub fn plus(self, other: Counts) -> Counts
         ensures errors { self.errors + other.errors < 2 ^ 64 → result.errors ≡ self.errors + other.errors }
         ensures warnings { self.warnings + other.warnings < 2 ^ 64 → result.warnings ≡ self.warnings + other.warnings }
@@ -75,21 +75,21 @@ impl Counts {
         }
     }
 
-    /// Whether there is an error.
+    /// Returns whether there is an error.
     pub fn has_errors(self) -> bool
         ensures { result ≡ nat_lt 0 self.errors }
     {
         self.errors > 0
     }
 
-    /// The exit status: 1 where there is an error, else 0.
+    /// Returns the exit status: 1 if there is an error, else 0.
     pub fn status(self) -> ExitCode
         ensures { exit_status result ≡ status_of self }
     {
         ExitCode::from(u8::from(self.has_errors()))
     }
 
-    /// How grave the gravest is, if there is one.
+    /// Returns the gravest level, if there is one.
     pub fn level(self) -> Option<Level>
         ensures { result ≡ level_of self }
     {
@@ -102,7 +102,7 @@ impl Counts {
         }
     }
 
-    // How many errors and warnings, where there are some.
+    // Returns the numbers of errors and warnings, if there are any.
     fn all_counted(self, alloc: Global) -> Result<String, AllocError>
         ensures { IfOk result (λ text. string_bytes text ≡ all_counted self) }
     {
@@ -117,7 +117,7 @@ impl Counts {
         both(alloc, errors.as_str(), warnings.as_str())
     }
 
-    /// What is said of them in the end.
+    /// Returns the last message of a report.
     pub fn message(self, alloc: Global) -> Result<String, AllocError>
         ensures { IfOk result (λ text. string_bytes text ≡ message_of self) }
     {

@@ -1,8 +1,8 @@
-//! What is written without the macros that it defines and does not need.
+//! The expanded text without the macros that it defines but does not need.
 use crate::failure::Failure;
 use expand_unused::{DropRulesError, without_rules};
 
-// What is told where a text of that name is not written without them.
+// Returns the failure of a text of that name whose definitions cannot be dropped.
 fn refused(rt: &HostRuntime, name: &str, error: DropRulesError) -> Failure {
     let told = match error {
         DropRulesError::Text(fault) => format!(in rt.alloc();
@@ -16,8 +16,8 @@ fn refused(rt: &HostRuntime, name: &str, error: DropRulesError) -> Failure {
     }
 }
 
-/// What came of the text of that name, without the definitions of macros that nothing in it needs; of those of one name alone, if one is
-/// given.
+/// Returns the expanded text of that name without the definitions of macros that nothing in it needs. If `only` is given, only definitions
+/// of that name are dropped.
 pub fn without_definitions(
     rt: &HostRuntime,
     name: &str,

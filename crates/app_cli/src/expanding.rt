@@ -1,4 +1,4 @@
-//! The macros of texts: what their calls become, and what is wrong in them.
+//! The macros of texts: the expansions of calls, and the faults.
 use crate::counts::Counts;
 use crate::dropping::without_definitions;
 use crate::failure::Failure;
@@ -13,7 +13,7 @@ use std::process::ExitCode;
 
 const BYTE_ORDER_MARK: &str = "\u{feff}";
 
-// What becomes of a text, and how many errors and warnings it has.
+// The expansion of a text, and its number of errors and warnings.
 #[derive(Drop)]
 struct Outcome {
     output: Option<String>,
@@ -22,7 +22,7 @@ struct Outcome {
     counts: Counts,
 }
 
-// Why the text of that name is not expanded.
+// Returns the failure of a text of that name that cannot be expanded.
 fn refused(
     rt: &HostRuntime,
     name: &str,
@@ -41,7 +41,7 @@ fn refused(
     }
 }
 
-// Reports what is found in the text of an input, and gives what becomes of it.
+// Reports the findings in the text of an input, and returns its expansion.
 fn expanded(
     rt: &HostRuntime,
     input: Input<'_>,
@@ -68,7 +68,7 @@ fn expanded(
     })
 }
 
-// The same. An input that cannot be read or has no tree is one error.
+// The same. An input that cannot be read or has no tree counts as one error.
 fn outcome_of(rt: &HostRuntime, input: Input<'_>, options: ExpandOptions<'_>) -> Outcome {
     match expanded(rt, input, options) {
         Ok(outcome) => outcome,
@@ -84,14 +84,14 @@ fn outcome_of(rt: &HostRuntime, input: Input<'_>, options: ExpandOptions<'_>) ->
     }
 }
 
-// Reports how many errors and warnings there are.
+// Reports the number of errors and warnings.
 fn tell_counts(rt: &HostRuntime, counts: Counts) -> Result<(), Failure> {
     let text = summary(rt.alloc(), style_of(rt), counts)?;
     let _ = eprint!(rt; "{text}");
     Ok(())
 }
 
-// Writes a text, behind a byte order mark if there was one.
+// Writes a text, behind a byte order mark if the source had one.
 fn write(rt: &HostRuntime, has_mark: bool, text: &str) -> io::Result<()> {
     if has_mark {
         rt.stdout().write_all(BYTE_ORDER_MARK.as_bytes())?;
@@ -99,8 +99,8 @@ fn write(rt: &HostRuntime, has_mark: bool, text: &str) -> io::Result<()> {
     rt.stdout().write_all(text.as_bytes())
 }
 
-/// Writes the text of an input in which calls are expanded, without the definitions that nothing in it needs, if these are to be dropped.
-/// If something is wrong in it, it writes nothing.
+/// Writes the text of an input in which calls are expanded. If definitions are to be dropped, those that nothing in it needs are left out.
+/// If the text has an error, it writes nothing.
 pub fn expand(
     rt: &HostRuntime,
     input: Input<'_>,
@@ -126,7 +126,7 @@ pub fn expand(
     Ok(counts.status())
 }
 
-/// Reports what is wrong in the macros of the files of these names, one after the other.
+/// Reports the faults in the macros of these files, one after the other.
 pub fn check(
     rt: &HostRuntime,
     names: &[&str],

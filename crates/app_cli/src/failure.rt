@@ -1,4 +1,4 @@
-//! Why a command did not do its work.
+//! Why a command failed.
 ghost use Rattle.std.specs.Prelude.{◌≡◌};
 ghost use Rattle.app_cli.specs.declared.failure.Failure.TheVariants.{Memory, Stream};
 
@@ -9,16 +9,16 @@ use std::io::{self, ErrorKind};
 use std::process::ExitCode;
 use syntax_diagnostic::Level;
 
-/// Why a command did not do its work.
+/// The reason why a command failed.
 #[derive(Drop)]
 pub enum Failure {
-    /// What is told of it: whole lines.
+    /// The message: whole lines.
     Told(String),
-    /// What is told of a mistake in the arguments: whole lines.
+    /// The message about a mistake in the arguments: whole lines.
     Mistake(String),
-    /// The arguments could not be had, or standard output did not take what was written.
+    /// The arguments could not be read, or standard output did not take what was written.
     Stream(io::Error),
-    /// Memory was refused.
+    /// Memory ran out.
     Memory,
 }
 
@@ -47,7 +47,7 @@ impl From<io::Error> for Failure {
 }
 
 impl Failure {
-    /// One of which that is told.
+    /// Returns the failure with that text.
     pub fn told(text: Result<String, AllocError>) -> Failure {
         match text {
             Ok(text) => Failure::Told(text),
@@ -55,12 +55,12 @@ impl Failure {
         }
     }
 
-    /// One that is told by its message alone, with no place in a text.
+    /// Returns the failure of a message that has no place in a text.
     pub fn plain(rt: &HostRuntime, message: &str) -> Failure {
         Failure::told(plain_text(rt.alloc(), style_of(rt), Level::Error, message))
     }
 
-    /// A mistake in the arguments.
+    /// Returns the failure of a mistake in the arguments.
     pub fn mistake(rt: &HostRuntime, message: &str) -> Failure {
         match plain_text(rt.alloc(), style_of(rt), Level::Error, message) {
             Ok(text) => Failure::Mistake(text),
@@ -68,8 +68,8 @@ impl Failure {
         }
     }
 
-    /// Tells it on standard error, and gives the exit status. Of a standard output that was closed nothing is told, and the
-    /// status is that of success: who closed it has read enough.
+    /// Prints the failure on standard error, and returns the exit status. If standard output was closed, it prints nothing and returns
+    /// success: the reader has read enough.
     pub fn tell(&self, rt: &HostRuntime) -> ExitCode {
         match self {
             Failure::Told(text) => {

@@ -1,11 +1,11 @@
-//! What is told of a text that has no tree.
+//! The diagnostics of a text that has no tree.
 use crate::failure::Failure;
 use crate::style::style_of;
 use std::alloc::{AllocError, Global};
 use syntax_diagnostic::{Diagnostic, Level, SourceFile, Style, diagnostic_text};
 use syntax_parse::{SyntaxFault, TextFault};
 
-/// What is told of why the text of that name is refused.
+/// Returns the failure of a text of that name that is refused.
 pub fn told(rt: &HostRuntime, name: &str, text: &str, fault: TextFault) -> Failure {
     let alloc = rt.alloc();
     match fault {
@@ -19,7 +19,7 @@ pub fn told(rt: &HostRuntime, name: &str, text: &str, fault: TextFault) -> Failu
     }
 }
 
-// What is to be known beside it: where the bracket is opened that another one does not close.
+// Returns the notes: the opening of the bracket that another one does not close.
 fn notes_of(
     alloc: Global,
     source: &SourceFile<'_>,
@@ -36,7 +36,7 @@ fn notes_of(
     Ok(notes)
 }
 
-// What is told of a fault of the text of that name, by a message.
+// Returns the diagnostic of a fault in the text of that name, with a message.
 fn fault_text<'x>(
     alloc: Global,
     style: Style,
@@ -56,7 +56,7 @@ fn fault_text<'x>(
     diagnostic_text(alloc, style, &diagnostic)
 }
 
-// What is told of a fault of the text of that name.
+// Returns the diagnostic of a fault in the text of that name.
 fn syntax_text(
     alloc: Global,
     style: Style,
@@ -68,7 +68,7 @@ fn syntax_text(
     fault_text(alloc, style, name, text, message.as_str(), fault)
 }
 
-// What is wrong.
+// Returns the message of a fault.
 fn message(alloc: Global, fault: SyntaxFault) -> Result<String, AllocError> {
     match fault {
         SyntaxFault::BadToken { why, .. } => why.to_string(alloc),
@@ -88,7 +88,7 @@ fn message(alloc: Global, fault: SyntaxFault) -> Result<String, AllocError> {
     }
 }
 
-// The byte where a fault is.
+// Returns the byte of a fault.
 fn byte_of(fault: SyntaxFault) -> u32 {
     match fault {
         SyntaxFault::BadToken { at, .. }

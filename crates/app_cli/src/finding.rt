@@ -1,4 +1,4 @@
-//! The diagnostics of what is found in the macros of a text.
+//! The diagnostics of findings in the macros of a text.
 ghost use Rattle.std.specs.Prelude.{◌≡◌, ◌++◌, map, IfOk, string_bytes};
 ghost use Rattle.app_cli.specs.Reports.{AreFindingTexts, IsFindingText, IsNoteAt, level_of_fault, notes_on};
 
@@ -7,7 +7,7 @@ use expand_text::{Finding, MacroFault};
 use std::alloc::{AllocError, Global};
 use syntax_diagnostic::{Diagnostic, Level, PlacedNote, SourceFile, Style, diagnostic_text};
 
-// How grave a fault is.
+// Returns the level of a fault.
 fn level_of(fault: &MacroFault) -> Level
     ensures { result ≡ level_of_fault fault.now }
 {
@@ -18,7 +18,7 @@ fn level_of(fault: &MacroFault) -> Level
     }
 }
 
-// The notes on a fault, if so many expansions are allowed inside one another.
+// Returns the notes on a fault, with `limit` as the limit of nested expansions.
 fn notes_of(alloc: Global, limit: usize, fault: MacroFault) -> Result<Vec<String>, AllocError>
     ensures { IfOk result (λ notes. map string_bytes notes.items ≡ notes_on limit fault) }
 {
@@ -32,7 +32,7 @@ fn notes_of(alloc: Global, limit: usize, fault: MacroFault) -> Result<Vec<String
     Ok(notes)
 }
 
-// A note at a byte, if there is one.
+// Returns a note at a byte, if there is one.
 fn note_at<'x>(source: &SourceFile<'x>, message: &'x str, at: Option<u32>) -> Option<PlacedNote<'x>>
     ensures { IsNoteAt source.now.name.now source.now.text.now message.entry.now at result }
 {
@@ -40,7 +40,7 @@ fn note_at<'x>(source: &SourceFile<'x>, message: &'x str, at: Option<u32>) -> Op
     Some(PlacedNote { message, spot })
 }
 
-// The diagnostic of a finding, as a text.
+// Returns the diagnostic of a finding as a text.
 fn finding_text(
     alloc: Global,
     style: Style,
@@ -64,7 +64,7 @@ fn finding_text(
     diagnostic_text(alloc, style, &diagnostic)
 }
 
-/// The diagnostics of all that is found in a text of that name, in order, with an empty line behind each.
+/// Returns the diagnostics of all findings in a text of that name, in order, with an empty line behind each.
 pub fn findings_text(
     alloc: Global,
     style: Style,

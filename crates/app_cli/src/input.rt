@@ -1,4 +1,4 @@
-//! What a command reads.
+//! The input of a command.
 use crate::failure::Failure;
 use std::fs;
 use std::io::{self, Read};
@@ -12,7 +12,7 @@ pub struct Input<'a> {
 }
 
 impl<'a> Input<'a> {
-    /// The file of that name. Standard input where there is none, or where it is `-`.
+    /// Returns the file of that name; standard input if there is none, or if it is `-`.
     pub fn new(name: Option<&'a str>) -> Input<'a> {
         match name {
             Some("-") | None => Input { path: None },
@@ -20,12 +20,12 @@ impl<'a> Input<'a> {
         }
     }
 
-    /// What diagnostics call it.
+    /// Returns the name in diagnostics.
     pub fn name(&self) -> &'a str {
         self.path.unwrap_or("<stdin>")
     }
 
-    /// All its bytes.
+    /// Returns all bytes.
     pub fn bytes(&self, rt: &HostRuntime) -> Result<Vec<u8>, Failure> {
         match self.read(rt) {
             Ok(bytes) => Ok(bytes),
@@ -37,7 +37,7 @@ impl<'a> Input<'a> {
         }
     }
 
-    // The same, with what the system says of it.
+    // The same, with the error of the system.
     fn read(&self, rt: &HostRuntime) -> io::Result<Vec<u8>> {
         match self.path {
             Some(path) => fs::read(rt, path),
@@ -49,7 +49,7 @@ impl<'a> Input<'a> {
         }
     }
 
-    /// The text that its bytes are, without a byte order mark in front.
+    /// Returns the text of the bytes, without a byte order mark in front.
     pub fn text<'b>(&self, rt: &HostRuntime, bytes: &'b [u8]) -> Result<&'b str, Failure> {
         match source_text(bytes) {
             Ok(text) => Ok(text),

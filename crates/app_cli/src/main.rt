@@ -1,4 +1,4 @@
-//! The program `cuvolemin`, for people who write Rust: what the macros of a text become, its tokens and its tree, and a tree as
+//! The program `cuvolemin`, for people who write Rust: it expands the macros of a text, writes its tokens or its tree, and writes a tree as
 //! one piece of bytes.
 #![tactic(auto)]
 

@@ -1,4 +1,4 @@
-//! The messages of faults of macros, in the words of who wrote the macro.
+//! The messages of faults of macros, in the words of the author of the macro.
 ghost use Rattle.std.specs.Prelude.{◌≡◌, ◌++◌, ℕ, IfOk, codes, decimal, string_bytes};
 ghost use Rattle.app_cli.specs.Messages.{about, about_rule, definition_message, fill_message, message, pattern_message, rule_number, size_message, template_message};
 
@@ -8,7 +8,7 @@ use mbe_rules::{ArmFault, FillError, RulesError, TemplateError};
 use std::alloc::{AllocError, Global};
 use tt::TtFault;
 
-// What is wrong with a pattern.
+// Returns the message of a fault of a pattern.
 fn pattern_message(alloc: Global, error: PatternError) -> Result<String, AllocError>
     ensures { IfOk result (λ text. string_bytes text ≡ pattern_message error) }
 {
@@ -23,7 +23,7 @@ fn pattern_message(alloc: Global, error: PatternError) -> Result<String, AllocEr
     String::from_str(alloc, words)
 }
 
-// What is wrong with a template.
+// Returns the message of a fault of a template.
 fn template_message(alloc: Global, error: TemplateError) -> Result<String, AllocError>
     ensures { IfOk result (λ text. string_bytes text ≡ template_message error) }
 {
@@ -35,7 +35,7 @@ fn template_message(alloc: Global, error: TemplateError) -> Result<String, Alloc
     String::from_str(alloc, words)
 }
 
-/// The name between words.
+/// Returns the name between words.
 pub fn about(alloc: Global, before: &str, name: &str, behind: &str) -> Result<String, AllocError>
     ensures { IfOk result (λ text. string_bytes text ≡ about before.now name.now behind.now) }
 {
@@ -47,7 +47,7 @@ pub fn about(alloc: Global, before: &str, name: &str, behind: &str) -> Result<St
     Ok(text)
 }
 
-// The rule of that index and the name before words. People count rules from 1.
+// Returns the rule of that index and the name before words. People count rules from 1.
 fn about_rule(alloc: Global, arm: usize, name: &str, behind: &str) -> Result<String, AllocError>
     ensures { IfOk result (λ text. string_bytes text ≡ about_rule arm name.now behind.now) }
 {
@@ -58,7 +58,7 @@ fn about_rule(alloc: Global, arm: usize, name: &str, behind: &str) -> Result<Str
     about(alloc, before.as_str(), name, behind)
 }
 
-// What is wrong with a definition of the macro of that name.
+// Returns the message of a fault in the definition of the macro of that name.
 fn definition_message(alloc: Global, name: &str, error: RulesError) -> Result<String, AllocError>
     ensures { IfOk result (λ text. string_bytes text ≡ definition_message name.now error) }
 {
@@ -74,7 +74,7 @@ fn definition_message(alloc: Global, name: &str, error: RulesError) -> Result<St
     }
 }
 
-// Why a rule of the macro of that name writes nothing.
+// Returns why a rule of the macro of that name writes nothing.
 fn fill_message(
     alloc: Global,
     name: &str,
@@ -99,7 +99,7 @@ fn fill_message(
     }
 }
 
-// Which limit of trees the macro of that name or its expansion passes.
+// Returns the limit of trees that the macro of that name or its expansion exceeds.
 fn size_message(alloc: Global, name: &str, fault: TtFault) -> Result<String, AllocError>
     ensures { IfOk result (λ text. string_bytes text ≡ size_message name.now fault) }
 {
@@ -108,7 +108,7 @@ fn size_message(alloc: Global, name: &str, fault: TtFault) -> Result<String, All
     about(alloc, "", name, words.as_str())
 }
 
-/// The message of a fault of the macro of that name, or of a call of it.
+/// Returns the message of a fault of the macro of that name, or of a call of it.
 pub fn message(alloc: Global, name: &str, fault: MacroFault) -> Result<String, AllocError>
     ensures { IfOk result (λ text. string_bytes text ≡ message name.now fault) }
 {

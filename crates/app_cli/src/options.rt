@@ -1,11 +1,11 @@
-//! How macros are to be expanded.
+//! The options of macro expansion.
 use crate::arguments::{is_everywhere, limit_of, only_of, root_of};
 use crate::failure::Failure;
 use clap::ArgMatches;
 use expand_text::ExpandOptions;
 use syntax_lex::{MOST_TEXT_BYTES, TokenKind, first_token};
 
-// Whether a text is one name of Rust, and not raw.
+// Returns whether a text is one name of Rust, and not raw.
 fn is_name(text: &str) -> bool {
     if text.is_empty() || text.len() > MOST_TEXT_BYTES {
         return false;
@@ -14,7 +14,7 @@ fn is_name(text: &str) -> bool {
     token.kind == TokenKind::Ident && token.len as usize == text.len()
 }
 
-// Refuses a value of an option that is no name.
+// Refuses a value of an option if it is no name.
 fn wants_name(rt: &HostRuntime, option: &str, value: &str) -> Result<(), Failure> {
     if is_name(value) {
         return Ok(());
@@ -23,7 +23,7 @@ fn wants_name(rt: &HostRuntime, option: &str, value: &str) -> Result<(), Failure
     Err(Failure::mistake(rt, message.as_str()))
 }
 
-/// How macros are to be expanded, or what is told where an option has no name that wants one.
+/// Returns the options of an expansion; fails if an option that needs a name has none.
 pub fn options_of<'a>(
     rt: &HostRuntime,
     matches: &ArgMatches<'a>,

@@ -8,7 +8,7 @@ use std::io::Write;
 use syntax_unparse::rust_text;
 use tt_bytes::{from_bytes, to_bytes};
 
-// What is told of a file, in one line.
+// Returns the failure about a file, in one line.
 fn of_file(rt: &HostRuntime, name: &str, what: impl Display + Drop) -> Failure {
     match format!(in rt.alloc(); "{name}: {what}") {
         Ok(message) => Failure::plain(rt, message.as_str()),
@@ -16,7 +16,7 @@ fn of_file(rt: &HostRuntime, name: &str, what: impl Display + Drop) -> Failure {
     }
 }
 
-/// Writes the tree of a text as one piece of bytes into a file. Where the text has no tree, the file is not touched.
+/// Writes the tree of a text as one piece of bytes into a file. Does not touch the file if the text has no tree.
 pub fn pack(rt: &HostRuntime, input: Input<'_>, out: &str) -> Result<(), Failure> {
     let alloc = rt.alloc();
     let bytes = input.bytes(rt)?;
@@ -35,7 +35,7 @@ pub fn pack(rt: &HostRuntime, input: Input<'_>, out: &str) -> Result<(), Failure
     }
 }
 
-/// Writes the tree of a piece of bytes as Rust text, and a line feed behind it where it is not empty.
+/// Writes the tree of a piece of bytes as Rust text, and a line feed behind it if the text is not empty.
 pub fn unpack(rt: &HostRuntime, input: Input<'_>) -> Result<(), Failure> {
     let alloc = rt.alloc();
     let bytes = input.bytes(rt)?;

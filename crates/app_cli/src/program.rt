@@ -1,4 +1,4 @@
-//! What the program does.
+//! The commands of the program.
 use crate::arguments::{drops_rules, file_of, files_of, out_of, parse};
 use crate::expanding::{check, expand};
 use crate::failure::Failure;
@@ -15,7 +15,7 @@ use std::process::ExitCode;
 use syntax_lex::MOST_TEXT_BYTES;
 use syntax_parse::TextFault;
 
-/// Does what the arguments ask for, and gives the exit status.
+/// Runs the command that the arguments name, and returns the exit status.
 pub fn run(rt: &HostRuntime) -> Result<ExitCode, Failure> {
     let words: Vec<String> = env::args(rt)?.collect(rt.alloc())?;
     match parse(rt.alloc(), words.as_slice()) {
@@ -28,7 +28,7 @@ pub fn run(rt: &HostRuntime) -> Result<ExitCode, Failure> {
     }
 }
 
-// Does what a command asks for, and gives the exit status.
+// Runs the command, and returns the exit status.
 fn run_command(rt: &HostRuntime, matches: &ArgMatches<'_>) -> Result<ExitCode, Failure> {
     let Some((name, given)) = matches.subcommand() else {
         return Ok(ExitCode::SUCCESS);
@@ -49,7 +49,7 @@ fn run_command(rt: &HostRuntime, matches: &ArgMatches<'_>) -> Result<ExitCode, F
     }
 }
 
-// Does what a command of that name does with a file and no macros.
+// Runs the command of that name that reads a file and expands no macros.
 fn run_on_file(rt: &HostRuntime, name: &str, given: &ArgMatches<'_>) -> Result<(), Failure> {
     let input = Input::new(file_of(given));
     match name {

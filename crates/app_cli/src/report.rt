@@ -8,18 +8,18 @@ use expand_text::Expanded;
 use std::alloc::{AllocError, Global};
 use syntax_diagnostic::{Diagnostic, Level, Style, diagnostic_text};
 
-/// What the program writes of a text, and how many errors and warnings that has.
+/// What the program writes of a text, and its number of errors and warnings.
 #[derive(Drop)]
 pub struct Report {
     /// For standard output: the expanded text, unless there is an error.
     pub output: Option<String>,
     /// For standard error: a diagnostic for each finding.
     pub told: String,
-    /// How many errors and warnings these are.
+    /// The number of errors and warnings.
     pub counts: Counts,
 }
 
-/// The report on what the library found in a text of that name, with so many expansions allowed inside one another.
+/// Returns the report on what the library found in a text of that name, with `limit` as the limit of nested expansions.
 pub fn report_on(
     alloc: Global,
     style: Style,
@@ -44,7 +44,7 @@ pub fn report_on(
     })
 }
 
-/// The text of a message without a place.
+/// Returns the text of a message without a place.
 pub fn plain_text(
     alloc: Global,
     style: Style,
@@ -63,7 +63,7 @@ pub fn plain_text(
     diagnostic_text(alloc, style, &diagnostic)
 }
 
-/// The last line of a report: how many errors and warnings there are, or nothing if there are none.
+/// Returns the last line of a report: the number of errors and warnings, or an empty text if there are none.
 pub fn summary(alloc: Global, style: Style, counts: Counts) -> Result<String, AllocError>
     ensures { IfOk result (λ text. IsSummary style counts (string_bytes text)) }
 {

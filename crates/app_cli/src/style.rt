@@ -1,9 +1,9 @@
-//! Whether what is told has colours.
+//! The colours of diagnostics.
 use std::env;
 use std::io::IsTerminal;
 use syntax_diagnostic::Style;
 
-// Whether the user asks for no colours: where the variable `NO_COLOR` is there, and not empty.
+// Returns whether the user wants no colours: the variable `NO_COLOR` is set and not empty.
 fn asks_for_none(rt: &HostRuntime) -> bool {
     match env::var(rt, "NO_COLOR") {
         Ok(value) => !value.is_empty(),
@@ -11,7 +11,7 @@ fn asks_for_none(rt: &HostRuntime) -> bool {
     }
 }
 
-/// With colours where standard error is a terminal, and the user asks not for none.
+/// Returns a style with colours if standard error is a terminal, and the user has not turned them off.
 pub fn style_of(rt: &HostRuntime) -> Style {
     if rt.stderr().is_terminal() && !asks_for_none(rt) {
         Style::Coloured

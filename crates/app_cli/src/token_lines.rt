@@ -4,7 +4,7 @@ ghost use Rattle.std.specs.Prelude.{◌<◌, ◌^◌, length};
 use std::io::{self, Write};
 use syntax_lex::tokenize;
 
-/// Writes a line for each token of a text: the bytes that it stands in, its kind, and its text as Debug writes it.
+/// Writes a line for each token of a text: its bytes, its kind, and its text as Debug writes it.
 pub fn write_tokens<W: Write>(out: &mut W, text: &str) -> io::Result<()>
     requires { length text.now < 2 ^ 32 }
 {

@@ -10,7 +10,7 @@ use tt::{
     SyntaxContext, TopSubtree, TtElement,
 };
 
-/// The tree of a text, or what is told of its first fault.
+/// Returns the tree of a text, or the failure of its first fault.
 pub fn tree_of(rt: &HostRuntime, name: &str, text: &str) -> Result<TopSubtree, Failure> {
     let anchor = SpanAnchor {
         file_id: FileId(0),
@@ -31,7 +31,7 @@ pub fn write_tree<W: Write>(
 ) -> Result<(), Failure> {
     let places = Places::new(alloc, text)?;
     let mut level = tree.token_trees().iter();
-    // what is left of the levels round it, the innermost last
+    // the rest of each outer level, the innermost last
     let mut outer = Vec::new(alloc);
     'tokens: loop {
         match level.next() {
@@ -55,7 +55,7 @@ pub fn write_tree<W: Write>(
     }
 }
 
-// Two spaces for each level.
+// Writes two spaces for each level.
 fn write_indent<W: Write>(out: &mut W, depth: usize) -> io::Result<()> {
     for _ in 0..depth {
         out.write_all(b"  ")?;
@@ -63,14 +63,14 @@ fn write_indent<W: Write>(out: &mut W, depth: usize) -> io::Result<()> {
     Ok(())
 }
 
-// Where a token begins and where it ends.
+// Writes where a token begins and ends.
 fn write_span<W: Write>(out: &mut W, places: &Places<'_>, span: Span) -> io::Result<()> {
     let begin = places.place(span.range.start().raw() as usize);
     let end = places.place(span.range.end().raw() as usize);
     write!(out, "{begin}..{end}")
 }
 
-// The line of a leaf.
+// Writes the line of a leaf.
 fn write_leaf<W: Write>(out: &mut W, places: &Places<'_>, leaf: &Leaf) -> io::Result<()> {
     match leaf {
         Leaf::Literal(literal) => {
@@ -85,7 +85,7 @@ fn write_leaf<W: Write>(out: &mut W, places: &Places<'_>, leaf: &Leaf) -> io::Re
     out.write_all(b"\n")
 }
 
-// The line of a subtree's header.
+// Writes the line of a subtree's header.
 fn write_header<W: Write>(
     out: &mut W,
     places: &Places<'_>,
@@ -98,7 +98,7 @@ fn write_header<W: Write>(
     out.write_all(b"\n")
 }
 
-// Both ends of a subtree of that kind.
+// Returns both ends of a subtree of that kind.
 fn both_ends(kind: DelimiterKind) -> &'static str {
     match kind {
         DelimiterKind::Parenthesis => "()",
@@ -108,7 +108,7 @@ fn both_ends(kind: DelimiterKind) -> &'static str {
     }
 }
 
-// What Debug calls a spacing.
+// Returns the name of a spacing as Debug writes it.
 fn spacing_name(spacing: Spacing) -> &'static str {
     match spacing {
         Spacing::Alone => "[alone]",

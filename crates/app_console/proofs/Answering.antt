@@ -8,7 +8,7 @@ use Rattle.app_language.specs.Command.{StandsFor}
 use Rattle.app_console.specs.Machine.{Step, Run}
 use Rattle.app_console.specs.Run.{Answered}
 
--- one run after another is a run
+-- two runs, one after the other, are a run
 Run-append : (a b c : State) (cs ds : List Command) (xs ys : List (List ℕ)) → Run a cs xs b → Run b ds ys c → Run a (cs ++ ds) (xs ++ ys) c
 Run-append a b c [] ds [] ys p q = subst (λ s. Run s ds ys c) p q
 Run-append a b c [] ds (x ∷ xs) ys p q = absurd p
@@ -21,7 +21,7 @@ AllZip-append R [] ys (u ∷ us) vs p q = absurd p
 AllZip-append R (x ∷ xs) ys [] vs p q = absurd p
 AllZip-append R (x ∷ xs) ys (u ∷ us) vs p q = (p.0, AllZip-append R xs ys us vs p.1 q)
 
--- no line has no answer
+-- no lines have no answers
 pub Answered-none : (state : State) → Answered state [] [] state
 Answered-none state = record { commands = []; answers = []; each = tt; run = refl; told = refl }
 
@@ -35,7 +35,7 @@ Answered-one old new line command answer stands step = record {
   told = sym (append-nil answer);
 }
 
--- some lines were answered, and then some more
+-- some lines were answered, and then further lines
 pub Answered-trans : (a b c : State) (lines more : List (List ℕ)) (text next : List ℕ) → Answered a lines text b → Answered b more next c → Answered a (lines ++ more) (text ++ next) c
 Answered-trans a b c lines more text next p q = record {
   commands = p.commands ++ q.commands;

@@ -1,4 +1,4 @@
--- Steps of the machine that go by its builder, over plain values.
+-- Steps of the machine on its builder, over plain values.
 use Rattle.std.proofs.Common.{◌≡◌, ℕ, List, Some, None, Result, Ok, Err, MatchResult, OnOk, OnErr, IfErr, IfOk, inl, inr, ap, sym, subst, ◌∙◌}
 use Rattle.tt.specs.Building.{BuilderState, Stack, lowest, above, IsAbove, IsOpen, closed}
 use Rattle.tt.specs.Forest.{Root}
@@ -18,11 +18,11 @@ use Rattle.app_console.specs.State.{State, with_builder, with_tree}
 still_there : (old : State) (b : BuilderState) → old.builder ≡ Some b → with_builder old b ≡ old
 still_there old b there = λ i. record { slots = old.slots; list = old.list; builder = sym there i }
 
--- What holds of the builder that is there.
+-- What holds for the builder that is there.
 of_builder : (P : BuilderState → Type 0) (old : State) (b : BuilderState) (answer : List ℕ) (new : State) → old.builder ≡ Some b → P b → OfBuilder P old old.builder answer new
 of_builder P old b answer new there holds = subst (λ o. OfBuilder P old o answer new) (sym there) holds
 
--- Where no subtree is open, building is tried.
+-- If no subtree is open, the builder tries to build.
 tried : (f : BuilderState → Root) (slot : ℕ) (old new : State) (b : BuilderState) (answer : List ℕ) → old.builder ≡ Some b → (IsOpen b → ⊥) → MakesRoot (f b) slot old answer new
     → OfBuilder (λ builder. Builds (f builder) slot builder.stack old answer new) old old.builder answer new
 tried f slot old new b answer there none made =
@@ -32,7 +32,7 @@ tried f slot old new b answer there none made =
     by (lowest trees) none = made
     by (above outer kind open_span trees) none = absurd (none tt)
 
--- What a builder came to is kept, once it was taken. The fields that are seen inside stand for the old state.
+-- The result of a builder is stored, after the builder was taken. The fields seen inside are those of the old state.
 pub kept_in : (f : BuilderState → Root) (slot : ℕ) (inside old : State) (b : BuilderState) (made : Result Root (Refused BuilderState)) (answer : List ℕ) (new : State)
     → inside ≡ old → inside.builder ≡ Some b → (IsOpen b → ⊥)
     → IfOk made (λ tree. tree ≡ f b) → IfOk made IsWithinLimits → IfErr made (λ refused. IsTreeFault (f b) refused.fault) → IfErr made (λ refused. refused.value ≡ b)
@@ -48,7 +48,7 @@ kept_in f slot inside old b made answer new seen there none is limits why same k
     by (Ok tree) is limits why same kept back = inl (subst IsWithinLimits is limits, kept.0, kept.1 ∙ ap (λ root. record (with_tree inside slot root) { builder = None }) is)
     by (Err refused) is limits why same kept back = inr (refused.fault, why, back.0, back.1 ∙ ap (with_builder inside) same ∙ still_there inside b there)
 
--- An open subtree is closed, or memory for the count of its close part was refused.
+-- An open subtree is closed, or memory for the count of its close part ran out.
 pub closed_in : {R : Type 0} (span : Span) (inside old : State) (b after : BuilderState) (done : Result R TtFault) (answer : List ℕ)
     → inside ≡ old → inside.builder ≡ Some b → IsOpen b → OnOk done (after ≡ closed span b) → OnErr done (after ≡ b) → IfErr done (λ fault. fault ≡ Memory)
     → MatchResult done (λ _. answer ≡ ok_line) (λ fault. answer ≡ fault_line fault) → Step old (command.Close span) answer (with_builder inside after)

@@ -12,12 +12,12 @@ use Rattle.app_console.specs.State.{State, tree_in, with_tree}
 abbrev pub without : State → ℕ → State
 without old slot = record old { slots = set old.slots slot None }
 
--- A tree that is put where one was taken.
+-- A tree is put where another was taken.
 pub put_back : (old mid new : State) (slot : ℕ) (root : Root) → mid ≡ without old slot → new ≡ with_tree mid slot root → new ≡ with_tree old slot root
 put_back old mid new slot root taken put =
     put ∙ ap (λ s. with_tree s slot root) taken ∙ ap (λ slots. record old { slots = slots }) (set-set old.slots slot None (Some root))
 
--- The one that was taken leaves the state as it was.
+-- The tree that was taken leaves the state as before.
 pub put_same : (old mid new : State) (slot : ℕ) (root : Root) → tree_in old slot ≡ Some root → mid ≡ without old slot → new ≡ with_tree mid slot root → new ≡ old
 put_same old mid new slot root at taken put =
     put_back old mid new slot root taken put
@@ -36,7 +36,7 @@ pub stored : (IsFault : TtFault → Type 0) (IsTree : Root → Type 0) (old mid 
     → IsTree tree → IsWithinLimits tree → new ≡ with_tree mid slot tree → answer ≡ ok_line → StoresOr IsFault IsTree old slot answer new
 stored IsFault IsTree old mid new slot tree answer taken is limits put told = inl (tree, is, limits, told, put_back old mid new slot tree taken put)
 
--- It was refused.
+-- The tree was refused.
 pub refused : (IsFault : TtFault → Type 0) (IsTree : Root → Type 0) (old mid new : State) (slot : ℕ) (root tree : Root) (fault : TtFault) (answer : List ℕ)
     → tree_in old slot ≡ Some root → mid ≡ without old slot → IsFault fault → tree ≡ root → new ≡ with_tree mid slot tree → answer ≡ fault_line fault
     → StoresOr IsFault IsTree old slot answer new

@@ -13,21 +13,21 @@ use Rattle.app_console.specs.Run.{bad_line}
 use Rattle.app_console.specs.Session.{Follows, Halts, Breaks, Answers, Feeds}
 use Rattle.app_console.proofs.Answering.{Answered-none, Answered-trans}
 
--- the cut of what came first, and then the cut of what came next
+-- the cut of the first bytes, and then the cut of the next bytes
 cuts_on : (h c : List ℕ) (ls : List (List ℕ)) (m d : List ℕ) (ms : List (List ℕ)) (rest : List ℕ)
     → h ++ c ≡ ended_lines ls ++ m → m ++ d ≡ ended_lines ms ++ rest → h ++ (c ++ d) ≡ ended_lines (ls ++ ms) ++ rest
 cuts_on h c ls m d ms rest p q =
     sym (append_assoc h c d) ∙ ap (λ x. x ++ d) p ∙ append_assoc (ended_lines ls) m d ∙ ap (λ x. ended_lines ls ++ x) q
     ∙ sym (append_assoc (ended_lines ls) (ended_lines ms) rest) ∙ ap (λ x. x ++ rest) (sym (flat_map-append (λ line. line ++ 10 ∷ []) ls ms))
 
--- counts that stop at big add up
+-- counts that are bounded by `big` add up
 counts_on : (a b c m n big : ℕ) → b ≡ min (a + m) big → c ≡ min (b + n) big → c ≡ min (a + (m + n)) big
 counts_on a b c m n big p q = omega arith
 
 numbers_on : (a b m n number big : ℕ) → b ≡ min (a + m) big → number ≡ min (b + n + 1) big → number ≡ min (a + (m + n) + 1) big
 numbers_on a b m n number big p q = omega arith
 
--- a cut goes on to the bytes that come after it
+-- a cut extends to the bytes behind it
 cuts_before : (h c last d : List ℕ) (ls : List (List ℕ)) → h ++ c ≡ ended_lines ls ++ last → h ++ (c ++ d) ≡ ended_lines ls ++ (last ++ d)
 cuts_before h c last d ls p = sym (append_assoc h c d) ∙ ap (λ x. x ++ d) p ∙ append_assoc (ended_lines ls) last d
 
@@ -47,7 +47,7 @@ Follows-none a told failed kept begun fits = record {
 pub Follows-fits : (a b : Stage) (bytes : List ℕ) → Follows a bytes b → b.count < 2 ^ 64
 Follows-fits a b bytes p = omega (arith, p.counted)
 
--- bytes with no line feed make the line that has begun longer
+-- bytes without a line feed lengthen the begun line
 pub Follows-longer : (a : Stage) (bytes : List ℕ) → IsOneLine a.begun → IsOneLine bytes → a.count < 2 ^ 64
     → Follows a bytes (record a { begun = a.begun ++ bytes })
 Follows-longer a bytes begun one fits = record {
@@ -115,7 +115,7 @@ Follows-written a b bytes told failed p kept = record {
   counted = p.counted;
 }
 
--- some bytes were fed, and then some more
+-- some bytes were fed, and then further bytes
 pub Feeds-after : (a b c : Stage) (bs cs : List ℕ) (result : Result (Option ℕ) RunFault) → Follows a bs b → Feeds b cs result c → Feeds a (bs ++ cs) result c
 Feeds-after a b c bs cs (Ok None) p q = (Follows-trans a b c bs cs p q.0, q.1)
 Feeds-after a b c bs cs (Ok (Some number)) p q = (Follows-Halts a b c bs cs number p q.0, q.1)
@@ -129,7 +129,7 @@ Stops (Ok None) = ⊥
 Stops (Ok (Some number)) = Unit {0}
 Stops (Err fault) = Unit {0}
 
--- a session that stops leaves the bytes that come after
+-- a session that stops leaves the bytes behind
 pub Feeds-before : (a b : Stage) (bs rest : List ℕ) (result : Result (Option ℕ) RunFault) → Stops result → Feeds a bs result b → Feeds a (bs ++ rest) result b
 Feeds-before a b bs rest (Ok None) stops p = absurd stops
 Feeds-before a b bs rest (Ok (Some number)) stops p =
@@ -170,7 +170,7 @@ Feeds-before a b bs rest (Err Memory) stops p =
 Feeds-before a b bs rest (Err Write) stops p = p
 Feeds-before a b bs rest (Err Read) stops p = absurd p
 
--- some bytes were fed, and at the next part of them the session stops
+-- some bytes were fed, and at the next part the session stops
 pub Feeds-stop : (a b c : Stage) (all fed part more : List ℕ) (result : Result (Option ℕ) RunFault)
     → all ≡ (fed ++ part) ++ more → Follows a fed b → Stops result → Feeds b part result c → Feeds a all result c
 Feeds-stop a b c all fed part more result cut p stops q =
@@ -225,7 +225,7 @@ Feeds-line a b bytes (Err Memory) begun one p empty = ((_, Breaks-none a b (byte
 Feeds-line a b bytes (Err Write) begun one p empty = p
 Feeds-line a b bytes (Err Read) begun one p empty = absurd p
 
--- a line that lies whole in the bytes was answered
+-- a line that lies completely in the bytes was answered
 pub Feeds-whole_line : (a b : Stage) (bytes : List ℕ) (result : Result (Option ℕ) RunFault)
     → a.begun ≡ [] → IsOneLine a.begun → IsOneLine bytes → Answers a bytes result b → b.begun ≡ a.begun → Feeds a (bytes ++ 10 ∷ []) result b
 Feeds-whole_line a b bytes result empty begun one p kept =

@@ -1,4 +1,4 @@
--- A callback that answers from a list of ids: what it answers changes a tree as the list does.
+-- A callback that answers from a list of ids: its answers change a tree as the list does.
 use Rattle.std.proofs.Common.{◌≡◌, ◌⊎◌, inl, inr, ℕ, zero, suc, ◌<◌, List, [], ◌∷◌, drop, length, get_or, ap, sym, ◌∙◌, subst, arith}
 use Rattle.tt.specs.Asked.{AsksAll}
 use Rattle.tt.specs.AstIds.{stored_ids, ids_changed}
@@ -11,10 +11,10 @@ use Rattle.tt_base.specs.declared.span.ErasedFileAstId.{ErasedFileAstId}
 use Rattle.tt_view.proofs.NewIds.{ids_alike}
 use Rattle.app_console.specs.Editing.{ids_of, next_id}
 
--- in this state it answers the next of these ids, or the one that is asked for, and the others are left
+-- in each state it answers the next of these ids, or the id that it is given, and the others are left
 module _ {F : Type 0} (call : F → ErasedFileAstId → ErasedFileAstId → F → Type 0) (left : F → List ℕ)
     (by : (p : F) (x y : ErasedFileAstId) (q : F) → call p x y q → (y ≡ next_id (left p) x) × (left q ≡ drop 1 (left p))) where
-  -- Where an entry keeps its own id, the answers are the ids of the list.
+  -- If an entry keeps its own id, the answers are the ids of the list.
   pub ids_follow : (p : F) (asked answers : List ErasedFileAstId) (q : F) → AsksAll call p asked answers q
       → (k : ℕ) (d : ErasedFileAstId) → k < length asked → get_or asked k d ≡ d → get_or answers k d ≡ get_or (ids_of (left p)) k d
   ids_follow p [] answers q done k d within own = absurd (omega (arith, within))
@@ -31,14 +31,14 @@ module _ {F : Type 0} (call : F → ErasedFileAstId → ErasedFileAstId → F �
       by_left [] is = ap (λ l. get_or (ids_of l) k d) is
       by_left (n ∷ numbers) is = ap (λ l. get_or (ids_of l) k d) is
 
--- So the tree that is changed is the one with the ids of the list.
+-- So the changed tree is the tree with the ids of the list.
 pub ids_told : {F : Type 0} (call : F → ErasedFileAstId → ErasedFileAstId → F → Type 0) (left : F → List ℕ)
     → ((p : F) (x y : ErasedFileAstId) (q : F) → call p x y q → (y ≡ next_id (left p) x) × (left q ≡ drop 1 (left p)))
     → (first : F) (root tree : Root) → (ids : List ErasedFileAstId) × AnswersIds call first root ids × (tree ≡ ids_changed ids root) → tree ≡ ids_changed (ids_of (left first)) root
 ids_told call left by first root tree (ids, told, is) =
     is ∙ ids_alike root ids (ids_of (left first)) (ids_follow call left by first (stored_ids root) ids told.last told.asked)
 
--- And why it is not changed speaks of that tree.
+-- And the fault, if the tree is not changed, is one of that tree.
 pub ids_refused : {F : Type 0} (call : F → ErasedFileAstId → ErasedFileAstId → F → Type 0) (left : F → List ℕ)
     → ((p : F) (x y : ErasedFileAstId) (q : F) → call p x y q → (y ≡ next_id (left p) x) × (left q ≡ drop 1 (left p)))
     → (first : F) (root : Root) (fault : TtFault) → (fault ≡ Memory) ⊎ ((ids : List ErasedFileAstId) × AnswersIds call first root ids × IsTreeFault (ids_changed ids root) fault)

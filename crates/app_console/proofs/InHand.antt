@@ -1,4 +1,4 @@
--- Where the line in hand ends, and how much lies behind it.
+-- Where the current line ends, and how much lies behind it.
 use Rattle.std.proofs.Common.{◌≡◌, ◌≢◌, ℕ, ◌+◌, ◌<◌, ◌≤◌, List, [], ◌∷◌, ◌++◌, length, ap, ◌∙◌, refl, inl, inr, append_assoc, length-append, arith}
 use Rattle.std.proofs.lemmas.Bool.{cases_eq}
 use Rattle.std.proofs.lemmas.List.Elements.{All-nil, All-cons, All-head, All-tail}
@@ -28,7 +28,7 @@ first_line (byte ∷ bytes) =
       }
     ]
 
--- what had begun lies before the first line feed
+-- the begun bytes lie before the first line feed
 begun_before : (begun bytes line rest : List ℕ) → IsOneLine begun → begun ++ bytes ≡ line ++ 10 ∷ rest → length begun ≤ length line
 begun_before [] bytes line rest one e = omega arith
 begun_before (b ∷ begun) bytes [] rest one e =
@@ -38,14 +38,14 @@ begun_before (b ∷ begun) bytes (c ∷ line) rest one e =
     let short = begun_before begun bytes line rest (All-tail (λ x. x ≢ 10) b begun one) more in
     omega arith
 
--- so what comes after it came with the bytes
+-- so what follows it came with the bytes
 after_feed : (begun bytes line rest : List ℕ) → IsOneLine begun → begun ++ bytes ≡ line ++ 10 ∷ rest → length rest < length bytes
 after_feed begun bytes line rest one e =
     let same : length begun + length bytes ≡ length line + length (10 ∷ rest) = simp length-append at (ap length e) in
     let short = begun_before begun bytes line rest one e in
     omega arith
 
--- what lies behind the line in hand came with the bytes
+-- what lies behind the current line came with the bytes
 pub behind_within : (begun bytes : List ℕ) (lines : List (List ℕ)) (hand behind : List ℕ) → IsOneLine begun → EndsLine behind
     → begun ++ bytes ≡ ended_lines lines ++ (hand ++ behind) → length behind ≤ length bytes
 behind_within begun bytes lines hand [] one ends e = omega arith

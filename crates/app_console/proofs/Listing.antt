@@ -5,7 +5,7 @@ use Rattle.std.specs.List.{flat_map}
 use Rattle.app_console.specs.Answer.{line}
 use Rattle.app_console.specs.ViewText.{listed}
 
--- one text more of those that are still to come
+-- one text more of those still to come
 pub one_more : {A : Type 0} (text : A → List ℕ) (done all : List ℕ) (item : A) (items : List A) → done ++ flat_map text (item ∷ items) ≡ all
     → (done ++ text item) ++ flat_map text items ≡ all
 one_more text done all item items e = append_assoc done (text item) (flat_map text items) ∙ e

@@ -1,4 +1,4 @@
--- A tree is rewritten outside its slot: the other slots hold what they held.
+-- A tree is rewritten outside its slot: the other slots keep their contents.
 use Rattle.std.proofs.Common.{◌≡◌, ◌≢◌, ◌⊎◌, inl, inr, ℕ, ◌==◌, true, false, List, [], ◌∷◌, map, Option, Some, None, refl, ap, ap₂, sym, ◌∙◌, subst}
 use Rattle.std.specs.Prelude.{if◌then◌else◌}
 use Rattle.std.proofs.lemmas.List.{get_or-set_other}
@@ -57,7 +57,7 @@ same_actions old slot (it ∷ more) none =
     let both = none_of (put_refusal old slot it) (first_refusal old slot more) none in
     ap₂ (λ a l. a ∷ l) (same_action old slot it both.0) (same_actions old slot more both.1)
 
--- So a tree that was taken out of its slot comes out the same.
+-- So a tree that was taken out of its slot is rewritten in the same way.
 same_result : (old mid : State) (slot : ℕ) (actions : List Action) → mid ≡ without old slot → first_refusal old slot actions ≡ None
     → map (action_in mid) actions ≡ map (action_in old) actions
 same_result old mid slot actions taken none = ap (λ s. map (action_in s) actions) taken ∙ same_actions old slot actions none
@@ -86,7 +86,7 @@ rewrite_stored old mid new slot actions root tree answer at taken is gives limit
     (stored (IsResultFault (rewritten_by old actions root)) (λ other. one_root (rewritten_by old actions root) ≡ Some other) old mid new slot tree answer taken
     (ap one_root (sym same) ∙ gives) limits put told))
 
--- What came of it is no tree, or there was no memory for it.
+-- The result is no tree, or memory for it ran out.
 pub rewrite_failed : (old mid new : State) (slot : ℕ) (actions : List Action) (root tree : Root) (fault : TtFault) (answer : List ℕ) → tree_in old slot ≡ Some root → mid ≡ without old slot
     → first_refusal mid slot actions ≡ None → (fault ≡ Memory) ⊎ IsResultFault (rewritten_by mid actions root) fault → tree ≡ root → new ≡ with_tree mid slot tree → answer ≡ fault_line fault
     → Step old (command.Rewrite slot actions) answer new

@@ -1,4 +1,4 @@
--- A callback that answers from a list of actions: by what it answers trees are rewritten as by the list.
+-- A callback that answers from a list of actions: its answers rewrite trees as the list does.
 use Rattle.std.proofs.Common.{◌≡◌, ◌⊎◌, inl, inr, List, [], ◌∷◌, ◌++◌, Some, map, drop, append-nil, append_assoc, refl, ap, ap₂, sym, ◌∙◌, subst}
 use Rattle.tt.specs.Asked.{AsksAll}
 use Rattle.tt.specs.Forest.{Forest, Root, end, leaf, node, join, only}
@@ -15,18 +15,18 @@ use Rattle.app_language.specs.declared.command.action.Action.{Action}
 use Rattle.app_console.specs.Editing.{action_in, next_action, rewritten_by}
 use Rattle.app_console.specs.State.{State}
 
--- the first action, or else the token is kept
+-- the first action; without one, the token is kept
 abbrev pub first_action : List TreeAction → TreeAction
 first_action [] = keep
 first_action (it ∷ more) = it
 
--- With no actions left all is kept.
+-- Without actions left, all tokens are kept.
 keeps_all : (trees : Forest) → rewrite trees [] ≡ (trees, [])
 keeps_all end = refl
 keeps_all (leaf it rest) = refl
 keeps_all (node d children rest) = refl
 
--- A list is its first action and the others, where behind the list all is kept.
+-- A list is its first action and the others; behind the list all tokens are kept.
 leaf_first : (it : Leaf) (rest : Forest) (actions : List TreeAction) → rewrite (leaf it rest) actions ≡ rewrite (leaf it rest) (first_action actions ∷ drop 1 actions)
 leaf_first it rest [] = ap (λ after. (leaf it after.0, after.1)) (sym (keeps_all rest))
 leaf_first it rest (first ∷ actions) = refl
@@ -38,7 +38,7 @@ node_first d children rest [] =
     ∙ ap (λ inside. (node d inside.0 (rewrite rest inside.1).0, (rewrite rest inside.1).1)) (sym (keeps_all children))
 node_first d children rest (first ∷ actions) = refl
 
--- What an action does with a leaf, the others do behind it.
+-- One action decides about a leaf; the other actions decide about the trees behind it.
 leaf_behind : (it : Leaf) (rest : Forest) (action : TreeAction) (actions : List TreeAction) → (rewrite (leaf it rest) (action ∷ actions)).1 ≡ (rewrite rest actions).1
 leaf_behind it rest keep actions = refl
 leaf_behind it rest (replace trees) actions = refl
@@ -48,7 +48,7 @@ leaf_same : (it : Leaf) (rest : Forest) (action : TreeAction) (actions others : 
 leaf_same it rest keep actions others same = ap (leaf it) same
 leaf_same it rest (replace trees) actions others same = ap (join trees) same
 
--- in this state it answers the next of these actions, and the others are left
+-- in each state it answers the next of these actions, and the others are left
 module _ {F A : Type 0} (call : F → TokenTree → A → F → Type 0) (does : A → TreeAction) (left : F → List TreeAction)
     (by : (p : F) (x : TokenTree) (y : A) (q : F) → call p x y q → (does y ≡ first_action (left p)) × (left q ≡ drop 1 (left p))) where
   -- the trees were rewritten as by what is left in this state, and the callback goes on with the other tokens
@@ -122,20 +122,20 @@ module _ {F A : Type 0} (call : F → TokenTree → A → F → Type 0) (does : 
   follows (node d children rest) p tokens (y ∷ answers) q asked =
       follows_node d children rest (follows children) (follows rest) (does y) p tokens y answers q refl asked
 
-  -- So all is rewritten as by the list.
+  -- So all trees are rewritten as by the list.
   pub rewritten_same : (trees : Forest) (p : F) (answers : List A) (q : F) → AsksAll call p (shown trees (map does answers)) answers q
       → (rewrite trees (map does answers)).0 ≡ (rewrite trees (left p)).0
   rewritten_same trees p answers q asked =
       (follows trees p [] answers q (subst (λ all. AsksAll call p all answers q) (sym (append-nil (shown trees (map does answers)))) asked)).same
 
--- The tree that comes of it is the one that the list gives.
+-- The resulting tree is the one that the list makes.
 pub rewritten_told : {F : Type 0} (call : F → TokenTree → TransformTtAction → F → Type 0) (left : F → List TreeAction)
     → ((p : F) (x : TokenTree) (y : TransformTtAction) (q : F) → call p x y q → (action_of y ≡ first_action (left p)) × (left q ≡ drop 1 (left p)))
     → (first : F) (root tree : Root) → Rewrites call first (only root) (only tree) → one_root (rewrite (only root) (left first)).0 ≡ Some tree
 rewritten_told call left by first root tree told =
     ap one_root (sym (told.gives ∙ rewritten_same call action_of left by (only root) first told.answers told.last told.asked))
 
--- And why there is none speaks of what the list gives.
+-- And the fault, if there is none, is one of what the list makes.
 pub rewritten_refused : {F : Type 0} (call : F → TokenTree → TransformTtAction → F → Type 0) (left : F → List TreeAction)
     → ((p : F) (x : TokenTree) (y : TransformTtAction) (q : F) → call p x y q → (action_of y ≡ first_action (left p)) × (left q ≡ drop 1 (left p)))
     → (first : F) (root : Root) (fault : TtFault) → IsRewriteFault call first root fault
@@ -152,7 +152,7 @@ drop_mapped : (state : State) (actions : List Action) → map (action_in state) 
 drop_mapped state [] = refl
 drop_mapped state (it ∷ more) = refl
 
--- The same, where the callback holds a state of the machine and the actions that are left.
+-- The same if the callback holds a state of the machine and the actions that are left.
 module _ {F : Type 0} (call : F → TokenTree → TransformTtAction → F → Type 0) (state : F → State) (left : F → List Action)
     (by : (p : F) (x : TokenTree) (y : TransformTtAction) (q : F) → call p x y q → (action_of y ≡ next_action (state p) (left p)) × (left q ≡ drop 1 (left p)) × (state q ≡ state p)) where
   abbrev listed : F → List TreeAction

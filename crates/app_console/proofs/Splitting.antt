@@ -11,18 +11,18 @@ use Rattle.tt_view.specs.declared.iter.TtElement.{TtElement}
 use Rattle.tt_view.specs.declared.split.Split.{Split}
 use Rattle.tt_view.specs.declared.view.TokenTreesView.{TokenTreesView}
 
--- trees that are no separators are one piece
+-- trees without separators are one piece
 split_last : (is_separator : Tree → Bool) (trees : List Tree) → AllByRecursion (λ tree. is_separator tree ≡ false) trees → slice_split is_separator trees ≡ trees ∷ []
 split_last is_separator [] none = refl
 split_last is_separator (tree ∷ trees) none = rw (none.0, split_last is_separator trees none.1) refl
 
--- and so they are before a separator
+-- the same before a separator
 split_before : (is_separator : Tree → Bool) (trees : List Tree) (separator : Tree) (rest : List Tree) → AllByRecursion (λ tree. is_separator tree ≡ false) trees
     → is_separator separator ≡ true → slice_split is_separator (trees ++ separator ∷ rest) ≡ trees ∷ slice_split is_separator rest
 split_before is_separator [] separator rest none is = rw is refl
 split_before is_separator (tree ∷ trees) separator rest none is = rw (none.0, split_before is_separator trees separator rest none.1 is) refl
 
--- trees have as many tokens as their list says
+-- trees have as many tokens as their list
 pub tokens_in-list_of : (trees : Forest) → tokens_in (list_of trees) ≡ size trees
 tokens_in-list_of end = refl
 tokens_in-list_of (leaf it rest) = ap suc (tokens_in-list_of rest)
@@ -44,7 +44,7 @@ module _ {F : Type 0} (step : F → TtElement → Bool → F → Type 0) (is_sep
       let later = all_no p by asked q (subst (λ k. SaysNo step k asked q) here.1 more) in
       ((sym here.0, later.0), later.1)
 
-  -- the piece that is given is the first of these
+  -- the piece that is returned is the first of these
   pub piece_given : (p : F) → Asks p → (s : Split F) (piece : TokenTreesView) (t : Split F) → asks_by s ≡ p → GivesPiece step s (Some piece) t
       → (left_pieces is_separator s ≡ list_of (trees_of piece) ∷ left_pieces is_separator t) × (asks_by t ≡ p)
   piece_given p by s piece t same (more, (asked, is, counted, inl last)) =
@@ -67,6 +67,6 @@ module _ {F : Type 0} (step : F → TtElement → Bool → F → Type 0) (is_sep
         here.1,
       )
 
-  -- and where none is given, none is left
+  -- if no piece is returned, none is left
   pub none_given : (s t : Split F) → GivesPiece step s None t → left_pieces is_separator s ≡ []
   none_given s t (done, done_after, same) = ap (λ b. cond b [] (slice_split is_separator (list_of (left_in s)))) done

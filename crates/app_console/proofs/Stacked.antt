@@ -1,4 +1,4 @@
--- The tokens that stacked iterators have still to give, the last iterator first.
+-- The tokens that stacked iterators still yield, the last iterator first.
 use Rattle.std.proofs.Common.{◌≡◌, List, [], ◌∷◌, ◌++◌, Some, None, refl, ap, sym, ◌∙◌, append_assoc, append-nil}
 use Rattle.tt.specs.Forest.{Forest, end, leaf, node, flat}
 use Rattle.tt.specs.Moves.{after_tree}
@@ -28,7 +28,7 @@ level_ended levels level none = stacked-push levels level ∙ ap (λ l. l ++ sta
     nothing (leaf it rest) p = absurd p
     nothing (node delimiter children rest) p = absurd p
 
--- a leaf is the first token, and the level's other trees come next
+-- a leaf is the first token, and the level's other trees follow
 pub leaf_passed : (levels : List TtIter) (level next : TtIter) (found : Leaf) → IsFirstElement (rest_of level) (Some (element.Leaf found)) → rest_of next ≡ after_tree (rest_of level)
     → stacked (levels ++ level ∷ []) ≡ token.Leaf found ∷ stacked (levels ++ next ∷ [])
 leaf_passed levels level next found first rest =
@@ -41,7 +41,7 @@ leaf_passed levels level next found first rest =
     first_leaf (leaf it rest) p = ap (λ l. token.Leaf l ∷ flat rest) (sym p)
     first_leaf (node delimiter children rest) p = absurd p
 
--- a header is the first token; what it holds comes next, and then the level's other trees
+-- a header is the first token; its contents follow, and then the level's other trees
 pub header_passed : (levels : List TtIter) (level next below : TtIter) (subtree : Subtree) → IsFirstElement (rest_of level) (Some (element.Subtree subtree below))
     → rest_of next ≡ after_tree (rest_of level) → stacked (levels ++ level ∷ []) ≡ token.Subtree subtree ∷ stacked ((levels ++ next ∷ []) ++ below ∷ [])
 header_passed levels level next below subtree first rest =

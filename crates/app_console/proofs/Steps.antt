@@ -8,7 +8,7 @@ use Rattle.app_console.specs.Answer.{yes_line, no_line}
 use Rattle.app_console.specs.Machine.{Step, Compares}
 use Rattle.app_console.specs.State.{State, tree_in}
 
--- Trees that are there are compared.
+-- Trees that exist are compared.
 pub compared : (old : State) (left right : ℕ) (a b : Root) (same : Bool) (answer : List ℕ) → tree_in old left ≡ Some a → tree_in old right ≡ Some b
     → same ≡ same_root a b → answer ≡ cond same yes_line no_line → Step old (command.Equal left right) answer old
 compared old left right a b same answer at_left at_right is told = inl (rw (at_left, at_right) (by same is told), refl)

@@ -1,4 +1,4 @@
--- From the bytes that a session was fed to what a run says.
+-- From the bytes that were fed to a session to the outcome of a run.
 use Rattle.std.proofs.Common.{◌≡◌, ◌≢◌, ◌≤◌, ℕ, length, List, [], ◌∷◌, ◌++◌, Option, None, Some, Result, Ok, Err, false, take, sym, ap, ◌∙◌, subst, refl, append_assoc, append-nil, zero-add, IfSome, lit<, lit≤, arith}
 use Rattle.std.proofs.lemmas.List.Elements.{All-nil}
 use Rattle.std.specs.Io.KnownBytes.{Consumes, Keeps, IsAtEnd, append_known}
@@ -23,22 +23,22 @@ use Rattle.app_console.proofs.Feeding.{Follows-none, Follows-written, Follows-Br
 use Rattle.app_console.proofs.InHand.{InHand, first_line, behind_within}
 use Rattle.app_console.proofs.LineCuts.{lines_of-line, lines_of-last, lines_of-ended}
 
--- with nothing pending, all that was told is written
+-- if nothing is pending, all that was put out is written
 Keeps-nil : (w : Option (List ℕ)) → Keeps w (append_known w [])
 Keeps-nil None = tt
 Keeps-nil (Some x) = append-nil x
 
--- what holds of all that begins with what was read holds of the input
+-- what holds for all that begins with what was read holds for the input
 input_begins : (a b : Option (List ℕ)) (bs : List ℕ) (P : List ℕ → Type 0) → Consumes a b bs → ((rest : List ℕ) → P (bs ++ rest)) → IfSome a P
 input_begins None b bs P p f = tt
 input_begins (Some xs) None bs P p f = absurd p
 input_begins (Some xs) (Some ys) bs P p f = subst P (sym p) (f ys)
 
--- where no line has begun, none is left to answer
+-- if no line has begun, none is left to answer
 pub Finishes-none : (b : Stage) → b.begun ≡ [] → b.failed ≡ false → Finishes b (Ok Clean) b
 Finishes-none b empty sound = (([], Appends-nil b.told, rw empty (Answered-none b.machine)), sound)
 
--- bytes with no line feed are one line, if there are any
+-- bytes without a line feed are one line, if there are any
 lines_of-one : (line : List ℕ) → line ≢ [] → IsOneLine line → lines_of line ≡ line ∷ []
 lines_of-one [] some one = absurd (some refl)
 lines_of-one (byte ∷ bytes) some one = lines_of-last byte bytes one
@@ -51,11 +51,11 @@ Finishes-line b c some one p = ((p.0.0, p.0.1, rw (lines_of-one b.begun some one
 pub Finishes-bad_line : (b c : Stage) (number : ℕ) → b.begun ≢ [] → IsOneLine b.begun → Answers b b.begun (Ok (Some number)) c → Finishes b (Ok (BadLine number)) c
 Finishes-bad_line b c number some one p = (p.0, lines_of-one b.begun some one, p.1, p.2, p.3)
 
--- before the first byte, when so much was written
+-- before the first byte, with so much written
 abbrev opening : Option (List ℕ) → Stage
 opening written = record { machine = start; begun = []; count = 0; told = written; failed = false }
 
--- what was read was fed to a session, whose writer held so much before
+-- what was read was fed to a session, whose writer had taken so much before
 pub record Reads (session : Stage) (input left written : Option (List ℕ)) : Type 0 where
   pub taken : List ℕ
   pub took : Consumes input left taken
@@ -89,7 +89,7 @@ Reads-more b c bytes r s t w p took q =
     let more = Feeds-after (opening w) b c p.taken bytes (Ok None) p.follows q in
     record { taken = p.taken ++ bytes; took = Consumes-trans r s t p.taken bytes p.took took; follows = more.0 }
 
--- the line that has begun is in hand, and nothing lies behind it
+-- the begun line is the current line, and nothing lies behind it
 StopsWithin-begun : (b : Stage) (r s w : Option (List ℕ)) → (p : Reads b r s w) → StopsWithin r s p.follows.text []
 StopsWithin-begun b r s w p = record {
   before = p.follows.lines;
@@ -100,7 +100,7 @@ StopsWithin-begun b r s w p = record {
   read = subst (Consumes r s) (p.follows.cut ∙ ap (λ l. ended_lines p.follows.lines ++ l) (sym (append-nil b.begun))) p.took;
 }
 
--- a read gave nothing
+-- a read returned nothing
 abbrev Reads-kept : (b : Stage) (r s t w : Option (List ℕ)) → Reads b r s w → Keeps s t → Reads b r t w
 Reads-kept b r s t w p kept = record { taken = p.taken; took = Consumes-kept r s t p.taken p.took kept; follows = p.follows }
 
@@ -108,7 +108,7 @@ Reads-kept b r s t w p kept = record { taken = p.taken; took = Consumes-kept r s
 pub Tells-unread : (b : Stage) (r s t w : Option (List ℕ)) → Reads b r s w → Keeps s t → Tells (Err Read) r t w b.told
 Tells-unread b r s t w p kept = (p.follows.text, p.follows.told, StopsWithin-begun b r t w (Reads-kept b r s t w p kept))
 
--- a read gave no byte
+-- a read returned no byte
 Reads-end : (b : Stage) (buffer : List ℕ) (n : ℕ) (r s t w : Option (List ℕ)) → Reads b r s w → Consumes s t (take n buffer) → n ≡ 0 → Reads b r t w
 Reads-end b buffer n r s t w p none zero =
     let none' : Consumes s t [] = rw zero at none in

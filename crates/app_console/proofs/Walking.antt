@@ -7,7 +7,7 @@ use Rattle.app_console.specs.Answer.{line}
 use Rattle.app_console.specs.ViewText.{listed, event_words, here_words}
 use Rattle.app_console.proofs.Listing.{one_line_more}
 
--- One line more, and the walk is one place on.
+-- One line more, and the walk advances by one place.
 pub one_place : (w : Walked) (here : Option TokenTree) (done all : List ℕ) → here ≡ token_at (events_ahead w) → is_over (events_ahead w) ≡ false
     → done ++ listed event_words (events_ahead w) ≡ all → (done ++ line (here_words here)) ++ listed event_words (events_ahead (one_on w)) ≡ all
 one_place w here done all is more lines = by (events_ahead w) refl is more lines
@@ -25,7 +25,7 @@ one_place w here done all is more lines = by (events_ahead w) refl is more lines
         ap₂ (λ h e. (done ++ line (here_words h)) ++ listed event_words e) is (event_passed w (closes subtree) others same)
         ∙ one_line_more event_words done all (closes subtree) others lines
 
--- At the end of the walk the last line is all that is left to write.
+-- At the end of the walk only the last line is left to write.
 pub last_line : (w : Walked) (done all : List ℕ) → is_over (events_ahead w) ≡ true → done ++ listed event_words (events_ahead w) ≡ all → done ++ codes "end\n" ≡ all
 last_line w done all over lines = by (events_ahead w) over lines
   where

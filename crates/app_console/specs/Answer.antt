@@ -1,4 +1,4 @@
--- The lines that the machine answers.
+-- The lines of the machine's answers.
 use Rattle.std.specs.Prelude.{ℕ, List, [], ◌∷◌, ◌++◌, codes, decimal}
 use Rattle.tt_base.specs.Fault.{number_of}
 use Rattle.tt_base.specs.declared.fault.TtFault.{TtFault}
@@ -16,11 +16,11 @@ line text = text ++ 10 ∷ []
 abbrev pub ok_line : List ℕ
 ok_line = line (codes "ok")
 
--- a slot that was to be read holds no tree
+-- a slot that a command reads contains no tree
 abbrev pub empty_line : List ℕ
 empty_line = line (codes "empty")
 
--- a slot's own tree was to be put into it
+-- a command puts a slot's own tree into it
 abbrev pub same_line : List ℕ
 same_line = line (codes "same")
 
@@ -36,11 +36,11 @@ none_open_line = line (codes "none open")
 abbrev pub still_open_line : List ℕ
 still_open_line = line (codes "still open")
 
--- what was asked is so
+-- the answer to the command is yes
 abbrev pub yes_line : List ℕ
 yes_line = line (codes "yes")
 
--- it is not so
+-- the answer to the command is no
 abbrev pub no_line : List ℕ
 no_line = line (codes "no")
 
@@ -52,7 +52,7 @@ fault_line fault = line (codes "fault " ++ decimal (number_of fault))
 abbrev pub no_match_line : List ℕ
 no_match_line = line (codes "no match")
 
--- the rule has this fault; where memory for it was refused, the command was
+-- the rule has this fault; if memory for it ran out, the command was refused
 abbrev pub rule_line : RuleFault → List ℕ
 rule_line rule.BadPattern = line (codes "rule 1")
 rule_line rule.BadTemplate = line (codes "rule 2")
@@ -60,7 +60,7 @@ rule_line rule.DuplicateName = line (codes "rule 3")
 rule_line rule.UnknownName = line (codes "rule 4")
 rule_line rule.Memory = fault_line Memory
 
--- the bytes are those of no tree, as is seen at that one; where memory was refused, the command was
+-- the bytes are those of no tree, which shows at that byte; if memory ran out, the command was refused
 abbrev pub bytes_line : BytesFault → List ℕ
 bytes_line bytes.Memory = fault_line Memory
 bytes_line (bytes.TooShort at) = line (codes "bytes " ++ decimal at ++ codes " too short")

@@ -1,4 +1,4 @@
--- What the command that expands a macro of several arms answers, and the state that it leaves.
+-- The answer of the command that expands a macro of several arms, and the state after it.
 use Rattle.std.specs.Prelude.{◌≡◌, ◌⊎◌, ℕ, List, ◌++◌, Option, None, Some, codes, decimal}
 use Rattle.tt.specs.Forest.{Root}
 use Rattle.tt_base.specs.declared.fault.TtFault.TheVariants.{Memory}
@@ -19,7 +19,7 @@ use Rattle.mbe_rules.specs.declared.error.TemplateError.TheVariants as template
 use Rattle.mbe_rules.specs.declared.fill_error.FillError.{FillError}
 use Rattle.mbe_rules.specs.declared.fill_error.FillError.TheVariants as filling
 
--- the number of a pattern's fault, 4 for none; want of memory has none
+-- the number of a pattern's fault (4 is not used); exhausted memory has none
 abbrev pub pattern_number : PatternError → Option ℕ
 pattern_number (pattern.BeginsNothing at) = Some 2
 pattern_number (pattern.UnknownFragment at) = Some 3
@@ -44,7 +44,7 @@ arm_fault_number (fault.Template error) = template_number error
 arm_fault_number (fault.NoSemicolon at) = Some 12
 arm_fault_number fault.Memory = None
 
--- `rule`, the number of an arm and that of its fault; where memory for it was refused, the command was
+-- `rule`, the number of an arm and that of its fault; if memory for it ran out, the command was refused
 abbrev pub arm_line : (arm : ℕ) → (number : Option ℕ) → List ℕ
 arm_line arm None = fault_line Memory
 arm_line arm (Some number) = line (codes "rule " ++ decimal arm ++ codes " " ++ decimal number)
@@ -53,11 +53,11 @@ arm_line arm (Some number) = line (codes "rule " ++ decimal arm ++ codes " " ++ 
 abbrev pub rules_line : RulesError → List ℕ
 rules_line error = arm_line error.arm (arm_fault_number error.fault)
 
--- the input is an instance of a pattern by different readings
+-- the input is an instance of a pattern in different ways
 abbrev pub ambiguous_line : List ℕ
 ambiguous_line = line (codes "ambiguous")
 
--- a repetition of a template has variables with different numbers of rounds, or no round where it wants one
+-- a repetition of a template has variables with different numbers of rounds, or no round although it needs one
 abbrev pub lengths_line : List ℕ
 lengths_line = line (codes "lengths")
 
@@ -67,24 +67,25 @@ unfilled_line (filling.LengthsDiffer at) = lengths_line
 unfilled_line (filling.NoRound at) = lengths_line
 unfilled_line (filling.Tree fault) = fault_line fault
 
--- the tree is what the macro of these arms makes of the input
+-- the tree is the expansion of the input by the macro of these arms
 abbrev pub IsMadeByArms : (arms input : Root) → Root → Type 0
 IsMadeByArms arms input tree = (spelled : List Arm) × Spell arms.children spelled × IsExpansion spelled 0 0 input.children (expansion.Tree tree)
 
--- that the input is an instance of no pattern, or of one by different readings, or why the template of the first such arm is not filled
+-- the answer says that the input is an instance of no pattern, or of one in different ways,
+-- or why the template of the first such arm is not filled
 abbrev pub TellsNoExpansion : List Arm → (input : Root) → (answer : List ℕ) → Type 0
 TellsNoExpansion spelled input answer =
     (((at : ℕ) × IsExpansion spelled 0 0 input.children (expansion.NoMatch at)) × (answer ≡ no_match_line))
     ⊎ ((arm : ℕ) × IsExpansion spelled 0 0 input.children (expansion.Ambiguous arm) × (answer ≡ ambiguous_line))
     ⊎ ((error : ExpandError) × IsExpandError spelled 0 input.children error × (answer ≡ unfilled_line error.fault))
 
--- where the trees are no macro, it is told why; else why it makes nothing of the input
+-- if the trees are no macro, the answer says why; otherwise it says why the macro does not expand the input
 abbrev pub TellsNoneByArms : (arms input : Root) → (answer : List ℕ) → Type 0
 TellsNoneByArms arms input answer =
     ((error : RulesError) × IsRulesError arms.children error × (answer ≡ rules_line error))
     ⊎ ((spelled : List Arm) × Spell arms.children spelled × TellsNoExpansion spelled input answer)
 
--- what the macro makes of the input comes to the slot, or it is told why there is no such tree
+-- the expansion of the input by the macro goes to the slot, or the answer says why there is no such tree
 abbrev pub ExpandsMacro : State → (arms input : Root) → (to : ℕ) → List ℕ → State → Type 0
 ExpandsMacro old arms input to answer new =
     ((tree : Root) × IsMadeByArms arms input tree × (answer ≡ ok_line) × (new ≡ with_tree old to tree))

@@ -1,4 +1,4 @@
--- What a command on the builder answers, and the state that it leaves.
+-- The answer of a command on the builder, and the state after it.
 use Rattle.std.specs.Prelude.{◌≡◌, ◌⊎◌, ◌<◌, ◌+◌, ◌-◌, ◌^◌, ℕ, List, ◌∷◌, ◌++◌, Option, None, Some, codes, decimal, if◌then◌else◌, is_some}
 use Rattle.std.specs.List.{flat_map}
 use Rattle.tt.specs.Building.{BuilderState, Stack, lowest, above, HasRoom, most_held, tokens_held, open_kinds, closed, extended, noted, point_taken, restored}
@@ -14,23 +14,23 @@ use Rattle.app_language.specs.Token.{kind_word}
 use Rattle.app_console.specs.Answer.{line, ok_line, empty_line, yes_line, no_line, fault_line, no_builder_line, none_open_line, still_open_line}
 use Rattle.app_console.specs.State.{State, with_builder, with_tree}
 
--- this holds of the builder; where there is none, that is the answer and nothing changes
+-- this holds for the builder; without one, that is the answer and nothing changes
 abbrev pub OfBuilder : (BuilderState → Type 0) → State → Option BuilderState → List ℕ → State → Type 0
 OfBuilder P old None answer new = (answer ≡ no_builder_line) × (new ≡ old)
 OfBuilder P old (Some builder) answer new = P builder
 
--- this holds of the tree; where there is none, the slot is empty and nothing changes
+-- this holds for the tree; without one, the slot is empty and nothing changes
 abbrev pub OfTree : (Root → Type 0) → State → Option Root → List ℕ → State → Type 0
 OfTree P old None answer new = (answer ≡ empty_line) × (new ≡ old)
 OfTree P old (Some root) answer new = P root
 
--- the builder takes so many tokens, and is the next one then, or refuses them for want of room
+-- the builder takes so many tokens and becomes the next one, or refuses them because it has no room
 abbrev pub Grows : ℕ → BuilderState → BuilderState → State → List ℕ → State → Type 0
 Grows more builder next old answer new =
     (HasRoom more builder × (answer ≡ ok_line) × (new ≡ with_builder old next))
     ⊎ ((most_held < tokens_held builder.stack + more) × (answer ≡ fault_line TooManyTokens) × (new ≡ old))
 
--- the builder takes trees, as they are or changed in their last token
+-- the builder takes trees, as they are or with their last token changed
 abbrev pub Appends : Forest → Forest → BuilderState → State → List ℕ → State → Type 0
 Appends trees taken builder = Grows (size trees) builder (extended taken builder)
 
@@ -43,13 +43,13 @@ Closes span builder (above outer kind open_span trees) old answer new = (answer 
 abbrev pub point_line : ℕ → List ℕ
 point_line number = line (codes "point " ++ decimal number)
 
--- a restore point is taken, while there are numbers
+-- a restore point is taken, while there are numbers left
 abbrev pub Points : BuilderState → State → List ℕ → State → Type 0
 Points builder old answer new =
     ((builder.taken < 2 ^ 64 - 1) × (answer ≡ point_line builder.taken) × (new ≡ with_builder old (point_taken builder)))
     ⊎ ((builder.taken ≡ 2 ^ 64 - 1) × (answer ≡ fault_line PointsSpent) × (new ≡ old))
 
--- yes where the point stands
+-- yes if the point exists
 abbrev pub Restores : ℕ → BuilderState → State → List ℕ → State → Type 0
 Restores number builder old answer new =
     (answer ≡ (if is_some (noted number builder.points) then yes_line else no_line)) × (new ≡ with_builder old (restored number builder))
@@ -66,11 +66,11 @@ expected_text builder = line (codes "expected" ++ flat_map expected_kind (open_k
 abbrev pub counts_line : ℕ → ℕ → List ℕ
 counts_line parts symbols = line (codes "counts " ++ decimal parts ++ codes " " ++ decimal symbols)
 
--- how many different span parts and symbols are used in the tokens held
+-- how many different span parts and symbols the held tokens use
 abbrev pub counts_text : BuilderState → List ℕ
 counts_text builder = counts_line (distinct_parts builder.stack) (distinct_symbols builder.stack)
 
--- the tree comes to the slot and the builder is gone, where it is within the limits; else both stay
+-- the tree goes to the slot and the builder is removed, if the tree is within the limits; otherwise both stay
 abbrev pub MakesRoot : Root → ℕ → State → List ℕ → State → Type 0
 MakesRoot root slot old answer new =
     (IsWithinLimits root × (answer ≡ ok_line) × (new ≡ record (with_tree old slot root) { builder = None }))

@@ -1,4 +1,4 @@
--- What the commands that change a slot's tree answer, and the state that they leave.
+-- The answers of the commands that change a slot's tree, and the state after them.
 use Rattle.std.specs.Prelude.{◌≡◌, ◌⊎◌, ◌==◌, ℕ, List, [], ◌∷◌, map, Option, None, Some, if◌then◌else◌}
 use Rattle.tt.specs.AstIds.{ids_changed}
 use Rattle.tt.specs.Edits.{HasLeafAt, leaf_set}
@@ -21,13 +21,13 @@ abbrev pub Changes : (Root → Root) → State → (slot : ℕ) → Option Root 
 Changes change old slot None answer new = (answer ≡ empty_line) × (new ≡ old)
 Changes change old slot (Some root) answer new = (answer ≡ ok_line) × (new ≡ with_tree old slot (change root))
 
--- the tree comes to the slot, which is small enough, or it is refused for a reason
+-- the tree goes to the slot if it is small enough, or it is refused with a reason
 abbrev pub StoresOr : (TtFault → Type 0) → (Root → Type 0) → State → (slot : ℕ) → List ℕ → State → Type 0
 StoresOr IsFault IsTree old slot answer new =
     ((root : Root) × IsTree root × IsWithinLimits root × (answer ≡ ok_line) × (new ≡ with_tree old slot root))
     ⊎ ((fault : TtFault) × IsFault fault × (answer ≡ fault_line fault) × (new ≡ old))
 
--- the leaf at a place is changed, where a leaf stands there
+-- the leaf at a place is changed, if there is a leaf
 abbrev pub SetsLeaf : State → (slot place : ℕ) → Leaf → Option Root → List ℕ → State → Type 0
 SetsLeaf old slot place it None answer new = (answer ≡ empty_line) × (new ≡ old)
 SetsLeaf old slot place it (Some root) answer new =
@@ -37,13 +37,13 @@ SetsLeaf old slot place it (Some root) answer new =
 abbrev pub ids_of : List ℕ → List ErasedFileAstId
 ids_of numbers = map (λ n. record { 0 = n }) numbers
 
--- the stored parts take these ids in order; those behind them keep theirs
+-- the stored parts take these ids in order; those after them keep theirs
 abbrev pub ChangesIds : State → (slot : ℕ) → List ℕ → Option Root → List ℕ → State → Type 0
 ChangesIds old slot ids None answer new = (answer ≡ empty_line) × (new ≡ old)
 ChangesIds old slot ids (Some root) answer new =
     StoresOr (IsTreeFault (ids_changed (ids_of ids) root)) (λ other. other ≡ ids_changed (ids_of ids) root) old slot answer new
 
--- the first id of those left, or else the part keeps its own
+-- the first of the remaining ids; without one, the part keeps its own
 abbrev pub next_id : List ℕ → ErasedFileAstId → ErasedFileAstId
 next_id [] id = id
 next_id (n ∷ more) id = record { 0 = n }
@@ -53,22 +53,22 @@ abbrev pub trees_in : Option Root → Forest
 trees_in None = end
 trees_in (Some root) = only root
 
--- what an action does, where the slots hold these trees
+-- what an action does, with these trees in the slots
 abbrev pub action_in : State → Action → TreeAction
 action_in state action.Keep = keep
 action_in state action.Remove = replace end
 action_in state (action.Put from) = replace (trees_in (tree_in state from))
 
--- the first action of those left, or else the token is kept
+-- the first of the remaining actions; without one, the token is kept
 abbrev pub next_action : State → List Action → TreeAction
 next_action state [] = keep
 next_action state (it ∷ more) = action_in state it
 
--- the forest that comes of a tree by these actions, behind which all is kept
+-- the forest that these actions make of a tree; all later tokens are kept
 abbrev pub rewritten_by : State → List Action → Root → Forest
 rewritten_by state actions root = (rewrite (only root) (map (action_in state) actions)).0
 
--- a slot that is put holds a tree
+-- a slot that is put contains a tree
 abbrev pub empty_refusal : Option Root → Option (List ℕ)
 empty_refusal None = Some empty_line
 empty_refusal (Some root) = None
@@ -89,7 +89,7 @@ abbrev pub first_refusal : State → (slot : ℕ) → List Action → Option (Li
 first_refusal state slot [] = None
 first_refusal state slot (it ∷ more) = or_else (put_refusal state slot it) (first_refusal state slot more)
 
--- a refused action is told; else the tree that comes of the actions is stored
+-- a refused action is the answer; otherwise the tree that the actions make is stored
 abbrev pub RewritesTree : State → (slot : ℕ) → List Action → Root → Option (List ℕ) → List ℕ → State → Type 0
 RewritesTree old slot actions root (Some line) answer new = (answer ≡ line) × (new ≡ old)
 RewritesTree old slot actions root None answer new =

@@ -1,4 +1,4 @@
--- What the command that expands a rule answers, and the state that it leaves.
+-- The answer of the command that expands a rule, and the state after it.
 use Rattle.std.specs.Prelude.{◌≡◌, ◌⊎◌, ℕ, List, Option, None, Some}
 use Rattle.tt.specs.Forest.{Root}
 use Rattle.tt.specs.Stored.{IsWithinLimits}
@@ -9,19 +9,19 @@ use Rattle.mbe_rule.specs.Faults.{rule_fault}
 use Rattle.app_console.specs.Answer.{ok_line, empty_line, fault_line, no_match_line, rule_line}
 use Rattle.app_console.specs.State.{State, with_tree}
 
--- the tree is what the rule makes of the input
+-- the tree is the expansion of the input by the rule
 abbrev pub IsMadeByRule : (pattern template input : Root) → Root → Type 0
 IsMadeByRule pattern template input tree =
     (rule_fault pattern.children template.children ≡ None) × IsExpansion pattern.children template input.children tree × IsWithinLimits tree
 
--- where the rule has a fault, that is told; else that the input is no instance, or why it is not expanded
+-- if the rule has a fault, the answer says that; otherwise that the input is no instance, or why it is not expanded
 abbrev pub TellsNoTree : (pattern template input : Root) → Option RuleFault → (answer : List ℕ) → Type 0
 TellsNoTree pattern template input (Some fault) answer = answer ≡ rule_line fault
 TellsNoTree pattern template input None answer =
     (IsNoInstance pattern.children input.children × (answer ≡ no_match_line))
     ⊎ ((fault : TtFault) × IsExpandFault pattern.children template input.children fault × (answer ≡ fault_line fault))
 
--- what the rule makes of the input comes to the slot, or it is told why there is no such tree
+-- the expansion of the input by the rule goes to the slot, or the answer says why there is no such tree
 abbrev pub ExpandsRule : State → (pattern template input : Root) → (to : ℕ) → List ℕ → State → Type 0
 ExpandsRule old pattern template input to answer new =
     ((tree : Root) × IsMadeByRule pattern template input tree × (answer ≡ ok_line) × (new ≡ with_tree old to tree))

@@ -1,4 +1,4 @@
--- The plain machine, and what a run of the program reads and writes.
+-- The machine as a plain value, and what a run of the program reads and writes.
 pub mod Answer
 pub mod Arms
 pub mod Building

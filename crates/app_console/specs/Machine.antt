@@ -1,4 +1,4 @@
--- The plain machine: what each command answers, and the state it leaves. A later command is one more case.
+-- The machine as a plain value: the answer to each command, and the state after it. A later command is one more case.
 use Rattle.std.specs.Prelude.{◌≡◌, ◌≢◌, ℕ, List, [], ◌∷◌, ◌++◌, ◌⊎◌, Option, None, Some}
 use Rattle.tt.specs.Building.{alone, built, built_skipping, empty_builder, opened, pushed, removed}
 use Rattle.tt.specs.Forest.{Root, IsOneSubtree, only}
@@ -27,23 +27,23 @@ MakesTree old slot answer new =
     ((one : IsOneSubtree old.list) × IsWithinLimits one.0 × (answer ≡ ok_line) × (new ≡ record (with_tree old slot one.0) { list = [] }))
     ⊎ ((fault : TtFault) × IsPackFault old.list fault × (answer ≡ fault_line fault) × (new ≡ old))
 
--- the tree, if there is one, comes to the slot too
+-- the tree, if there is one, goes to the slot too
 abbrev pub Copies : State → ℕ → Option Root → List ℕ → State → Type 0
 Copies old to None answer new = (answer ≡ empty_line) × (new ≡ old)
 Copies old to (Some root) answer new = (answer ≡ ok_line) × (new ≡ with_tree old to root)
 
--- the text of a slot's tree, if it holds one
+-- the text of a slot's tree, if the slot contains one
 abbrev pub text_or_empty : (Root → List ℕ) → Option Root → List ℕ
 text_or_empty text None = empty_line
 text_or_empty text (Some root) = text root
 
--- yes exactly where both slots hold the same tree
+-- yes if and only if both slots contain the same tree
 abbrev pub Compares : Option Root → Option Root → List ℕ → Type 0
 Compares None right answer = answer ≡ empty_line
 Compares (Some left) None answer = answer ≡ empty_line
 Compares (Some left) (Some right) answer = ((left ≡ right) × (answer ≡ yes_line)) ⊎ ((left ≢ right) × (answer ≡ no_line))
 
--- where there is memory, the machine answers so to the command, and goes on from old to new
+-- if there is memory, the machine gives this answer to the command, and goes from the old state to the new
 abbrev pub Does : State → Command → List ℕ → State → Type 0
 Does old (command.Item token) answer new = (answer ≡ ok_line) × (new ≡ record old { list = old.list ++ token ∷ [] })
 Does old command.Clear answer new = (answer ≡ ok_line) × (new ≡ record old { list = [] })

@@ -1,8 +1,8 @@
--- What a clause reads of a `Noted`.
+-- What a contract reads of a `Noted`.
 use Rattle.std.specs.Prelude.{Bool, ℕ}
 use Rattle.app_console.specs.declared.noted.Noted.{Noted}
 
--- the reader or writer behind
+-- the reader or writer inside
 abbrev pub noted_inner : {T : Type 0} → Noted T → T
 noted_inner n = n.inner
 

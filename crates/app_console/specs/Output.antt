@@ -1,9 +1,9 @@
--- What a writer and the bytes before it say together.
+-- What a writer and the pending bytes amount to.
 use Rattle.std.specs.Prelude.{ℕ, List, Option}
 use Rattle.std.specs.Io.KnownBytes.{append_known}
 use Rattle.app_console.specs.declared.noted.Noted.{Noted}
 use Rattle.app_console.specs.Noted.{noted_inner}
 
--- all that was told: what the writer took, and then what is pending
+-- all that was put out: what the writer took, and then what is pending
 abbrev pub text_told : {W : Type 0} → (W → Option (List ℕ)) → Noted W → List ℕ → Option (List ℕ)
 text_told contents writer pending = append_known (contents (noted_inner writer)) pending

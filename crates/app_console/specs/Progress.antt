@@ -1,9 +1,9 @@
--- Where a session is.
+-- The progress of a session.
 use Rattle.std.specs.Coded.{Coded, code_by, coded×, coded_list, coded_ℕ}
 use Rattle.std.specs.Prelude.{ℕ, List, [], refl}
 use Rattle.app_console.specs.State.{State, start, state_code}
 
--- the machine, the line that has begun, how many lines were answered, and what was told of the answers but not yet written
+-- the machine, the begun line, the number of lines answered, and the answers that are not written yet
 pub record Progress : Type 0 where
   pub machine : State
   pub begun : List ℕ

@@ -1,4 +1,4 @@
--- What the command answers that reads a Rust text, and the state that it leaves.
+-- The answer of the command that reads a Rust text, and the state after it.
 use Rattle.std.specs.Prelude.{◌≡◌, ◌⊎◌, ℕ, List, ◌∷◌, [], ◌++◌, codes, decimal}
 use Rattle.tt.specs.Forest.{Root}
 use Rattle.tt_base.specs.declared.fault.TtFault.TheVariants.{TooManyBytes}
@@ -16,7 +16,7 @@ use Rattle.syntax_parse.specs.declared.fault.SyntaxFault.TheVariants as syntax
 use Rattle.syntax_parse.specs.declared.fault.TextFault.{TextFault}
 use Rattle.syntax_parse.specs.declared.fault.TextFault.TheVariants as refused
 
--- where a text of a line stands: file 0, item 0, context 0
+-- the place of a text of a line: file 0, item 0, context 0
 abbrev pub line_part : SpanPart
 line_part = record { anchor = record { file_id = record { 0 = 0 }; ast_id = record { 0 = 0 } }; ctx = record { 0 = 0 } }
 
@@ -48,7 +48,7 @@ bad_words bad.SeveralChars = codes "several characters"
 bad_words bad.NullInCStr = codes "null in a C string"
 bad_words bad.LifetimeBeginsWithDigit = codes "lifetime that begins with a digit"
 
--- `text`, the byte where it shows, and what is wrong
+-- `text`, the byte of the fault, and the fault
 abbrev pub text_words : (at : ℕ) → (what : List ℕ) → List ℕ
 text_words at what = codes "text " ++ decimal at ++ codes " " ++ what
 
@@ -60,13 +60,13 @@ syntax_words (syntax.Mismatched bracket at last) =
     text_words at (closing_of bracket ∷ codes " for " ++ opening_of last.bracket ∷ codes " at " ++ decimal last.at)
 syntax_words (syntax.Unclosed bracket at) = text_words at (codes "unclosed " ++ opening_of bracket ∷ [])
 
--- why a text is refused; one that is longer than spans can tell has too many bytes
+-- why a text is refused; a text that is too long for spans has too many bytes
 abbrev pub refusal_line : TextFault → List ℕ
 refusal_line (refused.Syntax fault) = line (syntax_words fault)
 refusal_line refused.TooLong = fault_line TooManyBytes
 refusal_line (refused.Limit fault) = fault_line fault
 
--- the tree of the text comes to the slot, or it is told why the text is refused
+-- the tree of the text goes to the slot, or the answer says why the text is refused
 abbrev pub ReadsText : State → (slot : ℕ) → (text : List ℕ) → List ℕ → State → Type 0
 ReadsText old slot text answer new =
     ((root : Root) × IsParse line_part text root × (answer ≡ ok_line) × (new ≡ with_tree old slot root))

@@ -16,7 +16,7 @@ use Rattle.app_console.specs.Machine.{Run}
 use Rattle.app_language.specs.Reading.{IsOneLine}
 use Rattle.app_console.specs.Lines.{lines_of, ended_lines, EndsLine}
 
--- each line is a command, and text is the answers to them of a run of the machine from old to new
+-- each line is a command, and the text is the answers of a run of the machine to them, from old to new
 pub record Answered (old : State) (lines : List (List ℕ)) (text : List ℕ) (new : State) : Type 0 where
   pub commands : List Command
   pub answers : List (List ℕ)
@@ -24,19 +24,19 @@ pub record Answered (old : State) (lines : List (List ℕ)) (text : List ℕ) (n
   pub run : Run old commands answers new
   pub told : text ≡ concat answers
 
--- text is the answers to these lines, which are the first that the machine gets
+-- the text is the answers to these lines, which are the first lines for the machine
 abbrev pub AreAnswers : List (List ℕ) → List ℕ → Type 0
 AreAnswers lines text = (state : State) × Answered start lines text state
 
--- the number of the line that comes after so many, at most the largest u64
+-- the number of the next line after so many, at most the largest u64
 abbrev pub next_number : ℕ → ℕ
 next_number count = min (count + 1) (2 ^ 64 - 1)
 
--- what is written at a line that is no command
+-- what is written for a line that is no command
 abbrev pub bad_line : ℕ → List ℕ
 bad_line number = line (codes "bad line " ++ decimal number)
 
--- before is the lines of the input before the first that is no command
+-- `before` is the lines of the input before the first that is no command
 abbrev pub PrecedesBadLine : List (List ℕ) → List ℕ → Type 0
 PrecedesBadLine before input = (bad : List ℕ) × (after : List (List ℕ)) × (lines_of input ≡ before ++ bad ∷ after) × IsNoCommand bad
 
@@ -52,7 +52,7 @@ pub record StopsAtBadLine (number : ℕ) (input : Option (List ℕ)) (text : Lis
   pub counted : number ≡ next_number (length before)
   pub first_bad : IfSome input (PrecedesBadLine before)
 
--- what was read is some whole lines, the line in hand and what lies behind it, and the text is the answers to the whole lines
+-- what was read is some whole lines, the current line and the bytes behind it, and the text is the answers to the whole lines
 pub record StopsWithin (input left : Option (List ℕ)) (text behind : List ℕ) : Type 0 where
   pub before : List (List ℕ)
   pub hand : List ℕ
@@ -61,7 +61,7 @@ pub record StopsWithin (input left : Option (List ℕ)) (text behind : List ℕ)
   pub one_line : IsOneLine hand
   pub read : Consumes input left (ended_lines before ++ (hand ++ behind))
 
--- What a run says of the bytes that were left to read, before and after it, and of those that were written.
+-- what a run says of the bytes left to read, before and after it, and of those that were written
 abbrev pub Tells : Result End RunFault → Option (List ℕ) → Option (List ℕ) → Option (List ℕ) → Option (List ℕ) → Type 0
 Tells (Ok Clean) input left old new =
     (text : List ℕ) × Appends old new text × AnswersAll input left text
@@ -74,7 +74,7 @@ Tells (Err Memory) input left old new =
     × ((behind : List ℕ) × StopsWithin input left text behind × EndsLine behind × (length behind ≤ BLOCK))
 Tells (Err Write) input left old new = Unit {0}
 
--- which of the reader and the writer has failed
+-- whether the reader and the writer have failed
 abbrev pub Fails : Result End RunFault → Bool → Bool → Type 0
 Fails (Ok end) reader writer = (reader ≡ false) × (writer ≡ false)
 Fails (Err Read) reader writer = (reader ≡ true) × (writer ≡ false)

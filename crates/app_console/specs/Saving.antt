@@ -1,4 +1,4 @@
--- What the commands answer that write a tree as one piece of bytes and read it, and the state that they leave.
+-- The answers of the commands that write a tree as one piece of bytes and read it, and the state after them.
 use Rattle.hex.specs.Hex.{encode_lower}
 use Rattle.std.specs.Prelude.{◌≡◌, ◌⊎◌, ℕ, List, Option, None, Some}
 use Rattle.tt.specs.Forest.{Root}
@@ -16,7 +16,7 @@ Saves (Some root) answer =
     ((bytes : List ℕ) × AreBytesOf root bytes × (answer ≡ line (encode_lower bytes)))
     ⊎ ((fault : TtFault) × IsRefusal root fault × (answer ≡ fault_line fault))
 
--- the tree of the bytes comes to the slot, or it is told why they are those of none
+-- the tree of the bytes goes to the slot, or the answer says why they are those of none
 abbrev pub Loads : State → (slot : ℕ) → (bytes : List ℕ) → List ℕ → State → Type 0
 Loads old slot bytes answer new =
     ((root : Root) × AreBytesOf root bytes × (answer ≡ ok_line) × (new ≡ with_tree old slot root))

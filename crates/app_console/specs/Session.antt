@@ -1,4 +1,4 @@
--- What a session does with the bytes that it is given.
+-- What a session does with the bytes that it gets.
 use Rattle.std.specs.Prelude.{◌≡◌, ℕ, ◌+◌, ◌-◌, ◌^◌, min, true, false, List, [], ◌∷◌, ◌++◌, length, None, Some, Ok, Err, Option, Result}
 use Rattle.std.specs.List.{All}
 use Rattle.std.specs.Io.KnownBytes.{Appends, Keeps}
@@ -24,7 +24,7 @@ pub record Follows (old : Stage) (bytes : List ℕ) (new : Stage) : Type 0 where
   pub begun : IsOneLine new.begun
   pub counted : new.count ≡ min (old.count + length lines) (2 ^ 64 - 1)
 
--- the lines before a bad one were answered, and then its number told
+-- the lines before a bad one were answered, and then its number was put out
 pub record Halts (old : Stage) (bytes : List ℕ) (number : ℕ) (new : Stage) : Type 0 where
   pub lines : List (List ℕ)
   pub bad : List ℕ
@@ -49,7 +49,7 @@ pub record Breaks (old : Stage) (bytes rest : List ℕ) (new : Stage) : Type 0 w
   pub cut : old.begun ++ bytes ≡ ended_lines lines ++ rest
   pub whole : All IsOneLine lines
 
--- what one line does: it is answered, or is no command and its number is told
+-- one line is answered, or is no command and its number is put out
 abbrev pub Answers : Stage → List ℕ → Result (Option ℕ) RunFault → Stage → Type 0
 Answers old line (Ok None) new =
     ((text : List ℕ) × Appends old.told new.told text × Answered old.machine (line ∷ []) text new.machine)
@@ -60,7 +60,7 @@ Answers old line (Err Memory) new = Keeps old.told new.told × (new.failed ≡ f
 Answers old line (Err Write) new = new.failed ≡ true
 Answers old line (Err Read) new = ⊥
 
--- what some bytes do
+-- the effect of some bytes
 abbrev pub Feeds : Stage → List ℕ → Result (Option ℕ) RunFault → Stage → Type 0
 Feeds old bytes (Ok None) new = Follows old bytes new × (new.failed ≡ false)
 Feeds old bytes (Ok (Some number)) new = Halts old bytes number new × (new.failed ≡ false)
@@ -68,7 +68,7 @@ Feeds old bytes (Err Memory) new = ((rest : List ℕ) × Breaks old bytes rest n
 Feeds old bytes (Err Write) new = new.failed ≡ true
 Feeds old bytes (Err Read) new = ⊥
 
--- what the end of the input does: the line that has begun, if one has, is answered, or is no command
+-- the effect of the end of the input: the begun line, if there is one, is answered, or is no command
 abbrev pub Finishes : Stage → Result End RunFault → Stage → Type 0
 Finishes old (Ok Clean) new =
     ((text : List ℕ) × Appends old.told new.told text × Answered old.machine (lines_of old.begun) text new.machine) × (new.failed ≡ false)

@@ -1,4 +1,4 @@
--- Where a session and its writer are.
+-- The stage of a session and its writer.
 use Rattle.std.specs.Prelude.{ℕ, Bool, List, Option}
 use Rattle.app_console.specs.declared.noted.Noted.{Noted}
 use Rattle.app_console.specs.Noted.{noted_failed}
@@ -6,7 +6,7 @@ use Rattle.app_console.specs.Output.{text_told}
 use Rattle.app_console.specs.Progress.{Progress}
 use Rattle.app_console.specs.State.{State}
 
--- the machine, the line that has begun, how many lines were answered, all that was told, and whether the writer has failed
+-- the machine, the begun line, the number of lines answered, all that was put out, and whether the writer has failed
 pub record Stage : Type 0 where
   pub machine : State
   pub begun : List ℕ

@@ -1,4 +1,4 @@
--- What the plain machine holds.
+-- The state of the machine as a plain value.
 use Rattle.std.specs.Coded.{Coded, code_by, coded×, coded_list, coded_option}
 use Rattle.std.specs.Prelude.{ℕ, List, [], Option, None, Some, refl, replicate, slice_index_or, slice_set}
 use Rattle.tt.specs.Building.{BuilderState}
@@ -22,11 +22,11 @@ start = record { slots = replicate 16 None; list = []; builder = None }
 abbrev pub tree_in : State → ℕ → Option Root
 tree_in state slot = slice_index_or state.slots slot None
 
--- the state in which that tree is in the slot
+-- the state with that tree in the slot
 abbrev pub with_tree : State → ℕ → Root → State
 with_tree state slot root = record state { slots = slice_set state.slots slot (Some root) }
 
--- the state with that builder, in place of any
+-- the state with that builder instead of any other
 abbrev pub with_builder : State → BuilderState → State
 with_builder state builder = record state { builder = Some builder }
 

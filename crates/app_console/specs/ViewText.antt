@@ -1,4 +1,4 @@
--- The text in which a tree is shown.
+-- The text of a tree in its forms.
 use Rattle.std.specs.Prelude.{ℕ, ◌/◌, ◌%◌, false, List, [], ◌∷◌, ◌++◌, Option, Some, None, codes, decimal}
 use Rattle.std.specs.Fmt.{digit_glyph}
 use Rattle.std.specs.List.{flat_map}
@@ -18,7 +18,7 @@ use Rattle.app_language.specs.declared.command.view.View.TheVariants as view
 use Rattle.app_console.specs.Answer.{line}
 use Rattle.app_console.specs.Pieces.{pieces, tokens_in}
 
--- a line for each, and then `end`
+-- one line for each item, and then `end`
 abbrev pub listed : {A : Type 0} → (A → List ℕ) → List A → List ℕ
 listed text items = flat_map (λ item. line (text item)) items ++ line (codes "end")
 
@@ -41,7 +41,7 @@ event_words (passes it) = token_words (token.Leaf it)
 event_words (opens subtree) = token_words (token.Subtree subtree)
 event_words (closes subtree) = codes "close"
 
--- a space, and how many puncts stand as one, or that there is no punct
+-- a space, and how many puncts come as one, or `x` if there is no punct
 abbrev pub glued_size : Option ℕ → List ℕ
 glued_size None = codes " x"
 glued_size (Some count) = 32 ∷ decimal count
@@ -63,6 +63,6 @@ view_text view.Symbols root = listed (λ symbol. symbol) (packed root).symbols
 abbrev pub piece_size : List Tree → List ℕ
 piece_size piece = 32 ∷ decimal (tokens_in piece)
 
--- how many tokens each piece has that is cut out between puncts of that character, below the top
+-- how many tokens each piece between puncts of that character has, below the top
 abbrev pub split_text : ℕ → Root → List ℕ
 split_text char root = line (codes "split" ++ flat_map piece_size (pieces char root.children))

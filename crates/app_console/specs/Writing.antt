@@ -1,4 +1,4 @@
--- What the command answers that writes a tree as Rust text.
+-- The answer of the command that writes a tree as Rust text.
 use Rattle.std.specs.Prelude.{◌≡◌, ◌⊎◌, List, ℕ, ◌++◌, Option, None, Some, codes, decimal}
 use Rattle.tt.specs.Forest.{Root, only}
 use Rattle.tt_base.specs.declared.fault.TtFault.TheVariants.{Memory, TooManyBytes}
@@ -8,7 +8,7 @@ use Rattle.syntax_unparse.specs.Writable.{IsWritable, IsWriteFault}
 use Rattle.syntax_unparse.specs.declared.fault.WriteFault.{WriteFault}
 use Rattle.syntax_unparse.specs.declared.fault.WriteFault.TheVariants as unwritten
 
--- why a tree is not written: the flat place of the first leaf that cannot be, or a text that no span could tell
+-- why a tree is not written: the flat place of the first leaf that cannot be, or a text that is too long for spans
 abbrev pub unwritten_line : WriteFault → List ℕ
 unwritten_line (unwritten.NotWritable at) = line (codes "not writable " ++ decimal at)
 unwritten_line unwritten.TooLong = fault_line TooManyBytes

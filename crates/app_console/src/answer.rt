@@ -1,4 +1,4 @@
-//! What the machine answers, in bytes.
+//! The answers of the machine, in bytes.
 ghost use Rattle.std.specs.Prelude.{◌≡◌, ◌≤◌, ◌++◌, ◌∷◌, [], length, codes, decimal, Some, MatchResult, string_bytes, if◌then◌else◌};
 ghost use Rattle.tt_base.specs.declared.fault.TtFault.TheVariants.{Memory};
 
@@ -13,7 +13,7 @@ use syntax_unparse::WriteFault;
 use tt_base::TtFault;
 use tt_bytes::BytesFault;
 
-// The most bytes of a line that is made without memory: a word, and two numbers of at most 20 digits.
+// The largest number of bytes of a line that is made without memory: a word, and two numbers of at most 20 digits.
 const MOST_SHORT_BYTES: usize = 49;
 
 #[derive(Drop)]
@@ -23,8 +23,7 @@ enum Held {
     Built(String),
 }
 
-/// What the machine answers to one command: a line or several, each with its line feed.
-/// A contract sees its bytes.
+/// The answer of the machine to one command: one or several lines, each with its line feed. A contract sees its bytes.
 #[derive(Drop)]
 pub struct Answer {
     held: Held,
@@ -45,7 +44,7 @@ impl Answer {
     ghost use Rattle.app_console.specs.Building.{point_line, counts_line};
     ghost use Rattle.app_console.specs.Writing.{unwritten_line};
 
-    /// The text of the answer, with the line feed at its end.
+    /// Returns the text of the answer, with the line feed at its end.
     pub fn as_bytes(&self) -> &[u8]
         ensures { result.now ≡ self.now }
     {
@@ -64,7 +63,7 @@ impl Answer {
         }
     }
 
-    /// The lines of a text, which ends in a line feed; `fault 1` where memory for it was refused.
+    /// Returns the lines of a text, which ends in a line feed; `fault 1` if memory for it ran out.
     pub(crate) fn of_text(text: Result<String, AllocError>) -> Answer
         ensures { MatchResult text (λ built. result ≡ string_bytes built) (λ _. result ≡ fault_line Memory) }
     {
@@ -76,7 +75,7 @@ impl Answer {
         }
     }
 
-    /// `point` and the number, made without memory.
+    /// Returns `point` and the number, made without memory.
     pub(crate) fn point(number: u64) -> Answer
         ensures { result ≡ point_line number }
     {
@@ -89,7 +88,7 @@ impl Answer {
         }
     }
 
-    /// `counts` and the two numbers, made without memory.
+    /// Returns `counts` and the two numbers, made without memory.
     pub(crate) fn counts(parts: usize, symbols: usize) -> Answer
         ensures { result ≡ counts_line parts symbols }
     {
@@ -104,49 +103,49 @@ impl Answer {
         }
     }
 
-    /// `ok`.
+    /// Returns `ok`.
     pub(crate) fn ok() -> Answer
         ensures { result ≡ ok_line }
     {
         Answer::fixed(b"ok\n")
     }
 
-    /// `empty`: a slot that was to be read holds no tree.
+    /// Returns `empty`: a slot that a command reads contains no tree.
     pub(crate) fn empty() -> Answer
         ensures { result ≡ empty_line }
     {
         Answer::fixed(b"empty\n")
     }
 
-    /// `same`: a slot's own tree was to be put into it.
+    /// Returns `same`: a command puts a slot's own tree into it.
     pub(crate) fn same() -> Answer
         ensures { result ≡ same_line }
     {
         Answer::fixed(b"same\n")
     }
 
-    /// `no builder`: a command needs one.
+    /// Returns `no builder`: a command needs one.
     pub(crate) fn no_builder() -> Answer
         ensures { result ≡ no_builder_line }
     {
         Answer::fixed(b"no builder\n")
     }
 
-    /// `none open`: no subtree can be closed.
+    /// Returns `none open`: no subtree can be closed.
     pub(crate) fn none_open() -> Answer
         ensures { result ≡ none_open_line }
     {
         Answer::fixed(b"none open\n")
     }
 
-    /// `still open`: no tree can be built.
+    /// Returns `still open`: no tree can be built.
     pub(crate) fn still_open() -> Answer
         ensures { result ≡ still_open_line }
     {
         Answer::fixed(b"still open\n")
     }
 
-    /// `yes` or `no`.
+    /// Returns `yes` or `no`.
     pub(crate) fn yes_or_no(yes: bool) -> Answer
         ensures { result ≡ (if yes then yes_line else no_line) }
     {
@@ -157,7 +156,7 @@ impl Answer {
         }
     }
 
-    /// `ok`, or the fault.
+    /// Returns `ok`, or the fault.
     pub(crate) fn ok_or_fault(done: Result<(), TtFault>) -> Answer
         ensures { MatchResult done (λ _. result ≡ ok_line) (λ fault. result ≡ fault_line fault) }
     {
@@ -167,7 +166,7 @@ impl Answer {
         }
     }
 
-    /// `fault N`, made without memory.
+    /// Returns `fault N`, made without memory.
     pub(crate) fn fault(fault: TtFault) -> Answer
         ensures { result ≡ fault_line fault }
     {
@@ -186,14 +185,14 @@ impl Answer {
         })
     }
 
-    /// `no match`: the input is no instance of the pattern.
+    /// Returns `no match`: the input is no instance of the pattern.
     pub(crate) fn no_match() -> Answer
         ensures { result ≡ no_match_line }
     {
         Answer::fixed(b"no match\n")
     }
 
-    /// `rule N` for a fault of a rule, and `fault 1` where that is that memory was refused. Made without memory.
+    /// Returns `rule N` for a fault of a rule, and `fault 1` if memory ran out. Made without memory.
     pub(crate) fn rule(fault: RuleFault) -> Answer
         ensures { result ≡ rule_line fault }
     {
@@ -206,15 +205,15 @@ impl Answer {
         })
     }
 
-    /// `ambiguous`: the input is an instance of a pattern by different readings.
+    /// Returns `ambiguous`: the input is an instance of a pattern in different ways.
     pub(crate) fn ambiguous() -> Answer
         ensures { result ≡ ambiguous_line }
     {
         Answer::fixed(b"ambiguous\n")
     }
 
-    /// `rule`, the number of the arm and that of its fault, for trees that are no macro; `fault 1` where memory was refused. Made
-    /// without memory.
+    /// Returns `rule`, the number of the arm and that of its fault, for trees that are no
+    /// macro; `fault 1` if memory ran out. Made without memory.
     pub(crate) fn no_macro(error: RulesError) -> Answer
         ensures { result ≡ rules_line error }
     {
@@ -224,7 +223,7 @@ impl Answer {
         }
     }
 
-    /// Why a template is not filled: `lengths`, or the fault.
+    /// Returns why a template is not filled: `lengths`, or the fault.
     pub(crate) fn unfilled(error: FillError) -> Answer
         ensures { result ≡ unfilled_line error }
     {
@@ -234,8 +233,7 @@ impl Answer {
         }
     }
 
-    /// Why bytes are those of no tree, and at which of them that is seen; `fault 1` where memory was refused. Made without
-    /// memory.
+    /// Returns why bytes are those of no tree, and the byte at which that shows; `fault 1` if memory ran out. Made without memory.
     pub(crate) fn wrong_bytes(fault: BytesFault) -> Answer
         ensures { result ≡ bytes_line fault }
     {
@@ -249,7 +247,7 @@ impl Answer {
         }
     }
 
-    /// Why a tree is not written as Rust text; `fault 1` where memory was refused. Made without memory.
+    /// Returns why a tree is not written as Rust text; `fault 1` if memory ran out. Made without memory.
     pub(crate) fn unwritten(fault: WriteFault) -> Answer
         ensures { result ≡ unwritten_line fault }
     {
@@ -260,7 +258,7 @@ impl Answer {
         }
     }
 
-    // `not writable` and the flat place of the leaf.
+    // Returns `not writable` and the flat place of the leaf.
     fn not_writable(at: usize) -> Answer
         ensures { result ≡ line (codes "not writable " ++ decimal at) }
     {
@@ -273,7 +271,7 @@ impl Answer {
         }
     }
 
-    // `rule` and the two numbers.
+    // Returns `rule` and the two numbers.
     fn arm(arm: usize, number: usize) -> Answer
         ensures { result ≡ arm_line arm (Some number) }
     {
@@ -288,7 +286,7 @@ impl Answer {
         }
     }
 
-    // `bytes`, the number, and what follows it, which is short.
+    // Returns `bytes`, the number, and the short text that follows it.
     fn bytes(at: usize, what: &str) -> Answer
         requires { length what.now ≤ 18 }
         ensures { result ≡ codes "bytes " ++ decimal at ++ what.now }

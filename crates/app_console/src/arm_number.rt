@@ -1,11 +1,11 @@
-//! The numbers by which the faults of a macro's arms are told.
+//! The numbers of the faults of a macro's arms.
 ghost use Rattle.std.specs.Prelude.{◌≡◌};
 ghost use Rattle.app_console.specs.Arms.{pattern_number, template_number, arm_fault_number};
 
 use mbe_pattern::PatternError;
 use mbe_rules::{ArmFault, TemplateError};
 
-// The number of a pattern's fault; want of memory has none.
+// Returns the number of a pattern's fault; exhausted memory has none.
 fn pattern_number(error: PatternError) -> Option<usize>
     ensures { result ≡ pattern_number error }
 {
@@ -19,7 +19,7 @@ fn pattern_number(error: PatternError) -> Option<usize>
     }
 }
 
-// The number of a template's fault.
+// Returns the number of a template's fault; exhausted memory has none.
 fn template_number(error: TemplateError) -> Option<usize>
     ensures { result ≡ template_number error }
 {
@@ -30,7 +30,7 @@ fn template_number(error: TemplateError) -> Option<usize>
     }
 }
 
-/// The number of an arm's fault, in reading order; want of memory has none.
+/// Returns the number of an arm's fault, in reading order; exhausted memory has none.
 pub(crate) fn arm_fault_number(fault: ArmFault) -> Option<usize>
     ensures { result ≡ arm_fault_number fault }
 {

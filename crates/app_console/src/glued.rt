@@ -1,4 +1,4 @@
-//! How many puncts stand together as one, one call after another.
+//! The number of puncts that each call takes as one, one call after another.
 ghost use Rattle.std.specs.Prelude.{◌≡◌, ◌++◌, IfOk, OnOk, codes, length, option_map, string_bytes};
 ghost use Rattle.std.specs.List.{flat_map};
 ghost use Rattle.tt.specs.Gluing.{glued, after_trees, passed_by};
@@ -10,7 +10,7 @@ ghost use Rattle.app_console.specs.ViewText.{glued_size};
 use std::alloc::{AllocError, Global};
 use tt::TtIter;
 
-// How many puncts stand as one here, which are passed. None where the next element is no punct, which is passed too.
+// Passes the puncts that come as one here, and returns how many they are. If the next element is no punct, passes it and returns `None`.
 fn next_size(siblings: &mut TtIter<'_>) -> Option<usize>
     ensures answer { result ≡ option_map length (glued (rest_of siblings.old)) }
     ensures rest { rest_of siblings.new ≡ after_trees (passed_by (glued (rest_of siblings.old))) (rest_of siblings.old) }
@@ -21,7 +21,7 @@ fn next_size(siblings: &mut TtIter<'_>) -> Option<usize>
     }
 }
 
-// Adds a space and the size, or that there is no punct.
+// Adds a space and the size, or `x` if there is no punct.
 fn write_size(text: &mut String, size: Option<usize>) -> Result<(), AllocError>
     ensures { OnOk result (string_bytes text.new ≡ string_bytes text.old ++ glued_size size) }
 {
@@ -31,7 +31,7 @@ fn write_size(text: &mut String, size: Option<usize>) -> Result<(), AllocError>
     }
 }
 
-/// How many puncts each call gives until no sibling is left.
+/// Returns how many puncts each call takes, until no sibling is left.
 pub(crate) fn glued_sizes(alloc: Global, siblings: TtIter<'_>) -> Result<String, AllocError>
     ensures { IfOk result (λ text. string_bytes text ≡ line (codes "glue" ++ flat_map glued_size (gluing.glued_sizes (rest_of siblings.entry)))) }
 {

@@ -1,4 +1,4 @@
-//! The library of the console (docs/CONSOLE.md): it reads commands on token trees, one a line, and writes the answers.
+//! The library of the console (docs/CONSOLE.md): it reads commands on token trees, one per line, and writes the answers.
 //!
 //! `run` reads blocks from a `Noted` reader, cuts them into lines, has `Command::parse_with` of `app_language` parse each, and gives the
 //! command to `Machine::step`, which keeps a list of tokens, a builder and slots of trees. The answers wait in an `Output` until it

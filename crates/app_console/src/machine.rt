@@ -1,4 +1,4 @@
-//! The slots, the list and the builder, and what each command does to them.
+//! The slots, the list and the builder, and what each command changes in them.
 ghost use Rattle.std.specs.Prelude.{◌≡◌};
 
 mod arms;
@@ -19,8 +19,8 @@ use std::marker::Model;
 use std::mem;
 use tt::{TokenTree, TopSubtree, TopSubtreeBuilder, TtFault};
 
-/// What the commands work on: 16 slots, each empty or a tree, a list of tokens, and a builder or none.
-/// A contract sees the state of the plain machine.
+/// The state that the commands change: 16 slots, each empty or a tree; a list of tokens;
+/// and a builder, or none. A contract sees it as a plain value.
 #[derive(Drop)]
 pub struct Machine {
     slots: [Option<TopSubtree>; 16],
@@ -44,7 +44,7 @@ impl Machine {
     ghost use Rattle.app_console.specs.State.{start, tree_in};
     ghost use Rattle.app_console.specs.Machine.{Step};
 
-    /// All slots and the list are empty, and there is no builder.
+    /// Returns a machine with empty slots, an empty list and no builder.
     pub fn new(alloc: Global) -> Machine
         ensures { result ≡ start }
     {
@@ -59,7 +59,7 @@ impl Machine {
         }
     }
 
-    /// Carries out the command. One that runs out of memory answers `fault 1` and changes nothing.
+    /// Carries out the command. If memory runs out, answers `fault 1` and changes nothing.
     #[inline(always)]
     pub fn step(&mut self, command: Command) -> Answer
         ensures { Step self.old command result self.new }
@@ -134,7 +134,7 @@ impl Machine {
         }
     }
 
-    // The tree in a slot, if there is one.
+    // Returns the tree in a slot, if there is one.
     fn tree(&self, slot: Slot) -> Option<&TopSubtree>
         ensures { option_copied result ≡ tree_in self.now slot }
     {

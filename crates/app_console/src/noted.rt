@@ -1,4 +1,4 @@
-//! Readers and writers whose failures are noted.
+//! Readers and writers that note failures.
 ghost use Rattle.std.specs.Prelude.{◌≡◌, ◌≢◌, ◌↔◌, ◌-◌, ◌^◌, ◌<◌, ◌||◌, ◌&&◌, ◌==◌, Bool, true, false, length, nat_lt, IfErr, IsErr, IsErrAnd, MatchResult, OnOk, OnErr};
 ghost use Rattle.std.specs.Io.{ReadsAtMost, WritesAtMost};
 ghost use Rattle.std.specs.IoError.{error_kind};
@@ -7,18 +7,18 @@ ghost use Rattle.app_console.specs.Noted.{noted_inner, noted_failed, reads_left}
 
 use std::io::{Error, ErrorKind, Read, Result, Write};
 
-/// A reader or a writer that hands reads, writes and flushes on, and notes the first of them that fails.
-/// After 2^64 - 1 reads each further one fails, so a loop that reads until the end ends.
+/// A reader or a writer that passes on reads, writes and flushes, and notes the first of them that fails. After 2^64 - 1 reads each further
+/// read fails, so a loop that reads until the end ends.
 #[derive(Drop)]
 pub struct Noted<T> {
     inner: T,
     failed: bool,
-    // how many more reads it hands on
+    // how many more reads it passes on
     left: u64,
 }
 
 impl<T> Noted<T> {
-    /// Notes what the reader or the writer does from now on.
+    /// Returns a reader or a writer that notes failures from now on.
     pub fn new(inner: T) -> Noted<T>
         ensures inner { noted_inner result ≡ inner }
         ensures failed { noted_failed result ≡ false }
@@ -31,14 +31,14 @@ impl<T> Noted<T> {
         }
     }
 
-    /// Whether a read, a write or a flush answered an error, or a write of some bytes took none.
+    /// Returns whether a read, a write or a flush returned an error, or a write of some bytes took none.
     pub fn failed(&self) -> bool
         ensures { result ≡ noted_failed self.now }
     {
         self.failed
     }
 
-    // Spends one of the reads that are left. Where none is left, this is a failure, and the only one of its own.
+    // Uses up one of the reads that are left. Fails if none is left; `Noted` itself causes no other failure.
     fn spend(&mut self) -> Result<()>
         ensures err { IsErr result ↔ (reads_left self.old ≡ 0) }
         ensures kind { IfErr result (λ error. error_kind error ≡ ErrorKind.TimedOut) }
@@ -56,7 +56,7 @@ impl<T> Noted<T> {
         Ok(())
     }
 
-    /// The reader or the writer behind.
+    /// Returns the reader or the writer inside.
     pub fn into_inner(self) -> T
         ensures { result ≡ noted_inner self }
     {
@@ -124,7 +124,7 @@ impl<W: Write> Write for Noted<W> {
         result
     }
 
-    // Unlike the trait's own, it tries no error again.
+    // Unlike the trait's own `write_all`, it does not retry after an error.
     fn write_all(&mut self, buf: &[u8]) -> Result<()>
         ensures bytes { OnOk result
             (Appends (W.contents (noted_inner self.old)) (W.contents (noted_inner self.new)) buf.now) }

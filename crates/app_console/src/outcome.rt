@@ -1,29 +1,29 @@
-//! How a run ends.
+//! The outcome of a run.
 ghost use Rattle.std.specs.Prelude.{◌≡◌};
 ghost use Rattle.app_console.specs.declared.outcome.RunFault.TheVariants.{Memory};
 
 use std::alloc::AllocError;
 use thiserror::Error;
 
-/// How the input ended.
+/// The end of the input.
 #[derive(Debug, Clone, Copy, PartialEq, Eq)]
 pub enum End {
     /// After the last line.
     Clean,
-    /// At the first line that is no command, whose number this is.
+    /// At the first line that is no command; this is its number.
     BadLine(u64),
 }
 
-/// Why the run stopped before the end of the input.
+/// The reason why the run stopped before the end of the input.
 #[derive(Debug, Clone, Copy, PartialEq, Eq, Error)]
 pub enum RunFault {
-    /// A read gave an error.
+    /// A read returned an error.
     #[error("read failed")]
     Read,
-    /// A write or a flush gave an error, or a write took no byte.
+    /// A write or a flush returned an error, or a write took no byte.
     #[error("write failed")]
     Write,
-    /// There is no memory for a line or for its command.
+    /// Memory for a line or for its command ran out.
     #[error("out of memory")]
     Memory,
 }

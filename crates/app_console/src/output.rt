@@ -1,4 +1,4 @@
-//! Bytes that are told, and wait to be written.
+//! Bytes that are to be written, and wait.
 ghost use Rattle.std.specs.Prelude.{◌≡◌, true, [], ℕ, List, OnOk, OnErr, IfErr};
 ghost use Rattle.std.specs.Io.KnownBytes.{Appends, Keeps};
 ghost use Rattle.app_console.specs.Noted.{noted_inner, noted_failed};
@@ -13,7 +13,7 @@ use std::marker::Model;
 /// How many bytes are read at a time, and how many may be pending.
 pub const BLOCK: usize = 64 * 1024;
 
-/// The bytes that were told and are not yet written.
+/// The bytes that were put out but not written yet.
 #[derive(Drop)]
 pub struct Output {
     pending: Vec<u8>,
@@ -26,7 +26,7 @@ impl Model for Output {
 }
 
 impl Output {
-    /// Nothing is pending.
+    /// Returns an empty output.
     pub fn new(alloc: Global) -> Output
         ensures { result ≡ [] }
     {
@@ -35,7 +35,7 @@ impl Output {
         }
     }
 
-    /// Tells the bytes: they become pending, or are written after what is pending.
+    /// Puts the bytes out: they become pending, or are written after what is pending.
     pub fn put<W: Write>(&mut self, bytes: &[u8], writer: &mut Noted<W>) -> Result<(), RunFault>
         ensures told { OnOk result (Appends
             (text_told W.contents writer.old self.old) (text_told W.contents writer.new self.new) bytes.now) }

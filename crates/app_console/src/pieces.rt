@@ -1,4 +1,4 @@
-//! How many tokens stand between puncts of one character.
+//! The number of tokens between puncts of one character.
 ghost use Rattle.std.specs.Prelude.{◌≡◌, IfOk, string_bytes};
 ghost use Rattle.tt.specs.Iters.{tree_of};
 ghost use Rattle.app_console.specs.Pieces.{is_punct};
@@ -7,7 +7,7 @@ ghost use Rattle.app_console.specs.ViewText.{split_text};
 use std::alloc::{AllocError, Global};
 use tt::{Leaf, TopSubtree, TtElement};
 
-/// How many tokens each piece has that is cut out between puncts of that character, below the top.
+/// Returns how many tokens each piece between puncts of that character has, below the top.
 pub(crate) fn piece_sizes(
     alloc: Global,
     tree: &TopSubtree,

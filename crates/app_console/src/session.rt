@@ -23,8 +23,8 @@ use std::marker::Model;
 use std::mem;
 use tt_base::TtFault;
 
-// The machine, the line that began in an earlier block, how many lines were answered, the answers, and the texts of the
-// lines, which are the same for all of them.
+// The machine, the line that began in an earlier block, the number of lines answered, the
+// answers, and the texts of the lines, which all lines share.
 #[derive(Drop)]
 struct Session {
     machine: Machine,
@@ -62,14 +62,14 @@ impl Session {
         }
     }
 
-    // No line has begun.
+    // Returns whether no line has begun.
     fn is_between_lines(&self) -> bool
         ensures { IsTrue result ↔ (self.now.begun ≡ []) }
     {
         self.begun.is_empty()
     }
 
-    // Makes the line that has begun longer.
+    // Adds the bytes to the line that has begun.
     fn keep(&mut self, bytes: &[u8]) -> Result<(), RunFault>
         ensures ok { OnOk result (self.new ≡ record self.old { begun = self.old.begun ++ bytes.now }) }
         ensures err { OnErr result (self.new ≡ self.old) }
@@ -92,7 +92,7 @@ impl Session {
         self.output.write_out(writer)
     }
 
-    // Answers the line. Where it is no command, says so and gives its number.
+    // Answers the line. If it is no command, says so and returns its number.
     fn answer<W: Write>(
         &mut self,
         line: &[u8],
@@ -130,7 +130,7 @@ impl Session {
         self.answer(&line, writer)
     }
 
-    // Answers the line that these bytes end.
+    // Answers the line that ends with these bytes.
     fn end_line<W: Write>(
         &mut self,
         bytes: &[u8],
@@ -150,7 +150,7 @@ impl Session {
         self.answer_begun(writer)
     }
 
-    // Answers each line that ends in these bytes, and keeps the rest as a line that has begun.
+    // Answers each line that ends in these bytes, and keeps the rest as a begun line.
     fn feed<W: Write>(
         &mut self,
         bytes: &[u8],
@@ -174,7 +174,7 @@ impl Session {
         Ok(None)
     }
 
-    // At the end of the input, answers the line that has begun.
+    // Answers the line that has begun, at the end of the input.
     fn finish<W: Write>(&mut self, writer: &mut Noted<W>) -> Result<End, RunFault>
         requires begun { IsOneLine self.old.begun }
         requires sound { noted_failed writer.old ≡ false }
@@ -191,8 +191,7 @@ impl Session {
         }
     }
 
-    // Answers the lines of the reader, until they end or one is no command. The last answers may
-    // be pending.
+    // Answers the lines of the reader, until they end or one is no command. The last answers may be pending.
     fn answer_all<R: Read, W: Write>(
         &mut self,
         reader: &mut Noted<R>,
@@ -221,7 +220,7 @@ impl Session {
         }
     }
 
-    // The same, but no answer is pending behind it, except after a failed write.
+    // The same, but no answer is pending afterwards, except after a failed write.
     fn answer_and_write<R: Read, W: Write>(
         &mut self,
         reader: &mut Noted<R>,
@@ -244,7 +243,7 @@ impl Session {
     }
 }
 
-// The command that the line stands for, if there is one. Nothing but memory may be missing for that.
+// Returns the command that the line spells, if there is one. Fails only if memory runs out.
 #[inline(always)]
 fn command_of(texts: &mut Texts, line: &[u8]) -> Result<Option<Command>, RunFault>
     requires one_line { IsOneLine line.now }
@@ -260,9 +259,9 @@ fn command_of(texts: &mut Texts, line: &[u8]) -> Result<Option<Command>, RunFaul
     }
 }
 
-/// Answers the lines of the reader, until they end or one is no command. Before each read, and before it
-/// returns, all answers are written and the writer is flushed, except after a failed write. Neither the reader nor the writer
-/// has failed before, of which `Noted::failed` tells; new ones have not.
+/// Answers the lines of the reader, until they end or one is no command. Writes all answers and flushes the writer before each read and
+/// before it returns, except after a failed write. Neither the reader nor the writer may have failed before, as `Noted::failed` says; new
+/// ones have not.
 pub fn run<R: Read, W: Write>(
     alloc: Global,
     reader: &mut Noted<R>,

@@ -1,4 +1,4 @@
-//! What is stored for a tree, in lines.
+//! The stored bytes, span parts and symbols of a tree, in lines.
 ghost use Rattle.hex.specs.Hex.{encode_lower};
 ghost use Rattle.std.specs.Prelude.{◌≡◌, IfOk, string_bytes};
 ghost use Rattle.std.specs.List.{flat_map};
@@ -9,7 +9,7 @@ ghost use Rattle.app_console.specs.ViewText.{hex_pair, listed, part_text};
 use std::alloc::{AllocError, Global};
 use tt::TopSubtree;
 
-/// The bytes, two hexadecimal digits each, on one line.
+/// Returns the bytes, two hexadecimal digits each, on one line.
 pub(crate) fn stored_bytes(alloc: Global, tree: &TopSubtree) -> Result<String, AllocError>
     ensures { IfOk result (λ text. string_bytes text ≡ line (flat_map hex_pair (packed tree.now).bytes)) }
 {
@@ -21,7 +21,7 @@ pub(crate) fn stored_bytes(alloc: Global, tree: &TopSubtree) -> Result<String, A
     Ok(text)
 }
 
-/// Bytes, two hexadecimal digits each, on one line.
+/// Returns bytes, two hexadecimal digits each, on one line.
 pub(crate) fn digits_line(alloc: Global, bytes: &[u8]) -> Result<String, AllocError>
     ensures { IfOk result (λ text. string_bytes text ≡ line (encode_lower bytes.now)) }
 {
@@ -30,7 +30,7 @@ pub(crate) fn digits_line(alloc: Global, bytes: &[u8]) -> Result<String, AllocEr
     Ok(text)
 }
 
-/// The span parts, a line each.
+/// Returns the span parts, one per line.
 pub(crate) fn part_lines(alloc: Global, tree: &TopSubtree) -> Result<String, AllocError>
     ensures { IfOk result (λ text. string_bytes text ≡ listed part_text (packed tree.now).parts) }
 {
@@ -43,7 +43,7 @@ pub(crate) fn part_lines(alloc: Global, tree: &TopSubtree) -> Result<String, All
     Ok(text)
 }
 
-/// The symbols, a line each.
+/// Returns the symbols, one per line.
 pub(crate) fn symbol_lines(alloc: Global, tree: &TopSubtree) -> Result<String, AllocError>
     ensures { IfOk result (λ text. string_bytes text ≡ listed (λ symbol. symbol) (packed tree.now).symbols) }
 {

@@ -1,4 +1,4 @@
-//! Why a text is refused, on one line.
+//! The reason why a text is refused, on one line.
 ghost use Rattle.std.specs.Prelude.{◌≡◌, ◌∷◌, [], ◌++◌, IfOk, string_bytes};
 ghost use Rattle.app_console.specs.Answer.{line};
 ghost use Rattle.app_console.specs.Reading.{bad_words, syntax_words, text_words};
@@ -9,7 +9,7 @@ use itoa::Buffer;
 use std::alloc::{AllocError, Global};
 use syntax_parse::{BadToken, Bracket, Open, SyntaxFault};
 
-// What is wrong with a token.
+// Returns what is wrong with a token.
 fn bad_words(why: BadToken) -> &'static str
     ensures { result.now ≡ bad_words why }
 {
@@ -42,7 +42,7 @@ fn bad_words(why: BadToken) -> &'static str
     }
 }
 
-// The sign that opens a bracket.
+// Returns the sign that opens a bracket.
 fn opening_sign(bracket: Bracket) -> &'static str
     ensures { result.now ≡ opening_of bracket ∷ [] }
 {
@@ -53,7 +53,7 @@ fn opening_sign(bracket: Bracket) -> &'static str
     }
 }
 
-// The sign that closes it.
+// Returns the sign that closes a bracket.
 fn closing_sign(bracket: Bracket) -> &'static str
     ensures { result.now ≡ closing_of bracket ∷ [] }
 {
@@ -64,7 +64,7 @@ fn closing_sign(bracket: Bracket) -> &'static str
     }
 }
 
-// `text`, the byte, and what is wrong there, in two words.
+// Returns `text`, the byte, and the fault there, in two words.
 fn two_words(alloc: Global, at: u32, first: &str, second: &str) -> Result<String, AllocError>
     ensures { IfOk result (λ text. string_bytes text ≡ line (text_words at (first.now ++ second.now))) }
 {
@@ -78,7 +78,7 @@ fn two_words(alloc: Global, at: u32, first: &str, second: &str) -> Result<String
     Ok(text)
 }
 
-// `text`, the byte of a bracket, and which other one it should close.
+// Returns `text`, the byte of a bracket, and the other bracket that it should close.
 fn two_brackets(alloc: Global, at: u32, bracket: Bracket, last: Open) -> Result<String, AllocError>
     ensures { IfOk result (λ text. string_bytes text ≡ line (syntax_words (Mismatched bracket at last))) }
 {
@@ -95,7 +95,7 @@ fn two_brackets(alloc: Global, at: u32, bracket: Bracket, last: Open) -> Result<
     Ok(text)
 }
 
-/// `text`, the byte where the fault shows, and what is wrong, on one line.
+/// Returns `text`, the byte of the fault, and the fault, on one line.
 pub(crate) fn syntax_line(alloc: Global, fault: SyntaxFault) -> Result<String, AllocError>
     ensures { IfOk result (λ text. string_bytes text ≡ line (syntax_words fault)) }
 {

@@ -1,4 +1,4 @@
-//! Tokens, a line each.
+//! Tokens, one per line.
 ghost use Rattle.std.specs.Prelude.{◌≡◌, ◌++◌, IfOk, OnOk, string_bytes};
 ghost use Rattle.tt.specs.Forest.{flat};
 ghost use Rattle.tt.specs.Iters.{rest_of};
@@ -11,14 +11,14 @@ use app_language::Spelled;
 use std::alloc::{AllocError, Global};
 use tt::{TokenTree, TokenTreesView, TtElement, TtIter};
 
-/// Adds the token's line.
+/// Adds the line of the token.
 pub(crate) fn write_line(text: &mut String, token: TokenTree) -> Result<(), AllocError>
     ensures { OnOk result (string_bytes text.new ≡ string_bytes text.old ++ line (token_words token)) }
 {
     writeln!(text, "{}", Spelled(&token))
 }
 
-/// The tokens of the trees, as the flat iterator gives them.
+/// Returns the tokens of the trees, as the flat iterator yields them.
 pub(crate) fn token_lines(alloc: Global, trees: TokenTreesView<'_>) -> Result<String, AllocError>
     ensures { IfOk result (λ text. string_bytes text ≡ listed token_words (flat (trees_of trees.entry))) }
 {
@@ -30,12 +30,12 @@ pub(crate) fn token_lines(alloc: Global, trees: TokenTreesView<'_>) -> Result<St
     Ok(text)
 }
 
-/// The tokens of the trees, as the sibling iterator gives them: each subtree is entered right after its header.
+/// Returns the tokens of the trees, as the sibling iterator yields them: each subtree is entered right after its header.
 pub(crate) fn sibling_lines(alloc: Global, siblings: TtIter<'_>) -> Result<String, AllocError>
     ensures { IfOk result (λ text. string_bytes text ≡ listed token_words (flat (rest_of siblings.entry))) }
 {
     let mut text = String::new(alloc);
-    // what is left of each subtree that was entered, the innermost last
+    // the rest of each open subtree, the innermost last
     let mut levels = Vec::new(alloc);
     levels.push(siblings)?;
     while let Some(mut level) = levels.pop() {

@@ -8,7 +8,7 @@ ghost use Rattle.app_console.specs.Answer.{line};
 use std::alloc::{AllocError, Global};
 use tt::{TokenTreesView, TtFault, debug_text, display_text, pretty};
 
-// The text, and behind it what ends it.
+// Returns the text, with its ending.
 fn ended(text: Result<String, TtFault>, end: &str) -> Result<String, AllocError>
     ensures { IfOk result (λ whole. IsOkAnd text (λ given. string_bytes whole ≡ string_bytes given ++ end.now)) }
 {
@@ -19,7 +19,7 @@ fn ended(text: Result<String, TtFault>, end: &str) -> Result<String, AllocError>
     Ok(text)
 }
 
-/// A text on one line.
+/// Returns a text on one line.
 pub(crate) fn line_of(text: String) -> Result<String, AllocError>
     ensures { IfOk result (λ whole. string_bytes whole ≡ line (string_bytes text)) }
 {
@@ -28,21 +28,21 @@ pub(crate) fn line_of(text: String) -> Result<String, AllocError>
     Ok(whole)
 }
 
-/// The Display text, on one line.
+/// Returns the Display text, on one line.
 pub(crate) fn display_line(alloc: Global, trees: TokenTreesView<'_>) -> Result<String, AllocError>
     ensures { IfOk result (λ whole. string_bytes whole ≡ line (text.display (trees_of trees.entry))) }
 {
     ended(display_text(alloc, trees), "\n")
 }
 
-/// The `pretty` text, on one line.
+/// Returns the `pretty` text, on one line.
 pub(crate) fn pretty_line(alloc: Global, trees: TokenTreesView<'_>) -> Result<String, AllocError>
     ensures { IfOk result (λ whole. string_bytes whole ≡ line (text.pretty (trees_of trees.entry))) }
 {
     ended(pretty(alloc, trees), "\n")
 }
 
-/// The Debug text, and then a line `end`.
+/// Returns the Debug text, and then a line `end`.
 pub(crate) fn debug_lines(alloc: Global, trees: TokenTreesView<'_>) -> Result<String, AllocError>
     ensures { IfOk result (λ whole. string_bytes whole ≡ line (debug (trees_of trees.entry)) ++ line (codes "end")) }
 {

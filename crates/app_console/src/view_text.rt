@@ -1,4 +1,4 @@
-//! A tree in the form that a command asks for.
+//! A tree in the form that a command names.
 ghost use Rattle.std.specs.Prelude.{◌≡◌, IfOk, string_bytes};
 ghost use Rattle.app_console.specs.ViewText as text;
 
@@ -11,7 +11,7 @@ use app_language::View;
 use std::alloc::{AllocError, Global};
 use tt::TopSubtree;
 
-/// The tree in that form.
+/// Returns the tree in that form.
 pub(crate) fn view_text(alloc: Global, view: View, tree: &TopSubtree) -> Result<String, AllocError>
     ensures { IfOk result (λ written. string_bytes written ≡ text.view_text view tree.now) }
 {

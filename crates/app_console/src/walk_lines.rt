@@ -1,4 +1,4 @@
-//! The places of a walk, a line each.
+//! The places of a walk, one per line.
 ghost use Rattle.std.specs.Prelude.{◌≡◌, ◌++◌, IfOk, OnOk, string_bytes};
 ghost use Rattle.tt.specs.Views.{trees_of};
 ghost use Rattle.tt.specs.Walk.{walk};
@@ -19,8 +19,8 @@ fn write_here(text: &mut String, here: Option<TokenTree>) -> Result<(), AllocErr
     }
 }
 
-/// The places of the walk through the trees, as a cursor comes by them: a header where a subtree is entered, and `close`
-/// where it is left.
+/// Returns the places of the walk through the trees, as a cursor comes to them: a header
+/// when a subtree is entered, and `close` when it is left.
 pub(crate) fn walk_lines(alloc: Global, trees: TokenTreesView<'_>) -> Result<String, AllocError>
     ensures { IfOk result (λ text. string_bytes text ≡ listed event_words (walk (trees_of trees.entry))) }
 {

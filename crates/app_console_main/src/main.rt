@@ -1,4 +1,4 @@
-//! Answers the commands of standard input on standard output. Status 0 tells that each line was a command.
+//! Answers the commands of standard input on standard output. Status 0 means that each line was a command.
 #![tactic(auto)]
 
 use app_console::{End, Noted, RunFault, run};

@@ -1,4 +1,4 @@
--- What a line's first word tells of its command. A later command is one more case of `part`, `make` and `taken_apart`.
+-- What a line's first word says about its command. A later command is one more case of `part`, `make` and `taken_apart`.
 use Rattle.std.proofs.Common.{◌≡◌, ◌<◌, ◌^◌, ℕ, List, ◌++◌, Option, Some, None, Result, Ok, Err, IfOk, IfSome, MatchOption, refl, sym, ap, subst, ◌∙◌, rules}
 use Rattle.hex.specs.Hex.{IsBytes, encode_lower}
 use Rattle.std.specs.Prelude.{decimal, encode_utf8, IsUtf8}
@@ -67,7 +67,7 @@ part verb.Read = slot_then (rest_of_line (λ text. text) IsUtf8 one_text)
 part verb.Text = slot_then nothing
 part (verb.View view) = slot_then nothing
 
--- the command of a verb and of what follows it
+-- the command of a verb and of the values that follow it
 abbrev pub make : (v : Verb) → (part v).Values → Command
 make verb.Item = command.Item
 make verb.Clear = λ _. command.Clear
@@ -101,13 +101,13 @@ make verb.Read = λ (a, text). command.Read a text
 make verb.Text = λ (slot, _). command.Text slot
 make (verb.View view) = λ (slot, _). command.View view slot
 
--- it is spelled so
+-- it is spelled like this
 spells_right : (v : Verb) (a : (part v).Values) → spell (make v a) ≡ line_of (verb_word v) ((part v).pieces a)
 spells_right verb.Item a = refl
 spells_right verb.Push a = refl
 spells_right v a = refl
 
--- and it fits where that does
+-- and it fits if the values do
 fits_right : (v : Verb) (a : (part v).Values) → (part v).Fits a → CommandFits (make v a)
 fits_right verb.Item a p = p
 fits_right verb.Push a p = p
@@ -119,7 +119,7 @@ record IsMade (v : Verb) (c : Command) : Type 0 where
   fits : (part v).Fits value
   made : c ≡ make v value
 
--- every command that fits is
+-- every command that fits is one of these
 taken_apart : (c : Command) → CommandFits c → (v : Verb) × IsMade v c
 taken_apart (command.Item token) fits = (verb.Item, record { value = token; fits = fits; made = refl })
 taken_apart command.Clear fits = (verb.Clear, record { value = tt; fits = tt; made = refl })
@@ -156,7 +156,7 @@ taken_apart (command.View view slot) fits = (verb.View view, record { value = (s
 spelled_as : (v : Verb) (c : Command) (is : IsMade v c) → spell c ≡ verb_word v ++ spaced ((part v).pieces is.value)
 spelled_as v c is = ap spell is.made ∙ spells_right v is.value
 
--- the first word of a line tells the verb, and its tail the values
+-- the first word of a line determines the verb, and its tail the values
 told : (line tail : List ℕ) (v : Verb) (c : Command) → IsTail tail → line ≡ verb_word v ++ tail → line ≡ spell c → CommandFits c
     → (is : IsMade v c) × (tail ≡ spaced ((part v).pieces is.value))
 told line tail v c t e d fits =
@@ -189,14 +189,14 @@ command_read v tail None found t unread is =
 command_read v tail (Some a) found t (spelled, fits) is =
     rw is (ap (λ x. verb_word v ++ x) spelled ∙ sym (spells_right v a), fits_right v a fits)
 
--- an option is mapped, where what the closure gives is what the function gives
+-- an option is mapped, if the closure returns what the function returns
 pub mapped : {A B : Type 0} (f : A → B) (o : Option A) (r : Option B) {P : A → B → Type 0} → MatchOption o (r ≡ None) (λ x. IsSomeAnd r (P x)) → ((x : A) (y : B) → P x y → y ≡ f x)
     → r ≡ option_map f o
 mapped f None r is gives = is
 mapped f (Some x) (Some y) is gives = ap Some (gives x y is)
 mapped f (Some x) None is gives = elim is [ ]
 
--- what a line reads as is what it stands for
+-- what a line reads as is what it spells
 pub line_read : (line : List ℕ) (found : Result (Option Command) TtFault) → IsOneLine line → IfOk found (Reads spell CommandFits line)
     → IfOk found (λ command. MatchOption command (IsNoCommand line) (StandsFor line))
 line_read line (Err fault) one p = tt

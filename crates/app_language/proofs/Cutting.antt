@@ -1,9 +1,9 @@
--- How a text is taken apart at a byte.
+-- How a text is split at a byte.
 use Rattle.std.proofs.Common.{◌≡◌, ◌≢◌, ℕ, List, [], ◌∷◌, ◌++◌, refl, sym, ◌∙◌}
 use Rattle.std.proofs.lemmas.List.Elements.{All-head, All-tail}
 use Rattle.app_language.specs.Reading.{IsTail, Lacks, spaced, words}
 
--- what stands before the first such byte, and after it, is one thing only
+-- what precedes the first such byte, and what follows it, is determined
 pub cut_unique : (byte : ℕ) (a b x y : List ℕ) → Lacks byte a → Lacks byte x → a ++ byte ∷ b ≡ x ++ byte ∷ y → (a ≡ x) × (b ≡ y)
 cut_unique byte [] b [] y p q e = (refl, cc)
 cut_unique byte [] b (c ∷ x) y p q e =

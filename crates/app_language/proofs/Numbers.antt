@@ -10,14 +10,14 @@ use Rattle.std.proofs.lemmas.Str.Parse.{digit_at, digits_value_short}
 use Rattle.std.proofs.lemmas.List.{length-take}
 use Rattle.std.proofs.lemmas.Fmt.{decimal_digit, decimal_nonempty, first_decimal, decimal-digits_value, digits_decimal, digits_value-decimal, length-decimal-le, decimal_injective}
 
--- a number has a digit or more
+-- a number has at least one digit
 pub no_empty : (word : List ℕ) → length word ≡ 0 → (n : ℕ) → n < 2 ^ 64 → word ≢ decimal n
 no_empty word none n small e =
     let some = decimal_nonempty n (omega arith) in
     let same : length word ≡ length (decimal n) = ap length e in
     omega arith
 
--- twenty at most
+-- a number has at most twenty digits
 pub no_longer : (word : List ℕ) → 20 < length word → (n : ℕ) → n < 2 ^ 64 → word ≢ decimal n
 no_longer word long n small e =
     let short = length-decimal-le 20 n (lit< tt) (omega arith) (omega arith) in
@@ -67,17 +67,17 @@ pub narrower_read : (Fits : ℕ → Type 0) (word : List ℕ) (n : ℕ) (r : Opt
 narrower_read Fits word n None is small below unfit = λ m fits e. unfit (subst Fits (decimal_injective m n (omega (arith, below m fits)) (omega arith) (sym e ∙ is)) fits)
 narrower_read Fits word n (Some m) is small below (same, fits) = (is ∙ ap decimal (sym same), subst Fits (sym same) fits)
 
--- a number of half as many bits
+-- a number with half as many bits
 pub half_read : {E : Type 0} (word : List ℕ) (n : ℕ) (r : Result ℕ E) → word ≡ decimal n → n < 2 ^ 64 → OkIff r (n < 2 ^ 32) n → Reads decimal (λ m. m < 2 ^ 32) word (result_ok r)
 half_read word n (Ok m) is small (fits, same) = narrower_read (λ m. m < 2 ^ 32) word n (Some m) is small (λ m. omega arith) (same, omega arith)
 half_read word n (Err e) is small great = narrower_read (λ m. m < 2 ^ 32) word n None is small (λ m. omega arith) (λ fits. great (omega arith))
 
--- a number of a byte
+-- a number of one byte
 pub byte_read : {E : Type 0} (word : List ℕ) (n : ℕ) (r : Result ℕ E) → word ≡ decimal n → n < 2 ^ 64 → OkIff r (n < 2 ^ 8) n → Reads decimal (λ m. m ≤ 255) word (result_ok r)
 byte_read word n (Ok m) is small (fits, same) = narrower_read (λ m. m ≤ 255) word n (Some m) is small (λ m. omega arith) (same, omega arith)
 byte_read word n (Err e) is small great = narrower_read (λ m. m ≤ 255) word n None is small (λ m. omega arith) (λ fits. great (omega arith))
 
--- and of a slot
+-- a number of a slot
 pub slot_read : (word : List ℕ) (n : ℕ) (r : Option ℕ) → word ≡ decimal n → n < 2 ^ 64 → MatchOption r (16 ≤ n) (λ m. (m ≡ n) × (n < 16)) → Reads decimal (λ m. m < 16) word r
 slot_read word n None is small great = narrower_read (λ m. m < 16) word n None is small (λ m. omega arith) (λ fits. omega arith)
 slot_read word n (Some m) is small fits = narrower_read (λ m. m < 16) word n (Some m) is small (λ m. omega arith) fits

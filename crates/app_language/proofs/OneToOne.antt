@@ -30,11 +30,11 @@ use Rattle.app_language.specs.WordLaws.{own, spaceless_byte, spaceless_kind, spa
 use Rattle.app_language.proofs.Cutting.{words_same}
 use Rattle.app_language.proofs.Spans.{Begins, after_file, after_ast, after_start, from_left, past_file, past_ast, past_start, past_end}
 
--- values that fit are equal where they are spelled alike
+-- values that fit are equal if they are spelled alike
 abbrev pub IsOneToOne : {A : Type 0} → (A → List ℕ) → (A → Type 0) → Type 0
 IsOneToOne {A} spelling Fits = (a b : A) → Fits a → Fits b → spelling a ≡ spelling b → a ≡ b
 
--- which holds where a function leads back from the spelling
+-- this holds if a function leads back from the spelling
 pub by_inverse : {A : Type 0} (spelling : A → List ℕ) (Fits : A → Type 0) (back : List ℕ → A) → ((a : A) → Fits a → back (spelling a) ≡ a) → IsOneToOne spelling Fits
 by_inverse spelling Fits back undoes a b p q e = sym (undoes a p) ∙ ap back e ∙ undoes b q
 
@@ -53,7 +53,7 @@ one_view a b p q e = grind arith
 pub one_verb : IsOneToOne verb_word (λ _. Unit {0})
 one_verb a b p q e = grind arith
 
--- the first two bytes tell a literal's kind, and the number follows the first five or six
+-- the first two bytes determine a literal's kind, and the number follows the first five or six
 abbrev literal_kind_back : List ℕ → LitKind
 literal_kind_back word =
     let front = take 2 word in
@@ -97,7 +97,7 @@ one_byte m n p q e = decimal_injective m n (omega arith) (omega arith) e
 pub one_slot : IsOneToOne decimal (λ n. n < 16)
 one_slot m n p q e = decimal_injective m n (omega arith) (omega arith) e
 
--- the first byte tells an action, and the number follows the first four
+-- the first byte determines an action, and the number follows the first four
 abbrev action_back : List ℕ → Action
 action_back word =
     let front = take 1 word in
@@ -175,7 +175,7 @@ one_subtree a b p q e =
       len = one_number a.len b.len p.2 q.2 w.1 i;
     }
 
--- the first byte tells what a leaf is
+-- the first byte determines the kind of a leaf
 pub one_leaf : IsOneToOne leaf_words LeafFits
 one_leaf (leaf.Punct a) (leaf.Punct b) p q e = ap leaf.Punct (one_punct a b p q (ap (drop 6) e))
 one_leaf (leaf.Ident a) (leaf.Ident b) p q e = ap leaf.Ident (one_ident a b p q (ap (drop 6) e))

@@ -1,4 +1,4 @@
--- What may follow the first word of a line: values, the pieces that spell them, and that no two are spelled alike.
+-- What may follow the first word of a line: values, the pieces that spell them, and that no two values are spelled alike.
 use Rattle.std.proofs.Common.{ℕ, List, [], ◌∷◌, All, map, drop, refl, sym, ap, ◌∙◌, append-nil}
 use Rattle.std.proofs.lemmas.List.Elements.{All-head, All-tail}
 use Rattle.app_language.specs.Reading.{Lacks, spaced}
@@ -22,7 +22,7 @@ one_word_more spelling Fits pieces More spaceless one more (w, v) (x, y) p q e =
     let u = next_unique _ _ _ _ _ (spaceless w p.0) (spaceless x q.0) (IsTail-spaced (pieces v)) (IsTail-spaced (pieces y)) refl e in
     λ i. (one w x p.0 q.0 u.0 i, more v y p.1 q.1 u.1 i)
 
--- a word, and more
+-- a word, and further parts
 abbrev pub word_then : {W : Type 0} (spelling : W → List ℕ) (Fits : W → Type 0) → ((w : W) → Fits w → Lacks 32 (spelling w)) → IsOneToOne spelling Fits → Part → Part
 word_then {W} spelling Fits spaceless one more = record {
   Values = W × more.Values;
@@ -34,7 +34,7 @@ word_then {W} spelling Fits spaceless one more = record {
 pub one_rest : {A : Type 0} (spelling : A → List ℕ) (Fits : A → Type 0) → IsOneToOne spelling Fits → IsOneToOne (λ a. spaced (spelling a ∷ [])) Fits
 one_rest spelling Fits one a b p q e = one a b p q (sym (append-nil (spelling a)) ∙ ap (drop 1) e ∙ append-nil (spelling b))
 
--- a text that takes all the rest
+-- a text that is the whole rest
 abbrev pub rest_of_line : {A : Type 0} (spelling : A → List ℕ) (Fits : A → Type 0) → IsOneToOne spelling Fits → Part
 rest_of_line {A} spelling Fits one = record { Values = A; pieces = λ a. spelling a ∷ []; Fits = Fits; one = one_rest spelling Fits one }
 

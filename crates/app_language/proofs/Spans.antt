@@ -1,4 +1,4 @@
--- How a text is taken apart that begins with a span.
+-- How a text that begins with a span is split.
 use Rattle.std.proofs.Common.{◌≡◌, ◌⊎◌, ℕ, ◌^◌, ◌<◌, List, ◌∷◌, ◌++◌, append_assoc, inl, inr, refl, sym, ◌∙◌, lit<, arith}
 use Rattle.std.specs.Fmt.{decimal}
 use Rattle.std.proofs.lemmas.Fmt.{decimal_injective}
@@ -14,21 +14,21 @@ use Rattle.app_language.proofs.Fronts.{number_unique}
 abbrev pub Begins : ℕ → List ℕ → ℕ → List ℕ → Type 0
 Begins byte text n rest = (text ≡ decimal n ++ byte ∷ rest) × (n < 2 ^ 32)
 
--- with one number and one rest only
+-- the number and the rest are determined
 pub Begins-unique : (byte : ℕ) (text : List ℕ) (m : ℕ) (x : List ℕ) (n : ℕ) (y : List ℕ) → byte < 48 ⊎ 57 < byte → Begins byte text m x → Begins byte text n y → (m ≡ n) × (x ≡ y)
 Begins-unique byte text m x n y other (d, p) (e, q) =
     let u = cut_unique byte (decimal m) x (decimal n) y (Lacks-decimal byte other m (omega (arith, p))) (Lacks-decimal byte other n (omega (arith, q))) (sym d ∙ e) in
     (decimal_injective m n (omega arith) (omega arith) u.0, u.1)
 
--- what follows a span's start, where the tail follows the span
+-- what follows a span's start, with a tail behind the span
 abbrev pub after_start : Span → List ℕ → List ℕ
 after_start span tail = 46 ∷ (decimal (end_of span.range) ++ 35 ∷ (decimal span.ctx.0 ++ tail))
 
--- its ast
+-- what follows the span's ast
 abbrev pub after_ast : Span → List ℕ → List ℕ
 after_ast span tail = decimal (start_of span.range) ++ 46 ∷ after_start span tail
 
--- its file
+-- what follows the span's file
 abbrev pub after_file : Span → List ℕ → List ℕ
 after_file span tail = decimal span.anchor.ast_id.0 ++ 64 ∷ after_ast span tail
 
@@ -58,7 +58,7 @@ pub past_end : {text : List ℕ} {file : ℕ} {a : List ℕ} {ast : ℕ} {b : Li
     → (end ≡ end_of span.range) × (x ≡ decimal span.ctx.0 ++ tail)
 past_end span tail fits e f g h dot k = Begins-unique 35 _ _ _ _ _ (inl (lit< tt)) k (past_dots span tail fits e f g h dot, fits.end)
 
--- a text begins with one span's text, and one tail
+-- the span that a text begins with, and its tail, are determined
 pub span_unique : (text : List ℕ) (span : Span) (x : List ℕ) (other : Span) (y : List ℕ) → SpanFits span → SpanFits other → BeginsWithNoDigit x → BeginsWithNoDigit y
     → text ≡ span_text span ++ x → text ≡ span_text other ++ y → x ≡ y
 span_unique text span x other y p q s t d e =
@@ -69,7 +69,7 @@ span_unique text span x other y p q s t d e =
     let u = past_end other y q e f g h refl k in
     (number_unique (decimal span.ctx.0 ++ x) span.ctx.0 x other.ctx.0 y p.ctx q.ctx s t refl u.1).1
 
--- and what is read so is the text of the span of those numbers, and the tail
+-- and what is read is the text of the span of those numbers, and the tail
 pub span_read : {text a b : List ℕ} {start : ℕ} {d rest : List ℕ} {end : ℕ} {x : List ℕ} (span : Span) (tail : List ℕ) → Begins 58 text span.anchor.file_id.0 a
     → Begins 64 a span.anchor.ast_id.0 b → Begins 46 b start d → d ≡ 46 ∷ rest → Begins 35 rest end x → x ≡ decimal span.ctx.0 ++ tail → span.ctx.0 < 2 ^ 32
     → start_of span.range ≡ start → end_of span.range ≡ end → (text ≡ span_text span ++ tail) × SpanFits span

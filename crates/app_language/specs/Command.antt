@@ -1,4 +1,4 @@
--- Which line stands for which command. A later command is one more case of each definition.
+-- The command that each line spells. A later command is one more case of each definition.
 use Rattle.hex.specs.Hex.{IsBytes, encode_lower}
 use Rattle.std.specs.Prelude.{◌≡◌, ℕ, ◌<◌, ◌^◌, List, [], ◌∷◌, codes, decimal, encode_utf8, All, IsUtf8, map}
 use Rattle.std.specs.Char.{IsScalar}
@@ -44,7 +44,7 @@ spell (command.Load slot bytes) = line_of (codes "load") (decimal slot ∷ encod
 spell (command.Read slot text) = line_of (codes "read") (decimal slot ∷ text ∷ [])
 spell (command.Text slot) = line_of (codes "text") (decimal slot ∷ [])
 
--- a slot is below 16, a character is one, a point's number has 64 bits, and other numbers and texts fit their types
+-- a slot is below 16, a character is a character, a point's number has 64 bits, and other numbers and texts fit their types
 abbrev pub CommandFits : Command → Type 0
 CommandFits (command.Item token) = TokenFits token
 CommandFits command.Clear = Unit {0}
@@ -78,7 +78,7 @@ CommandFits (command.Load slot bytes) = (slot < 16) × IsBytes bytes
 CommandFits (command.Read slot text) = (slot < 16) × IsUtf8 text
 CommandFits (command.Text slot) = slot < 16
 
--- the line stands for the command
+-- the line spells the command
 pub record StandsFor (line : List ℕ) (command : Command) : Type 0 where
   pub one_line : IsOneLine line
   pub spelled : line ≡ spell command

@@ -1,4 +1,4 @@
--- What it is to read a text.
+-- What reading a text means.
 use Rattle.std.specs.Prelude.{◌≡◌, ◌≢◌, ◌⊎◌, ◌<◌, ℕ, List, [], ◌∷◌, ◌++◌, Option, None, Some, All}
 use Rattle.std.specs.Borrow.{Bor}
 
@@ -28,16 +28,16 @@ abbrev pub IsTail : List ℕ → Type 0
 IsTail [] = Unit {0}
 IsTail (b ∷ rest) = b ≡ 32
 
--- the result is what the text spells, or nothing where it spells nothing that fits
+-- the result is what the text spells, or nothing if it spells nothing that fits
 abbrev pub Reads : {A : Type 0} → (A → List ℕ) → (A → Type 0) → List ℕ → Option A → Type 0
 Reads spelling Fits text (Some value) = (text ≡ spelling value) × Fits value
 Reads {A} spelling Fits text None = (value : A) → Fits value → text ≢ spelling value
 
--- the result is what the pieces of the text spell, or nothing where they spell nothing that fits
+-- the result is what the pieces of the text spell, or nothing if they spell nothing that fits
 abbrev pub ReadsPieces : {A : Type 0} → (A → List (List ℕ)) → (A → Type 0) → List ℕ → Option A → Type 0
 ReadsPieces pieces Fits text result = Reads (λ value. spaced (pieces value)) Fits text result
 
--- the result is what stands spelled before a byte, and what follows that byte, or nothing where nothing that fits stands so
+-- the result is what is spelled before a byte, and what follows that byte, or nothing if nothing that fits is spelled there
 abbrev pub ReadsBefore : {A : Type 0} → ℕ → (A → List ℕ) → (A → Type 0) → List ℕ → Option (A × Bor (List ℕ)) → Type 0
 ReadsBefore byte spelling Fits text (Some found) = (text ≡ spelling found.0 ++ byte ∷ found.1.now) × Fits found.0
 ReadsBefore {A} byte spelling Fits text None = (value : A) (rest : List ℕ) → Fits value → text ≢ spelling value ++ byte ∷ rest
@@ -47,12 +47,12 @@ abbrev pub BeginsWithNoDigit : List ℕ → Type 0
 BeginsWithNoDigit [] = Unit {0}
 BeginsWithNoDigit (b ∷ rest) = b < 48 ⊎ 57 < b
 
--- the result is what the text begins with, up to a place where no digit follows, or nothing where nothing that fits stands so
+-- the result is what the text begins with, up to a place at which no digit follows, or nothing if nothing that fits is there
 abbrev pub ReadsFront : {A : Type 0} → (A → List ℕ) → (A → Type 0) → List ℕ → Option (A × Bor (List ℕ)) → Type 0
 ReadsFront spelling Fits text (Some found) = (text ≡ spelling found.0 ++ found.1.now) × Fits found.0 × BeginsWithNoDigit found.1.now
 ReadsFront {A} spelling Fits text None = (value : A) (rest : List ℕ) → Fits value → BeginsWithNoDigit rest → text ≢ spelling value ++ rest
 
--- the result is the first piece behind a space, and the text from the next space on, or nothing where no word that fits stands so
+-- the result is the first piece behind a space, and the text from the next space on, or nothing if no word that fits is there
 abbrev pub ReadsNext : {A : Type 0} → (A → List ℕ) → (A → Type 0) → List ℕ → Option (A × Bor (List ℕ)) → Type 0
 ReadsNext spelling Fits text (Some found) = (text ≡ 32 ∷ spelling found.0 ++ found.1.now) × Fits found.0 × IsTail found.1.now
 ReadsNext {A} spelling Fits text None = (value : A) (rest : List ℕ) → Fits value → IsTail rest → text ≢ 32 ∷ spelling value ++ rest

@@ -94,7 +94,7 @@ abbrev pub token_words : TokenTree → List ℕ
 token_words (token.Leaf leaf) = leaf_words leaf
 token_words (token.Subtree subtree) = words (codes "sub") (subtree_words subtree)
 
--- what becomes of a token
+-- what happens to a token
 abbrev pub action_word : Action → List ℕ
 action_word action.Keep = codes "keep"
 action_word action.Remove = codes "remove"

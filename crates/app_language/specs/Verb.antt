@@ -5,7 +5,7 @@ use Rattle.app_language.specs.declared.command.verb.Verb.TheVariants as verb
 use Rattle.app_language.specs.declared.command.view.View.{View}
 use Rattle.app_language.specs.declared.command.view.View.TheVariants as view
 
--- the word that asks for a view
+-- the word of a view
 abbrev pub view_word : View → List ℕ
 view_word view.Show = codes "show"
 view_word view.Pretty = codes "pretty"

@@ -1,4 +1,4 @@
--- No word holds the byte that ends it.
+-- No word contains the byte that ends it.
 use Rattle.std.specs.Prelude.{◌≡◌, ◌≢◌, ◌⊎◌, ℕ, ◌<◌, ◌≤◌, ◌^◌, List, ◌++◌, codes, decimal}
 use Rattle.std.proofs.Common.{arith, rules, get_or, ◌∙◌, inl, lit<}
 use Rattle.std.specs.Str.Parse.{AllDigits, digits_value}
@@ -25,7 +25,7 @@ use Rattle.app_language.specs.Verb.{verb_word, view_word}
 pub own : IsNumeralModel (AllDigits 10) (digits_value 10)
 own = numerals_by_value (AllDigits 10) tells_digits
 
--- a number has digits alone
+-- a number consists of digits only
 pub Lacks-decimal : (byte : ℕ) → byte < 48 ⊎ 57 < byte → (n : ℕ) → n < 2 ^ 64 → Lacks byte (decimal n)
 Lacks-decimal byte other n small k d here e =
     let digit = digit_at (decimal n) k (digits_decimal own n (omega arith)) here in

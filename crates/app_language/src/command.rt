@@ -1,4 +1,4 @@
-//! What a line may ask, and how it is read.
+//! The commands that a line may spell, and how a line is read.
 ghost use Rattle.std.specs.Prelude.{◌≡◌, ◌++◌, IfOk, IfErr, IfSome, MatchOption};
 ghost use Rattle.tt_base.specs.declared.fault.TtFault.TheVariants.{Memory};
 ghost use Rattle.app_language.specs.Reading.{IsOneLine, IsTail, Reads};
@@ -28,7 +28,7 @@ use verb::Verb;
 pub use view::View;
 use word::{Word, cut, first_word};
 
-/// What a line may ask of the machine.
+/// A command that a line spells.
 #[derive(Debug, PartialEq, Eq, Drop)]
 pub enum Command {
     /// Appends a token to the list.
@@ -47,13 +47,13 @@ pub enum Command {
     Close(Span),
     /// Appends a slot's tree.
     Append(Slot),
-    /// Appends a slot's tree, of which the last token becomes alone if it is a punct.
+    /// Appends a slot's tree; its last token becomes alone if it is a punct.
     Alone(Slot),
-    /// Takes the delimiter away of the subtree that was closed last, if it is invisible.
+    /// Removes the delimiter of the subtree that was closed last, if it is invisible.
     Unwrap,
     /// Takes a restore point.
     Point,
-    /// Goes back to the restore point of that number.
+    /// Returns to the restore point of that number.
     Restore(u64),
     /// The kinds of the open subtrees, innermost first.
     Expected,
@@ -61,7 +61,7 @@ pub enum Command {
     Counts,
     /// Builds the tree, in the slot.
     Build(Slot),
-    /// Builds the tree without the top, where that holds one subtree alone.
+    /// Builds the tree without the top, if the top contains one subtree only.
     Skip(Slot),
     /// Copies a tree: to the first slot, from the second.
     Copy(Slot, Slot),
@@ -71,20 +71,19 @@ pub enum Command {
     Spans(Slot, Span, Span),
     /// Changes the leaf at a place of the flat list.
     Set(Slot, u32, Leaf),
-    /// Gives the stored span parts these ids, in order; the others keep theirs.
+    /// Sets the ids of the stored span parts, in order; the others keep theirs.
     Ids(Slot, Many<u32>),
-    /// Rewrites a tree by these actions, in order; behind them all is kept.
+    /// Rewrites a tree by these actions, in order; all later tokens are kept.
     Rewrite(Slot, Many<Action>),
-    /// Expands a rule: its pattern is in the first slot, its template in the second, the input in the third. What comes of
-    /// it goes to the last.
+    /// Expands a rule: its pattern is in the first slot, its template in the second, the input in the third. The result goes to the last.
     Expand(Slot, Slot, Slot, Slot),
-    /// Expands a macro: its arms are in the first slot, the input in the second. What comes of it goes to the third.
+    /// Expands a macro: its arms are in the first slot, the input in the second. The result goes to the third.
     Arms(Slot, Slot, Slot),
     /// The text of a slot's tree in one of its forms.
     View(View, Slot),
-    /// How many tokens stand in each piece between the puncts of that character, below the top.
+    /// How many tokens each piece between the puncts of that character has, below the top.
     Split(Slot, char),
-    /// Whether two slots hold the same tree.
+    /// Whether two slots contain the same tree.
     Equal(Slot, Slot),
     /// A slot's tree as one piece of bytes.
     Save(Slot),
@@ -96,7 +95,7 @@ pub enum Command {
     Text(Slot),
 }
 
-// For each verb, what follows it, read as the values of its command.
+// For each verb, reads what follows it as the values of its command.
 macro_rules! read {
     ($texts:expr, $rest:expr, $verb:expr; $($pattern:pat => $make:expr),+) => {
         match $verb {
@@ -108,8 +107,7 @@ macro_rules! read {
 impl Command {
     ghost use Rattle.app_language.specs.Command.{CommandFits, IsNoCommand, StandsFor, spell};
 
-    /// The command that the line stands for, if there is one. The line is given without its line feed. The only fault is
-    /// that of memory.
+    /// Reads the command that the line spells, if there is one. The line comes without its line feed. Fails only if memory runs out.
     pub fn parse(alloc: Global, line: &[u8]) -> Result<Option<Command>, TtFault>
         ensures reads { IfOk result (λ found. MatchOption found (IsNoCommand line.now) (StandsFor line.now)) }
         ensures one_line { IfOk result (λ found. IfSome found (λ _. IsOneLine line.now)) }
@@ -123,7 +121,7 @@ impl Command {
         Command::parse_with(&mut texts, line)
     }
 
-    /// The same of a line that holds no line feed, which is not looked for again. Texts come from those.
+    /// The same for a line without a line feed, which is not searched for again. The texts of tokens come from `texts`.
     #[inline(always)]
     pub fn parse_with(texts: &mut Texts, line: &[u8]) -> Result<Option<Command>, TtFault>
         requires one_line { IsOneLine line.now }
@@ -136,7 +134,7 @@ impl Command {
         Command::read(texts, line)
     }
 
-    // The first word tells how the rest is read.
+    // Reads the first word, which says how to read the rest.
     fn read(texts: &mut Texts, line: &[u8]) -> Result<Option<Command>, TtFault>
         ensures reads { IfOk result (Reads spell CommandFits line.now) }
         ensures err { IfErr result (λ fault. fault ≡ Memory) }
@@ -148,7 +146,7 @@ impl Command {
         Command::read_behind(texts, verb, rest)
     }
 
-    // The command of the verb, and of what follows that.
+    // Reads the command of the verb from what follows the verb.
     fn read_behind(texts: &mut Texts, verb: Verb, rest: &[u8]) -> Result<Option<Command>, TtFault>
         requires tail { IsTail rest.now }
         ensures reads { IfOk result (Reads spell CommandFits (verb_word verb ++ rest.now)) }

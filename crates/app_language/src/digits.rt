@@ -1,4 +1,4 @@
-//! Bytes that a line spells by hexadecimal digits.
+//! Bytes that a line spells as hexadecimal digits.
 ghost use Rattle.hex.specs.Hex.{IsBytes, encode_lower};
 ghost use Rattle.hex.specs.declared.error.FromHexError.TheVariants.{OutOfMemory};
 ghost use Rattle.std.specs.Cmp.{partial_equiv_from_equiv};
@@ -13,7 +13,7 @@ use std::fmt;
 use std::marker::Model;
 use tt_base::TtFault;
 
-/// Bytes, each of which a line spells by two hexadecimal digits in lower case. A contract sees the bytes.
+/// Bytes, each spelled by a line as two lower-case hexadecimal digits. A contract sees the bytes.
 #[derive(Drop)]
 pub struct Digits {
     bytes: Vec<u8>,
@@ -26,7 +26,7 @@ impl Model for Digits {
 }
 
 impl Digits {
-    /// The bytes that the text spells. The only fault is that of memory.
+    /// Reads the bytes that the text spells. Fails only if memory runs out.
     pub(crate) fn read(alloc: Global, text: &[u8]) -> Result<Option<Digits>, TtFault>
         ensures reads { IfOk result (Reads encode_lower IsBytes text.now) }
         ensures err { IfErr result (λ fault. fault ≡ Memory) }
@@ -43,7 +43,7 @@ impl Digits {
         Ok(Some(Digits { bytes }))
     }
 
-    /// The bytes, in order.
+    /// Returns the bytes, in order.
     pub fn as_slice(&self) -> &[u8]
         ensures { result.now ≡ self.now }
     {
@@ -51,14 +51,14 @@ impl Digits {
     }
 }
 
-// Each of them is a byte, which the type tells.
+// Each of them is a byte, which the type guarantees.
 fn are_bytes(bytes: &[u8])
     ensures { IsBytes bytes.now }
 {
     let _ = bytes;
 }
 
-// What there is where a text was not decoded: nothing, unless memory was refused.
+// Returns the result for a text that was not decoded: nothing, unless memory ran out.
 fn no_digits(error: FromHexError) -> Result<Option<Digits>, TtFault>
     ensures memory { error ≡ OutOfMemory → result ≡ Err Memory }
     ensures other { (error ≡ OutOfMemory → ⊥) → result ≡ Ok None }

@@ -18,14 +18,14 @@ impl<T> Model for Many<T> {
 }
 
 impl<T> Many<T> {
-    /// These values, in order.
+    /// Returns these values, in order.
     pub fn new(items: Vec<T>) -> Many<T>
         ensures { result ≡ items.items }
     {
         Many { items }
     }
 
-    /// The values, in order.
+    /// Returns the values, in order.
     pub fn as_slice(&self) -> &[T]
         ensures { result.now ≡ self.now }
     {

@@ -1,4 +1,4 @@
-//! Tokens in the spelling in which lines give them.
+//! Tokens as lines spell them.
 ghost use Rattle.std.specs.Prelude.{◌≡◌, Some};
 ghost use Rattle.std.specs.Fmt.{WritesOnOk};
 ghost use Rattle.app_language.specs.Token.{kind_word, spacing_word, raw_word, literal_kind_word, punct_words, ident_words, literal_words, subtree_words, token_words};
@@ -8,7 +8,7 @@ use tt_base::{
     DelimiterKind, Ident, IdentIsRaw, Leaf, LitKind, Literal, Punct, Spacing, Subtree, TokenTree,
 };
 
-/// A token in the spelling that a line of `item` gives it.
+/// A token as a line of `item` spells it.
 #[derive(Clone, Copy)]
 pub struct Spelled<'a>(pub &'a TokenTree);
 
@@ -27,7 +27,7 @@ impl fmt::Display for Spelled<'_> {
     }
 }
 
-// What follows `sub`.
+// The part of a line that follows `sub`.
 #[derive(Clone, Copy)]
 struct SpelledSubtree<'a>(&'a Subtree);
 
@@ -47,7 +47,7 @@ impl fmt::Display for SpelledSubtree<'_> {
     }
 }
 
-// What follows `punct`.
+// The part of a line that follows `punct`.
 #[derive(Clone, Copy)]
 struct SpelledPunct<'a>(&'a Punct);
 
@@ -64,7 +64,7 @@ impl fmt::Display for SpelledPunct<'_> {
     }
 }
 
-// What follows `ident`.
+// The part of a line that follows `ident`.
 #[derive(Clone, Copy)]
 struct SpelledIdent<'a>(&'a Ident);
 
@@ -77,7 +77,7 @@ impl fmt::Display for SpelledIdent<'_> {
     }
 }
 
-// What follows `lit`.
+// The part of a line that follows `lit`.
 #[derive(Clone, Copy)]
 struct SpelledLiteral<'a>(&'a Literal);
 
@@ -121,7 +121,7 @@ impl fmt::Display for SpelledKind {
     }
 }
 
-/// The word that spells a kind of delimiter.
+/// Returns the word that spells a kind of delimiter.
 pub fn kind_name(kind: DelimiterKind) -> &'static str
     ensures { result.now ≡ kind_word kind }
 {

@@ -13,11 +13,11 @@ use Rattle.expand_items.specs.Attributes.{before_if, conditions_of, is_at_attrib
 use Rattle.mbe_pattern.specs.Units.{front_trees}
 use Rattle.tt_base.proofs.Appending.{append-end, append-join}
 
--- no brackets stand there
+-- no brackets are there
 no_brackets : (sign : Bool) → (sign && false) ≡ true → ⊥
 no_brackets sign e = false≢true (and_parts sign false e).1
 
--- The attribute that stands first is added, if it is a condition, and then those among the others.
+-- The first attribute is added, if it is a condition, and then those among the others.
 pub conditions_more : (trees : Forest) → is_at_attribute trees ≡ true → (stack : Stack)
     → append (conditions_of (after_trees 2 trees)) (append (cond (is_at_condition (front_trees 2 trees)) (front_trees 2 trees) end) stack) ≡ append (conditions_of trees) stack
 conditions_more end is stack = absurd (false≢true is)
@@ -39,7 +39,7 @@ conditions_more (leaf (leaf_of.Punct it) (node brackets children rest)) is stack
     by true = sym (append-join one (conditions_of rest) stack)
     by false = ap (append (conditions_of rest)) (append-end stack)
 
--- Where no attribute stands first, no condition does.
+-- If no attribute comes first, no condition does.
 pub conditions_none : (trees : Forest) → is_at_attribute trees ≡ false → (stack : Stack) → append (conditions_of trees) stack ≡ stack
 conditions_none trees is stack = ap (λ f. append f stack) (none trees is) ∙ append-end stack
   where
@@ -52,13 +52,13 @@ conditions_none trees is stack = ap (λ f. append f stack) (none trees is) ∙ a
         let whole = leaf it (node brackets children rest) in
         ap (λ a. cond a (before_if (is_at_condition whole) (leaf it (node brackets children end)) (conditions_of rest)) end) is
 
--- The part of a number stands before those behind it.
+-- The part of a number precedes those behind it.
 part_there : (parts : List Part) (place : ℕ) (part other : Part) → place < length parts → part ≡ get_or parts place other → drop place parts ≡ part ∷ drop (suc place) parts
 part_there [] place part other less is = absurd (omega (arith, less))
 part_there (first ∷ parts) zero part other less is = ap (λ p. p ∷ parts) (sym is)
 part_there (first ∷ parts) (suc place) part other less is = part_there parts place part other (omega (arith, less)) is
 
--- One part is added behind what stands before it, and then the others.
+-- One part is added behind what precedes it, and then the others.
 pub spread_more : (braces : Delimiter) (conditions : Forest) (parts : List Part) (place : ℕ) (part other : Part) → place < length parts → part ≡ get_or parts place other
     → (trees : Forest) (stack : Stack)
     → append (spread braces conditions (suc place) (drop (suc place) parts) (after_trees part.len trees))
@@ -74,7 +74,7 @@ spread_more braces conditions parts place part other less is trees stack =
     more : Forest
     more = spread braces conditions (suc place) (drop (suc place) parts) (after_trees part.len trees)
 
--- Behind all parts none is added.
+-- Behind all parts no part is added.
 pub spread_end : (braces : Delimiter) (conditions : Forest) (parts : List Part) (trees : Forest) (stack : Stack)
     → append (spread braces conditions (length parts) (drop (length parts) parts) trees) stack ≡ stack
 spread_end braces conditions parts trees stack = by (length parts) parts refl

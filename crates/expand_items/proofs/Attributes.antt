@@ -1,4 +1,4 @@
--- Attributes that stand first, and calls, are trees that are there.
+-- Attributes that come first, and calls, are trees that exist.
 use Rattle.std.proofs.Common.{◌≡◌, ◌+◌, ◌<◌, ◌≤◌, ℕ, zero, suc, Bool, true, false, List, inl, inr, ◌⊎◌, refl, ap, sym, ◌∙◌, arith, cond}
 use Rattle.std.proofs.lemmas.Bool.{and_parts, false≢true}
 use Rattle.std.specs.Prelude.{◌&&◌, ◌==◌}
@@ -14,11 +14,11 @@ use Rattle.expand_items.proofs.Shapes.{call_ends}
 use Rattle.mbe_pattern.specs.Units.{front_trees}
 use Rattle.mbe_pattern.proofs.Passing.{after_end}
 
--- no brackets stand there
+-- no brackets are there
 no_brackets : (sign : Bool) → (sign && false) ≡ true → ⊥
 no_brackets sign e = false≢true (and_parts sign false e).1
 
--- The attribute that stands first, and then the others.
+-- The first attribute, and then the others.
 pub one_attribute : (trees : Forest) → is_at_attribute trees ≡ true → attributes_len trees ≡ 2 + attributes_len (after_trees 2 trees)
 one_attribute end e = absurd (false≢true e)
 one_attribute (node delimiter children rest) e = absurd (false≢true e)
@@ -28,7 +28,7 @@ one_attribute (leaf (leaf_of.Punct it) end) e = absurd (no_brackets (it.char == 
 one_attribute (leaf (leaf_of.Punct it) (leaf next rest)) e = absurd (no_brackets (it.char == 35) e)
 one_attribute (leaf (leaf_of.Punct it) (node delimiter children rest)) e = ap (λ b. cond b (2 + attributes_len rest) 0) e
 
--- Where none stands first, they are no trees.
+-- If no attribute comes first, the attributes are no trees.
 pub no_attribute : (trees : Forest) → is_at_attribute trees ≡ false → attributes_len trees ≡ 0
 no_attribute end e = refl
 no_attribute (node delimiter children rest) e = refl
@@ -38,7 +38,7 @@ no_attribute (leaf (leaf_of.Literal it) (node delimiter children rest)) e = refl
 no_attribute (leaf (leaf_of.Ident it) (node delimiter children rest)) e = refl
 no_attribute (leaf (leaf_of.Punct it) (node delimiter children rest)) e = ap (λ b. cond b (2 + attributes_len rest) 0) e
 
--- An attribute that stands first is two trees that are there.
+-- An attribute that comes first is two trees that exist.
 pub attribute_fits : (trees : Forest) → is_at_attribute trees ≡ true → 2 + size (after_trees 2 trees) ≤ size trees
 attribute_fits end e = absurd (false≢true e)
 attribute_fits (node delimiter children rest) e = absurd (false≢true e)
@@ -48,11 +48,11 @@ attribute_fits (leaf (leaf_of.Punct it) end) e = absurd (no_brackets (it.char ==
 attribute_fits (leaf (leaf_of.Punct it) (leaf next rest)) e = absurd (no_brackets (it.char == 35) e)
 attribute_fits (leaf (leaf_of.Punct it) (node delimiter children rest)) e = omega arith
 
--- The trees behind two are these.
+-- The trees behind two trees are these.
 two_more : (n : ℕ) (it : Leaf) (delimiter : Delimiter) (children rest : Forest) → after_trees (2 + n) (leaf it (node delimiter children rest)) ≡ after_trees n rest
 two_more n it delimiter children rest = let more : 2 + n ≡ suc (suc n) = omega arith in ap (λ k. after_trees k (leaf it (node delimiter children rest))) more
 
--- All attributes that stand first are there, before what is behind them.
+-- All attributes that come first exist, before the trees behind them.
 pub attributes_fit : (trees : Forest) → attributes_len trees + size (after_trees (attributes_len trees) trees) ≤ size trees
 attributes_fit end = omega arith
 attributes_fit (node delimiter children rest) = omega arith
@@ -97,7 +97,7 @@ attributes_end (leaf it (node delimiter children rest)) = by (is_attribute_sign 
     by true ends = inr (last ends)
     by false ends = inl refl
 
--- Trees before a subtree are there, and it is.
+-- Trees before a subtree, and the subtree, exist.
 before_fits : (n : ℕ) (trees : Forest) (delimiter : Delimiter) (children rest : Forest) → after_trees n trees ≡ node delimiter children rest → n < size trees
 before_fits zero trees delimiter children rest is = omega (arith, ap size is)
 before_fits (suc n) end delimiter children rest is = absurd (none (sym (after_end n) ∙ is))
@@ -107,7 +107,7 @@ before_fits (suc n) end delimiter children rest is = absurd (none (sym (after_en
 before_fits (suc n) (leaf it others) delimiter children rest is = omega (arith, before_fits n others delimiter children rest is)
 before_fits (suc n) (node brackets inside others) delimiter children rest is = omega (arith, before_fits n others delimiter children rest is)
 
--- A call is trees that are there.
+-- A call is trees that exist.
 pub call_fits : (root : List ℕ) (trees : Forest) (it : Call) → item_in root trees ≡ calls it → it.len ≤ size trees
 call_fits root trees it is =
     let call = call_ends root trees it is in

@@ -1,4 +1,4 @@
--- Where neither a definition nor a call may begin, neither stands first.
+-- If neither a definition nor a call may begin, neither comes first.
 use Rattle.std.proofs.Common.{◌≡◌, ℕ, Bool, true, false, List, Option, None, Some, refl, ap, ap₂, cond, codes}
 use Rattle.std.proofs.lemmas.Bool.{or_parts}
 use Rattle.std.specs.Prelude.{◌==◌, ◌||◌, ◌&&◌}
@@ -10,7 +10,7 @@ use Rattle.tt.specs.Types.Leaf.TheVariants as leaf_of
 use Rattle.expand_items.specs.Items.{other, call_behind, call_from, definition_behind, is_at_colons, is_at_root, is_at_sign, item_from, item_in, may_begin_item, name_in}
 use Rattle.mbe_pattern.specs.Units.{is_at_word, is_at_punct, unit_size}
 
--- Neither sign stands first.
+-- If no sign comes first, no `!` and no `:` does.
 no_sign : (trees : Forest) → is_at_sign trees ≡ false → (is_at_punct (codes "!") trees ≡ false) × (is_at_punct (codes ":") trees ≡ false)
 no_sign end e = (refl, refl)
 no_sign (node delimiter children rest) e = (refl, refl)
@@ -18,7 +18,7 @@ no_sign (leaf (leaf_of.Literal it) rest) e = (refl, refl)
 no_sign (leaf (leaf_of.Ident it) rest) e = (refl, refl)
 no_sign (leaf (leaf_of.Punct it) rest) e = let (bang, colon) = or_parts (it.char == 33) (it.char == 58) e in (ap (λ b. b || false) bang, ap (λ b. b || false) colon)
 
--- No `::` stands first where no `:` does.
+-- No `::` comes first if no `:` does.
 no_colons : (trees : Forest) → is_at_punct (codes ":") trees ≡ false → is_at_colons trees ≡ false
 no_colons trees e = by (unit_size trees == 2)
   where
@@ -26,7 +26,7 @@ no_colons trees e = by (unit_size trees == 2)
     by true = ap (λ b. b && is_at_punct (codes ":") (after_tree trees)) e
     by false = refl
 
--- Where neither may begin, something else stands first.
+-- If neither may begin, something else comes first.
 pub begins_none : (root : List ℕ) (trees : Forest) → may_begin_item trees ≡ false → item_in root trees ≡ other
 begins_none root end e = refl
 begins_none root (node delimiter children rest) e = refl

@@ -1,4 +1,4 @@
--- What stands first at a position: a call may be behind attributes that are a part of it, and a definition is not.
+-- What comes first at a position: attributes before a call may be a part of it; those before a definition are not.
 use Rattle.std.proofs.Common.{◌≡◌, ◌<◌, ◌+◌, ℕ, Bool, true, false, List, Option, None, Some, inl, inr, ◌⊎◌, refl, ap, sym, subst, ◌∙◌, arith, cond, codes}
 use Rattle.std.specs.Prelude.{◌&&◌}
 use Rattle.tt.specs.Forest.{Forest, end, leaf, node, join, size}
@@ -15,7 +15,7 @@ use Rattle.expand_items.proofs.Lengths.{call_long, definition_less, less_behind}
 use Rattle.mbe_pattern.specs.Units.{front_trees, is_at_punct}
 use Rattle.mbe_pattern.proofs.Passing.{after_end}
 
--- it is behind no attributes, if it is there
+-- it has no attributes, if it is there
 abbrev IsBare : Option Call → Type 0
 IsBare None = Unit {0}
 IsBare (Some it) = it.attributes ≡ 0
@@ -39,7 +39,7 @@ bare_in root trees = by (is_at_colons trees) (is_at_root root trees && is_at_col
     by false true = bare_behind 3 false (after_trees 3 trees)
     by false false = bare_behind 0 false trees
 
--- A call that stands first by itself has no attributes.
+-- A call that comes first by itself has no attributes.
 pub bare_call : (root : List ℕ) (trees : Forest) (it : Call) → item_in root trees ≡ calls it → it.attributes ≡ 0
 bare_call root trees it is = by (definition_in trees) (call_in root trees) (bare_in root trees) is
   where
@@ -57,12 +57,12 @@ pub record StandsBehind (root : List ℕ) (trees : Forest) (it : Call) : Type 0 
   pub stands : item_in root (after_trees it.attributes trees) ≡ calls bare
   pub same : it ≡ with_attributes it.attributes bare
 
--- the same, and these are none or all that stand first
+-- the same, and these are none or all attributes that come first
 record Stands (root : List ℕ) (trees : Forest) (it : Call) : Type 0 where
   behind : StandsBehind root trees it
   attributes : (it.attributes ≡ 0) ⊎ (it.attributes ≡ attributes_len trees)
 
--- A call by itself is behind no attributes.
+-- A call by itself has no attributes.
 by_itself : (root : List ℕ) (trees : Forest) (it : Call) → item_in root trees ≡ calls it → Stands root trees it
 by_itself root trees it is =
     let none : it.attributes ≡ 0 = bare_call root trees it is in
@@ -77,7 +77,7 @@ by_itself root trees it is =
       attributes = inl none;
     }
 
--- A call behind all attributes that stand first has them as a part.
+-- A call behind all first attributes has them as a part.
 behind_all : (root : List ℕ) (trees : Forest) (it bare : Call) → item_in root (after_trees (attributes_len trees) trees) ≡ calls bare
     → with_attributes (attributes_len trees) bare ≡ it → Stands root trees it
 behind_all root trees it bare stands same =
@@ -93,7 +93,7 @@ behind_all root trees it bare stands same =
     }
 
 module _ (root : List ℕ) (position : Position) (trees : Forest) where
-  -- what stands behind all attributes
+  -- what follows all attributes
   abbrev behind : Forest
   behind = after_trees (attributes_len trees) trees
 
@@ -122,7 +122,7 @@ module _ (root : List ℕ) (position : Position) (trees : Forest) where
   pub call_at : (it : Call) → item_at root position trees ≡ calls it → StandsBehind root trees it
   call_at it is = (stands_there it is).behind
 
-  -- A definition at a position is behind none.
+  -- A definition at a position has no attributes.
   pub definition_at : (it : Definition) → item_at root position trees ≡ defines it → item_in root trees ≡ defines it
   definition_at it is = by (begins_condition position trees) is
     where
@@ -154,7 +154,7 @@ module _ (root : List ℕ) (position : Position) (trees : Forest) where
       by (inl none) = inl none
       by (inr same) = all same (attributes_end trees)
 
-  -- A call is some trees more than its attributes.
+  -- A call is more trees than its attributes.
   pub call_at_long : (it : Call) → item_at root position trees ≡ calls it → it.attributes < it.len
   call_at_long it is =
       let call = call_at it is in
@@ -174,6 +174,6 @@ module _ (root : List ℕ) (position : Position) (trees : Forest) where
       there e =
           none (ap (item_in root) (sym (after_end it.attributes) ∙ ap (after_trees it.attributes) (sym e)) ∙ call.stands)
 
-  -- Behind a definition at a position fewer are left.
+  -- Behind a definition at a position fewer tokens are left.
   pub definition_at_less : (it : Definition) → item_at root position trees ≡ defines it → size (after_trees it.len trees) < size trees
   definition_at_less it is = definition_less root trees it (definition_at it is)

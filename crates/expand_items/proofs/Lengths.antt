@@ -1,4 +1,4 @@
--- Definitions and calls are some trees.
+-- Definitions and calls have at least one tree.
 use Rattle.std.proofs.Common.{◌≡◌, ◌<◌, ◌≤◌, ℕ, zero, suc, Bool, true, false, List, Option, None, Some, refl, ap, sym, subst, ◌∙◌, arith, cond, codes}
 use Rattle.std.specs.Prelude.{◌&&◌}
 use Rattle.tt.specs.Forest.{Forest, end, leaf, node, size}
@@ -8,7 +8,7 @@ use Rattle.tt.specs.Types.Ident.{Ident}
 use Rattle.expand_items.specs.Items.{Definition, Call, defines, calls, defined_as, definition_from, definition_in, call_from, call_behind, is_at_colons, is_at_root, call_in, item_from, item_in, name_in}
 use Rattle.mbe_pattern.specs.Units.{is_at_word, is_brace, is_at_punct}
 
--- it is some trees, if it is there
+-- it has at least one tree, if it is there
 abbrev pub IsLong : Option Definition → Type 0
 IsLong None = Unit {0}
 IsLong (Some it) = 0 < it.len
@@ -66,7 +66,7 @@ fewer_behind (suc n) end = fewer_behind n end
 fewer_behind (suc n) (leaf it rest) = omega (arith, fewer_behind n rest)
 fewer_behind (suc n) (node delimiter children rest) = omega (arith, fewer_behind n rest)
 
--- Behind one tree or more, where there is one, fewer are.
+-- Behind one tree or more, if there is one, fewer tokens are left.
 pub less_behind : (n : ℕ) (trees : Forest) → 0 < n → (trees ≡ end → ⊥) → size (after_trees n trees) < size trees
 less_behind zero trees some there = absurd (omega (arith, some))
 less_behind (suc n) end some there = absurd (there refl)
@@ -92,7 +92,7 @@ module _ (root : List ℕ) (trees : Forest) where
       there : trees ≡ end → ⊥
       there e = none (ap (item_in root) (sym e) ∙ is)
 
-  -- A call is some trees.
+  -- A call has at least one tree.
   pub call_long : (it : Call) → item_in root trees ≡ calls it → 0 < it.len
   call_long it is = by (definition_in trees) (call_in root trees) (long_call root trees) is
     where

@@ -18,7 +18,7 @@ statement text rest = word text (alone 59 rest)
 abbrev attribute : (text : List ℕ) → Forest → Forest
 attribute text rest = alone 35 (node (delimiter Bracket (span 0 1) (span 2 1)) (word text end) rest)
 
--- where braces stand, and a condition
+-- braces, and a condition
 abbrev braces : Delimiter
 braces = delimiter Brace (span 4 1) (span 6 1)
 
@@ -29,30 +29,30 @@ condition = attribute (codes "cfg") end
 abbrev two : Part
 two = record { len = 2; is_expression = false }
 
--- The `;` behind a statement is a part of it, and another tree is none.
+-- The `;` behind a statement is a part of it, and another tree is not.
 with_semicolon : statement_len 1 (statement (codes "a") end) ≡ 2
 with_semicolon = refl
 
 without_semicolon : statement_len 1 (word (codes "a") (word (codes "b") end)) ≡ 1
 without_semicolon = refl
 
--- `let` stands first, also behind an attribute, and not behind a word.
+-- `let` comes first, also behind an attribute, and not behind a word.
 let_stands : is_at_let (attribute (codes "allow") (word (codes "let") end)) ≡ true
 let_stands = refl
 
 let_second : is_at_let (word (codes "a") (word (codes "let") end)) ≡ false
 let_second = refl
 
--- Before the first part stands nothing, and before each other one the condition.
+-- Nothing precedes the first part, and the condition precedes each other one.
 both_parts : spread braces condition 0 (two ∷ two ∷ []) (statement (codes "a") (statement (codes "b") end))
     ≡ statement (codes "a") (attribute (codes "cfg") (statement (codes "b") end))
 both_parts = refl
 
--- An expression stands in braces.
+-- An expression goes into braces.
 in_braces : spread braces condition 0 (record { len = 2; is_expression = true } ∷ []) (statement (codes "a") end) ≡ node braces (statement (codes "a") end) end
 in_braces = refl
 
--- No parts, and no run of parts, stand nowhere.
+-- No parts, and no run of parts, are put nowhere.
 no_parts : spread_if braces condition (Some []) end ≡ None
 no_parts = refl
 

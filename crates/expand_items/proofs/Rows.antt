@@ -18,7 +18,7 @@ use Rattle.expand_items.specs.declared.position.Siblings.{Siblings}
 use Rattle.expand_items.specs.declared.position.Siblings.TheVariants.{Items, Statements, Others}
 use Rattle.mbe_pattern.proofs.Rows.{word, raw_word, alone, joint}
 
--- `!`, `::`, and brackets with nothing in them, before others
+-- `!`, `::`, and brackets without contents, before others
 abbrev pub bang : Forest → Forest
 bang rest = alone 33 rest
 
@@ -32,7 +32,7 @@ brackets kind rest = join (subtree kind end) rest
 abbrev pub attribute : List ℕ → Forest → Forest
 attribute text rest = alone 35 (join (subtree Bracket (word text end)) rest)
 
--- the name `m`, and a call of it with nothing in its parentheses, behind so many trees of attributes
+-- the name `m`, and a call of it with empty parentheses, behind a number of trees of attributes
 abbrev pub m_name : Ident
 m_name = record { sym = codes "m"; span = span 0 1; is_raw = No }
 
@@ -50,11 +50,11 @@ m_call_behind attributes is_elsewhere len =
 abbrev pub m_call : (is_elsewhere : Bool) → (len : ℕ) → Item
 m_call is_elsewhere len = m_call_behind 0 is_elsewhere len
 
--- a definition of it with no arms
+-- a definition of it without arms
 abbrev pub m_definition : DelimiterKind → (len : ℕ) → Item
 m_definition kind len = defines (record { name = m_name; delimiter = delimiter kind (span 0 1) (span 1 1); arms = end; len = len })
 
--- `m!()`, `crate::m!()`, `k::m!()` where `k` stands for the root, and `::m!()`.
+-- `m!()`, `crate::m!()`, `k::m!()` with the root's word `k`, and `::m!()`.
 call_first : item_in (codes "crate") (word (codes "m") (bang (brackets Parenthesis end))) ≡ m_call false 3
 call_first = refl
 
@@ -80,7 +80,7 @@ unequal_calls_nothing = refl
 path_begins_nothing : item_in (codes "crate") (word (codes "a") (colons (word (codes "m") (bang (brackets Parenthesis end))))) ≡ other
 path_begins_nothing = refl
 
--- `macro_rules! m();` and `macro_rules! m {};`: the `;` is one of its trees behind parentheses alone.
+-- `macro_rules! m();` and `macro_rules! m {};`: the `;` is one of its trees only behind parentheses.
 definition_parentheses : item_in (codes "crate") (word (codes "macro_rules") (bang (word (codes "m") (brackets Parenthesis (alone 59 end))))) ≡ m_definition Parenthesis 5
 definition_parentheses = refl
 
@@ -90,7 +90,7 @@ definition_braces = refl
 raw_defines_nothing : item_in (codes "crate") (raw_word (codes "macro_rules") (bang (word (codes "m") (brackets Brace end)))) ≡ other
 raw_defines_nothing = refl
 
--- Among statements `m!();` and `m!{} a` are statements; `m!() + ..` is none, nor is one in parentheses.
+-- Among statements `m!();` and `m!{} a` are statements; `m!() + ..` is none, and a call in parentheses is none.
 statement_ends : is_statement Parenthesis (alone 59 end) (begun Statements) ≡ true
 statement_ends = refl
 
@@ -103,7 +103,7 @@ operand_is_none = refl
 argument_is_none : is_statement Parenthesis end (begun Others) ≡ false
 argument_is_none = refl
 
--- What is defined in `{}` behind `#[macro_use] mod n` stays in scope, and what is behind `mod n` does not.
+-- What `{}` behind `#[macro_use] mod n` defines stays in scope, and what `{}` behind `mod n` defines does not.
 used : keeps_macros Brace
     (behind_leaf (ident (codes "n")) end
     (behind_leaf (ident (codes "mod")) end
@@ -118,11 +118,11 @@ not_used = refl
 abbrev behind_word : List ℕ → Position → Position
 behind_word text it = behind_leaf (ident text) end it
 
--- what the braces behind it hold
+-- what the braces behind it contain
 abbrev held_behind : Position → Siblings
 held_behind it = (first_in Brace it).siblings
 
--- Items stand in the braces of `mod m`, `unsafe impl A for fn`, `trait T` and `extern`,
+-- The braces of `mod m`, `unsafe impl A for fn`, `trait T` and `extern` contain items,
 module_items : held_behind (behind_word (codes "m") (behind_word (codes "mod") (begun Items))) ≡ Items
 module_items = refl
 
@@ -135,7 +135,7 @@ trait_items = refl
 foreign_items : held_behind (behind_word (codes "extern") (begun Items)) ≡ Items
 foreign_items = refl
 
--- statements in those of `extern fn f`, `fn f -> impl T`, of `r#mod` and of nothing that was begun, also behind `mod m;`,
+-- those of `extern fn f`, `fn f -> impl T`, `r#mod` and nothing begun, also behind `mod m;`, contain statements,
 foreign_function : held_behind (behind_word (codes "f") (behind_word (codes "fn") (behind_word (codes "extern") (begun Items)))) ≡ Statements
 foreign_function = refl
 
@@ -152,11 +152,11 @@ raw_statements = refl
 ended_statements : held_behind (behind_leaf (punct 59 Alone) end (behind_word (codes "m") (behind_word (codes "mod") (begun Items)))) ≡ Statements
 ended_statements = refl
 
--- and neither in parentheses.
+-- and parentheses contain neither.
 in_parentheses : (first_in Parenthesis (behind_word (codes "mod") (begun Items))).siblings ≡ Others
 in_parentheses = refl
 
--- Among items the `;` of `m!();` is a part of it, and that of `m!{};` is none; among statements it is none.
+-- Among items the `;` of `m!();` is a part of it, and that of `m!{};` is not; among statements it is not.
 item_semicolon : takes_semicolon Parenthesis (alone 59 end) (begun Items) ≡ true
 item_semicolon = refl
 
@@ -169,18 +169,18 @@ statement_semicolon = refl
 later_semicolon : takes_semicolon Parenthesis (alone 59 end) (behind_word (codes "a") (begun Items)) ≡ false
 later_semicolon = refl
 
--- What comes of `m!();` among items are items, and of `m!() + ..` among statements is neither.
+-- `m!();` among items expands to items, and `m!() + ..` among statements expands to neither.
 items_come : siblings_of_call Parenthesis (alone 59 end) (begun Items) ≡ Items
 items_come = refl
 
 operands_come : siblings_of_call Parenthesis (alone 43 end) (begun Statements) ≡ Others
 operands_come = refl
 
--- behind `#`, a word in brackets, before the trees in them
+-- behind `#` and a word in brackets, before the trees in them
 abbrev behind_attribute : List ℕ → Position → Position
 behind_attribute text it = behind_subtree Bracket (behind_leaf (punct 35 Alone) (subtree Bracket (word text end)) it)
 
--- A condition stands before what is behind `#[cfg] #[inline]`; none does behind `#[inline]`, and behind what follows `#[cfg]`.
+-- A condition precedes what follows `#[cfg] #[inline]`; none precedes what follows `#[inline]`, or what follows the tree behind `#[cfg]`.
 conditional : (behind_attribute (codes "inline") (behind_attribute (codes "cfg") (begun Items))).is_conditional ≡ true
 conditional = refl
 
@@ -190,13 +190,13 @@ unconditional = refl
 condition_ends : (behind_word (codes "a") (behind_attribute (codes "cfg") (begun Items))).is_conditional ≡ false
 condition_ends = refl
 
--- Behind `#![a]` a statement begins still.
+-- Behind `#![a]` a statement may still begin.
 inner_attribute : is_statement Parenthesis (alone 59 end)
     (behind_subtree Bracket (behind_leaf (punct 33 Alone) end (behind_leaf (punct 35 Alone) (alone 33 end) (begun Statements))))
     ≡ true
 inner_attribute = refl
 
--- The trees of no attribute, of one and of two; `# m`, `#![a]` and what stands behind another tree are none.
+-- The trees of no attribute, of one and of two; `# m`, `#![a]` and what follows another tree are none.
 no_attribute : attributes_len end ≡ 0
 no_attribute = refl
 
@@ -218,7 +218,7 @@ parentheses_are_none = refl
 behind_another : attributes_len (attribute (codes "cfg") (word (codes "m") (attribute (codes "cfg") end))) ≡ 2
 behind_another = refl
 
--- Of `#[cfg]` the condition is that, and of `#[cfg] #[inline] #[cfg]` the first and the last.
+-- The condition of `#[cfg]` is that one, and those of `#[cfg] #[inline] #[cfg]` are the first and the last.
 one_condition : conditions_of (attribute (codes "cfg") end) ≡ attribute (codes "cfg") end
 one_condition = refl
 
@@ -229,7 +229,7 @@ two_conditions = refl
 abbrev m_item : Forest
 m_item = word (codes "m") (bang (brackets Parenthesis (alone 59 end)))
 
--- `#[cfg] m!();` is one item, as `#[cfg] #[inline] m!();` is, and `#[cfg] m!()` where nothing follows.
+-- `#[cfg] m!();` is one item; so are `#[cfg] #[inline] m!();`, and `#[cfg] m!()` with nothing behind it.
 under_condition : item_at (codes "crate") (begun Items) (attribute (codes "cfg") m_item) ≡ m_call_behind 2 false 5
 under_condition = refl
 
@@ -239,7 +239,7 @@ behind_two = refl
 last_statement : item_at (codes "crate") (begun Statements) (attribute (codes "cfg") (word (codes "m") (bang (brackets Parenthesis end)))) ≡ m_call_behind 2 false 5
 last_statement = refl
 
--- `#[cfg] m!() + ..` is none, nor is a call behind `#[inline]`, or behind the second of two conditions,
+-- `#[cfg] m!() + ..` is none, and a call behind `#[inline]` or behind the second of two conditions is none,
 operand_under_condition : item_at (codes "crate") (begun Statements) (attribute (codes "cfg") (word (codes "m") (bang (brackets Parenthesis (alone 43 end))))) ≡ other
 operand_under_condition = refl
 
@@ -249,14 +249,14 @@ other_attribute = refl
 second_condition : item_at (codes "crate") (behind_attribute (codes "cfg") (begun Items)) (attribute (codes "cfg") m_item) ≡ other
 second_condition = refl
 
--- nor one where no statement begins, or a definition.
+-- and neither is one if no statement begins there, or a definition.
 later_condition : item_at (codes "crate") (behind_word (codes "a") (begun Items)) (attribute (codes "cfg") m_item) ≡ other
 later_condition = refl
 
 definition_under_condition : item_at (codes "crate") (begun Items) (attribute (codes "cfg") (word (codes "macro_rules") (bang (word (codes "m") (brackets Brace end))))) ≡ other
 definition_under_condition = refl
 
--- Without a condition what stands first is that, also behind one.
+-- Without a condition, what comes first is that, also behind one.
 without_condition : item_at (codes "crate") (begun Items) m_item ≡ m_call false 3
 without_condition = refl
 

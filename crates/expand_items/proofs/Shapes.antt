@@ -13,7 +13,7 @@ use Rattle.expand_items.specs.Items.{Definition, Call, defines, calls, call_from
 use Rattle.mbe_pattern.specs.Units.{front_trees, is_at_word, is_brace, is_at_punct, unit_size}
 use Rattle.mbe_pattern.proofs.Passing.{after_end}
 
--- a call's subtree is the last of its trees, and stands behind two or more of them
+-- a call's subtree is the last of its trees, and follows two or more of them
 pub record EndsWithSubtree (trees : Forest) (it : Call) : Type 0 where
   pub before : ℕ
   pub rest : Forest
@@ -36,7 +36,7 @@ ends_behind whole before is_elsewhere trees same = by (name_in trees) (is_at_pun
     by (Some name) true (leaf it rest) stands = tt
     by (Some name) true (node delimiter children rest) stands = record { before = suc before; rest = rest; stands = stands; len = omega arith }
 
--- The call that stands first ends with its subtree.
+-- The call that comes first ends with its subtree.
 pub call_ends : (root : List ℕ) (trees : Forest) (it : Call) → item_in root trees ≡ calls it → EndsWithSubtree trees it
 call_ends root trees it is = found (definition_in trees) (call_in root trees) all is
   where
@@ -64,7 +64,7 @@ pub record BeginsWithName (trees : Forest) : Type 0 where
   pub stands : trees ≡ leaf (leaf_of.Ident word) (leaf (leaf_of.Punct punct) rest)
   pub sign : ((punct.char == 33) || (punct.char == 58)) ≡ true
 
--- A word that stands first is an ident.
+-- A word that comes first is an ident.
 word_first : (word : List ℕ) (trees : Forest) → is_at_word word trees ≡ true → (it : Ident) × (rest : Forest) × (trees ≡ leaf (leaf_of.Ident it) rest)
 word_first word end is = absurd (false≢true is)
 word_first word (node delimiter children rest) is = absurd (false≢true is)
@@ -72,7 +72,7 @@ word_first word (leaf (leaf_of.Literal it) rest) is = absurd (false≢true is)
 word_first word (leaf (leaf_of.Punct it) rest) is = absurd (false≢true is)
 word_first word (leaf (leaf_of.Ident it) rest) is = (it, rest, refl)
 
--- A `!`, a `:` or a `;` that stands first is a punct.
+-- A `!`, a `:` or a `;` that comes first is a punct.
 pub punct_first : (char : ℕ) (trees : Forest) → is_at_punct (char ∷ []) trees ≡ true → (it : Punct) × (rest : Forest) × (trees ≡ leaf (leaf_of.Punct it) rest) × ((it.char == char) ≡ true)
 punct_first char end is = absurd (false≢true is)
 punct_first char (node delimiter children rest) is = absurd (false≢true is)
@@ -84,7 +84,7 @@ punct_first char (leaf (leaf_of.Punct it) rest) is = (it, rest, refl, by (it.cha
     by true is = refl
     by false is = is
 
--- So is a name that may name a macro.
+-- A name that may name a macro is an ident too.
 name_first : (trees : Forest) (name : Ident) → name_in trees ≡ Some name → (rest : Forest) × (it : Ident) × (trees ≡ leaf (leaf_of.Ident it) rest)
 name_first end name is = absurd (cc is)
 name_first (node delimiter children rest) name is = absurd (cc is)
@@ -92,7 +92,7 @@ name_first (leaf (leaf_of.Literal it) rest) name is = absurd (cc is)
 name_first (leaf (leaf_of.Punct it) rest) name is = absurd (cc is)
 name_first (leaf (leaf_of.Ident it) rest) name is = (rest, it, refl)
 
--- Where `::` stands first, a `:` does.
+-- If `::` comes first, a `:` does.
 colons_first : (trees : Forest) → is_at_colons trees ≡ true → is_at_punct (codes ":") trees ≡ true
 colons_first trees is = by (unit_size trees == 2) (is_at_punct (codes ":") trees) (is_at_punct (codes ":") (after_tree trees)) is
   where
@@ -101,14 +101,14 @@ colons_first trees is = by (unit_size trees == 2) (is_at_punct (codes ":") trees
     by true false b is = is
     by false a b is = absurd (false≢true is)
 
--- An ident and a punct that stand first are that.
+-- An ident and a punct that come first are the beginning of a call.
 begins : (trees : Forest) (word : Ident) (behind : Forest) (char : ℕ) → trees ≡ leaf (leaf_of.Ident word) behind → is_at_punct (char ∷ []) (after_tree trees) ≡ true
     → ((c : ℕ) → (c == char) ≡ true → ((c == 33) || (c == 58)) ≡ true) → BeginsWithName trees
 begins trees word behind char is there one =
     let (punct, rest, stands, same) = punct_first char behind (ap (λ f. is_at_punct (char ∷ []) (after_tree f)) (sym is) ∙ there) in
     record { word = word; punct = punct; rest = rest; stands = is ∙ ap (leaf (leaf_of.Ident word)) stands; sign = one punct.char same }
 
--- whether a call that may be there begins with a name, where it is not looked for elsewhere
+-- whether a call that may be there begins with a name, if it is not looked for elsewhere
 abbrev Begins : Forest → Option Call → Type 0
 Begins trees None = Unit {0}
 Begins trees (Some it) = it.is_elsewhere ≡ false → BeginsWithName trees
@@ -183,14 +183,14 @@ pub data EndsClosed (trees : Forest) : Type 0 where
   by_subtree : (front : Forest) (delimiter : Delimiter) (children : Forest) → trees ≡ join front (node delimiter children end) → EndsClosed trees
   by_semicolon : (front : Forest) (punct : Punct) → (punct.char == 59) ≡ true → trees ≡ join front (leaf (leaf_of.Punct punct) end) → EndsClosed trees
 
--- One tree more is the first of those that are left.
+-- One tree more is the first of the trees that are left.
 pub front_more : (n : ℕ) (trees : Forest) → front_trees (suc n) trees ≡ join (front_trees n trees) (front_trees 1 (after_trees n trees))
 front_more zero trees = refl
 front_more (suc n) end = ap (λ f. front_trees 1 f) (sym (after_end n))
 front_more (suc n) (leaf it rest) = ap (leaf it) (front_more n rest)
 front_more (suc n) (node delimiter children rest) = ap (node delimiter children) (front_more n rest)
 
--- So many trees and one more end so where a subtree stands behind the first of them, or a `;` does.
+-- So many trees and one more end so if the next tree is a subtree or a `;`.
 pub ends_by_subtree : (n : ℕ) (trees : Forest) (delimiter : Delimiter) (children rest : Forest) → after_trees n trees ≡ node delimiter children rest
     → front_trees (suc n) trees ≡ join (front_trees n trees) (node delimiter children end)
 ends_by_subtree n trees delimiter children rest is = front_more n trees ∙ ap (λ f. join (front_trees n trees) (front_trees 1 f)) is
@@ -211,7 +211,7 @@ abbrev Closes : Forest → Option Definition → Type 0
 Closes trees None = Unit {0}
 Closes trees (Some it) = EndsClosed (front_trees it.len trees)
 
--- A definition ends with its subtree, or with the `;` behind that.
+-- A definition ends with its subtree, or with the `;` behind it.
 pub definition_closed : (root : List ℕ) (trees : Forest) (it : Definition) → item_in root trees ≡ defines it → EndsClosed (front_trees it.len trees)
 definition_closed root trees it is = found (definition_in trees) (call_in root trees) all is
   where

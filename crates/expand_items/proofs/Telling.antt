@@ -13,20 +13,20 @@ use Rattle.expand_items.specs.declared.position.Siblings.{Siblings}
 use Rattle.mbe_pattern.specs.Units.{is_at_punct}
 use Rattle.mbe_pattern.specs.declared.pattern.GrammarFragment.TheVariants as fragment
 
--- parts that were told already, and those of what is left, if it is a run of parts
+-- the parts found so far, and those of the rest, if it is a run of parts
 abbrev pub behind : List Part → Option (List Part) → Option (List Part)
 behind told left = option_map (λ parts. told ++ parts) left
 
--- whatever parts what is left is, all of the trees are those that were told and these
+-- whatever parts the rest is, all of the trees are the parts so far and these
 abbrev pub AreTold : Siblings → (all left : Forest) → (told : List Part) → Type 0
 AreTold its all left told = (found : Option (List Part)) → AreParts its left found → AreParts its all (behind told found)
 
--- Nothing is told yet.
+-- No part is found yet.
 pub told_none : (its : Siblings) (all : Forest) → AreTold its all all []
 told_none its all None are = are
 told_none its all (Some parts) are = are
 
--- One part more is told.
+-- One part more is found.
 pub told_more : (its : Siblings) (all left : Forest) (told now : List Part) (part : Part) → AreTold its all left told → is_end left ≡ false → IsPart its left (Some part)
     → now ≡ told ++ part ∷ [] → AreTold its all (after_trees part.len left) now
 told_more its all left told now part so some is more found are =
@@ -36,11 +36,11 @@ told_more its all left told now part so some is more found are =
     same None = refl
     same (Some parts) = ap Some (sym (append_assoc told (part ∷ []) parts))
 
--- What is left is no run of parts, so all are none.
+-- The rest is no run of parts, so all trees are none.
 pub told_stop : (its : Siblings) (all left : Forest) (told : List Part) → AreTold its all left told → is_end left ≡ false → IsPart its left None → AreParts its all None
 told_stop its all left told so some is = so None (stops some is)
 
--- All are told.
+-- All parts are found.
 pub told_all : (its : Siblings) (all left : Forest) (told : List Part) → AreTold its all left told → is_end left ≡ true → AreParts its all (Some told)
 told_all its all left told so none = subst (AreParts its all) (ap Some (append-nil told)) (so (Some []) (by left none))
   where
@@ -49,7 +49,7 @@ told_all its all left told so none = subst (AreParts its all) (ap Some (append-n
     by (leaf it rest) none = absurd (false≢true none)
     by (node delimiter children rest) none = absurd (false≢true none)
 
--- whether a part that may be there is some trees
+-- a part that may be there has at least one tree
 abbrev IsLong : Option Part → Type 0
 IsLong None = Unit {0}
 IsLong (Some part) = 0 < part.len
@@ -64,7 +64,7 @@ long (statement {trees = trees} {more = more} no_items none is) = by (is_at_punc
     by false = omega arith
 long (no_statement no_items none is) = tt
 
--- A part is some trees.
+-- A part has at least one tree.
 pub part_long : (its : Siblings) (trees : Forest) (part : Part) → IsPart its trees (Some part) → 0 < part.len
 part_long its trees part is = long is
 
@@ -75,7 +75,7 @@ less_left (suc n) (leaf it rest) some there = omega (arith, fewer_behind n rest)
 less_left (suc n) (node delimiter children rest) some there = omega (arith, fewer_behind n rest)
 less_left zero trees some there = absurd (omega (arith, some))
 
--- A `;` behind so many trees is one of more.
+-- A `;` behind so many trees is a further tree.
 pub semicolon_there : (n : ℕ) (trees : Forest) → is_at_punct (codes ";") (after_trees n trees) ≡ true → n < size trees
 semicolon_there zero end there = absurd (false≢true there)
 semicolon_there zero (leaf it rest) there = omega arith
@@ -85,12 +85,12 @@ semicolon_there (suc n) (leaf it rest) there = omega (arith, semicolon_there n r
 semicolon_there (suc n) (node delimiter children rest) there = omega (arith, semicolon_there n rest there)
 
 module _ (its : Siblings) (trees : Forest) where
-  -- An item stands first,
+  -- An item comes first,
   pub item_first : (n : ℕ) → Takes fragment.Item trees n → 0 < n → IsPart its trees (Some (item_part n))
   item_first zero is some = absurd (omega (arith, some))
   item_first (suc n) is some = item is
 
-  -- or a statement,
+  -- or a statement does,
   pub statement_first : (n : ℕ) → is_items its ≡ false → Takes fragment.Item trees 0 → Takes fragment.Stmt trees n → 0 < n → IsPart its trees (Some (statement_part n trees))
   statement_first zero no_items none is some = absurd (omega (arith, some))
   statement_first (suc n) no_items none is some = statement no_items none is

@@ -16,7 +16,7 @@ growth_wants trees state fault why = ⊎_elim (λ memory. inl memory.0) (λ many
 pub wants_more : (one other : Stack) (fault : TtFault) → tokens_held one ≤ tokens_held other → IsWanting one fault → IsWanting other fault
 wants_more one other fault more why = ⊎_elim (λ memory. inl memory) (λ many. inr (many.0, omega (arith, many.1, more))) why
 
--- So does it with trees appended.
+-- The same holds with trees appended.
 pub wants_appended : (trees : Forest) (stack : Stack) (fault : TtFault) → IsWanting stack fault → IsWanting (append trees stack) fault
 wants_appended trees stack fault why = wants_more stack (append trees stack) fault (omega (arith, held-append trees stack)) why
 

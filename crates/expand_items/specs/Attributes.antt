@@ -10,7 +10,7 @@ use Rattle.expand_items.specs.Positions.{is_at_attribute_of, is_bracket, is_stat
 use Rattle.expand_items.specs.declared.position.Position.{Position}
 use Rattle.mbe_pattern.specs.Units.{is_at_punct}
 
--- how many trees an attribute is: `#` and brackets
+-- the number of trees of an attribute: `#` and brackets
 abbrev pub attribute_len : ℕ
 attribute_len = 2
 
@@ -20,13 +20,13 @@ is_attribute_sign (leaf_of.Literal it) = false
 is_attribute_sign (leaf_of.Punct it) = it.char == 35
 is_attribute_sign (leaf_of.Ident it) = false
 
--- brackets stand first
+-- brackets come first
 abbrev pub is_at_brackets : Forest → Bool
 is_at_brackets end = false
 is_at_brackets (leaf it rest) = false
 is_at_brackets (node delimiter children rest) = is_bracket delimiter.kind
 
--- an attribute stands first: `#` and brackets
+-- an attribute comes first: `#` and brackets
 abbrev pub is_at_attribute : Forest → Bool
 is_at_attribute end = false
 is_at_attribute (leaf (leaf_of.Literal it) rest) = false
@@ -34,7 +34,7 @@ is_at_attribute (leaf (leaf_of.Punct it) rest) = (it.char == 35) && is_at_bracke
 is_at_attribute (leaf (leaf_of.Ident it) rest) = false
 is_at_attribute (node delimiter children rest) = false
 
--- how many trees the attributes are that stand first
+-- the number of trees of the attributes that come first
 abbrev pub attributes_len : Forest → ℕ
 attributes_len end = 0
 attributes_len (node delimiter children rest) = 0
@@ -42,7 +42,7 @@ attributes_len (leaf it end) = 0
 attributes_len (leaf it (leaf next rest)) = 0
 attributes_len (leaf it (node delimiter children rest)) = if is_attribute_sign it && is_bracket delimiter.kind then attribute_len + attributes_len rest else 0
 
--- a condition stands first
+-- a condition comes first
 abbrev pub is_at_condition : Forest → Bool
 is_at_condition trees = is_at_punct (codes "#") trees && is_at_attribute_of (codes "cfg") (after_tree trees)
 
@@ -51,7 +51,7 @@ abbrev pub before_if : (is_there : Bool) → (trees others : Forest) → Forest
 before_if true trees others = join trees others
 before_if false trees others = others
 
--- the conditions among the attributes that stand first
+-- the conditions among the attributes that come first
 abbrev pub conditions_of : Forest → Forest
 conditions_of end = end
 conditions_of (node delimiter children rest) = end
@@ -62,7 +62,7 @@ conditions_of (leaf it (node delimiter children rest)) =
     then before_if (is_at_condition (leaf it (node delimiter children rest))) (leaf it (node delimiter children end)) (conditions_of rest)
     else end
 
--- the first of them does, where a statement or an item may begin
+-- the first condition comes first, at the beginning of a statement or an item
 abbrev pub begins_condition : Position → Forest → Bool
 begins_condition position trees = position.is_start && (not position.is_conditional && is_at_condition trees)
 
@@ -70,14 +70,14 @@ begins_condition position trees = position.is_start && (not position.is_conditio
 abbrev pub with_attributes : (len : ℕ) → Call → Call
 with_attributes len it = record it { attributes = len; len = len + it.len }
 
--- what stands behind so many trees of attributes, before these trees: a call that is a statement or an item has the attributes as a part
+-- what follows so many trees of attributes, before these trees: a call that is a statement or an item has the attributes as a part
 abbrev pub standing : Position → (attributes : ℕ) → (trees : Forest) → Item → Item
 standing position attributes trees (defines it) = other
 standing position attributes trees (calls it) =
     if is_statement it.delimiter.kind (after_trees it.len trees) position then calls (with_attributes attributes it) else other
 standing position attributes trees other = other
 
--- what stands first at a position: the attributes from the first condition on are a part of the call under it
+-- what comes first at a position: a call under a condition contains the attributes from the first condition on
 abbrev pub item_at : (root : List ℕ) → Position → Forest → Item
 item_at root position trees =
     if begins_condition position trees

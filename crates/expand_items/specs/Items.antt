@@ -1,4 +1,4 @@
--- What stands first among siblings: a definition of a macro, a call of one, or something else.
+-- What comes first among siblings: a definition of a macro, a call of one, or something else.
 use Rattle.std.specs.Prelude.{ℕ, ◌+◌, ◌==◌, ◌&&◌, ◌||◌, not, Bool, true, false, List, Option, None, Some, codes, if◌then◌else◌}
 use Rattle.tt.specs.Expectations.{first_leaf_as, as_ident_or_underscore}
 use Rattle.tt.specs.Forest.{Forest, end, leaf, node}
@@ -18,15 +18,15 @@ use Rattle.expand_items.specs.declared.item.Item.TheVariants as item_of
 use Rattle.expand_items.specs.Keywords.{is_keyword}
 use Rattle.mbe_pattern.specs.Units.{is_at_word, is_brace, is_at_punct, unit_size}
 
--- a definition of a macro: its name, the trees of its arms under a delimiter, and how many trees it is
+-- a definition of a macro: its name, the trees of its arms under a delimiter, and its number of trees
 pub record Definition : Type 0 where
   pub name : Ident
   pub delimiter : Delimiter
   pub arms : Forest
   pub len : ℕ
 
--- a call of a macro: how many trees of attributes are a part of it, its name, whether that is looked for elsewhere than among the macros in
--- scope, the input under a delimiter, and how many trees it is, with the attributes
+-- a call of a macro: the number of trees of attributes that are a part of it, its name, whether that is looked for elsewhere than among the
+-- macros in scope, the input under a delimiter, and its number of trees, with the attributes
 pub record Call : Type 0 where
   pub attributes : ℕ
   pub name : Ident
@@ -35,7 +35,7 @@ pub record Call : Type 0 where
   pub input : Forest
   pub len : ℕ
 
--- what stands first among siblings
+-- what comes first among siblings
 pub data Item : Type 0 where
   defines : Definition → Item
   calls : Call → Item
@@ -51,22 +51,22 @@ abbrev pub unless_keyword : Option Ident → Option Ident
 unless_keyword None = None
 unless_keyword (Some it) = if may_name it.is_raw it.sym then Some it else None
 
--- the name of a macro that stands first
+-- the name of a macro that comes first
 abbrev pub name_in : Forest → Option Ident
 name_in trees = unless_keyword (first_leaf_as as_ident_or_underscore trees)
 
--- how many trees a definition is: the `;` behind parentheses or brackets is one of them
+-- the number of trees of a definition: the `;` behind parentheses or brackets is one of them
 abbrev pub definition_len : DelimiterKind → (behind : Forest) → ℕ
 definition_len kind behind = if is_brace kind then 4 else (if is_at_punct (codes ";") behind then 5 else 4)
 
--- the definition of a name, where a subtree stands first behind that
+-- the definition of a name, if a subtree follows the name
 abbrev pub defined_as : Ident → Forest → Option Definition
 defined_as name end = None
 defined_as name (leaf it rest) = None
 defined_as name (node delimiter children rest) =
     Some (record { name = name; delimiter = delimiter; arms = children; len = definition_len delimiter.kind rest })
 
--- the same, where there is a name
+-- the same, if there is a name
 abbrev pub definition_from : Option Ident → Forest → Option Definition
 definition_from None trees = None
 definition_from (Some name) trees = defined_as name trees
@@ -75,21 +75,21 @@ definition_from (Some name) trees = defined_as name trees
 abbrev pub definition_behind : Forest → Option Definition
 definition_behind trees = definition_from (name_in trees) (after_tree trees)
 
--- the definition that stands first: `macro_rules`, `!`, a name and a subtree
+-- the definition that comes first: `macro_rules`, `!`, a name and a subtree
 abbrev pub definition_in : Forest → Option Definition
 definition_in trees =
     if is_at_word (codes "macro_rules") trees
     then (if is_at_punct (codes "!") (after_tree trees) then definition_behind (after_tree (after_tree trees)) else None)
     else None
 
--- the call of a name, where a subtree stands first behind the `!`, and so many trees before the name are of it
+-- the call of a name, if a subtree follows the `!`; so many trees before the name are a part of it
 abbrev pub called_as : (before : ℕ) → (is_elsewhere : Bool) → Ident → Forest → Option Call
 called_as before is_elsewhere name end = None
 called_as before is_elsewhere name (leaf it rest) = None
 called_as before is_elsewhere name (node delimiter children rest) =
     Some (record { attributes = 0; name = name; is_elsewhere = is_elsewhere; delimiter = delimiter; input = children; len = before + 3 })
 
--- the same, where there are a name and a `!`
+-- the same, if there are a name and a `!`
 abbrev pub call_from : (before : ℕ) → (is_elsewhere : Bool) → Option Ident → (is_call : Bool) → Forest → Option Call
 call_from before is_elsewhere None is_call trees = None
 call_from before is_elsewhere (Some name) false trees = None
@@ -100,21 +100,21 @@ abbrev pub call_behind : (before : ℕ) → (is_elsewhere : Bool) → Forest →
 call_behind before is_elsewhere trees =
     call_from before is_elsewhere (name_in trees) (is_at_punct (codes "!") (after_tree trees)) (after_trees 2 trees)
 
--- `::` stands first, as one token
+-- `::` comes first, as one token
 abbrev pub is_at_colons : Forest → Bool
 is_at_colons trees = if unit_size trees == 2 then is_at_punct (codes ":") trees && is_at_punct (codes ":") (after_tree trees) else false
 
--- the root of the crate stands first: `crate`, or the word that stands for it
+-- the root of the crate comes first: `crate`, or the root's word
 abbrev pub is_at_root : (root : List ℕ) → Forest → Bool
 is_at_root root trees = is_at_word (codes "crate") trees || is_at_word root trees
 
--- the call that stands first: with `::` before its name, which is looked for elsewhere then; with the crate's root and `::`; or with nothing
+-- the call that comes first: with `::` before its name, which is then looked for elsewhere; with the crate's root and `::`; or with nothing
 abbrev pub call_in : (root : List ℕ) → Forest → Option Call
 call_in root trees =
     if is_at_colons trees then call_behind 2 true (after_trees 2 trees)
     else (if is_at_root root trees && is_at_colons (after_tree trees) then call_behind 3 false (after_trees 3 trees) else call_behind 0 false trees)
 
--- a `!` or a `:` stands first
+-- a `!` or a `:` comes first
 abbrev pub is_at_sign : Forest → Bool
 is_at_sign end = false
 is_at_sign (leaf (leaf_of.Literal it) rest) = false
@@ -122,7 +122,7 @@ is_at_sign (leaf (leaf_of.Punct it) rest) = (it.char == 33) || (it.char == 58)
 is_at_sign (leaf (leaf_of.Ident it) rest) = false
 is_at_sign (node delimiter children rest) = false
 
--- a definition or a call may stand first: an ident and one of these do, or a `:`
+-- a definition or a call may come first: an ident and one of these signs, or a `:`
 abbrev pub may_begin_item : Forest → Bool
 may_begin_item end = false
 may_begin_item (leaf (leaf_of.Literal it) rest) = false
@@ -136,11 +136,11 @@ item_from (Some it) found = defines it
 item_from None (Some it) = calls it
 item_from None None = other
 
--- what stands first
+-- what comes first
 abbrev pub item_in : (root : List ℕ) → Forest → Item
 item_in root trees = item_from (definition_in trees) (call_in root trees)
 
--- what the code's values mean
+-- what the values of the code mean
 abbrev pub definition_of : definition.Definition → Definition
 definition_of it = record { name = it.name; delimiter = it.header.delimiter; arms = rest_of it.arms; len = it.len }
 

@@ -2,13 +2,13 @@
 use Rattle.std.specs.Prelude.{ℕ, Bool, ◌||◌, List, [], ◌∷◌, codes, bytes_eq}
 use Rattle.std.specs.List.{list_any}
 
--- words that stand in the heads of items
+-- words that are used in the heads of items
 abbrev pub item_words : List (List ℕ)
 item_words =
     codes "const" ∷ codes "enum" ∷ codes "extern" ∷ codes "fn" ∷ codes "impl" ∷ codes "mod" ∷ codes "pub" ∷ codes "static"
     ∷ codes "struct" ∷ codes "trait" ∷ codes "type" ∷ codes "unsafe" ∷ codes "use" ∷ codes "where" ∷ []
 
--- words that stand in statements, expressions, patterns and types, as `_` does
+-- words that are used in statements, expressions, patterns and types, as `_` is
 abbrev pub body_words : List (List ℕ)
 body_words =
     codes "_" ∷ codes "as" ∷ codes "async" ∷ codes "await" ∷ codes "break" ∷ codes "continue" ∷ codes "crate" ∷ codes "dyn"
@@ -22,7 +22,7 @@ reserved_words =
     codes "abstract" ∷ codes "become" ∷ codes "box" ∷ codes "do" ∷ codes "final" ∷ codes "macro" ∷ codes "override" ∷ codes "priv"
     ∷ codes "try" ∷ codes "typeof" ∷ codes "unsized" ∷ codes "virtual" ∷ codes "yield" ∷ []
 
--- whether a word is one of these
+-- a word is one of these
 abbrev pub is_item_word : List ℕ → Bool
 is_item_word word = list_any (bytes_eq word) item_words
 
@@ -32,6 +32,6 @@ is_body_word word = list_any (bytes_eq word) body_words
 abbrev pub is_reserved_word : List ℕ → Bool
 is_reserved_word word = list_any (bytes_eq word) reserved_words
 
--- whether it is a keyword of the edition 2024, a reserved one too, or `_`
+-- the word is a keyword of the edition 2024, a reserved one too, or `_`
 abbrev pub is_keyword : List ℕ → Bool
 is_keyword word = is_item_word word || (is_body_word word || is_reserved_word word)

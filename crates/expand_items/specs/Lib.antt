@@ -1,7 +1,7 @@
 -- Items and statements under conditions.
 pub mod Parts
 pub mod Spreads
--- What stands among siblings, as far as macros are asked for.
+-- What comes among siblings, as far as macros need it.
 pub mod Attributes
 pub mod Items
 pub mod Keywords

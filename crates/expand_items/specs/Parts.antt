@@ -1,4 +1,4 @@
--- Trees told apart into items, or into statements.
+-- Splitting trees into items, or into statements.
 use Rattle.std.specs.Prelude.{◌≡◌, ℕ, suc, not, Bool, true, false, List, [], ◌∷◌, Option, None, Some, codes, option_map, if◌then◌else◌}
 use Rattle.tt.specs.Forest.{Forest, end}
 use Rattle.tt.specs.Gluing.{after_trees}
@@ -17,15 +17,15 @@ abbrev pub or_zero : Option ℕ → ℕ
 or_zero None = 0
 or_zero (Some n) = n
 
--- the fragment takes so many of these trees, from the first on; none where it is none of them
+-- the fragment takes so many of these trees, from the first on, or zero if it takes none
 abbrev pub Takes : GrammarFragment → Forest → (taken : ℕ) → Type 0
 Takes which trees taken = (count : Option ℕ) × Reaches which trees count × (taken ≡ or_zero count)
 
--- `let` stands first, behind attributes
+-- `let` comes first, behind attributes
 abbrev pub is_at_let : Forest → Bool
 is_at_let trees = is_at_word (codes "let") (after_trees (attributes_len trees) trees)
 
--- how many trees a statement is of which so many are taken: the `;` behind it is one of them
+-- the number of trees of a statement that takes so many: the `;` behind it is one of them
 abbrev pub statement_len : (taken : ℕ) → Forest → ℕ
 statement_len taken trees = if is_at_punct (codes ";") (after_trees taken trees) then suc taken else taken
 
@@ -33,11 +33,11 @@ statement_len taken trees = if is_at_punct (codes ";") (after_trees taken trees)
 abbrev pub item_part : (taken : ℕ) → Part
 item_part taken = record { len = taken; is_expression = false }
 
--- a statement of which so many are taken: it is an expression where it is no `let`
+-- a statement that takes so many trees: it is an expression if it is no `let`
 abbrev pub statement_part : (taken : ℕ) → Forest → Part
 statement_part taken trees = record { len = statement_len taken trees; is_expression = not (is_at_let trees) }
 
--- what stands first among such siblings: an item; and where they are no items, else a statement; or neither does
+-- what comes first among such siblings: an item; else, if they are no items, a statement; or neither
 pub data IsPart : Siblings → Forest → Option Part → Type 0 where
   item : {its : Siblings} {trees : Forest} {more : ℕ} → Takes fragment.Item trees (suc more) → IsPart its trees (Some (item_part (suc more)))
   no_item : {its : Siblings} {trees : Forest} → is_items its ≡ true → Takes fragment.Item trees 0 → IsPart its trees None

@@ -1,4 +1,4 @@
--- What stands before a tree among its siblings, as far as it matters to it.
+-- The position of a tree among its siblings, as far as it matters to the tree.
 use Rattle.std.specs.Prelude.{ℕ, ◌==◌, ◌&&◌, ◌||◌, not, Bool, true, false, List, codes, bytes_eq, if◌then◌else◌}
 use Rattle.tt.specs.Forest.{Forest, end, leaf, node}
 use Rattle.tt.specs.Siblings.{is_end}
@@ -17,19 +17,20 @@ use Rattle.expand_items.specs.declared.position.Siblings.TheVariants as siblings
 use Rattle.mbe_pattern.specs.Units.{is_at_word, is_brace, is_at_punct}
 use Rattle.mbe_pattern.specs.Spelling.{is_parenthesis}
 
--- they are statements or items
+-- these siblings are statements or items
 abbrev pub is_block : Siblings → Bool
 is_block siblings.Items = true
 is_block siblings.Statements = true
 is_block siblings.Others = false
 
--- they are items
+-- these siblings are items
 abbrev pub is_items : Siblings → Bool
 is_items siblings.Items = true
 is_items siblings.Statements = false
 is_items siblings.Others = false
 
--- behind a word more: the first of `mod`, `impl`, `trait` and `fn` tells what the braces of an item hold, and `extern` where none of them follows
+-- with one word more: the first of `mod`, `impl`, `trait` and `fn` says what the braces of
+-- an item contain, and `extern` says it if none of them follows
 abbrev pub head_told : (word : List ℕ) → Head → Head
 head_told word it =
     if bytes_eq word (codes "mod") || (bytes_eq word (codes "impl") || bytes_eq word (codes "trait")) then head.Items
@@ -41,7 +42,7 @@ head_behind word head.Foreign = head_told word head.Foreign
 head_behind word head.Items = head.Items
 head_behind word head.Function = head.Function
 
--- what the braces behind it hold
+-- what the braces behind it contain
 abbrev pub held_by : Head → Siblings
 held_by head.Unknown = siblings.Statements
 held_by head.Foreign = siblings.Items
@@ -60,25 +61,25 @@ is_bracket delimited.InvisibleOpaque = false
 abbrev pub is_attribute_of : (word : List ℕ) → DelimiterKind → (inside : Forest) → Bool
 is_attribute_of word kind inside = is_bracket kind && is_at_word word inside
 
--- they stand first
+-- such brackets come first
 abbrev pub is_at_attribute_of : (word : List ℕ) → Forest → Bool
 is_at_attribute_of word end = false
 is_at_attribute_of word (leaf it rest) = false
 is_at_attribute_of word (node delimiter children rest) = is_attribute_of word delimiter.kind children
 
--- before the first of trees that are such siblings
+-- before the first of such siblings
 abbrev pub begun : Siblings → Position
 begun its =
     record { siblings = its; is_start = is_block its; head = head.Unknown; is_used = false; is_conditional = false; is_attribute = false }
 
--- what the trees in brackets of a kind are, and what stands before the first of them
+-- what the trees in brackets of a kind are, and the position before the first of them
 abbrev pub siblings_in : DelimiterKind → Position → Siblings
 siblings_in kind it = if is_brace kind then held_by it.head else siblings.Others
 
 abbrev pub first_in : DelimiterKind → Position → Position
 first_in kind it = begun (siblings_in kind it)
 
--- behind what ends a statement or an item, or does not
+-- the position behind trees that end a statement or an item if `ends`
 abbrev pub behind : (ends : Bool) → Position → Position
 behind ends it =
     record {
@@ -99,12 +100,12 @@ behind_attribute_sign trees it =
       is_attribute = true;
     }
 
--- behind a punct, before these trees: `!` behind `#` is of an attribute, and `;` ends a statement or an item
+-- behind a punct, before these trees: `!` behind `#` is part of an attribute, and `;` ends a statement or an item
 abbrev pub behind_punct : (char : ℕ) → Forest → Position → Position
 behind_punct char trees it =
     if char == 35 then behind_attribute_sign trees it else (if char == 33 && it.is_attribute then it else behind (char == 59) it)
 
--- what the words tell behind an ident, which is a word where it is not raw
+-- what the words say behind an ident, which is a word if it is not raw
 abbrev pub head_behind_ident : IdentIsRaw → (word : List ℕ) → Head → Head
 head_behind_ident raw.No word it = head_behind word it
 head_behind_ident raw.Yes word it = it
@@ -120,23 +121,24 @@ behind_leaf (leaf_of.Literal literal) trees it = behind false it
 behind_leaf (leaf_of.Punct punct) trees it = behind_punct punct.char trees it
 behind_leaf (leaf_of.Ident ident) trees it = behind_ident ident it
 
--- behind a subtree of a kind: an attribute changes nothing, parentheses leave `#[macro_use]` in force, and braces end a statement or an item
+-- behind a subtree of a kind: an attribute changes nothing, parentheses leave
+-- `#[macro_use]` in force, and braces end a statement or an item
 abbrev pub behind_subtree : DelimiterKind → Position → Position
 behind_subtree kind it =
     if it.is_attribute then record it { is_attribute = false } else record (behind (is_brace kind) it) { is_used = it.is_used && is_parenthesis kind }
 
--- what is defined in a subtree of a kind stays in scope behind it: in braces under `#[macro_use]`
+-- what a subtree of a kind defines stays in scope behind it: in braces under `#[macro_use]`
 abbrev pub keeps_macros : DelimiterKind → Position → Bool
 keeps_macros kind it = it.is_used && (not it.is_attribute && is_brace kind)
 
--- a call whose subtree is of a kind is a statement or an item, where these trees stand behind it: it begins where one may, and ends one
+-- a call whose subtree is of a kind is a statement or an item, if these trees follow it: it begins at the start of one, and ends one
 abbrev pub is_statement : DelimiterKind → (behind : Forest) → Position → Bool
 is_statement kind behind it = it.is_start && (is_brace kind || (is_end behind || is_at_punct (codes ";") behind))
 
--- the `;` behind a call is a part of it: among items, where none may stand alone
+-- the `;` behind a call is a part of it: among items, because no `;` may come alone there
 abbrev pub takes_semicolon : DelimiterKind → (behind : Forest) → Position → Bool
 takes_semicolon kind behind it = is_items it.siblings && (it.is_start && (not (is_brace kind) && is_at_punct (codes ";") behind))
 
--- what the trees that come of a call are among: its siblings, where it is a statement or an item
+-- what the trees that a call expands to are: its siblings, if it is a statement or an item
 abbrev pub siblings_of_call : DelimiterKind → (behind : Forest) → Position → Siblings
 siblings_of_call kind behind it = if is_statement kind behind it then it.siblings else siblings.Others

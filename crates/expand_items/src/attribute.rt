@@ -10,10 +10,10 @@ use crate::position::{Position, is_at_attribute_of};
 use mbe_pattern::pass;
 use tt::{DelimiterKind, Leaf, TtElement, TtIter};
 
-/// How many trees an attribute is: `#` and brackets.
+/// The number of trees of an attribute: `#` and brackets.
 const ATTRIBUTE_LEN: usize = 2;
 
-// Whether brackets stand first.
+// Returns whether the first tree is brackets.
 fn is_at_brackets(mut trees: TtIter<'_>) -> bool
     ensures { result ≡ is_at_brackets (rest_of trees.entry) }
 {
@@ -23,7 +23,7 @@ fn is_at_brackets(mut trees: TtIter<'_>) -> bool
     }
 }
 
-/// Whether an attribute stands first.
+/// Returns whether an attribute comes first.
 pub fn is_attribute(mut trees: TtIter<'_>) -> bool
     ensures { result ≡ is_at_attribute (rest_of trees.entry) }
 {
@@ -33,7 +33,7 @@ pub fn is_attribute(mut trees: TtIter<'_>) -> bool
     }
 }
 
-/// How many trees the attributes are that stand first.
+/// Returns the number of trees of the attributes that come first.
 pub fn attributes_len(mut trees: TtIter<'_>) -> usize
     ensures { result ≡ attributes_len (rest_of trees.entry) }
 {
@@ -45,14 +45,14 @@ pub fn attributes_len(mut trees: TtIter<'_>) -> usize
     len
 }
 
-/// Whether a condition, `#[cfg(..)]`, stands first.
+/// Returns whether a condition, `#[cfg(..)]`, comes first.
 pub fn is_condition(mut attribute: TtIter<'_>) -> bool
     ensures { result ≡ is_at_condition (rest_of attribute.entry) }
 {
     attribute.expect_char('#').is_ok() && is_at_attribute_of("cfg", attribute)
 }
 
-// The call behind so many trees of attributes, with those as a part.
+// Returns the call with the attributes before it as a part of it.
 fn with_attributes<'a>(attributes: usize, call: Call<'a>) -> Call<'a>
     requires { attributes + call.len < 2 ^ 64 }
     ensures { call_of result ≡ with_attributes attributes (call_of call.entry) }
@@ -64,7 +64,7 @@ fn with_attributes<'a>(attributes: usize, call: Call<'a>) -> Call<'a>
     }
 }
 
-// What stands behind so many trees of attributes, before these trees: a call, if it is a statement or an item.
+// Returns what follows the attributes: a call, with the attributes as a part, if it is a statement or an item.
 fn standing<'a>(
     position: Position,
     attributes: usize,
@@ -87,7 +87,7 @@ fn standing<'a>(
     }
 }
 
-/// What stands first at a position: the attributes from the first condition on are a part of the call under it.
+/// Returns what comes first at a position: a call under a condition contains the attributes from the first condition on.
 pub fn item_at<'a>(position: Position, mut trees: TtIter<'a>, root: &str) -> Item<'a>
     ensures { item_meant result ≡ item_at root.now position (rest_of trees.entry) }
 {

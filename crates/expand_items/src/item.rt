@@ -1,4 +1,4 @@
-//! What stands first among siblings: a definition of a macro, a call of one, or something else.
+//! What comes first among siblings: a definition of a macro, a call of one, or something else.
 ghost use Rattle.std.specs.Prelude.{◌≡◌, ◌≤◌, ◌∷◌, [], option_map};
 ghost use Rattle.tt.specs.Iters.{rest_of};
 ghost use Rattle.tt.specs.Moves.{after_tree};
@@ -9,37 +9,37 @@ use crate::keyword::is_keyword;
 use mbe_pattern::{is_at_punct, is_at_word, pass, unit_size};
 use tt::{DelimiterKind, Ident, IdentIsRaw, Leaf, Subtree, TtElement, TtIter};
 
-/// How many trees `::` is.
+/// The number of trees of `::`.
 const COLONS_LEN: usize = 2;
 
-/// How many trees `crate::` is.
+/// The number of trees of `crate::`.
 const ROOT_LEN: usize = 3;
 
-/// A definition of a macro: `macro_rules! NAME` and a subtree that holds arms, and the `;` behind parentheses or brackets.
+/// A definition of a macro: `macro_rules! NAME` and a subtree that contains the arms, and the `;` behind parentheses or brackets.
 #[derive(Drop)]
 pub struct Definition<'a> {
     pub name: Ident,
     pub header: Subtree,
     pub arms: TtIter<'a>,
-    /// How many trees it is.
+    /// The number of its trees.
     pub len: usize,
 }
 
 /// A call of a macro: a name, `!` and a subtree.
 #[derive(Drop)]
 pub struct Call<'a> {
-    /// How many of its trees are the attributes before it: none, unless it is a statement or an item under a condition, `#[cfg(..)]`.
+    /// The number of its trees that are attributes before it: zero, unless it is a statement or an item under a condition, `#[cfg(..)]`.
     pub attributes: usize,
     pub name: Ident,
-    /// Whether `::` stands before the name, and before that something else than the root of the crate.
+    /// Whether `::` precedes the name, and something else than the root of the crate precedes that.
     pub is_elsewhere: bool,
     pub header: Subtree,
     pub input: TtIter<'a>,
-    /// How many trees it is, with the attributes.
+    /// The number of its trees, with the attributes.
     pub len: usize,
 }
 
-/// What stands first among siblings.
+/// What comes first among siblings.
 #[derive(Drop)]
 pub enum Item<'a> {
     Definition(Definition<'a>),
@@ -48,7 +48,7 @@ pub enum Item<'a> {
     Other,
 }
 
-// Takes the next tree: an ident that may name a macro.
+// Takes the next tree, and returns it if it is an ident that may name a macro.
 fn take_name(trees: &mut TtIter<'_>) -> Option<Ident>
     ensures answer { result ≡ name_in (rest_of trees.old) }
     ensures rest { rest_of trees.new ≡ after_tree (rest_of trees.old) }
@@ -68,7 +68,7 @@ fn take_name(trees: &mut TtIter<'_>) -> Option<Ident>
     }
 }
 
-// How many trees a definition is whose subtree is of a kind, behind which the trees stand.
+// Returns the number of trees of a definition whose subtree is of a kind and precedes these trees.
 fn definition_len(kind: DelimiterKind, trees: TtIter<'_>) -> usize
     ensures { result ≡ definition_len kind (rest_of trees.entry) }
 {
@@ -79,7 +79,7 @@ fn definition_len(kind: DelimiterKind, trees: TtIter<'_>) -> usize
     }
 }
 
-// The definition of a name, where a subtree stands first behind that.
+// Returns the definition of a name, if a subtree follows the name.
 fn defined_as<'a>(name: Ident, mut trees: TtIter<'a>) -> Option<Definition<'a>>
     ensures { option_map definition_of result ≡ defined_as name (rest_of trees.entry) }
 {
@@ -94,7 +94,7 @@ fn defined_as<'a>(name: Ident, mut trees: TtIter<'a>) -> Option<Definition<'a>>
     })
 }
 
-// The definition whose name stands first, if one does.
+// Returns the definition whose name comes first, if there is one.
 fn definition_behind<'a>(mut trees: TtIter<'a>) -> Option<Definition<'a>>
     ensures { option_map definition_of result ≡ definition_behind (rest_of trees.entry) }
 {
@@ -102,7 +102,7 @@ fn definition_behind<'a>(mut trees: TtIter<'a>) -> Option<Definition<'a>>
     defined_as(name, trees)
 }
 
-/// The definition that stands first, if one does.
+/// Returns the definition that comes first, if there is one.
 pub fn definition_in<'a>(mut trees: TtIter<'a>) -> Option<Definition<'a>>
     ensures { option_map definition_of result ≡ definition_in (rest_of trees.entry) }
 {
@@ -116,7 +116,7 @@ pub fn definition_in<'a>(mut trees: TtIter<'a>) -> Option<Definition<'a>>
     definition_behind(trees)
 }
 
-// A name, `!` and a subtree, if they stand first behind so many trees of the call.
+// Returns the call of a name, `!` and a subtree that come first, if there is one; `before` trees of the call precede them.
 fn call_behind<'a>(mut trees: TtIter<'a>, before: usize, is_elsewhere: bool) -> Option<Call<'a>>
     requires { before ≤ ROOT_LEN }
     ensures { option_map call_of result ≡ call_behind before is_elsewhere (rest_of trees.entry) }
@@ -138,7 +138,7 @@ fn call_behind<'a>(mut trees: TtIter<'a>, before: usize, is_elsewhere: bool) -> 
     })
 }
 
-// Whether `::` stands first as one token.
+// Returns whether `::` comes first as one token.
 fn is_at_colons(mut trees: TtIter<'_>) -> bool
     ensures { result ≡ is_at_colons (rest_of trees.entry) }
 {
@@ -151,14 +151,14 @@ fn is_at_colons(mut trees: TtIter<'_>) -> bool
     is_at_punct(trees, ':')
 }
 
-// Whether the root of the crate stands first: `crate`, or the word that stands for it.
+// Returns whether the root of the crate comes first: `crate`, or the root's word.
 fn is_at_root(trees: TtIter<'_>, root: &str) -> bool
     ensures { result ≡ is_at_root root.now (rest_of trees.entry) }
 {
     is_at_word(trees.remaining().iter(), "crate") || is_at_word(trees, root)
 }
 
-// The call that stands first, if one does.
+// Returns the call that comes first, if there is one.
 fn call_in<'a>(mut trees: TtIter<'a>, root: &str) -> Option<Call<'a>>
     ensures { option_map call_of result ≡ call_in root.now (rest_of trees.entry) }
 {
@@ -175,7 +175,7 @@ fn call_in<'a>(mut trees: TtIter<'a>, root: &str) -> Option<Call<'a>>
     call_behind(trees, 0, false)
 }
 
-// Whether a `!` or a `:` stands first.
+// Returns whether a `!` or a `:` comes first.
 fn is_at_sign(mut trees: TtIter<'_>) -> bool
     ensures { result ≡ is_at_sign (rest_of trees.entry) }
 {
@@ -185,7 +185,7 @@ fn is_at_sign(mut trees: TtIter<'_>) -> bool
     }
 }
 
-// Whether a definition or a call may begin so: two trees tell of most places that none does, without a look at words.
+// Returns whether a definition or a call may begin here. In most places two trees are enough to rule out both, without a look at words.
 fn may_begin_item(mut trees: TtIter<'_>) -> bool
     ensures { result ≡ may_begin_item (rest_of trees.entry) }
 {
@@ -196,7 +196,7 @@ fn may_begin_item(mut trees: TtIter<'_>) -> bool
     }
 }
 
-/// What stands first.
+/// Returns what comes first.
 pub fn item_in<'a>(trees: TtIter<'a>, root: &str) -> Item<'a>
     ensures { item_meant result ≡ item_in root.now (rest_of trees.entry) }
 {

@@ -2,7 +2,7 @@
 ghost use Rattle.std.specs.Prelude.{◌≡◌};
 ghost use Rattle.expand_items.specs.Keywords.{is_keyword, is_item_word, is_body_word, is_reserved_word};
 
-// Whether a word stands in the heads of items.
+// Returns whether a word is used in the heads of items.
 fn is_item_word(word: &str) -> bool
     ensures { result ≡ is_item_word word.now }
 {
@@ -25,7 +25,7 @@ fn is_item_word(word: &str) -> bool
     )
 }
 
-// Whether a word stands in statements, expressions, patterns and types, as `_` does.
+// Returns whether a word is used in statements, expressions, patterns and types, as `_` is.
 fn is_body_word(word: &str) -> bool
     ensures { result ≡ is_body_word word.now }
 {
@@ -59,7 +59,7 @@ fn is_body_word(word: &str) -> bool
     )
 }
 
-// Whether a word is reserved for later editions, or for none.
+// Returns whether a word is reserved for later editions, or for none.
 fn is_reserved_word(word: &str) -> bool
     ensures { result ≡ is_reserved_word word.now }
 {
@@ -81,7 +81,7 @@ fn is_reserved_word(word: &str) -> bool
     )
 }
 
-/// Whether a word is a keyword of the edition 2024, a reserved one too, or `_`.
+/// Returns whether a word is a keyword of the edition 2024, a reserved one too, or `_`.
 pub(crate) fn is_keyword(word: &str) -> bool
     ensures { result ≡ is_keyword word.now }
 {

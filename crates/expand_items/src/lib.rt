@@ -7,7 +7,7 @@
 //! call. `parts` splits trees into items or statements by `reach` of `mbe_grammar`, and `put_under` adds them to a builder with the
 //! conditions before each part but the first.
 //!
-//! What contracts speak of is in `specs/` of this crate.
+//! The definitions that contracts use are in `specs/` of this crate.
 #![tactic(auto)]
 
 mod attribute;

@@ -1,4 +1,4 @@
-//! Trees told apart into items, or into statements.
+//! Splitting trees into items, or into statements.
 ghost use Rattle.std.specs.Prelude.{◌≡◌, IfOk, option_map};
 ghost use Rattle.tt.specs.Iters.{rest_of};
 ghost use Rattle.tt.specs.Views.{trees_of};
@@ -14,13 +14,13 @@ use tt::{TokenTreesView, TtIter};
 /// An item or a statement.
 #[derive(Debug, Clone, Copy, PartialEq, Eq)]
 pub struct Part {
-    /// How many trees it is, with the `;` behind a statement.
+    /// The number of its trees, with the `;` behind a statement.
     pub len: usize,
     /// Whether it is a statement that is an expression.
     pub is_expression: bool,
 }
 
-// How many of the trees the fragment takes; none where it is none of them.
+// Returns the number of trees that the fragment takes, or zero if it takes none.
 fn taken(alloc: Global, fragment: GrammarFragment, trees: TtIter<'_>) -> Result<usize, AllocError>
     ensures { IfOk result (Takes fragment (rest_of trees.entry)) }
 {
@@ -30,7 +30,7 @@ fn taken(alloc: Global, fragment: GrammarFragment, trees: TtIter<'_>) -> Result<
     }
 }
 
-// Whether `let` stands first, behind attributes.
+// Returns whether `let` comes first, behind attributes.
 fn is_at_let(mut trees: TtIter<'_>) -> bool
     ensures { result ≡ is_at_let (rest_of trees.entry) }
 {
@@ -39,7 +39,7 @@ fn is_at_let(mut trees: TtIter<'_>) -> bool
     is_at_word(trees, "let")
 }
 
-// How many trees a statement is of which so many are taken.
+// Returns the number of trees of a statement that takes `taken` trees.
 fn statement_len(taken: usize, mut trees: TtIter<'_>) -> usize
     ensures { result ≡ statement_len taken (rest_of trees.entry) }
 {
@@ -51,7 +51,7 @@ fn statement_len(taken: usize, mut trees: TtIter<'_>) -> usize
     }
 }
 
-// What stands first among such siblings, if an item or a statement does.
+// Returns the first item or statement of such siblings, if there is one.
 fn part_in(
     alloc: Global,
     siblings: Siblings,
@@ -79,7 +79,7 @@ fn part_in(
     }))
 }
 
-/// The items that trees are, or the statements, one behind the other; none where they are no such run.
+/// Splits trees into items or statements, one behind the other; returns `None` if they are no such run.
 pub fn parts(
     alloc: Global,
     siblings: Siblings,

@@ -1,4 +1,4 @@
-//! What stands before a tree among its siblings, as far as it matters to it.
+//! The position of a tree among its siblings, as far as it matters to the tree.
 ghost use Rattle.std.specs.Prelude.{◌≡◌, true};
 ghost use Rattle.tt.specs.Iters.{rest_of};
 ghost use Rattle.expand_items.specs.Positions.{is_block, head_behind, held_by, is_attribute_of, is_at_attribute_of, begun, siblings_in, first_in, behind, behind_attribute_sign, behind_punct, behind_ident, behind_leaf, behind_subtree, keeps_macros, is_statement, takes_semicolon, siblings_of_call};
@@ -8,7 +8,7 @@ use crate::attribute::is_condition;
 use mbe_pattern::{is_at_punct, is_at_word};
 use tt::{DelimiterKind, Ident, IdentIsRaw, Leaf, TtElement, TtIter};
 
-/// What trees are that stand side by side.
+/// The kind of the trees that lie side by side.
 #[derive(Debug, Clone, Copy, PartialEq, Eq)]
 pub enum Siblings {
     /// Items, as those of a file or a module are.
@@ -19,37 +19,37 @@ pub enum Siblings {
     Others,
 }
 
-// What the words of an item that is begun tell of the braces behind them.
+// What the words of the item that has begun say of the braces behind them.
 #[derive(Clone, Copy)]
 enum Head {
     /// Nothing.
     Unknown,
-    /// `extern` was read: they hold items, unless it is a function.
+    /// `extern` was read: the braces contain items, unless it is a function.
     Foreign,
-    /// `mod`, `impl` or `trait` was read first: they hold items.
+    /// `mod`, `impl` or `trait` was read first: the braces contain items.
     Items,
-    /// `fn` was read first: they hold statements.
+    /// `fn` was read first: the braces contain statements.
     Function,
 }
 
-/// What stands before a tree among its siblings, as far as it matters to it.
+/// The position of a tree among its siblings, as far as it matters to the tree.
 #[derive(Clone, Copy)]
 pub struct Position {
     siblings: Siblings,
     /// Whether a statement or an item may begin here.
     is_start: bool,
-    /// What the words since the beginning of the item tell.
+    /// What the words since the beginning of the item say.
     head: Head,
-    /// Whether `#[macro_use]` stands before, with nothing between but attributes, idents and parentheses.
+    /// Whether `#[macro_use]` precedes, with nothing but attributes, idents and parentheses between.
     is_used: bool,
-    /// Whether a condition, `#[cfg(..)]`, stands before, with nothing between but attributes.
+    /// Whether a condition, `#[cfg(..)]`, precedes, with nothing but attributes between.
     is_conditional: bool,
-    /// Whether `#` or `#!` stands right before.
+    /// Whether `#` or `#!` is the last tree before.
     is_attribute: bool,
 }
 
 impl Siblings {
-    // Whether they are statements or items.
+    // Returns whether these siblings are statements or items.
     fn is_block(self) -> bool
         ensures { result ≡ is_block self }
     {
@@ -61,7 +61,7 @@ impl Siblings {
 }
 
 impl Head {
-    // Behind a word more.
+    // Returns the head with one word more.
     fn behind(self, word: &str) -> Head
         ensures { result ≡ head_behind word.now self }
     {
@@ -76,7 +76,7 @@ impl Head {
         }
     }
 
-    // What the braces behind it hold.
+    // Returns what the braces behind it contain.
     fn held(self) -> Siblings
         ensures { result ≡ held_by self }
     {
@@ -87,14 +87,14 @@ impl Head {
     }
 }
 
-// Whether those are brackets that begin with a word.
+// Returns whether these are brackets that begin with a word.
 fn is_attribute_of(word: &str, kind: DelimiterKind, inside: TtIter<'_>) -> bool
     ensures { result ≡ is_attribute_of word.now kind (rest_of inside.entry) }
 {
     kind == DelimiterKind::Bracket && is_at_word(inside, word)
 }
 
-/// Whether such brackets stand first.
+/// Returns whether such brackets come first.
 pub(crate) fn is_at_attribute_of(word: &str, mut trees: TtIter<'_>) -> bool
     ensures { result ≡ is_at_attribute_of word.now (rest_of trees.entry) }
 {
@@ -107,7 +107,7 @@ pub(crate) fn is_at_attribute_of(word: &str, mut trees: TtIter<'_>) -> bool
 }
 
 impl Position {
-    /// Before the first of trees that are such siblings.
+    /// Returns the position before the first of such siblings.
     pub fn begun(siblings: Siblings) -> Position
         ensures { result ≡ begun siblings }
     {
@@ -121,7 +121,7 @@ impl Position {
         }
     }
 
-    // What the trees in brackets of a kind are.
+    // Returns what the trees in brackets of a kind are.
     fn siblings_in(self, kind: DelimiterKind) -> Siblings
         ensures { result ≡ siblings_in kind self }
     {
@@ -132,14 +132,14 @@ impl Position {
         }
     }
 
-    /// Before the first of the trees in brackets of a kind that stand here.
+    /// Returns the position before the first of the trees in brackets of a kind that come here.
     pub fn first_in(self, kind: DelimiterKind) -> Position
         ensures { result ≡ first_in kind self }
     {
         Position::begun(self.siblings_in(kind))
     }
 
-    /// Behind what ends a statement or an item, or does not.
+    /// Returns the position behind trees that end a statement or an item if `ends`.
     pub fn behind(self, ends: bool) -> Position
         ensures { result ≡ behind ends self }
     {
@@ -153,7 +153,7 @@ impl Position {
         }
     }
 
-    // Behind `#`, before these trees.
+    // Returns the position behind `#`, before these trees.
     fn behind_attribute_sign(self, trees: TtIter<'_>) -> Position
         ensures { result ≡ behind_attribute_sign (rest_of trees.entry) self }
     {
@@ -166,7 +166,7 @@ impl Position {
         }
     }
 
-    // Behind a punct, before these trees.
+    // Returns the position behind a punct, before these trees.
     fn behind_punct(self, char: char, trees: TtIter<'_>) -> Position
         ensures { result ≡ behind_punct char (rest_of trees.entry) self }
     {
@@ -179,7 +179,7 @@ impl Position {
         }
     }
 
-    // Behind an ident.
+    // Returns the position behind an ident.
     fn behind_ident(self, ident: &Ident) -> Position
         ensures { result ≡ behind_ident ident.now self }
     {
@@ -196,7 +196,7 @@ impl Position {
         }
     }
 
-    /// Behind a leaf, before these trees.
+    /// Returns the position behind a leaf, before these trees.
     pub fn behind_leaf(self, leaf: &Leaf, trees: TtIter<'_>) -> Position
         ensures { result ≡ behind_leaf leaf.now (rest_of trees.entry) self }
     {
@@ -207,7 +207,7 @@ impl Position {
         }
     }
 
-    /// Behind a subtree of a kind.
+    /// Returns the position behind a subtree of a kind.
     pub fn behind_subtree(self, kind: DelimiterKind) -> Position
         ensures { result ≡ behind_subtree kind self }
     {
@@ -223,14 +223,14 @@ impl Position {
         }
     }
 
-    /// Whether what is defined in a subtree of a kind stays in scope behind it.
+    /// Returns whether what a subtree of a kind defines stays in scope behind it.
     pub fn keeps_macros(self, kind: DelimiterKind) -> bool
         ensures { result ≡ keeps_macros kind self }
     {
         self.is_used && !self.is_attribute && kind == DelimiterKind::Brace
     }
 
-    /// Whether a call whose subtree is of a kind is a statement or an item, where these trees stand behind it.
+    /// Returns whether a call whose subtree is of a kind is a statement or an item, if these trees follow it.
     pub fn is_statement(self, kind: DelimiterKind, behind: TtIter<'_>) -> bool
         ensures { result ≡ is_statement kind (rest_of behind.entry) self }
     {
@@ -238,7 +238,7 @@ impl Position {
             && (kind == DelimiterKind::Brace || behind.is_empty() || is_at_punct(behind, ';'))
     }
 
-    /// Whether the `;` behind such a call is a part of it: among items it is, and none may stand alone there.
+    /// Returns whether the `;` behind such a call is a part of it: it is among items, because no `;` may come alone there.
     pub fn takes_semicolon(self, kind: DelimiterKind, behind: TtIter<'_>) -> bool
         ensures { result ≡ takes_semicolon kind (rest_of behind.entry) self }
     {
@@ -248,7 +248,7 @@ impl Position {
             && is_at_punct(behind, ';')
     }
 
-    /// What the trees that come of such a call are among.
+    /// Returns what the trees that such a call expands to are.
     pub fn siblings_of_call(self, kind: DelimiterKind, behind: TtIter<'_>) -> Siblings
         ensures { result ≡ siblings_of_call kind (rest_of behind.entry) self }
     {
@@ -259,7 +259,7 @@ impl Position {
         }
     }
 
-    /// Whether the first condition of a statement or an item stands first.
+    /// Returns whether the first condition of a statement or an item comes first.
     pub(crate) fn begins_condition(self, trees: TtIter<'_>) -> bool
         ensures { result ≡ begins_condition self (rest_of trees.entry) }
     {

@@ -16,7 +16,7 @@ use mbe_pattern::take;
 use std::alloc::Global;
 use tt::{Delimiter, DelimiterKind, TokenTreesView, TopSubtreeBuilder, TtFault, TtIter};
 
-/// How many trees an attribute is.
+/// The number of trees of an attribute.
 const ATTRIBUTE_LEN: usize = 2;
 
 // Adds an attribute, if it is a condition.
@@ -51,7 +51,7 @@ fn add_conditions(
     Ok(())
 }
 
-// Adds the conditions among attributes that stand before the part of a number: before the first none do.
+// Adds the conditions among attributes before the part of a number. Adds none before the first part.
 fn add_before(
     attributes: TokenTreesView<'_>,
     place: usize,
@@ -67,7 +67,7 @@ fn add_before(
     add_conditions(attributes, builder)
 }
 
-// Adds a part, in braces where it is an expression.
+// Adds a part, in braces if it is an expression.
 fn add_part(
     braces: Delimiter,
     is_expression: bool,
@@ -86,7 +86,7 @@ fn add_part(
     builder.close(braces.close)
 }
 
-// Adds the parts of trees, where the conditions among these attributes stand before each but the first.
+// Adds the parts of trees, each but the first with the conditions among these attributes before it.
 fn add_parts(
     braces: Delimiter,
     attributes: TokenTreesView<'_>,
@@ -107,10 +107,10 @@ fn add_parts(
     Ok(())
 }
 
-/// Adds trees that are such siblings and have these attributes before the first of them: before each other one it adds the conditions
-/// among the attributes. An expression goes into braces with the spans of that delimiter. It returns whether it adds them: if the trees are
-/// no run of items or statements, or there are none, it adds nothing. The fault is `Memory`, or `TooManyTokens` if the builder would hold
-/// more than 4,294,967,295 tokens.
+/// Adds sibling trees that have these attributes before the first of them: before each other one it adds the
+/// conditions among the attributes. An expression goes into braces with the spans of that delimiter. Returns
+/// whether it adds them: if the trees are no run of items or statements, or there are none, it adds nothing.
+/// The fault is `Memory`, or `TooManyTokens` if the builder would hold more than 4,294,967,295 tokens.
 pub fn put_under(
     alloc: Global,
     siblings: Siblings,

@@ -1,4 +1,4 @@
--- The parts of a call: its attributes, what stands behind them, and what stands behind all of it.
+-- The parts of a call: its attributes, what follows them, and what follows the call.
 use Rattle.std.proofs.Common.{◌≡◌, ◌+◌, ℕ, zero, suc, Bool, true, false, List, refl, ap, ap₂, sym, subst, ◌∙◌, arith, cond}
 use Rattle.tt.specs.Forest.{Forest, end, leaf, node, join}
 use Rattle.tt.specs.Gluing.{after_trees}
@@ -18,12 +18,12 @@ use Rattle.expand_items.specs.declared.position.Siblings.{Siblings}
 use Rattle.mbe_pattern.proofs.Passing.{front_joined, after_end}
 use Rattle.mbe_pattern.specs.Units.{front_trees}
 
--- No trees have no first ones.
+-- No trees have no first trees.
 front_end : (n : ℕ) → front_trees n end ≡ end
 front_end zero = refl
 front_end (suc n) = refl
 
--- Of so many and some more of the first trees, those behind so many are the first behind them,
+-- Of the first `n + m` trees, those behind the first `n` are the next `m`,
 pub after_front : (n m : ℕ) (trees : Forest) → after_trees n (front_trees (n + m) trees) ≡ front_trees m (after_trees n trees)
 after_front zero m trees = let none : 0 + m ≡ m = omega arith in ap (λ k. front_trees k trees) none
 after_front (suc n) m end =
@@ -35,7 +35,7 @@ after_front (suc n) m (node delimiter children rest) =
     let one_more : suc n + m ≡ suc (n + m) = omega arith in
     ap (λ k. after_trees (suc n) (front_trees k (node delimiter children rest))) one_more ∙ after_front n m rest
 
--- and the first so many are those of all.
+-- and the first `n` are those of all.
 pub front_front : (n m : ℕ) (trees : Forest) → front_trees n (front_trees (n + m) trees) ≡ front_trees n trees
 front_front zero m trees = refl
 front_front (suc n) m end = ap (front_trees (suc n)) (front_end (suc n + m))
@@ -46,11 +46,11 @@ front_front (suc n) m (node delimiter children rest) =
     let one_more : suc n + m ≡ suc (n + m) = omega arith in
     ap (λ k. front_trees (suc n) (front_trees k (node delimiter children rest))) one_more ∙ ap (node delimiter children) (front_front n m rest)
 
--- They are both parts.
+-- The first `n + m` trees are both parts.
 pub front_both : (n m : ℕ) (trees : Forest) → front_trees (n + m) trees ≡ join (front_trees n trees) (front_trees m (after_trees n trees))
 front_both n m trees = front_joined n (front_trees (n + m) trees) ∙ ap₂ join (front_front n m trees) (after_front n m trees)
 
--- Trees that end with a subtree or a `;` do so behind others.
+-- Trees that end with a subtree or a `;` end so behind others too.
 pub closed_join : (front closed : Forest) → EndsClosed closed → EndsClosed (join front closed)
 closed_join front closed (by_subtree before delimiter children is) =
     by_subtree (join front before) delimiter children (ap (join front) is ∙ sym (join-assoc front before (node delimiter children end)))
@@ -58,7 +58,7 @@ closed_join front closed (by_semicolon before punct semicolon is) =
     by_semicolon (join front before) punct semicolon (ap (join front) is ∙ sym (join-assoc front before _))
 
 module _ (position : Position) (it : Call) (trees : Forest) where
-  -- Behind a call with its `;` those stand that are behind so many trees,
+  -- Behind a call with its `;`, the trees are those behind so many trees,
   pub rest_behind : rest_in position it trees ≡ after_trees (len_in position it trees) trees
   rest_behind = by (takes_in position it trees)
     where
@@ -66,16 +66,16 @@ module _ (position : Position) (it : Call) (trees : Forest) where
       by true = sym (after_more it.len trees)
       by false = refl
 
-  -- and all are the call and those.
+  -- and all trees are the call and those.
   pub split_in : trees ≡ join (whole_in position it trees) (rest_in position it trees)
   split_in = front_joined (len_in position it trees) trees ∙ ap (join (whole_in position it trees)) (sym rest_behind)
 
-  -- a call stands so that has these trees, is a statement or not, and stands among such siblings
+  -- the place of a call that has these trees, is a statement or not, and has these siblings
   abbrev stand_made : Forest → (is_statement : Bool) → Siblings → Stand
   stand_made whole is_statement siblings =
       record { attributes = front_trees it.attributes whole; len = it.attributes; is_statement = is_statement; siblings = siblings; delimiter = it.delimiter }
 
-  -- Where these are as they should be, it is how the call stands.
+  -- If these values are those of the call, this is the place of the call.
   pub stand_same : (whole : Forest) (is_statement : Bool) (siblings : Siblings) → whole ≡ whole_in position it trees → is_statement ≡ (stand_in position it trees).is_statement
       → siblings ≡ (stand_in position it trees).siblings → stand_made whole is_statement siblings ≡ stand_in position it trees
   stand_same whole is_statement siblings all one among =
@@ -85,7 +85,7 @@ module _ (position : Position) (it : Call) (trees : Forest) where
 
 -- A call with attributes is the call alone behind them.
 module _ (position : Position) (attributes : ℕ) (bare : Call) (trees : Forest) where
-  -- it with them, and what stands behind them
+  -- the call with them, and what follows them
   abbrev whole : Call
   whole = with_attributes attributes bare
 
@@ -119,9 +119,9 @@ module _ (position : Position) (attributes : ℕ) (bare : Call) (trees : Forest)
   same_attributes : attributes_in position whole trees ≡ front_trees attributes trees
   same_attributes = ap (λ n. front_trees attributes (front_trees n trees)) same_len ∙ front_front attributes (len_in position bare behind) trees
 
--- So it is of a call that stands first.
+-- The same holds for a call that comes first.
 module _ (root : List ℕ) (position : Position) (trees : Forest) (it : Call) (is : item_at root position trees ≡ calls it) where
-  -- the call alone, and what stands behind the attributes
+  -- the call alone, and what follows the attributes
   abbrev pub alone : StandsBehind root trees it
   alone = call_at root position trees it is
 
@@ -145,7 +145,7 @@ module _ (root : List ℕ) (position : Position) (trees : Forest) (it : Call) (i
   attributes_alone =
       subst (λ c. front_trees it.attributes (whole_in position c trees) ≡ front_trees it.attributes trees) (sym alone.same) (same_attributes position it.attributes alone.bare trees)
 
-  -- It ends with its subtree.
+  -- The call ends with its subtree.
   pub ends_alone : EndsClosed (front_trees it.len trees)
   ends_alone =
       let (front, same) = call_closed root past alone.bare alone.stands in

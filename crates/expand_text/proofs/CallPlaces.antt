@@ -33,7 +33,7 @@ past_subtree {text} {place} {to} {delimiter} {children} {rest} is laid = by (sub
         → (place ≤ end_of delimiter.close.range) × IsCharBoundary text (end_of delimiter.close.range) × Laid text (end_of delimiter.close.range) rest to
     by (lies_node opens inside closes behind) = (omega (arith, opens.after, laid_order inside, closes.order), closes.ends, behind)
 
--- Trees of which a subtree stands behind the first: from where they begin to where that closes is a range, and the others lie behind it.
+-- If a subtree follows the first `suc n` trees: from the beginning of the trees to its close is a range, and the other trees lie behind it.
 to_subtree : {text : List ℕ} {from to : ℕ} (n : ℕ) (other : Span) {delimiter : Delimiter} {children rest trees : Forest} → Laid text from trees to
     → after_trees (suc n) trees ≡ node delimiter children rest
     → Lies text from (start_of (begin_at trees other).range) (end_of delimiter.close.range) × Laid text (end_of delimiter.close.range) rest to
@@ -48,8 +48,8 @@ to_subtree n other (lies_node opens inside shuts behind) stands =
     let (order, closes, others) = past_subtree stands (laid_behind n (laid_past inside shuts behind)) in
     (record { after = opens.after; range = record { order = order; begins = opens.range.begins; ends = closes } }, others)
 
--- A call without its `;` is a range of the text, from where its first token begins to where its subtree closes, and what stands behind it
--- lies behind that.
+-- A call without its `;` is a range of the text, from where its first token begins to where
+-- its subtree closes. The trees behind it lie behind that.
 subtree_laid : {text : List ℕ} {from to : ℕ} (root : List ℕ) (trees : Forest) (it : Call) → item_in root trees ≡ calls it → Laid text from trees to
     → Lies text from (start_of (begin_at trees it.name.span).range) (end_of it.delimiter.close.range)
     × Laid text (end_of it.delimiter.close.range) (after_trees it.len trees) to
@@ -59,7 +59,7 @@ subtree_laid {text} {to = to} root trees it is laid =
     let left : after_trees it.len trees ≡ call.rest = ap (λ n. after_trees n trees) call.len ∙ after_more (suc call.before) trees ∙ ap after_tree call.stands in
     (lies, subst (λ f. Laid text (end_of it.delimiter.close.range) f to) (sym left) behind)
 
--- A range up to a byte, and a `;` behind that, are one, and what stands behind them lies behind the `;`.
+-- A range up to a byte and the `;` behind it are one range, and the trees behind both lie behind the `;`.
 with_semicolon : {text : List ℕ} {from start close to : ℕ} (other : Span) (rest : Forest) → is_at_punct (codes ";") rest ≡ true → Lies text from start close
     → Laid text close rest to
     → Lies text from start (end_of (begin_at rest other).range) × Laid text (end_of (begin_at rest other).range) (after_tree rest) to
@@ -86,15 +86,15 @@ with_semicolon {text} {to = to} other (leaf (leaf_of.Punct it) rest) is lies (li
         by true is = refl
         by false is = is
 
--- Where four things are, the last is.
+-- If four tests are true, the last is.
 pub last_of : (a b c d : Bool) → (a && (b && (c && d))) ≡ true → d ≡ true
 last_of true true true d is = is
 last_of true true false d is = absurd (cc is)
 last_of true false c d is = absurd (cc is)
 last_of false b c d is = absurd (cc is)
 
--- A call without attributes is a range of the text, from where its first token begins to where it ends, and what stands behind it lies
--- behind that.
+-- A call without attributes is a range of the text, from where its first token begins to
+-- where it ends. The trees behind it lie behind that.
 bare_laid : {text : List ℕ} {from to : ℕ} (root : List ℕ) (trees : Forest) (it : Call) (position : Position) → item_in root trees ≡ calls it
     → Laid text from trees to
     → Lies text from (start_of (begin_at trees it.name.span).range) (end_of (end_in position it trees).range)
@@ -117,7 +117,7 @@ bare_laid {text} {from} {to} root trees it position is laid = by (takes_in posit
         with_semicolon close rest (last_of (is_items position.siblings) position.is_start (not (is_brace it.delimiter.kind)) (is_at_punct (codes ";") rest) takes) here.0 here.1
     by false takes = here
 
--- So is a call behind its attributes.
+-- The same holds for a call behind its attributes.
 pub call_laid : {text : List ℕ} {from to : ℕ} (root : List ℕ) (trees : Forest) (it : Call) (position : Position) → item_at root position trees ≡ calls it
     → Laid text from trees to
     → Lies text from (start_of (begin_in it trees).range) (end_of (end_in position it trees).range)

@@ -1,4 +1,4 @@
--- What comes of a call, and what is wrong with one.
+-- What a call expands to, and its faults.
 use Rattle.std.proofs.Common.{◌<◌, ℕ, zero, suc, List, refl, arith}
 use Rattle.tt.specs.Forest.{Root}
 use Rattle.expand_text.specs.declared.calling.Made.TheVariants as made
@@ -10,7 +10,7 @@ use Rattle.mbe_rules.specs.Arms.{Arm}
 use Rattle.mbe_rules.specs.Expansions.{IsExpansion}
 use Rattle.mbe_rules.specs.declared.macro_rules.Expansion.TheVariants as expansion
 
--- Where an expansion may stand inside, arms make a tree of an input, or what is wrong with it.
+-- If an expansion is allowed, arms make a tree of an input, or a fault.
 pub made_tree : (limit : ℕ) (arms : List Arm) (it : Call) (tree : Root) → 0 < limit → IsExpansion arms 0 0 it.input (expansion.Tree tree) → IsMade limit arms it (made.Tree tree)
 made_tree zero arms it tree some is = absurd (omega (arith, some))
 made_tree (suc left) arms it tree some is = (left, refl, is)

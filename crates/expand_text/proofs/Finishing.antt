@@ -1,4 +1,4 @@
--- What is built once what comes of the levels that are left is.
+-- What is built once the rest of the levels is expanded.
 use Rattle.std.proofs.Common.{◌≡◌, ℕ, false, List, [], ◌∷◌, inl, inr, refl, ap, sym, subst, ◌∙◌}
 use Rattle.tt.specs.Building.{Stack, above, append, close_innermost}
 use Rattle.tt.specs.Forest.{Forest, end, leaf, node, join}
@@ -17,7 +17,7 @@ use Rattle.expand_items.specs.declared.position.Siblings.{Siblings}
 use Rattle.expand_text.specs.declared.walk.Invocation.{Invocation}
 use Rattle.expand_text.specs.Walks.{Level, begun, Ends, Leads, GoesPast, stand_of, first_leaf, first_subtree, first_stay, first_becomes, closes_of}
 
--- what is built once these are, of which the innermost comes first, in levels that close there
+-- what is built once the rest of these levels is, the innermost first, which close there
 abbrev pub finished : List Span → List Outcome → Stack → Stack
 finished [] outcomes stack = stack
 finished (close ∷ closes) [] stack = stack
@@ -32,15 +32,15 @@ finished_more (next ∷ closes) close it others outer built stack is =
     ap (λ s. finished (next ∷ closes) outer (close_innermost close s)) (ap (λ f. append f stack) is ∙ append-join built (trees_left others) stack)
 
 module _ (close : Span) (closes : List Span) (others : Outcome) (outer : List Outcome) (stack : Stack) where
-  -- A leaf is.
+  -- A leaf is built.
   pub finished_leaf : (it : Leaf) → finished (close ∷ closes) (first_leaf it (others ∷ outer)) stack ≡ finished (close ∷ closes) (others ∷ outer) (append (leaf it end) stack)
   finished_leaf it = finished_more closes close (passes it others) others outer (leaf it end) stack refl
 
-  -- Trees that stay are.
+  -- Trees that stay are built.
   pub finished_stay : (trees : Forest) → finished (close ∷ closes) (first_stay trees (others ∷ outer)) stack ≡ finished (close ∷ closes) (others ∷ outer) (append trees stack)
   finished_stay trees = finished_more closes close (stays trees others) others outer trees stack refl
 
-  -- What comes of a call is.
+  -- The expansion of a call is built.
   pub finished_becomes : (attributes : Forest) (first last : Span) (put : Forest)
       → finished (close ∷ closes) (first_becomes attributes first last put (others ∷ outer)) stack ≡ finished (close ∷ closes) (others ∷ outer) (append put (append attributes stack))
   finished_becomes attributes first last put =
@@ -53,18 +53,19 @@ module _ (close : Span) (closes : List Span) (others : Outcome) (outer : List Ou
       ≡ finished (it.close ∷ close ∷ closes) (held ∷ others ∷ outer) (above stack it.kind it.open_span end)
   finished_subtree it held = finished_more closes close (enters it held others) others outer (node it (trees_left held) end) stack refl
 
-  -- One is left.
+  -- A subtree is left.
   pub finished_close : (inner : Span) → finished (inner ∷ close ∷ closes) (nothing ∷ others ∷ outer) stack ≡ finished (close ∷ closes) (others ∷ outer) (close_innermost inner stack)
   finished_close inner = ap (λ s. finished (close ∷ closes) (others ∷ outer) (close_innermost inner s)) (append-end stack)
 
--- Whatever comes of what is left, what comes of the trees is built once that is: what is known, the levels, and what is built, at first and now.
+-- Whatever the rest expands to, the expansion of the trees is built once that is: what is
+-- known, the levels, and what is built, at first and now.
 pub record IsGoing (setting : Setting) (limit : ℕ) (siblings : Siblings) (trees : Forest) (before : Known) (old : Stack) (levels : List Level) (now : Known) (stack : Stack) : Type 0 where
   pub finishes : (after : Known) (outcomes : List Outcome) → Ends setting false limit levels now after outcomes
       → (outcome : Outcome) × Comes setting false limit (begun_among siblings) 0 before trees after outcome × (finished (closes_of levels) outcomes stack ≡ append (trees_left outcome) old)
 
 module _ (setting : Setting) (limit : ℕ) (siblings : Siblings) (trees : Forest) (before now others : Known) (old stack : Stack) (level next : Level) (outer nexts : List Level)
     (going : IsGoing setting limit siblings trees before old (level ∷ outer) now stack) where
-  -- It goes on where something more is built in the innermost level.
+  -- The walk goes on if something more is built in the innermost level.
   pub goes_on : (grown : List Outcome → List Outcome) (built : Stack) → Leads setting false limit (level ∷ outer) now grown (next ∷ nexts) others
       → closes_of (next ∷ nexts) ≡ closes_of (level ∷ outer)
       → ((first : Outcome) (more : List Outcome) → finished (closes_of (level ∷ outer)) (grown (first ∷ more)) stack ≡ finished (closes_of (level ∷ outer)) (first ∷ more) built)
@@ -78,7 +79,7 @@ module _ (setting : Setting) (limit : ℕ) (siblings : Siblings) (trees : Forest
           let (outcome, comes, is) = going.finishes after (grown (first ∷ more)) (leads after (first ∷ more) e) in
           (outcome, comes, ap (λ cs. finished cs (first ∷ more) built) closes ∙ sym (same first more) ∙ is)
 
-  -- It goes on where what comes of a call stands in its place, or the call stays.
+  -- The walk goes on if the expansion of a call takes its place, or the call stays.
   pub goes_past : (it : Invocation) (held : Forest) (inside : Known) (built : Stack) → GoesPast setting false limit (level ∷ outer) now it held (next ∷ nexts) inside
       → IsPutOrKept it held inside others stack built → closes_of (next ∷ nexts) ≡ closes_of (level ∷ outer) → IsGoing setting limit siblings trees before old (next ∷ nexts) others built
   goes_past it held inside built past (inl (put, so, known, is)) closes = subst (IsGoing setting limit siblings trees before old (next ∷ nexts) others) (sym is)
@@ -90,7 +91,7 @@ module _ (setting : Setting) (limit : ℕ) (siblings : Siblings) (trees : Forest
       (subst (Leads setting false limit (level ∷ outer) now (first_stay (trees_of it.whole)) (next ∷ nexts)) (sym known) (past.stays (start_of it.first_span.range) fault (inl (misplaced, refl)))) closes
       (λ first more. finished_stay level.close (closes_of outer) first more stack (trees_of it.whole)))
 
-  -- It goes on in a subtree.
+  -- The walk goes on in a subtree.
   pub goes_into : (it : Delimiter) → Leads setting false limit (level ∷ outer) now (first_subtree it) (next ∷ nexts) others → closes_of (next ∷ nexts) ≡ it.close ∷ closes_of (level ∷ outer)
       → IsGoing setting limit siblings trees before old (next ∷ nexts) others (above stack it.kind it.open_span end)
   goes_into it leads closes = record { finishes = by }
@@ -111,7 +112,7 @@ module _ (setting : Setting) (limit : ℕ) (siblings : Siblings) (trees : Forest
                 ∙ sym (finished_subtree level.close (closes_of outer) first more stack it held) ∙ is,
           )
 
-  -- It goes on behind one.
+  -- The walk goes on behind a subtree.
   pub goes_out : (close : Span) → Leads setting false limit (level ∷ outer) now (λ outcomes. nothing ∷ outcomes) (next ∷ nexts) others → close ∷ closes_of (next ∷ nexts) ≡ closes_of (level ∷ outer)
       → IsGoing setting limit siblings trees before old (next ∷ nexts) others (close_innermost close stack)
   goes_out close leads closes = record { finishes = by }

@@ -1,4 +1,4 @@
--- What takes the place of calls in a text fits into it.
+-- What replaces calls in a text fits into it.
 use Rattle.std.proofs.Common.{ℕ, Bool, List, refl, arith}
 use Rattle.std.specs.Str.{IsUtf8}
 use Rattle.tt.specs.Forest.{Forest, Root}
@@ -16,7 +16,7 @@ use Rattle.syntax_edit.proofs.LaidFacts.{laid_behind, laid_order, starts_before}
 use Rattle.syntax_edit.proofs.ParsedOrder.{parsed_laid}
 use Rattle.syntax_parse.specs.Parsed.{IsParse}
 
--- What comes of trees that lie in a text takes the place of parts of it that follow one another.
+-- The expansions of trees that lie in a text replace parts of it that follow one another.
 comes_follow : {text : List ℕ} {setting : Setting} {in_text : Bool} {limit plain from to : ℕ} {position : Position} {known after : Known} {trees : Forest} {outcome : Outcome}
     → Comes setting in_text limit position plain known trees after outcome → Laid text from trees to → Follow text from (replacements outcome) to
 comes_follow ends laid = none (laid_order laid)
@@ -36,7 +36,7 @@ comes_follow {setting = setting} (on_kept_call {position = position} {it = it} {
     let (lies, behind) = call_laid setting.root trees it position is laid in
     follow_from (omega (arith, lies.after, lies.range.order)) (comes_follow others behind)
 
--- What comes of the trees of a text fits into it.
+-- The replacements of a whole text fit into it.
 pub comes_fit : {setting : Setting} {in_text : Bool} {limit plain : ℕ} {position : Position} {known after : Known} {outcome : Outcome} (part : SpanPart) (text : List ℕ) (root : Root)
     → IsUtf8 text → IsParse part text root → Comes setting in_text limit position plain known root.children after outcome → FitAll (replacements outcome) (begun text)
 comes_fit part text root utf8 parse comes = follow_fit (begun text) refl (omega arith) (comes_follow comes (parsed_laid part text root utf8 parse))

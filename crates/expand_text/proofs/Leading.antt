@@ -27,7 +27,7 @@ use Rattle.mbe_rules.specs.declared.macro_rules.Expansion.TheVariants as expansi
 use Rattle.mbe_pattern.specs.Units.{front_trees, is_brace}
 
 module _ (setting : Setting) (in_text : Bool) (limit : ℕ) (level : Level) (outer : List Level) (known : Known) where
-  -- Past a leaf.
+  -- Passes a leaf.
   pub leads_leaf : (it : Leaf) → level.rest ≡ leaf it (after_tree level.rest) → IsPlain setting known level.position level.plain level.rest
       → Leads setting in_text limit (level ∷ outer) known (first_leaf it) (past_leaf it level ∷ outer) known
   leads_leaf it begins plain after [] e = absurd e
@@ -38,7 +38,7 @@ module _ (setting : Setting) (in_text : Bool) (limit : ℕ) (level : Level) (out
     behind,
   )
 
-  -- Into a subtree.
+  -- Enters a subtree.
   pub leads_subtree : (delimiter : Delimiter) (children : Forest) → level.rest ≡ node delimiter children (after_tree level.rest) → IsPlain setting known level.position level.plain level.rest
       → Leads setting in_text limit (level ∷ outer) known (first_subtree delimiter)
       (inside delimiter children level.position (kept_behind (keeps_macros delimiter.kind level.position) (length known.macros)) ∷ past_subtree delimiter.kind level ∷ outer) known
@@ -56,7 +56,7 @@ module _ (setting : Setting) (in_text : Bool) (limit : ℕ) (level : Level) (out
       same true = refl
       same false = refl
 
-  -- Out of a level.
+  -- Leaves a level.
   pub leads_end : level.rest ≡ end → Leads setting in_text limit (level ∷ outer) known (λ outcomes. nothing ∷ outcomes) outer (left_in_scope level.kept known)
   leads_end none after outcomes e = (
     known,
@@ -65,7 +65,7 @@ module _ (setting : Setting) (in_text : Bool) (limit : ℕ) (level : Level) (out
   )
 
   module _ (first : level.plain ≡ 0) (goes_on : known.is_over ≡ false) where
-    -- Past a definition.
+    -- Passes a definition.
     pub leads_definition : (it : Definition) (others : Known) → item_at setting.root level.position level.rest ≡ defines it → IsRead setting it known others
         → Leads setting in_text limit (level ∷ outer) known (first_stay (front_trees it.len level.rest)) (past it.len true level ∷ outer) others
     leads_definition it others there is after [] e = absurd e
@@ -77,7 +77,7 @@ module _ (setting : Setting) (in_text : Bool) (limit : ℕ) (level : Level) (out
     )
 
     module _ (it : Call) (there : item_at setting.root level.position level.rest ≡ calls it) where
-      -- Past a call that is not expanded.
+      -- Passes a call that is not expanded.
       pub leads_other : it.attributes ≡ 0 → arms_of (called_by setting known.macros it) ≡ None → setting.everywhere ≡ false
           → Leads setting in_text limit (level ∷ outer) known (first_stay (front_trees it.len level.rest)) (past it.len (is_brace it.delimiter.kind) level ∷ outer)
           (known_behind it (called_by setting known.macros it) known)
@@ -90,7 +90,7 @@ module _ (setting : Setting) (in_text : Bool) (limit : ℕ) (level : Level) (out
         behind,
       )
 
-      -- Into one.
+      -- Enters a call that is not expanded.
       pub leads_into : it.attributes ≡ 0 → arms_of (called_by setting known.macros it) ≡ None → setting.everywhere ≡ true
           → Leads setting in_text limit (level ∷ outer) known (λ outcomes. outcomes) (record level { plain = it.len } ∷ outer) (known_behind it (called_by setting known.macros it) known)
       leads_into bare none into after [] e = absurd e
@@ -100,7 +100,7 @@ module _ (setting : Setting) (in_text : Bool) (limit : ℕ) (level : Level) (out
         behind,
       )
 
-      -- Into the attributes before one.
+      -- Enters the attributes before a call.
       pub leads_attributes : 0 < it.attributes → arms_of (called_by setting known.macros it) ≡ None
           → Leads setting in_text limit (level ∷ outer) known (λ outcomes. outcomes) (record level { plain = it.attributes } ∷ outer) known
       leads_attributes some none after [] e = absurd e
@@ -110,7 +110,7 @@ module _ (setting : Setting) (in_text : Bool) (limit : ℕ) (level : Level) (out
         behind,
       )
 
-      -- Past one that is wrong.
+      -- Passes a call with a fault.
       pub leads_faulty : (then : Known) → IsFaulty setting limit it known then
           → Leads setting in_text limit (level ∷ outer) known (first_stay (front_trees it.len level.rest)) (past it.len (is_brace it.delimiter.kind) level ∷ outer) then
       leads_faulty then is after [] e = absurd e
@@ -123,12 +123,12 @@ module _ (setting : Setting) (in_text : Bool) (limit : ℕ) (level : Level) (out
         behind,
       )
 
--- Past one of which a tree comes, and of that something in turn.
+-- Passes a call that expands to a tree, which expands to `held` in turn.
 module _ (setting : Setting) (in_text : Bool) (left : ℕ) (level : Level) (outer : List Level) (known : Known) (first : level.plain ≡ 0) (goes_on : known.is_over ≡ false) (it : Call)
     (macro : Macro) (arms : List Arm) (tree : Root) (there : item_at setting.root level.position level.rest ≡ calls it) (called : called_by setting known.macros it ≡ Some macro)
     (expands : macro.arms ≡ Some arms) (makes : IsExpansion arms 0 0 it.input (expansion.Tree tree)) (within : Known) (held : Outcome)
     (comes : Comes setting false left (begun_by level.position it level.rest) 0 known tree.children within held) where
-  -- That stands in its place.
+  -- The expansion takes the place of the call.
   pub leads_call : (put : Forest) → StandAs (stand_in level.position it level.rest) (trees_left held) (Some put) → MayStand in_text it.delimiter put
       → Leads setting in_text (suc left) (level ∷ outer) known
       (first_becomes (attributes_in level.position it level.rest) (begin_in it level.rest) (end_in level.position it level.rest) put) (past_call it level ∷ outer) within
@@ -142,7 +142,7 @@ module _ (setting : Setting) (in_text : Bool) (left : ℕ) (level : Level) (oute
     behind,
   )
 
-  -- It stays, where that does not stand there, or is not written.
+  -- The call stays, if the expansion does not fit there or is not written.
   pub leads_kept : (at : ℕ) (fault : MacroFault) → IsKept in_text (stand_in level.position it level.rest) (trees_left held) (start_of (begin_in it level.rest).range) at fault
       → Leads setting in_text (suc left) (level ∷ outer) known (first_stay (whole_in level.position it level.rest)) (past_call it level ∷ outer) (with_finding (found_of it macro at fault) within)
   leads_kept at fault kept after [] e = absurd e
@@ -154,7 +154,7 @@ module _ (setting : Setting) (in_text : Bool) (left : ℕ) (level : Level) (oute
     behind,
   )
 
--- What comes next in other levels to which these lead comes next in these.
+-- The next event of other levels to which these lead is the next event of these.
 module _ (setting : Setting) (in_text : Bool) (limit : ℕ) (levels others : List Level) (known then : Known) (leads : Leads setting in_text limit levels known (λ outcomes. outcomes) others then) where
   pub next_by : (it : Event) (nexts : List Level) (behind : Known) → IsNext setting in_text limit others then it nexts behind → IsNext setting in_text limit levels known it nexts behind
   next_by event.End nexts behind is = leads behind (nothing ∷ []) is

@@ -1,12 +1,12 @@
--- Worked places of names. Each holds by computation.
+-- Worked last places of names. Each holds by computation.
 use Rattle.std.proofs.Common.{◌≡◌, ℕ, List, [], ◌∷◌, None, Some, codes, refl}
 use Rattle.expand_text.specs.LastPlaces.{last_place, links_of}
 
--- three macros, of which two have one name
+-- three macros, two of one name
 abbrev names : List (List ℕ)
 names = codes "a" ∷ codes "b" ∷ codes "a" ∷ []
 
--- The last of a name counts, and each is linked to the last before it.
+-- The last of a name is found, and each name is linked to the last before it.
 twice : last_place names (codes "a") ≡ Some 2
 twice = refl
 

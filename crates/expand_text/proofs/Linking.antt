@@ -9,7 +9,7 @@ use Rattle.std.specs.Prelude.{slice_get, bytes_eq}
 use Rattle.expand_text.specs.LastPlaces.{last_place, links_behind, links_of, place_or}
 use Rattle.expand_text.specs.Scopes.{last_by, or_else}
 
--- One more name takes the place of those before it that are the same.
+-- One more name takes the place of the same names before it.
 pub last_place-more : (names : List (List ℕ)) (more name : List ℕ) → last_place (names ++ more ∷ []) name ≡ cond (bytes_eq more name) (Some (length names)) (last_place names name)
 last_place-more [] more name = by (bytes_eq more name)
   where
@@ -29,7 +29,7 @@ links_behind-more before (name ∷ names) more =
     ap (λ ls. last_place before name ∷ ls) (links_behind-more (before ++ name ∷ []) names more
     ∙ ap (λ ns. links_behind (before ++ name ∷ []) names ++ last_place ns more ∷ []) (append_assoc before (name ∷ []) names))
 
--- And is linked to the last of them.
+-- The new name is linked to the last of them.
 pub links_of-more : (names : List (List ℕ)) (more : List ℕ) → links_of (names ++ more ∷ []) ≡ links_of names ++ last_place names more ∷ []
 links_of-more names more = links_behind-more [] names more
 
@@ -40,7 +40,7 @@ StandsAt its None (Some it) = ⊥
 StandsAt its (Some place) None = ⊥
 StandsAt its (Some place) (Some it) = slice_get its place ≡ Some it
 
--- The last of a name stands at the last place of that name.
+-- The last thing of a name is at the last place of that name.
 pub last_stands : {A : Type 0} (name_of : A → List ℕ) (name : List ℕ) (its : List A) → StandsAt its (last_place (map name_of its) name) (last_by name_of name its)
 last_stands name_of name [] = tt
 last_stands {A} name_of name (first ∷ its) = by (last_place (map name_of its) name) (last_by name_of name its) (bytes_eq (name_of first) name) (last_stands name_of name its)
@@ -53,7 +53,7 @@ last_stands {A} name_of name (first ∷ its) = by (last_place (map name_of its) 
     by (Some place) None same stands = absurd stands
     by (Some place) (Some it) same stands = stands
 
--- What stands at the last place of a name is the last of it.
+-- What is at the last place of a name is the last thing of it.
 pub last_at : {A : Type 0} (name_of : A → List ℕ) (name : List ℕ) (its : List A) (place : ℕ) → last_place (map name_of its) name ≡ Some place
     → slice_get its place ≡ last_by name_of name its
 last_at {A} name_of name its place is = by (last_by name_of name its) (subst (λ p. StandsAt its p (last_by name_of name its)) is (last_stands name_of name its))
@@ -62,7 +62,7 @@ last_at {A} name_of name its place is = by (last_by name_of name its) (subst (λ
     by None stands = absurd stands
     by (Some it) stands = stands
 
--- It is one of them.
+-- The last place of a name is a place among the things.
 pub last_there : {A : Type 0} (name_of : A → List ℕ) (name : List ℕ) (its : List A) (place : ℕ) → last_place (map name_of its) name ≡ Some place → place < length its
 last_there {A} name_of name its place is = by (last_by name_of name its) (subst (λ p. StandsAt its p (last_by name_of name its)) is (last_stands name_of name its))
   where
@@ -70,7 +70,7 @@ last_there {A} name_of name its place is = by (last_by name_of name its) (subst 
     by None stands = absurd stands
     by (Some it) stands = slice_get_within its place it stands
 
--- Where a name has no last place, there is none of it.
+-- If a name has no last place, no thing has that name.
 pub last_none : {A : Type 0} (name_of : A → List ℕ) (name : List ℕ) (its : List A) → last_place (map name_of its) name ≡ None → last_by name_of name its ≡ None
 last_none {A} name_of name its is = by (last_by name_of name its) (subst (λ p. StandsAt its p (last_by name_of name its)) is (last_stands name_of name its))
   where
@@ -78,7 +78,7 @@ last_none {A} name_of name its is = by (last_by name_of name its) (subst (λ p. 
     by None stands = refl
     by (Some it) stands = absurd stands
 
--- Lists that end with one more are the same only before that.
+-- Lists that end with one more thing are the same only if the lists before it are.
 more_same : {A : Type 0} (xs ys : List A) (x y : A) → xs ++ x ∷ [] ≡ ys ++ y ∷ [] → (xs ≡ ys) × (x ≡ y)
 more_same [] [] x y e = (refl, cc e)
 more_same [] (b ∷ ys) x y e = absurd (omega (arith, ap length e, length-append ys (y ∷ [])))
@@ -98,7 +98,7 @@ module _ {A : Type 0} (name_of : A → List ℕ) (its : List A) (it : A) where
       ap (λ ns. last_place ns name) names_more ∙ last_place-more names (name_of it) name
       ∙ ap (λ n. cond (bytes_eq (name_of it) name) (Some n) (last_place names name)) (length-map its name_of)
 
-  -- One more is linked to the last of its name,
+  -- One more thing is linked to the last of its name,
   pub linked_more : (before now : List (Option ℕ)) (place : Option ℕ) → before ≡ links_of names → place ≡ last_place names (name_of it) → now ≡ before ++ place ∷ []
       → now ≡ links_of (map name_of (its ++ it ∷ []))
   linked_more before now place linked last is = is ∙ ap₂ (λ ls p. ls ++ p ∷ []) linked last ∙ sym (links_of-more names (name_of it)) ∙ ap links_of (sym names_more)
@@ -110,7 +110,7 @@ module _ {A : Type 0} (name_of : A → List ℕ) (its : List A) (it : A) where
   placed_more old new placed updates name =
       updates name ∙ ap (λ p. cond (bytes_eq (name_of it) name) (Some (length its)) p) (placed name) ∙ sym (place_more name)
 
-  -- Without the last, the links are those of the others, and it was linked to the last of its name.
+  -- Without the last thing, the links are those of the others, and it was linked to the last of its name.
   pub linked_fewer : (before now : List (Option ℕ)) (place : Option (Option ℕ)) → before ≡ links_of (map name_of (its ++ it ∷ []))
       → before ≡ now ++ option_to_list place → (0 < length before → is_some place ≡ true)
       → (now ≡ links_of names) × (option_flatten place ≡ last_place names (name_of it))
@@ -124,7 +124,7 @@ module _ {A : Type 0} (name_of : A → List ℕ) (its : List A) (it : A) where
       by None parts there = absurd (false≢true (there (omega (arith, ap length more, length-append (links_of names) (last_place names (name_of it) ∷ [])))))
       by (Some place) parts there = more_same now (links_of names) place (last_place names (name_of it)) (sym parts ∙ more)
 
-  -- And where that is put back, the places are theirs.
+  -- If the link is put back, the places are those of the others.
   pub placed_fewer : (old new : List ℕ → Option ℕ) → ((name : List ℕ) → old name ≡ last_place (map name_of (its ++ it ∷ [])) name)
       → ((name : List ℕ) → new name ≡ cond (bytes_eq (name_of it) name) (last_place names (name_of it)) (old name))
       → (name : List ℕ) → new name ≡ last_place names name

@@ -1,15 +1,15 @@
--- What an iterator gives behind so many items, whose state shows what is left.
+-- The item that an iterator returns after a number of items, if its state shows what is left.
 use Rattle.std.proofs.Common.{◌≡◌, ◌++◌, ℕ, List, [], ◌∷◌, length, Option, None, Some, refl, sym, ap, ap₂, ◌∙◌, append-nil}
 use Rattle.std.proofs.lemmas.Option.{slice_get_past}
 use Rattle.std.specs.Iterator.{SkipsThenYields, Yields, YieldsFirst}
 use Rattle.std.specs.Prelude.{slice_get}
 
--- what it gave stood before what is left
+-- the items returned so far precede what is left
 given : {S A : Type 0} (rest : S → List A) (xs : List A) (s t : S) → Yields (YieldsFirst rest) s xs t → rest s ≡ xs ++ rest t
 given rest [] s t same = ap rest same
 given rest (x ∷ xs) s t (next, step, more) = step ∙ ap (λ l. x ∷ l) (given rest xs next t more)
 
--- an item stands behind so many
+-- an item follows a number of items
 behind : {A : Type 0} (xs others : List A) (x : A) → slice_get (xs ++ x ∷ others) (length xs) ≡ Some x
 behind [] others x = refl
 behind (y ∷ xs) others x = behind xs others x

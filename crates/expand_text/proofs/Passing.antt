@@ -1,4 +1,4 @@
--- What comes next where a call is passed.
+-- The next event after a call.
 use Rattle.std.proofs.Common.{◌≡◌, ◌<◌, ◌≤◌, ℕ, suc, Bool, List, ◌∷◌, map, reverse, true, false, None, Some, cond, refl, ap, ap₂, sym, subst, ◌∙◌, arith}
 use Rattle.tt.specs.Forest.{Forest, Root, size}
 use Rattle.tt.specs.Gluing.{after_trees}
@@ -28,7 +28,7 @@ use Rattle.mbe_pattern.specs.Units.{front_trees, is_brace}
 use Rattle.tt.specs.Types.Span.{Span}
 
 module _ (setting : Setting) (in_text : Bool) (limit : ℕ) (old : Walk) (known : Known) (it : Call) (there : IsAtItem (calls it) setting old known) where
-  -- What comes next where it stays.
+  -- The next event if the call stays.
   staying : (event : Event) (new : Walk) (others : Known)
       → Leads setting in_text limit (levels_of old) known (first_stay (front_trees it.len (rest_of old.level.rest)))
       (past it.len (is_brace it.delimiter.kind) (level_of old.level) ∷ map level_of (reverse old.outer.items)) others
@@ -43,20 +43,20 @@ module _ (setting : Setting) (in_text : Bool) (limit : ℕ) (old : Walk) (known 
       (subst (λ l. IsNext setting in_text limit (levels_of old) known (event.Stays trees) (l ∷ map level_of (reverse old.outer.items)) others) (sym now)
       (subst (λ f. Leads setting in_text limit (levels_of old) known (first_stay f) (past it.len (is_brace it.delimiter.kind) (level_of old.level) ∷ map level_of (reverse old.outer.items)) others) (sym taken) leads))
 
-  -- It stays where nothing expands it.
+  -- The call stays if no macro expands it.
   pub next_other : (event : Event) (new : Walk) → it.attributes ≡ 0 → arms_of (called_by setting known.macros it) ≡ None → setting.everywhere ≡ false → IsStay it old event new
       → IsNext setting in_text limit (levels_of old) known event (levels_of new) (known_behind it (called_by setting known.macros it) known)
   next_other event new bare none not_into is =
       staying event new (known_behind it (called_by setting known.macros it) known)
       (leads_other setting in_text limit (level_of old.level) (map level_of (reverse old.outer.items)) known there.first there.goes_on it there.item bare none not_into) is
 
-  -- It stays where something is wrong with it.
+  -- The call stays if it has a fault.
   pub next_faulty : (event : Event) (new : Walk) (others : Known) → IsFaulty setting limit it known others → IsStay it old event new
       → IsNext setting in_text limit (levels_of old) known event (levels_of new) others
   next_faulty event new others wrong is =
       staying event new others (leads_faulty setting in_text limit (level_of old.level) (map level_of (reverse old.outer.items)) known there.first there.goes_on it there.item others wrong) is
 
-  -- A tree comes of it.
+  -- The call expands to a tree.
   pub next_expanded : (event : Event) (new : Walk) (others : Known) (tree : Root) (defined_at : ℕ)
       → IsExpanded setting limit it tree defined_at known others
       → IsInvoked it tree defined_at old event new → IsNext setting in_text limit (levels_of old) known event (levels_of new) others

@@ -1,4 +1,4 @@
--- Worked places in a text. Each holds by computation.
+-- Worked byte places in a text. Each holds by computation.
 use Rattle.std.proofs.Common.{◌≡◌, ℕ, codes, refl}
 use Rattle.tt.specs.Forest.{Forest, end, leaf, node}
 use Rattle.tt.specs.Token.{delimiter}
@@ -13,7 +13,7 @@ use Rattle.mbe_rules.specs.declared.rules_error.ArmFault.TheVariants as fault
 use Rattle.mbe_pattern.specs.declared.error.PatternError.TheVariants as pattern
 use Rattle.mbe_rules.specs.declared.error.TemplateError.TheVariants as template
 
--- one letter or one sign that begins at a byte, and parentheses that begin and close at such, before others
+-- a letter or a sign that begins at a byte, and parentheses that open and close at bytes, before others
 abbrev letter : (start : ℕ) → Forest → Forest
 letter start rest = leaf (leaf_of.Ident (record { sym = codes "a"; span = span start 1; is_raw = No })) rest
 
@@ -27,7 +27,7 @@ held start close inside rest = node (delimiter Parenthesis (span start 1) (span 
 abbrev trees : Forest
 trees = letter 0 (held 2 6 (letter 3 (letter 5 end)) (letter 8 end))
 
--- The bracket is the second token, what it holds comes behind it, and behind all tokens the text ends.
+-- The bracket is the second token, then comes what it contains, and the text ends behind all tokens.
 first_token : byte_at trees 0 9 ≡ 0
 first_token = refl
 
@@ -51,7 +51,7 @@ arms = held 0 2 (letter 1 end) (sign 61 4 (sign 62 5 (held 7 9 (letter 8 end) (s
 abbrev shown : ArmFault → ℕ
 shown why = definition_byte arms (record { arm = 1; fault = why }) 24
 
--- A pattern's and a template's are counted in them, those of no such thing among all arms.
+-- The places in a pattern and in a template are counted in them; those of other faults among all arms.
 in_pattern : shown (fault.Pattern (pattern.BeginsNothing 0)) ≡ 13
 in_pattern = refl
 

@@ -1,4 +1,4 @@
--- Trees that stand in the place of a call.
+-- Trees in the place of a call.
 use Rattle.std.proofs.Common.{◌≡◌, ◌<◌, ℕ, zero, suc, Bool, true, false, Some, None, Option, inl, inr, refl, ap, ap₂, sym, subst, ◌∙◌, arith}
 use Rattle.std.proofs.lemmas.Bool.{false≢true}
 use Rattle.std.specs.Prelude.{is_some}
@@ -18,12 +18,12 @@ use Rattle.expand_text.specs.Outcomes.{placed}
 use Rattle.expand_text.specs.Standing.{Stand, StandAs, StandUnder, IsTooLarge}
 use Rattle.expand_items.specs.Attributes.{conditions_of}
 
--- Without attributes they stand as they are placed.
+-- Without attributes, the trees are as they are placed.
 pub stands_free : (it : Stand) (trees : Forest) → it.len ≡ 0 → StandAs it trees (Some (placed it.is_statement it.delimiter trees))
 stands_free it trees none = subst (λ n. StandUnder n it trees (Some (placed it.is_statement it.delimiter trees))) (sym none) refl
 
 module _ (it : Stand) (trees : Forest) (some : 0 < it.len) where
-  -- With attributes they stand as they are under conditions.
+  -- With attributes, the trees are under conditions.
   pub stands_under : (put : Option Forest) → IsWithinLimits (tree_of it.delimiter trees) → AreUnder it.siblings it.delimiter (conditions_of it.attributes) trees put → StandAs it trees put
   stands_under put within under = by it.len some
     where
@@ -31,7 +31,7 @@ module _ (it : Stand) (trees : Forest) (some : 0 < it.len) where
       by zero some = absurd (omega (arith, some))
       by (suc n) some = (within, under)
 
-  -- Then they may be past a limit.
+  -- Then they may exceed a limit.
   pub is_too_large : (why : TtFault) → IsPastLimit (tree_of it.delimiter trees) why → IsTooLarge it.len it trees (wrong.TooLarge why)
   is_too_large why past = by it.len some
     where
@@ -39,7 +39,7 @@ module _ (it : Stand) (trees : Forest) (some : 0 < it.len) where
       by zero some = absurd (omega (arith, some))
       by (suc n) some = past
 
-  -- Where they are put under the conditions, they stand so,
+  -- If they are put under the conditions, they are in place,
   pub added_under : IsWithinLimits (tree_of it.delimiter trees) → (is_put : Bool) (old new : Stack)
       → IsPutUnder it.siblings it.delimiter (conditions_of it.attributes) trees is_put old new → is_put ≡ true → IsAdded it trees None old new
   added_under within is_put old new is does = by is.put is.under (sym is.told ∙ does) is.added
@@ -48,7 +48,7 @@ module _ (it : Stand) (trees : Forest) (some : 0 < it.len) where
       by None under told added = absurd (false≢true told)
       by (Some put) under told added = (put, stands_under (Some put) within under, added)
 
-  -- and where they are not, they cannot.
+  -- and if they are not, they cannot be.
   pub kept_under : IsWithinLimits (tree_of it.delimiter trees) → (is_put : Bool) (old new : Stack)
       → IsPutUnder it.siblings it.delimiter (conditions_of it.attributes) trees is_put old new → is_put ≡ false → IsAdded it trees (Some wrong.Conditional) old new
   kept_under within is_put old new is does_not = by is.put is.under (sym is.told ∙ does_not) is.added
@@ -64,7 +64,7 @@ pub built_alone : (top : Delimiter) (first last : BuilderState) (trees : Forest)
 built_alone top first last trees begun same added =
     ap₂ (λ d s. record { delimiter = d; children = bottom s }) (same ∙ ap (λ b. b.top) begun) (added ∙ ap (λ b. append trees b.stack) begun)
 
--- The text of trees as they stand is that of a call.
+-- The text of the trees in place is that of a call.
 pub call_text : (it : Stand) (trees put : Forest) (begin : ℕ) (text : Written) → StandAs it trees (Some put) → IsTextOf it.delimiter put begin text → IsCallText it trees begin text
 call_text it trees put begin (made.Text text) so (may, same) = (put, so, may, same)
 call_text it trees put begin (made.Faulty at fault) so unwritten = inr (refl, put, so, unwritten)

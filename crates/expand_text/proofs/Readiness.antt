@@ -8,7 +8,7 @@ use Rattle.expand_text.specs.Scopes.{Macro, or_else, last_by, last_named, kept_o
 use Rattle.mbe_rules.specs.Arms.{Arm}
 use Rattle.mbe_rules.specs.declared.macro_rules.MacroRules.{MacroRules}
 
--- The last of a name is made ready of the last of it.
+-- The last of a name among the macros is made ready into the last of that name.
 pub ready_last : (name : List ℕ) (macros : List Macro) (its : List rust.Macro) → AreReady macros its
     → IsReadyIf (last_named name macros) (last_by (λ it. it.name) name its)
 ready_last name [] [] are = tt
@@ -28,14 +28,14 @@ ready_last name (macro ∷ macros) (it ∷ its) (is, are) =
     by (Some f) None p a b same = absurd p
     by (Some f) (Some t) p a b same = p
 
--- As many are.
+-- There are as many ready macros as macros.
 pub ready_length : (macros : List Macro) (its : List rust.Macro) → AreReady macros its → length macros ≡ length its
 ready_length [] [] are = refl
 ready_length [] (it ∷ its) are = absurd are
 ready_length (macro ∷ macros) [] are = absurd are
 ready_length (macro ∷ macros) (it ∷ its) are = ap suc (ready_length macros its (are.1))
 
--- One more is.
+-- One more macro and its ready form keep this.
 pub ready_more : (macros : List Macro) (its : List rust.Macro) (macro : Macro) (it : rust.Macro) → AreReady macros its → IsReady macro it
     → AreReady (macros ++ macro ∷ []) (its ++ it ∷ [])
 ready_more [] [] macro it are is = (is, tt)
@@ -43,7 +43,7 @@ ready_more [] (other ∷ its) macro it are is = absurd are
 ready_more (first ∷ macros) [] macro it are is = absurd are
 ready_more (first ∷ macros) (other ∷ its) macro it are is = (are.0, ready_more macros its macro it (are.1) is)
 
--- The first of them are.
+-- The first `n` of them are ready.
 pub ready_front : (n : ℕ) (macros : List Macro) (its : List rust.Macro) → AreReady macros its → AreReady (take n macros) (take n its)
 ready_front zero macros its are = tt
 ready_front (suc n) [] [] are = tt
@@ -51,12 +51,12 @@ ready_front (suc n) [] (it ∷ its) are = absurd are
 ready_front (suc n) (macro ∷ macros) [] are = absurd are
 ready_front (suc n) (macro ∷ macros) (it ∷ its) are = (are.0, ready_front n macros its (are.1))
 
--- So many of them are, or all.
+-- The first so many, or all, are ready.
 pub ready_kept : (kept : Option ℕ) (macros : List Macro) (its : List rust.Macro) → AreReady macros its → AreReady (kept_of kept macros) (kept_of kept its)
 ready_kept None macros its are = are
 ready_kept (Some n) macros its are = ready_front n macros its are
 
--- Where rules are made of a macro, it has arms, and only then.
+-- A ready macro has rules if and only if it has arms.
 pub arms_ready : (found : Option Macro) (it : rust.Macro) → IsReadyIf found (Some it) → is_some it.rules ≡ is_some (arms_of found)
 arms_ready None it is = absurd is
 arms_ready (Some macro) it is = by macro.arms it.rules is.rules
@@ -71,7 +71,7 @@ pub arms_none : (found : Option Macro) → IsReadyIf found None → false ≡ is
 arms_none None is = refl
 arms_none (Some macro) is = absurd is
 
--- Where there are none, it is told.
+-- A test that is false means that there is none.
 pub no_arms : {A : Type 0} (found : Option A) → is_some found ≡ false → found ≡ None
 no_arms None none = refl
 no_arms (Some it) none = absurd (false≢true (sym none))

@@ -1,4 +1,4 @@
--- What is replaced in a source, and what is left to be.
+-- What is replaced in a source, and what is left.
 use Rattle.std.proofs.Common.{◌≡◌, ◌<◌, ◌++◌, ◌-◌, ℕ, true, false, List, [], ◌∷◌, inl, inr, refl, ap, sym, subst, ◌∙◌, arith}
 use Rattle.std.proofs.lemmas.List.{append_assoc, append-nil}
 use Rattle.tt.specs.Forest.{Forest}
@@ -17,12 +17,12 @@ use Rattle.expand_items.specs.declared.position.Siblings.TheVariants.{Items}
 use Rattle.syntax_edit.specs.Texts.{Replacement, Writing, finished, with_all, FitAll, IsReplaced, AreReplaced}
 use Rattle.expand_text.specs.Walks.{Level, begun, Ends, Leads, first_leaf, first_subtree, first_stay, first_becomes, GoesPast, found_by, stand_of, work_in, IsNext, Steps}
 
--- all that gives way in what comes of levels
+-- all replacements of what levels expand to
 abbrev pub all_replacements : List Outcome → List Replacement
 all_replacements [] = []
 all_replacements (it ∷ others) = replacements it ++ all_replacements others
 
--- whatever comes of what is left, that and what is replaced already is what comes of the trees
+-- whatever the rest expands to, that and the replacements so far are those of the trees
 pub record IsReading (setting : Setting) (limit : ℕ) (trees : Forest) (before : Known) (levels : List Level) (now : Known) (done : List Replacement) : Type 0 where
   pub finishes : (after : Known) (outcomes : List Outcome) → Ends setting true limit levels now after outcomes
       → (outcome : Outcome) × Comes setting true limit (begun_among Items) 0 before trees after outcome × (done ++ all_replacements outcomes ≡ replacements outcome)
@@ -39,7 +39,7 @@ begins setting limit trees before close = record { finishes = by }
 
 module _ (setting : Setting) (limit : ℕ) (trees : Forest) (before now others : Known) (level : Level) (outer nexts : List Level) (done : List Replacement)
     (reading : IsReading setting limit trees before (level ∷ outer) now done) where
-  -- It goes on, where something more may be replaced.
+  -- The walk goes on, with more replacements.
   reads_on : (grown : List Outcome → List Outcome) (more : List Replacement) → Leads setting true limit (level ∷ outer) now grown nexts others
       → ((after : Known) (outcomes : List Outcome) → Ends setting true limit (level ∷ outer) now after (grown outcomes) → all_replacements (grown outcomes) ≡ more ++ all_replacements outcomes)
       → IsReading setting limit trees before nexts others (done ++ more)
@@ -52,7 +52,7 @@ module _ (setting : Setting) (limit : ℕ) (trees : Forest) (before now others :
           let (outcome, comes, is) = reading.finishes after (grown outcomes) ended in
           (outcome, comes, append_assoc done more (all_replacements outcomes) ∙ ap (λ l. done ++ l) (sym (same after outcomes ended)) ∙ is)
 
-  -- Past a leaf, past trees that stay, into a subtree and out of one nothing is.
+  -- A leaf, trees that stay, a subtree that is entered, and one that is left replace nothing.
   pub reads_leaf : (it : Leaf) → Leads setting true limit (level ∷ outer) now (first_leaf it) nexts others → IsReading setting limit trees before nexts others done
   reads_leaf it leads = subst (IsReading setting limit trees before nexts others) (append-nil done) (reads_on (first_leaf it) [] leads same)
     where
@@ -79,7 +79,7 @@ module _ (setting : Setting) (limit : ℕ) (trees : Forest) (before now others :
   reads_end leads =
       subst (IsReading setting limit trees before nexts others) (append-nil done) (reads_on (λ outcomes. nothing ∷ outcomes) [] leads (λ after outcomes e. refl))
 
-  -- Past a call it is.
+  -- A call adds a replacement.
   pub reads_call : (attributes : Forest) (first last : Span) (put : Forest) → Leads setting true limit (level ∷ outer) now (first_becomes attributes first last put) nexts others
       → IsReading setting limit trees before nexts others (done ++ replacement first last put ∷ [])
   reads_call attributes first last put leads = reads_on (first_becomes attributes first last put) (replacement first last put ∷ []) leads same
@@ -89,7 +89,7 @@ module _ (setting : Setting) (limit : ℕ) (trees : Forest) (before now others :
       same after [] e = absurd e
       same after (it ∷ more) e = refl
 
-  -- All is.
+  -- All is replaced.
   pub reads_all : (after : Known) → Ends setting true limit (level ∷ outer) now after (nothing ∷ [])
       → (outcome : Outcome) × Comes setting true limit (begun_among Items) 0 before trees after outcome × (done ≡ replacements outcome)
   reads_all after e =
@@ -101,17 +101,17 @@ pub replaced_more : (its : List Replacement) (old now new : Writing) (it : Repla
 replaced_more [] old now new it are is = (new, subst (λ w. IsReplaced it w new) are is, refl)
 replaced_more (first ∷ its) old now new it (next, is_first, are) is = (next, is_first, replaced_more its next now new it are is)
 
--- Where all fit, all are.
+-- If all fit, all are replaced.
 pub all_replaced : (its : List Replacement) (old new : Writing) → FitAll its old → AreReplaced its old new → finished new ≡ with_all its old
 all_replaced [] old new fit are = ap finished are
 all_replaced (it ∷ others) old new (fits, fit) (next, inl (there, is), are) =
     all_replaced others next new (subst (FitAll others) (sym is) fit) are ∙ ap (with_all others) is
 all_replaced (it ∷ others) old new (fits, fit) (next, inr (not, is), are) = absurd (not fits)
 
--- What is replaced is so where that comes next and is written.
+-- The replacements hold when the next event is written.
 module _ (setting : Setting) (limit : ℕ) (trees : Forest) (before now others then : Known) (source : Writing) (level : Level) (outer nexts : List Level) (done : List Replacement) (old new : Writing)
     (reading : IsReading setting limit trees before (level ∷ outer) now done) (are : AreReplaced done source old) where
-  -- that is read of the levels that are left, and replaced
+  -- what is read of the levels that are left, and replaced
   abbrev IsRead : Type 0
   IsRead = (all : List Replacement) × IsReading setting limit trees before nexts then all × AreReplaced all source new
 
@@ -147,7 +147,7 @@ module _ (setting : Setting) (limit : ℕ) (trees : Forest) (before now others t
             subst (AreReplaced done source) (sym written) are,
           )
 
-  -- At the end all is.
+  -- At the end all is replaced.
   pub reads_to_end : (it : Event) → IsNext setting true limit (level ∷ outer) now it nexts others → GoesOn it false → IsEventWritten setting limit it old new others then
       → (outcome : Outcome) × Comes setting true limit (begun_among Items) 0 before trees then outcome × AreReplaced (replacements outcome) source new
   reads_to_end event.End ended goes (known, written) =
@@ -162,7 +162,7 @@ module _ (setting : Setting) (limit : ℕ) (trees : Forest) (before now others t
   reads_to_end (event.Stays stay) next goes is = absurd (cc goes)
   reads_to_end (event.Invocation it) next goes is = absurd (cc goes)
 
--- Where it goes on, less is left to do.
+-- If the walk goes on, less is left to do.
 pub less_left : (levels nexts : List Level) (it : Event) → GoesOn it true → Steps levels it nexts → work_in nexts < work_in levels
 less_left levels nexts event.End goes steps = absurd (cc goes)
 less_left levels nexts (event.Leaf it) goes steps = steps.1

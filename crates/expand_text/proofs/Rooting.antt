@@ -19,7 +19,7 @@ use Rattle.mbe_pattern.specs.Units.{is_at_word}
 use Rattle.mbe_pattern.specs.Spelling.{is_dollar}
 use Rattle.expand_text.specs.Roots.{is_crate_root, rooted_leaf, after_leaf, rooted_behind, rooted}
 
--- what is built once all that is left of the levels is
+-- what is built once the rest of all levels is
 abbrev pub finished : (root : List ℕ) → List Level → Forest → Stack → Stack
 finished root [] rest stack = append (rooted root rest) stack
 finished root (level ∷ outer) rest stack = finished root outer (rest_of level.rest) (close_innermost level.close (append (rooted root rest) stack))
@@ -29,7 +29,7 @@ abbrev pub work_left : List Level → ℕ
 work_left [] = 0
 work_left (level ∷ outer) = suc (2 * size (rest_of level.rest) + work_left outer)
 
--- The first tree, and what is left, by what it is.
+-- The first tree and the rest, by the first element.
 pub leaf_first : (trees : Forest) (it : Leaf) → IsFirstElement trees (Some (element.Leaf it)) → trees ≡ leaf it (after_tree trees)
 leaf_first end it p = absurd p
 leaf_first (leaf other rest) it p = ap (λ l. leaf l rest) (sym p)
@@ -46,12 +46,12 @@ none_first end p = refl
 none_first (leaf it rest) p = absurd p
 none_first (node delimiter children rest) p = absurd p
 
--- Where both tests say yes, the second does.
+-- If both tests are true, the second is.
 both_right : (a b : Bool) → (a && b) ≡ true → b ≡ true
 both_right true b is = is
 both_right false b is = absurd (cc is)
 
--- Behind a leaf those are rooted that are left.
+-- Behind a leaf, the trees that are left are rooted.
 rooted_after : (root : List ℕ) (it : Leaf) (rest : Forest) → rooted_behind root (is_crate_root it rest) rest ≡ rooted root (after_leaf it rest)
 rooted_after root it rest = by rest (is_crate_root it rest) (both_right (is_dollar it) (is_at_word (codes "crate") rest))
   where
@@ -71,7 +71,7 @@ finished_step root [] trees others built stack is = ap (λ f. append f stack) is
 finished_step root (level ∷ outer) trees others built stack is =
     ap (λ s. finished root outer (rest_of level.rest) (close_innermost level.close s)) (ap (λ f. append f stack) is ∙ append-join built (rooted root others) stack)
 
--- A leaf is.
+-- A leaf is built.
 pub finished_leaf : (root : List ℕ) (outer : List Level) (trees behind others : Forest) (it word : Leaf) (stack : Stack) → trees ≡ leaf it behind
     → others ≡ after_leaf it behind → word ≡ rooted_leaf root it behind → finished root outer trees stack ≡ finished root outer others (append (leaf word end) stack)
 finished_leaf root outer trees behind others it word stack begins left is =
@@ -88,7 +88,7 @@ finished_node root outer trees held level header stack begins close =
     (λ c. finished root outer (rest_of level.rest) (append (node (record { open_span = header.delimiter.open_span; close = c; kind = header.delimiter.kind }) (rooted root held) end) stack))
     (sym close)
 
--- One is closed.
+-- A subtree is closed.
 pub finished_end : (root : List ℕ) (outer : List Level) (trees : Forest) (level : Level) (stack : Stack) → trees ≡ end
     → finished root (level ∷ outer) trees stack ≡ finished root outer (rest_of level.rest) (close_innermost level.close stack)
 finished_end root outer trees level stack none =
@@ -99,7 +99,7 @@ finished_end root outer trees level stack none =
 pub finished_all : (root : List ℕ) (trees all : Forest) (stack : Stack) → trees ≡ end → finished root [] trees stack ≡ lowest all → stack ≡ lowest all
 finished_all root trees all stack none is = sym (append-end stack) ∙ ap (λ f. finished root [] f stack) (sym none) ∙ is
 
--- What is held, and the trees that come next, are held at last.
+-- The tokens held and those of the next trees are held in the end.
 held_at_last : (root : List ℕ) (outer : List Level) (trees : Forest) (stack : Stack)
     → tokens_held stack + size (rooted root trees) ≤ tokens_held (finished root outer trees stack)
 held_at_last root [] trees stack = omega (arith, held-append (rooted root trees) stack)
@@ -111,7 +111,7 @@ held_at_last root (level ∷ outer) trees stack =
       held-append (rooted root trees) stack,
     )
 
--- Where there is no room for one token more, the whole is too large.
+-- If there is no room for one token more, the whole is too large.
 module _ (root : List ℕ) (outer : List Level) (trees all : Forest) (it : BuilderState) (fault : TtFault) (wrong : IsGrowthFault 1 it fault)
     (delimiter : Delimiter) (whole : finished root outer trees it.stack ≡ lowest all) where
   no_room : 1 ≤ size (rooted root trees) → IsTreeFault (under delimiter all) fault
@@ -128,7 +128,7 @@ module _ (root : List ℕ) (outer : List Level) (trees all : Forest) (it : Build
   pub node_no_room : (header : Delimiter) (held behind : Forest) → trees ≡ node header held behind → IsTreeFault (under delimiter all) fault
   node_no_room header held behind begins = no_room (omega (arith, ap (λ f. size (rooted root f)) begins))
 
--- How many subtrees are open.
+-- Appended trees do not change the number of open subtrees.
 pub depth_append : (trees : Forest) (stack : Stack) → depth (append trees stack) ≡ depth stack
 depth_append trees (lowest held) = refl
 depth_append trees (above outer kind span held) = refl

@@ -8,7 +8,7 @@ use Rattle.mbe_pattern.proofs.Rows.{word, alone, joint}
 abbrev colons : Forest → Forest
 colons rest = joint 58 (alone 58 rest)
 
--- `$crate::f` and `$f`, where `k` stands for the root.
+-- `$crate::f` and `$f`, with the word `k` for the root.
 root_placed : rooted (codes "k") (alone 36 (word (codes "crate") (colons (word (codes "f") end)))) ≡ word (codes "k") (colons (word (codes "f") end))
 root_placed = refl
 

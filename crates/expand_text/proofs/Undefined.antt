@@ -30,7 +30,7 @@ lacks_behind word (suc n) end lacks = lacks_behind word n end lacks
 lacks_behind word (suc n) (leaf it rest) lacks = lacks_behind word n rest lacks.1
 lacks_behind word (suc n) (node delimiter children rest) lacks = lacks_behind word n rest lacks.1
 
--- Behind attributes there is no definition.
+-- There is no definition behind attributes.
 standing_defines : (position : Position) (attributes : ℕ) (trees : Forest) (found : Item) (it : Definition) → standing position attributes trees found ≡ defines it → ⊥
 standing_defines position attributes trees (defines its) it is = cc is
 standing_defines position attributes trees other it is = cc is
@@ -40,7 +40,7 @@ standing_defines position attributes trees (calls its) it is = by (is_statement 
     by true is = cc is
     by false is = cc is
 
--- Without the word there is none at all.
+-- Without the word there is no definition at all.
 no_definition : (root : List ℕ) (position : Position) (trees : Forest) (it : Definition) → Lacks (codes "macro_rules") trees → item_at root position trees ≡ defines it → ⊥
 no_definition root position trees it lacks is = by (begins_condition position trees) is
   where
@@ -57,7 +57,7 @@ no_definition root position trees it lacks is = by (begins_condition position tr
     by true is = standing_defines position (attributes_len trees) (after_trees (attributes_len trees) trees) (item_in root (after_trees (attributes_len trees) trees)) it is
     by false is = from (call_in root trees) (ap (λ d. item_from d (call_in root trees)) (sym none) ∙ is)
 
--- Where no macro is in scope, no call is one of a macro.
+-- If no macro is in scope, no call names one.
 called_none : (setting : Setting) (macros : List Macro) (it : Call) → macros ≡ [] → called_by setting macros it ≡ None
 called_none setting macros it none = ap (λ m. called_by setting m it) none ∙ both it.is_elsewhere (asks_for setting.only it.name.sym)
   where
@@ -69,7 +69,7 @@ called_none setting macros it none = ap (λ m. called_by setting m it) none ∙ 
     both false true = refl
     both false false = refl
 
--- Behind a subtree in which nothing was learned nothing is.
+-- Nothing is learned behind a subtree in which nothing was learned.
 known_same : (are_kept : Bool) (known : Known) → known_after are_kept known known ≡ known
 known_same true known = refl
 known_same false known = ap (λ m. record known { macros = m }) (take-length known.macros)

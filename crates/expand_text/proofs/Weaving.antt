@@ -1,4 +1,4 @@
--- What takes the place of calls is woven into what a text is spelled by.
+-- What replaces calls is woven into the pieces of the text.
 use Rattle.std.proofs.Common.{◌≡◌, ◌<◌, ◌-◌, ◌++◌, ℕ, suc, Bool, true, false, List, [], ◌∷◌, inl, inr, ◌⊎◌, max, Some, None, cond, codes, refl, ap, ap₂, sym, subst, ◌∙◌, arith, append_assoc, append-nil}
 use Rattle.std.proofs.Math.Nat.{le-max_left, le-max_right}
 use Rattle.std.proofs.lemmas.Bool.{eqb-true, false≢true}
@@ -38,12 +38,12 @@ use Rattle.syntax_parse.specs.Spelled.{Piece, Sort, sign, opening, closing, at_s
 use Rattle.syntax_unparse.specs.Marks.{marks}
 use Rattle.syntax_unparse.specs.Settled.{settled, sorts}
 
--- what takes the place of calls, as texts
+-- what replaces calls, as texts
 replacements_append : (a b : List Splice) → replacements_of (a ++ b) ≡ replacements_of a ++ replacements_of b
 replacements_append [] b = refl
 replacements_append (it ∷ a) b = ap (λ rs. replacement_of it ∷ rs) (replacements_append a b)
 
--- All that takes the place of calls is so as a text.
+-- The splices are the replacements as texts.
 pub as_texts : (it : Outcome) → replacements_of (splices it) ≡ replacements it
 as_texts nothing = refl
 as_texts (passes it behind) = as_texts behind
@@ -55,12 +55,12 @@ as_texts (becomes first last trees behind) = ap (λ rs. replacement first last t
 abbrev pub BeforePoint : (before : List Sort) → Forest → (plain : ℕ) → Type 0
 BeforePoint before trees plain = follows_value before ≡ true → is_at_punct (codes ".") trees ≡ true → 1 < plain
 
--- behind these leaves and brackets, the latest first, no call begins where none may, since so many trees are taken as they are
+-- behind these leaves and brackets, the latest first, no call begins at a place at which none may: so many trees are taken as they are
 pub record IsHeld (before : List Sort) (trees : Forest) (plain : ℕ) : Type 0 where
   pub begins : plain ≡ 0 → may_begin before ≡ true
   pub point : BeforePoint before trees plain
 
--- Behind a punct none begins where none may.
+-- Behind a punct no call begins at a place at which none may.
 held_punct : (char : ℕ) (spacing : Spacing) (before : List Sort) (plain behind : ℕ) → ((char == 46) ≡ true → follows_value before ≡ true → 1 < plain) → ((char == 39) ≡ true → 0 < behind)
     → max (plain - 1) behind ≡ 0 → may_begin (sign char spacing ∷ before) ≡ true
 held_punct char spacing before plain behind point quote none = by (char == 39) refl (char == 46) refl (follows_value before) refl
@@ -71,7 +71,7 @@ held_punct char spacing before plain behind point quote none = by (char == 39) r
     by false e true f false g = refl
     by false e true f true g = absurd (omega (arith, point f g, le-max_left (plain - 1) behind, none))
 
--- Nor behind a leaf, since what stands behind that is taken as it is.
+-- Behind a leaf neither, since the trees that follow it are taken as they are.
 held_leaf : (it : Leaf) (before : List Sort) (rest : Forest) (plain : ℕ) → IsHeld before (leaf it rest) plain → IsHeld (sort_of it ∷ before) rest (plain_behind it rest plain)
 held_leaf (leaf_of.Ident it) before rest plain held = record { begins = λ none. refl; point = λ follows at. absurd (false≢true follows) }
 held_leaf (leaf_of.Literal it) before rest plain held = record {
@@ -89,7 +89,7 @@ held_leaf (leaf_of.Punct it) before rest plain held = record {
   point = λ follows at. absurd (false≢true follows);
 }
 
--- Behind nothing, and behind a bracket, any call may begin.
+-- Behind nothing and behind a bracket any call may begin.
 held_none : (trees : Forest) (plain : ℕ) → IsHeld [] trees plain
 held_none trees plain = record { begins = λ none. refl; point = λ follows at. absurd (false≢true follows) }
 
@@ -99,7 +99,7 @@ held_opening kind before trees plain = record { begins = λ none. refl; point = 
 held_closing : (kind : DelimiterKind) (before : List Sort) (trees : Forest) (plain : ℕ) → IsHeld (closing kind ∷ before) trees plain
 held_closing kind before trees plain = record { begins = λ none. refl; point = λ follows at. absurd (false≢true follows) }
 
--- So it may behind a `;`.
+-- Behind a `;` any call may begin.
 held_semicolon : (char : ℕ) (spacing : Spacing) (before : List Sort) (trees : Forest) (plain : ℕ) → (char == 59) ≡ true → IsHeld (sign char spacing ∷ before) trees plain
 held_semicolon char spacing before trees plain is =
     subst (λ c. IsHeld (sign c spacing ∷ before) trees plain) (sym (eqb-true char 59 is)) (record { begins = λ none. refl; point = λ follows at. absurd (false≢true follows) })
@@ -108,7 +108,7 @@ behind_last : (pieces : List Piece) (last : Piece) (before : List Sort) → behi
 behind_last [] last before = refl
 behind_last (piece ∷ pieces) last before = behind_last pieces last (piece.sort ∷ before)
 
--- Pieces stay, all of them.
+-- All pieces stay.
 keeps_all : (pieces : List Piece) (before : List Sort) (more : List Piece) (others : List Splice) (woven : List Sort) → IsWoven (behind_pieces pieces before) more others woven
     → IsWoven before (pieces ++ more) others (sorts pieces ++ woven)
 keeps_all [] before more others woven is = is
@@ -193,9 +193,9 @@ module _ (root : List ℕ) (trees : Forest) (position : Position) (it : Call) (i
               subst (λ f. BeginsCall (start_of (begin_at f it.name.span).range) (spelled (front_trees (suc (suc (len_in position it trees - 2))) f))) (sym name.stands)
               (refl, refl, name.sign)
 
--- So does a call behind its attributes.
+-- The same holds for a call behind its attributes.
 module _ (root : List ℕ) (trees : Forest) (position : Position) (it : Call) (is : item_at root position trees ≡ calls it) where
-  -- the call alone, and what stands behind the attributes
+  -- the call alone, and what follows the attributes
   abbrev at : StandsBehind root trees it
   at = alone root position trees it is
 
@@ -212,14 +212,14 @@ module _ (root : List ℕ) (trees : Forest) (position : Position) (it : Call) (i
       (subst (λ s. IsTaken (spelled (whole_in position at.bare behind)) (start_of (begin_at behind at.bare.name.span).range) (end_of s.range)) (sym (end_alone root position trees it is))
       (bare_taken root behind position at.bare at.stands named)))
 
-  -- All of it ends so.
+  -- All of its trees end with a subtree or a `;`.
   whole_closed : EndsClosed (whole_in position it trees)
   whole_closed =
       subst EndsClosed (sym (front_joined it.attributes (whole_in position it trees)))
       (closed_join (attributes_in position it trees) (after_trees it.attributes (whole_in position it trees))
       (subst EndsClosed (sym (call_alone root position trees it is)) (bare_end root behind position at.bare at.stands).0))
 
-  -- Behind its attributes a call may begin, where one may before them.
+  -- Behind its attributes a call may begin if one may before them.
   held_attributes : (before : List Sort) → IsHeld before trees 0 → may_begin (behind_pieces (spelled (attributes_in position it trees)) before) ≡ true
   held_attributes before held = by (attributes_closed root position trees it is)
     where
@@ -229,7 +229,7 @@ module _ (root : List ℕ) (trees : Forest) (position : Position) (it : Call) (i
       by (inr (front, delimiter, children, same)) =
           (held_closed (attributes_in position it trees) (by_subtree front delimiter children (attributes_alone root position trees it is ∙ same)) before behind 0).begins refl
 
-  -- The trees are its attributes, the rest of it, and what stands behind it.
+  -- The trees are its attributes, the rest of it, and the trees behind it.
   spelled_parts : (more : List Piece)
       → spelled (attributes_in position it trees) ++ (spelled (after_trees it.attributes (whole_in position it trees)) ++ (spelled (rest_in position it trees) ++ more)) ≡ spelled trees ++ more
   spelled_parts more =
@@ -237,7 +237,7 @@ module _ (root : List ℕ) (trees : Forest) (position : Position) (it : Call) (i
       (front_joined it.attributes (whole_in position it trees))
       ∙ spelled_front trees (whole_in position it trees) (rest_in position it trees) more (split_in position it trees)
 
--- A macro is called by its own name, and not looked for elsewhere.
+-- A macro is called by its own name, not by a path.
 called_here : (setting : Setting) (macros : List Macro) (it : Call) (arms : List Arm) → arms_of (called_by setting macros it) ≡ Some arms → it.is_elsewhere ≡ false
 called_here setting macros it arms is = by it.is_elsewhere refl is
   where
@@ -246,7 +246,7 @@ called_here setting macros it arms is = by it.is_elsewhere refl is
     by false e f = refl
 
 module _ (setting : Setting) where
-  -- Trees that stay with all that they hold, and end with a subtree or a `;`, and then others.
+  -- Trees that stay, and end with a subtree or a `;`, and then others.
   stays_woven : (trees front rest : Forest) → trees ≡ join front rest → EndsClosed front → (before : List Sort) (more : List Piece) (others : List Splice) (woven : List Sort)
       → ((behind : List Sort) → IsHeld behind rest 0 → IsWoven behind (spelled rest ++ more) others woven)
       → IsWoven before (spelled trees ++ more) others (sorts (spelled front) ++ woven)
@@ -254,7 +254,7 @@ module _ (setting : Setting) where
       moved (spelled_front trees front rest more is) refl refl
       (keeps_all (spelled front) before (spelled rest ++ more) others woven (then (behind_pieces (spelled front) before) (held_closed front closed before rest 0)))
 
-  -- What comes of trees is woven into their pieces.
+  -- What trees expand to is woven into their pieces.
   pub comes_woven : {limit : ℕ} {position : Position} {plain : ℕ} {known after : Known} {trees : Forest} {outcome : Outcome} → Comes setting true limit position plain known trees after outcome
       → (before : List Sort) → IsHeld before trees plain → (more : List Piece) (others : List Splice) (woven : List Sort) → ((behind : List Sort) → IsWoven behind more others woven)
       → IsWoven before (spelled trees ++ more) (splices outcome ++ others) (sorts_left outcome ++ woven)
@@ -303,7 +303,7 @@ module _ (setting : Setting) where
       (stays_woven trees (whole_in position it trees) (rest_in position it trees) (split_in position it trees) (whole_closed setting.root trees position it is) before more (splices behind ++ others) (sorts_left behind ++ woven)
       (λ b h. comes_woven past b h more others woven then))
 
-  -- What comes of a whole text is woven into its pieces.
+  -- What a whole text expands to is woven into its pieces.
   pub text_woven : {limit : ℕ} {position : Position} {known after : Known} (trees : Forest) (outcome : Outcome) → Comes setting true limit position 0 known trees after outcome
       → IsWoven [] (spelled trees) (splices outcome) (sorts_left outcome)
   text_woven trees outcome comes =

@@ -1,4 +1,4 @@
--- What comes of a call.
+-- What a call expands to.
 use Rattle.std.specs.Prelude.{◌≡◌, ◌<◌, ℕ, suc, List, None, Some}
 use Rattle.tt.specs.Forest.{Root}
 use Rattle.expand_text.specs.declared.calling.Called.{Called}
@@ -14,12 +14,12 @@ use Rattle.mbe_rules.specs.Arms.{Arm}
 use Rattle.mbe_rules.specs.Expansions.{IsExpansion}
 use Rattle.mbe_rules.specs.declared.macro_rules.Expansion.TheVariants as expansion
 
--- what arms make of a call, in which so many expansions may stand one inside the other: a tree, or what is wrong with it and where
+-- what arms make of a call, with at most so many nested expansions: a tree, or a fault and its byte
 abbrev pub IsMade : (limit : ℕ) → List Arm → Call → Made → Type 0
 IsMade limit arms it (made.Tree tree) = (left : ℕ) × (limit ≡ suc left) × IsExpansion arms 0 0 it.input (expansion.Tree tree)
 IsMade limit arms it (made.Faulty at fault) = IsCallFault limit arms it at fault
 
--- a tree is made only where an expansion may stand inside
+-- a tree is made only if one expansion more is allowed
 abbrev pub IsMadeWithin : (limit : ℕ) → Made → Type 0
 IsMadeWithin limit (made.Tree tree) = 0 < limit
 IsMadeWithin limit (made.Faulty at fault) = Unit {0}
@@ -29,7 +29,7 @@ IsCalledWithin limit called.Other = Unit {0}
 IsCalledWithin limit called.Faulty = Unit {0}
 IsCalledWithin limit (called.Tree tree defined_at) = 0 < limit
 
--- a call is wrong in some way, and that is found
+-- a call has a fault, which is found
 pub record IsFaulty (setting : Setting) (limit : ℕ) (it : Call) (before after : Known) : Type 0 where
   pub macro : Macro
   pub arms : List Arm
@@ -40,7 +40,7 @@ pub record IsFaulty (setting : Setting) (limit : ℕ) (it : Call) (before after 
   pub wrong : IsCallFault limit arms it at fault
   pub found : after ≡ with_finding (found_of it macro at fault) before
 
--- a call of a macro whose name stands at that byte in its definition becomes a tree
+-- a call of a macro whose name begins at that byte in its definition expands to a tree
 pub record IsExpanded (setting : Setting) (limit : ℕ) (it : Call) (tree : Root) (defined_at : ℕ) (before after : Known) : Type 0 where
   pub left : ℕ
   pub macro : Macro
@@ -52,7 +52,7 @@ pub record IsExpanded (setting : Setting) (limit : ℕ) (it : Call) (tree : Root
   pub makes : IsExpansion arms 0 0 it.input (expansion.Tree tree)
   pub known : after ≡ before
 
--- what comes of a call, and what is known then: nothing where no arms expand it, something that is wrong, or a tree
+-- what becomes of a call, and what is known then: nothing if no arms expand it, a fault, or a tree
 abbrev pub IsCalled : Setting → (limit : ℕ) → Call → Called → (before after : Known) → Type 0
 IsCalled setting limit it called.Other before after =
     (arms_of (called_by setting before.macros it) ≡ None) × (after ≡ known_behind it (called_by setting before.macros it) before)

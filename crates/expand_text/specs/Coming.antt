@@ -1,4 +1,4 @@
--- What comes of trees in which macros are defined and called.
+-- What trees expand to in which macros are defined and called.
 use Rattle.std.specs.Prelude.{◌≡◌, ◌⊎◌, ◌<◌, ◌-◌, ℕ, suc, Bool, true, false, List, length, take, None, Some, codes, max, ◌==◌, if◌then◌else◌}
 use Rattle.tt.specs.Forest.{Forest, Root, end, leaf, node}
 use Rattle.tt.specs.Gluing.{after_trees}
@@ -24,42 +24,43 @@ use Rattle.mbe_rules.specs.Expansions.{IsExpansion}
 use Rattle.mbe_rules.specs.declared.macro_rules.Expansion.TheVariants as expansion
 use Rattle.mbe_pattern.specs.Units.{front_trees, is_brace, is_at_punct}
 
--- the first tree is taken as it is: nothing is expanded any more, or it is one of so many that are, or begins neither a definition nor a call
+-- the first tree is taken as it is: no call is expanded any more, or it is one of the plain
+-- trees, or it begins neither a definition nor a call
 abbrev pub IsPlain : Setting → Known → Position → (plain : ℕ) → Forest → Type 0
 IsPlain setting known position plain trees = (known.is_over ≡ true) ⊎ ((0 < plain) ⊎ (item_at setting.root position trees ≡ other))
 
--- how many trees behind a leaf are no call, where these stand there: the name of a lifetime, and behind a literal a `.` and the name of a field
+-- how many trees behind a leaf begin no call: the name of a lifetime, or behind a literal a `.` and the name of a field
 abbrev pub named_behind : Leaf → (rest : Forest) → ℕ
 named_behind (leaf_of.Punct it) rest = if it.char == 39 then 1 else 0
 named_behind (leaf_of.Literal it) rest = if is_at_punct (codes ".") rest then 2 else 0
 named_behind (leaf_of.Ident it) rest = 0
 
--- so many, or as many as are left of those that are taken as they are
+-- how many of the next trees are taken as they are: those after this leaf that are no call, or the plain trees left, if more
 abbrev pub plain_behind : Leaf → (rest : Forest) → (plain : ℕ) → ℕ
 plain_behind it rest plain = max (plain - 1) (named_behind it rest)
 
--- what is known behind a subtree: its macros are in scope there if they are kept
+-- what is known behind a subtree: its macros are in scope if they are kept
 abbrev pub known_after : (are_kept : Bool) → (before inside : Known) → Known
 known_after true before inside = inside
 known_after false before inside = record inside { macros = take (length before.macros) inside.macros }
 
--- what stands behind a call that stands first among trees
+-- the trees behind a call that comes first
 abbrev pub behind_call : Call → (trees : Forest) → Forest
 behind_call it trees = after_trees it.len trees
 
--- the `;` behind it is a part of it
+-- the `;` behind the call is a part of it
 abbrev pub takes_in : Position → Call → (trees : Forest) → Bool
 takes_in position it trees = takes_semicolon it.delimiter.kind (behind_call it trees) position
 
--- where it ends then
+-- where the call ends then
 abbrev pub end_in : Position → Call → (trees : Forest) → Span
 end_in position it trees = if takes_in position it trees then begin_at (behind_call it trees) it.delimiter.close else it.delimiter.close
 
--- how many trees it is then
+-- how many trees the call is then
 abbrev pub len_in : Position → Call → (trees : Forest) → ℕ
 len_in position it trees = if takes_in position it trees then suc it.len else it.len
 
--- what stands behind it then, and what stands before that
+-- the trees behind the call then, and the position behind the call
 abbrev pub rest_in : Position → Call → (trees : Forest) → Forest
 rest_in position it trees = if takes_in position it trees then after_tree (behind_call it trees) else behind_call it trees
 
@@ -67,18 +68,18 @@ abbrev pub behind_in : Position → Call → (trees : Forest) → Position
 behind_in position it trees =
     if takes_in position it trees then behind true (behind (is_brace it.delimiter.kind) position) else behind (is_brace it.delimiter.kind) position
 
--- before the first of the trees that come of it
+-- the position before the first of the trees that the call expands to
 abbrev pub begun_by : Position → Call → (trees : Forest) → Position
 begun_by position it trees = begun (siblings_of_call it.delimiter.kind (behind_call it trees) position)
 
--- all of it then, and the attributes before it
+-- all trees of the call then, and the attributes before it
 abbrev pub whole_in : Position → Call → (trees : Forest) → Forest
 whole_in position it trees = front_trees (len_in position it trees) trees
 
 abbrev pub attributes_in : Position → Call → (trees : Forest) → Forest
 attributes_in position it trees = front_trees it.attributes (whole_in position it trees)
 
--- how it stands
+-- the place of the call
 abbrev pub stand_in : Position → Call → (trees : Forest) → Stand
 stand_in position it trees =
     record {
@@ -89,22 +90,22 @@ stand_in position it trees =
       delimiter = it.delimiter;
     }
 
--- where it begins, behind its attributes
+-- where the call begins, behind its attributes
 abbrev pub begin_in : Call → (trees : Forest) → Span
 begin_in it trees = begin_at (after_trees it.attributes trees) it.name.span
 
--- its attributes stay, and these trees take its place
+-- its attributes stay, and these trees replace the call
 abbrev pub becomes_in : Position → Call → (trees put : Forest) → Outcome → Outcome
 becomes_in position it trees put others = stays (attributes_in position it trees) (becomes (begin_in it trees) (end_in position it trees) put others)
 
--- it stays, with its attributes and the `;` that is a part of it
+-- the call stays, with its attributes and the `;` that is a part of it
 abbrev pub stays_in : Position → Call → (trees : Forest) → Outcome → Outcome
 stays_in position it trees others = stays (whole_in position it trees) others
 
--- what comes of trees of the text itself, or else of an expansion, with so many expansions one inside the other, behind what stands before
--- them, where so many are taken as they are and that is known; and what is known then. What comes of a call stands in its place, and is
--- written there in the text. Where it does not stand there, or cannot be written, the call stays, with its attributes and the `;` that is a
--- part of it, and that is found; what was found and defined in what comes of it is known behind it all the same
+-- what trees of the text itself, or of an expansion, expand to, with at most so many nested expansions: at a position, with so many plain
+-- trees, and from what is known before; and what is known then. The expansion of a call replaces it, and is written there in the text. If
+-- it does not fit there, or cannot be written, the call stays with its attributes and its `;`, and that is found. Findings and definitions
+-- in the expansion are known behind the call in any case
 pub data Comes (setting : Setting) : (in_text : Bool) → (limit : ℕ) → Position → (plain : ℕ) → Known → Forest → Known → Outcome → Type 0 where
   ends : {in_text : Bool} {limit plain : ℕ} {position : Position} {known : Known} → Comes setting in_text limit position plain known end known nothing
   on_leaf : {in_text : Bool} {limit plain : ℕ} {position : Position} {known after : Known} {it : Leaf} {rest : Forest} {others : Outcome}

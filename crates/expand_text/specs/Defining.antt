@@ -1,4 +1,4 @@
--- What is read of a definition.
+-- What a definition is read as.
 use Rattle.std.specs.Prelude.{List}
 use Rattle.tt.specs.Forest.{Forest}
 use Rattle.tt.specs.Stored.{IsWithinLimits}
@@ -10,7 +10,7 @@ use Rattle.expand_text.specs.Macros.{IsDefinitionFault}
 use Rattle.mbe_rules.specs.Arms.{Arm, Spell}
 use Rattle.mbe_rules.specs.Expansions.{AreMade}
 
--- what is read of the arms of a definition: rules, or what is wrong with it, and the byte where that shows
+-- what the arms of a definition are read as: rules, or a fault and its byte
 abbrev pub IsRules : Definition → (arms : Forest) → Rules → Type 0
 IsRules it trees (rules.Known made) = (arms : List Arm) × IsWithinLimits (under it.delimiter trees) × Spell trees arms × AreMade arms made.arms.items
 IsRules it trees (rules.Faulty at fault) = IsDefinitionFault it trees at fault

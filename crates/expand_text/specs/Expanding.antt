@@ -1,4 +1,4 @@
--- What comes of trees is added to a builder.
+-- Expansions that are added to a builder.
 use Rattle.std.specs.Prelude.{◌≡◌, ◌⊎◌, ℕ, false, Option, None, Some}
 use Rattle.tt.specs.Building.{Stack, append}
 use Rattle.tt.specs.Forest.{Forest}
@@ -14,31 +14,31 @@ use Rattle.expand_text.specs.Walks.{found_by, stand_of}
 use Rattle.expand_items.specs.Positions.{begun}
 use Rattle.expand_items.specs.declared.position.Siblings.{Siblings}
 
--- what comes of trees that are such siblings, with so many expansions one inside the other, is added to the innermost level of those that are built
+-- what sibling trees expand to, with at most so many nested expansions, is added to the innermost level of the builder
 pub record AreExpanded (setting : Setting) (limit : ℕ) (siblings : Siblings) (trees : Forest) (old new : Stack) (before after : Known) : Type 0 where
   pub outcome : Outcome
   pub comes : Comes setting false limit (begun siblings) 0 before trees after outcome
   pub added : new ≡ append (trees_left outcome) old
 
--- these trees are added as they stand in the place of a call of which they come; or nothing is, and it is told why they do not stand there
+-- these trees are added in the place of a call that expands to them; or nothing is added, with the reason why they do not fit there
 abbrev pub IsAdded : Stand → (trees : Forest) → (misplaced : Option MacroFault) → (old new : Stack) → Type 0
 IsAdded it trees None old new = (put : Forest) × StandAs it trees (Some put) × (new ≡ append put old)
 IsAdded it trees (Some fault) old new = IsMisplaced it trees fault × (new ≡ old)
 
--- what comes of a call is
+-- the expansion of a call is added
 pub record IsPlaced (setting : Setting) (limit : ℕ) (it : Invocation) (misplaced : Option MacroFault) (old new : Stack) (before after : Known) : Type 0 where
   pub outcome : Outcome
   pub comes : Comes setting false limit (begun it.siblings) 0 before it.tree.children after outcome
   pub added : IsAdded (stand_of it) (trees_left outcome) misplaced old new
 
--- behind a call's attributes these trees are added as they stand in its place; or all of the call is, which is found
+-- these trees are added behind a call's attributes, in its place; or all of the call is added, which is found
 abbrev pub IsPutOrKept : Invocation → (trees : Forest) → (inside after : Known) → (old new : Stack) → Type 0
 IsPutOrKept it trees inside after old new =
     ((put : Forest) × StandAs (stand_of it) trees (Some put) × (after ≡ inside) × (new ≡ append put (append (stand_of it).attributes old)))
     ⊎ ((fault : MacroFault) × IsMisplaced (stand_of it) trees fault × (after ≡ with_finding (found_by it (start_of it.first_span.range) fault) inside)
     × (new ≡ append (trees_of it.whole) old))
 
--- what comes of a call stands in its place, or it stays
+-- the expansion of a call takes its place, or the call stays
 pub record IsPassed (setting : Setting) (limit : ℕ) (it : Invocation) (old new : Stack) (before after : Known) : Type 0 where
   pub inside : Known
   pub outcome : Outcome

@@ -1,4 +1,4 @@
--- What a text becomes whose macros are expanded.
+-- What a text with expanded macros is.
 use Rattle.std.specs.Prelude.{◌≡◌, ◌<◌, ◌-◌, ◌++◌, ◌⊎◌, ℕ, Bool, true, false, List, [], ◌∷◌, Option, None, Some, length, slice_get, option_map, string_bytes}
 use Rattle.tt.specs.Forest.{Forest, Root}
 use Rattle.tt.specs.Span.{start_of, end_of}
@@ -35,11 +35,11 @@ use Rattle.syntax_parse.specs.declared.fault.SyntaxFault.{SyntaxFault}
 use Rattle.syntax_unparse.specs.Settled.{sorts}
 use Rattle.syntax_unparse.specs.Text.{text_of}
 
--- what stands from a span to another gives way to the Rust text of trees
+-- the text from a span to another is replaced by the Rust text of trees
 abbrev pub replacement : (first last : Span) → Forest → Replacement
 replacement first last trees = record { start = start_of first.range; end = end_of last.range; text = text_of trees }
 
--- all that gives way, in order
+-- all replacements, in order
 abbrev pub replacements : Outcome → List Replacement
 replacements nothing = []
 replacements (passes it behind) = replacements behind
@@ -47,23 +47,23 @@ replacements (enters delimiter inside behind) = replacements inside ++ replaceme
 replacements (stays trees behind) = replacements behind
 replacements (becomes first last trees behind) = replacement first last trees ∷ replacements behind
 
--- the Rust text of trees that stand in the place of a call which begins at a byte, or why they have none
+-- the Rust text of trees that replace a call which begins at a byte, or why they have none
 abbrev pub IsTextOf : (call : Delimiter) → (put : Forest) → (begin : ℕ) → Written → Type 0
 IsTextOf call put begin (made.Text text) = MayStand true call put × (string_bytes text ≡ text_of put)
 IsTextOf call put begin (made.Faulty at fault) = IsUnwritten call put begin at fault
 
--- the Rust text of trees that come of a call, as they stand in its place, or why it stays
+-- the Rust text of the expansion of a call, in its place, or why the call stays
 abbrev pub IsCallText : Stand → (trees : Forest) → (begin : ℕ) → Written → Type 0
 IsCallText it trees begin (made.Text text) = (put : Forest) × StandAs it trees (Some put) × MayStand true it.delimiter put × (string_bytes text ≡ text_of put)
 IsCallText it trees begin (made.Faulty at fault) = IsKept true it trees begin at fault
 
--- what comes of a call is written as Rust, or cannot be
+-- what a call expands to is written as Rust, or cannot be
 pub record IsInvocationText (setting : Setting) (limit : ℕ) (it : Invocation) (result : Written) (before after : Known) : Type 0 where
   pub outcome : Outcome
   pub comes : Comes setting false limit (begun_among it.siblings) 0 before it.tree.children after outcome
   pub text : IsCallText (stand_of it) (trees_left outcome) (start_of it.first_span.range) result
 
--- trees that come of a call take its place, where that is left of the source; or it stays, and that is found
+-- an expansion replaces its call, if that part of the source is left; or the call stays, and that is found
 abbrev pub IsPut : Invocation → (trees : Forest) → (inside after : Known) → (old new : Writing) → Type 0
 IsPut it trees inside after old new =
     ((put : Forest) × StandAs (stand_of it) trees (Some put) × MayStand true it.delimiter put × (after ≡ inside)
@@ -71,7 +71,7 @@ IsPut it trees inside after old new =
     ⊎ ((at : ℕ) × (fault : MacroFault) × IsKept true (stand_of it) trees (start_of it.first_span.range) at fault
     × (after ≡ with_finding (found_by it at fault) inside) × (new ≡ old))
 
--- what comes of a call does
+-- a call is replaced by its expansion
 pub record IsInvocationWritten (setting : Setting) (limit : ℕ) (it : Invocation) (old new : Writing) (before after : Known) : Type 0 where
   pub inside : Known
   pub outcome : Outcome
@@ -82,7 +82,7 @@ pub record IsInvocationWritten (setting : Setting) (limit : ℕ) (it : Invocatio
 abbrev pub IsSame : (before after : Known) (old new : Writing) → Type 0
 IsSame before after old new = (after ≡ before) × (new ≡ old)
 
--- what is written where that comes next in a walk
+-- what is written for the next event of a walk
 abbrev pub IsEventWritten : Setting → (limit : ℕ) → Event → (old new : Writing) → (before after : Known) → Type 0
 IsEventWritten setting limit event.End old new before after = IsSame before after old new
 IsEventWritten setting limit (event.Leaf it) old new before after = IsSame before after old new
@@ -91,7 +91,7 @@ IsEventWritten setting limit (event.Closes close) old new before after = IsSame 
 IsEventWritten setting limit (event.Stays trees) old new before after = IsSame before after old new
 IsEventWritten setting limit (event.Invocation it) old new before after = IsInvocationWritten setting (limit - 1) it old new before after
 
--- it goes on, but for the end
+-- the walk goes on, except at the end
 abbrev pub GoesOn : Event → (goes_on : Bool) → Type 0
 GoesOn event.End goes_on = goes_on ≡ false
 GoesOn (event.Leaf it) goes_on = goes_on ≡ true
@@ -100,7 +100,7 @@ GoesOn (event.Closes close) goes_on = goes_on ≡ true
 GoesOn (event.Stays trees) goes_on = goes_on ≡ true
 GoesOn (event.Invocation it) goes_on = goes_on ≡ true
 
--- a source of these trees is written, where in the place of each call what comes of it stands
+-- a source of these trees is written with each call replaced by its expansion
 pub record IsSourceText (setting : Setting) (limit : ℕ) (source : List ℕ) (trees : Forest) (result : List ℕ) (before after : Known) : Type 0 where
   pub outcome : Outcome
   pub comes : Comes setting true limit (begun_among Items) 0 before trees after outcome
@@ -108,17 +108,17 @@ pub record IsSourceText (setting : Setting) (limit : ℕ) (source : List ℕ) (t
   pub replaced : AreReplaced (replacements outcome) (begun source) written
   pub text : result ≡ finished written
 
--- how a text is gone through
+-- the setting of the options
 abbrev pub setting_by : ExpandOptions → Setting
 setting_by it = record { root = it.root.now; everywhere = it.everywhere; only = option_map (λ name. name.now) it.only }
 
--- a text reads back as what is left: it has no fault of syntax, and whatever trees it is read as are spelled by that
+-- a text reads back as what is left: it has no fault of syntax, and any tree that it is read as spells what is left
 pub record ReadsAs (text : List ℕ) (left : List Sort) : Type 0 where
   pub sound : (fault : SyntaxFault) → IsFaultOf text fault → ⊥
   pub reads : (part : SpanPart) (again : Root) → IsParse part text again → sorts (spelled again.children) ≡ left
 
--- a text that is read as trees, and what comes of it: where it is called, what comes of that call stands, and all else stays byte for byte;
--- and that reads back as the trees that are left
+-- a text that is read as trees, and its expansion: each call is replaced by its expansion, and all other text stays byte for byte. The
+-- result reads back as the trees that are left
 pub record IsExpanded (options : ExpandOptions) (source : List ℕ) (it : Expanded) : Type 0 where
   pub tree : Root
   pub read : IsParse text_part source tree
@@ -139,17 +139,17 @@ abbrev pub first_fault : List Finding → Option Finding
 first_fault [] = None
 first_fault (it ∷ others) = fault_or (is_warning it.fault) it (first_fault others)
 
--- it stands there
+-- the first fault is at that place
 abbrev pub IsFirstFault : List Finding → (place : ℕ) → Type 0
 IsFirstFault findings place = (place < length findings) × (first_fault findings ≡ slice_get findings place)
 
--- why nothing comes of a text: it is not read, or memory is wanting
+-- why there is no expanded text: the text is not read, or memory runs out
 abbrev pub IsLenientError : (text : List ℕ) → ExpandTextError → Type 0
 IsLenientError text (error.Text fault) = IsRefusal text_part text fault
 IsLenientError text (error.Macro it) = ⊥
 IsLenientError text error.Memory = Unit {0}
 
--- the same; or something is wrong in a macro or in a call, and this is the first such finding
+-- the same; or a macro or a call has a fault, and this is the first such finding
 abbrev pub IsExpandTextError : ExpandOptions → (text : List ℕ) → ExpandTextError → Type 0
 IsExpandTextError options text (error.Macro it) = (expanded : Expanded) × IsExpanded options text expanded × (first_fault expanded.findings.items ≡ Some it)
 IsExpandTextError options text (error.Text fault) = IsRefusal text_part text fault

@@ -1,9 +1,9 @@
--- What is found in the macros of a text.
+-- What findings are in the macros of a text.
 use Rattle.std.specs.Prelude.{Bool, true, false}
 use Rattle.expand_text.specs.declared.fault.MacroFault.{MacroFault}
 use Rattle.expand_text.specs.declared.fault.MacroFault.TheVariants as wrong
 
--- nothing is wrong with a call, but it is left as it is
+-- a call has no fault, but is left as it is
 abbrev pub is_warning : MacroFault → Bool
 is_warning (wrong.Definition why) = false
 is_warning wrong.Left = true
@@ -16,7 +16,7 @@ is_warning wrong.NotWritable = false
 is_warning wrong.TooLong = false
 is_warning (wrong.TooLarge why) = false
 
--- nothing is expanded any more
+-- no call is expanded any more
 abbrev pub is_too_deep : MacroFault → Bool
 is_too_deep (wrong.Definition why) = false
 is_too_deep wrong.Left = false

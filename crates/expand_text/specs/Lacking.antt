@@ -1,4 +1,4 @@
--- Trees in which a word does not occur.
+-- Trees that do not contain a word.
 use Rattle.std.specs.Prelude.{◌≡◌, ℕ, false, List}
 use Rattle.tt.specs.Forest.{Forest, end, leaf, node}
 use Rattle.mbe_pattern.specs.Units.{is_at_word}

@@ -1,4 +1,4 @@
--- What macros of a text are, and what calls of them become.
+-- What the macros of a text are, and what calls of them expand to.
 pub mod Calling
 pub mod Coming
 pub mod Defining

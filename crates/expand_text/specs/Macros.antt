@@ -1,4 +1,4 @@
--- What is defined, and what comes of calls.
+-- What is defined, and what calls expand to.
 use Rattle.std.specs.Prelude.{◌≡◌, ◌≢◌, ◌⊎◌, ◌<◌, ◌+◌, ◌^◌, ℕ, suc, zero, Bool, true, false, List, length, Option, None, Some, if◌then◌else◌}
 use Rattle.tt.specs.Forest.{Forest, Root}
 use Rattle.tt.specs.Span.{start_of}
@@ -30,12 +30,11 @@ use Rattle.syntax_unparse.specs.declared.fault.WriteFault.TheVariants as unwritt
 abbrev pub macro_of : Definition → Option (List Arm) → Macro
 macro_of it arms = record { name = it.name.sym; defined_at = start_of it.name.span.range; arms = arms }
 
--- a tree is refused for that reason, which is no want of memory
+-- a tree is refused for that reason, which is not memory
 abbrev pub IsPastLimit : Root → TtFault → Type 0
 IsPastLimit root why = IsTreeFault root why × (why ≢ limit.Memory)
 
--- what is wrong with a definition whose arms are these trees, and the byte where it shows: the arms have a fault; or as a tree they are past
--- a limit, and that shows where its name stands
+-- the fault of a definition with these arms, and its byte: the arms have a fault; or as a tree they exceed a limit, which shows at the name
 abbrev pub IsDefinitionFault : Definition → (arms : Forest) → (at : ℕ) → MacroFault → Type 0
 IsDefinitionFault it trees at (wrong.Definition why) =
     IsRulesError trees why × (why.fault ≢ arm_fault.Memory) × (at ≡ definition_byte trees why (start_of it.delimiter.close.range))
@@ -49,17 +48,17 @@ IsDefinitionFault it trees at wrong.TooDeep = ⊥
 IsDefinitionFault it trees at wrong.NotWritable = ⊥
 IsDefinitionFault it trees at wrong.TooLong = ⊥
 
--- what is found in it
+-- a finding in the definition
 abbrev pub found_in : Definition → (at : ℕ) → MacroFault → Finding
 found_in it at fault = record { name = it.name.sym; at = at; fault = fault; defined_at = None }
 
--- what is known behind a definition whose arms are these trees: they spell arms; or something is wrong with it, and it is left as it is
+-- what is known behind a definition with these arms: they spell arms; or the definition has a fault, and is left as it is
 abbrev pub IsDefined : Definition → (arms : Forest) → (before after : Known) → Type 0
 IsDefined it trees before after =
     ((arms : List Arm) × IsWithinLimits (under it.delimiter trees) × Spell trees arms × (after ≡ with_macro (macro_of it (Some arms)) before))
     ⊎ ((at : ℕ) × (fault : MacroFault) × IsDefinitionFault it trees at fault × (after ≡ with_macro (macro_of it None) (with_finding (found_in it at fault) before)))
 
--- a definition is read, if macros of its name are, where a word stands for the root of the crate
+-- a definition is read if macros of its name are, with the root's word for the root of the crate
 abbrev pub IsReadIf : (asked : Bool) → (root : List ℕ) → Definition → (before after : Known) → Type 0
 IsReadIf false root it before after = after ≡ before
 IsReadIf true root it before after = IsDefined it (rooted root it.arms) before after
@@ -67,7 +66,7 @@ IsReadIf true root it before after = IsDefined it (rooted root it.arms) before a
 abbrev pub IsRead : Setting → Definition → (before after : Known) → Type 0
 IsRead setting it before after = IsReadIf (asks_for setting.only it.name.sym) setting.root it before after
 
--- the macro that a call is one of, where these are in scope: the last of its name, if macros of that name are expanded
+-- the macro that a call names, among these in scope: the last of its name, if macros of that name are expanded
 abbrev pub called_by : Setting → List Macro → Call → Option Macro
 called_by setting macros it =
     if it.is_elsewhere then None else (if asks_for setting.only it.name.sym then last_named it.name.sym macros else None)
@@ -77,12 +76,12 @@ abbrev pub arms_of : Option Macro → Option (List Arm)
 arms_of None = None
 arms_of (Some macro) = macro.arms
 
--- what is found in a call of a macro
+-- a finding in a call of a macro
 abbrev pub found_of : Call → Macro → (at : ℕ) → MacroFault → Finding
 found_of it macro at fault = record { name = it.name.sym; at = at; fault = fault; defined_at = Some macro.defined_at }
 
--- what is wrong with an input, and the byte where it shows: no arm takes it, and that shows where the one that comes farthest stops; one
--- takes it in two ways, or is not filled, and that shows where the call's name stands
+-- the fault of an input, and its byte: no arm matches it, which shows where the farthest arm stops; or an arm matches it in two ways or is
+-- not filled, which shows at the name of the call
 abbrev pub IsInputFault : List Arm → Call → (at : ℕ) → MacroFault → Type 0
 IsInputFault arms it at wrong.NoMatch =
     (place : ℕ) × IsExpansion arms 0 0 it.input (expansion.NoMatch place) × (at ≡ byte_at it.input place (start_of it.delimiter.close.range))
@@ -97,29 +96,29 @@ IsInputFault arms it at wrong.NotWritable = ⊥
 IsInputFault arms it at wrong.TooLong = ⊥
 IsInputFault arms it at (wrong.TooLarge why) = ⊥
 
--- what is wrong with a call that arms expand, in which so many expansions may stand one inside the other
+-- the fault of a call that arms expand, with at most so many nested expansions
 abbrev pub IsCallFault : (limit : ℕ) → List Arm → Call → (at : ℕ) → MacroFault → Type 0
 IsCallFault zero arms it at fault = (fault ≡ wrong.TooDeep) × (at ≡ start_of it.name.span.range)
 IsCallFault (suc limit) arms it at fault = IsInputFault arms it at fault
 
--- what is known behind a call that nothing expands: one of a macro that is left as it is, is found to be left
+-- what is known behind a call that no macro expands: if its macro is left as it is, that is found
 abbrev pub known_behind : Call → Option Macro → Known → Known
 known_behind it None known = known
 known_behind it (Some macro) known = with_finding (found_of it macro (start_of it.name.span.range) wrong.Left) known
 
--- trees that come of a call as a tree of their own, whose places are those of the call
+-- an expansion as a tree of its own, with the places of the call
 abbrev pub tree_of : (call : Delimiter) → Forest → Root
 tree_of call trees = under (record call { kind = Invisible }) trees
 
--- these trees may come of a call: in the text, where they are written in its place, only what is a tree within the limits and can be written
--- as Rust, of a length that a text may have
+-- these trees may replace a call: in the text only if they are a tree within the limits, can be written as Rust, and have a length that a
+-- text may have
 abbrev pub MayStand : (in_text : Bool) → (call : Delimiter) → Forest → Type 0
 MayStand false call trees = Unit {0}
 MayStand true call trees = IsWithinLimits (tree_of call trees) × IsWritable trees × (1 + length (text_of trees) < 2 ^ 32)
 
--- why trees that come of a call which begins at a byte are not written, and the byte where it shows: as a tree they are past a limit, which
--- shows where the call begins; or else their text is too long, which shows there too; or else a leaf is the first that cannot be written, which
--- shows where it comes from
+-- why the expansion of a call that begins at a byte is not written, and its byte: as a tree it exceeds a limit, which shows at the
+-- beginning of the call; or else its text is too long, which shows there too; or else a leaf is the first that cannot be written, which
+-- shows where the leaf comes from
 abbrev pub IsUnwritten : (call : Delimiter) → Forest → (begin : ℕ) → (at : ℕ) → MacroFault → Type 0
 IsUnwritten call trees begin at (wrong.TooLarge why) = IsPastLimit (tree_of call trees) why × (at ≡ begin)
 IsUnwritten call trees begin at wrong.TooLong = IsWithinLimits (tree_of call trees) × IsWriteFault trees unwritten.TooLong × (at ≡ begin)

@@ -1,4 +1,4 @@
--- A call that stands first is passed.
+-- A call that comes first is passed.
 use Rattle.std.specs.Prelude.{◌≡◌, ℕ}
 use Rattle.tt.specs.Forest.{Forest, Root}
 use Rattle.tt.specs.Iters.{rest_of}
@@ -13,14 +13,14 @@ use Rattle.expand_items.specs.Items.{Call}
 use Rattle.expand_text.specs.Walks.{level_of, past, past_call, stand_of}
 use Rattle.mbe_pattern.specs.Units.{front_trees, is_brace}
 
--- a call that stands first stays as it is, and is passed
+-- a call that comes first stays as it is, and is passed
 abbrev pub IsStay : Call → (old : Walk) → Event → (new : Walk) → Type 0
 IsStay it old (event.Stays trees) new =
     (trees_of trees ≡ front_trees it.len (rest_of old.level.rest)) × (level_of new.level ≡ past it.len (is_brace it.delimiter.kind) (level_of old.level))
     × (new.outer.items ≡ old.outer.items)
 IsStay it old other new = ⊥
 
--- what is told of a call that becomes that tree, by a macro whose name stands at that byte, where these trees stand first
+-- the invocation of a call that expands to that tree, by a macro whose name begins at that byte, if these trees come first
 pub record IsInvocation (it : Call) (trees : Forest) (position : Position) (tree : Root) (defined_at : ℕ) (invocation : Invocation) : Type 0 where
   pub name : invocation.name ≡ it.name.sym
   pub defined : invocation.defined_at ≡ defined_at
@@ -30,7 +30,7 @@ pub record IsInvocation (it : Call) (trees : Forest) (position : Position) (tree
   pub stand : stand_of invocation ≡ stand_in position it trees
   pub makes : invocation.tree ≡ tree
 
--- a call that stands first becomes that tree, and is passed
+-- a call that comes first expands to that tree, and is passed
 abbrev pub IsInvoked : Call → (tree : Root) → (defined_at : ℕ) → (old : Walk) → Event → (new : Walk) → Type 0
 IsInvoked it tree defined_at old (event.Invocation invocation) new =
     IsInvocation it (rest_of old.level.rest) old.level.position tree defined_at invocation

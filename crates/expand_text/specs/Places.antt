@@ -1,4 +1,4 @@
--- Where in a text something stands.
+-- Byte places in a text.
 use Rattle.std.specs.Prelude.{ℕ, ◌*◌, Option, None, Some, slice_get}
 use Rattle.tt.specs.Forest.{Forest, end, leaf, node, flat}
 use Rattle.tt.specs.Gluing.{after_trees}
@@ -13,16 +13,16 @@ use Rattle.mbe_pattern.specs.declared.error.PatternError.TheVariants as pattern
 use Rattle.mbe_rules.specs.declared.error.TemplateError.{TemplateError}
 use Rattle.mbe_rules.specs.declared.error.TemplateError.TheVariants as template
 
--- the byte where a token begins, or else that one
+-- the byte at which a token begins, or else that one
 abbrev pub token_byte : Option TokenTree → (behind : ℕ) → ℕ
 token_byte None behind = behind
 token_byte (Some it) behind = start_of (first_span it).range
 
--- the byte where the token of a flat place among trees begins, or else that one
+-- the byte at which the token of a flat place among trees begins, or else that one
 abbrev pub byte_at : Forest → (place : ℕ) → (behind : ℕ) → ℕ
 byte_at trees place behind = token_byte (slice_get (flat trees) place) behind
 
--- the same in the subtree that stands first, or else where that closes; or that byte, where none stands first
+-- the same in the first subtree, or the byte at which it closes; or that one, if the first tree is no subtree
 abbrev pub byte_within : Forest → (place : ℕ) → (behind : ℕ) → ℕ
 byte_within end place behind = behind
 byte_within (leaf it rest) place behind = behind
@@ -43,15 +43,15 @@ template_place (template.StillRepeats at) = at
 template_place (template.NothingRepeats at) = at
 template_place template.Memory = 0
 
--- an arm is five trees with the `;` behind it: a pattern, `=`, `>`, a template and that
+-- an arm is five trees with the `;` behind it: a pattern, `=`, `>`, a template and `;`
 abbrev pub arm_len : ℕ
 arm_len = 5
 
--- three of them stand before the template
+-- three of them precede the template
 abbrev pub before_template : ℕ
 before_template = 3
 
--- the byte where the fault of an arm shows, which stands first among the arms that are left; all of them end at that byte
+-- the byte at which the fault of an arm shows, which is the first of the arms that are left; all arms end at that byte
 abbrev pub fault_byte : ArmFault → (arms left : Forest) → (behind : ℕ) → ℕ
 fault_byte (fault.NoPattern at) arms left behind = byte_at arms at behind
 fault_byte (fault.NoArrow at) arms left behind = byte_at arms at behind
@@ -61,6 +61,6 @@ fault_byte (fault.Pattern why) arms left behind = byte_within left (pattern_plac
 fault_byte (fault.Template why) arms left behind = byte_within (after_trees before_template left) (template_place why) behind
 fault_byte fault.Memory arms left behind = behind
 
--- the byte where the fault of a definition shows, whose arms these are, which end at that byte
+-- the byte at which the fault of a definition shows, which has these arms, and whose arms end at that byte
 abbrev pub definition_byte : (arms : Forest) → RulesError → (behind : ℕ) → ℕ
 definition_byte arms why behind = fault_byte why.fault arms (after_trees (why.arm * arm_len) arms) behind

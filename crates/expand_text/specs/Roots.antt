@@ -9,29 +9,29 @@ use Rattle.tt.specs.Types.Leaf.TheVariants as leaf_of
 use Rattle.mbe_pattern.specs.Units.{is_at_word}
 use Rattle.mbe_pattern.specs.Spelling.{is_dollar}
 
--- a `$`, and behind it `crate`
+-- `$` and behind it `crate`
 abbrev pub is_crate_root : Leaf → (behind : Forest) → Bool
 is_crate_root it behind = is_dollar it && is_at_word (codes "crate") behind
 
--- the leaf that stands first, or the other where none does
+-- the first leaf, or the other if there is none
 abbrev pub leaf_at : Forest → (other : Leaf) → Leaf
 leaf_at end other = other
 leaf_at (leaf it rest) other = it
 leaf_at (node delimiter children rest) other = other
 
--- the word of the crate's root, where a leaf stands
+-- the root's word, at a leaf
 abbrev pub root_word : (root : List ℕ) → Leaf → Leaf
 root_word root it = leaf_of.Ident (record { sym = root; span = leaf_span it; is_raw = No })
 
--- a leaf before these trees: of `$crate` the root's word, where `crate` stands
+-- a leaf before these trees: the root's word if they are `$crate`
 abbrev pub rooted_leaf : (root : List ℕ) → Leaf → (behind : Forest) → Leaf
 rooted_leaf root it behind = if is_crate_root it behind then root_word root (leaf_at behind it) else it
 
--- what is left behind it
+-- the trees behind it
 abbrev pub after_leaf : Leaf → (behind : Forest) → Forest
 after_leaf it behind = if is_crate_root it behind then after_tree behind else behind
 
--- the trees behind a `$` of `$crate`, or not, with the root's word for each `$crate`
+-- the trees behind a `$` of `$crate` or behind another tree, with the root's word for each `$crate`
 abbrev pub rooted_behind : (root : List ℕ) → (is_dollar : Bool) → Forest → Forest
 rooted_behind root dollar end = end
 rooted_behind root true (leaf it rest) = rooted_behind root false rest

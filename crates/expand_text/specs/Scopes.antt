@@ -5,7 +5,7 @@ use Rattle.mbe_rules.specs.Expansions.{AreMade}
 use Rattle.mbe_rules.specs.declared.macro_rules.MacroRules.{MacroRules}
 use Rattle.expand_text.specs.declared.scope.Macro as rust
 
--- a macro: its name, the byte where that stands in its definition, and its arms, unless it is left as it is
+-- a macro: its name, the byte at which that begins in its definition, and its arms, unless it is left as it is
 pub record Macro : Type 0 where
   pub name : List ℕ
   pub defined_at : ℕ
@@ -16,17 +16,17 @@ abbrev pub or_else : {A : Type 0} → Option A → Option A → Option A
 or_else None other = other
 or_else (Some it) other = Some it
 
--- the last of some things that has a name
+-- the last thing with a name
 abbrev pub last_by : {A : Type 0} → (name_of : A → List ℕ) → (name : List ℕ) → List A → Option A
 last_by name_of name [] = None
 last_by name_of name (it ∷ others) = or_else (last_by name_of name others) (if bytes_eq (name_of it) name then Some it else None)
 
--- so many of them, the first ones, or all
+-- the first so many of them, or all
 abbrev pub kept_of : {A : Type 0} → Option ℕ → List A → List A
 kept_of None its = its
 kept_of (Some n) its = take n its
 
--- the last macro of a name, where they stand in the order of their definitions
+-- the last macro of a name, of macros in the order of their definitions
 abbrev pub last_named : (name : List ℕ) → List Macro → Option Macro
 last_named name macros = last_by (λ it. it.name) name macros
 

@@ -1,4 +1,4 @@
--- How what comes of a call stands in its place.
+-- How the expansion of a call is in its place.
 use Rattle.std.specs.Prelude.{◌≡◌, ◌⊎◌, ℕ, zero, suc, Bool, true, Option, None, Some}
 use Rattle.tt.specs.Forest.{Forest}
 use Rattle.tt.specs.Stored.{IsWithinLimits}
@@ -11,8 +11,8 @@ use Rattle.expand_text.specs.Outcomes.{placed}
 use Rattle.expand_items.specs.Attributes.{conditions_of}
 use Rattle.expand_items.specs.declared.position.Siblings.{Siblings}
 
--- how a call stands: the attributes before it and how many trees these are, none where it stands under no condition; whether it is a statement
--- or an item; what it stands among; and where its subtree stands
+-- the place of a call: the attributes before it and their number of trees (none if it is under no condition); whether it is a statement or
+-- an item; its siblings; and its delimiter
 pub record Stand : Type 0 where
   pub attributes : Forest
   pub len : ℕ
@@ -20,7 +20,7 @@ pub record Stand : Type 0 where
   pub siblings : Siblings
   pub delimiter : Delimiter
 
--- trees that come of it stand so in its place: as they are, or under its conditions, if they can
+-- an expansion in its place: as it is, or under the conditions of the call, if possible
 abbrev pub StandUnder : (attributes : ℕ) → Stand → (trees : Forest) → (put : Option Forest) → Type 0
 StandUnder zero it trees put = put ≡ Some (placed it.is_statement it.delimiter trees)
 StandUnder (suc more) it trees put = IsWithinLimits (tree_of it.delimiter trees) × AreUnder it.siblings it.delimiter (conditions_of it.attributes) trees put
@@ -28,18 +28,18 @@ StandUnder (suc more) it trees put = IsWithinLimits (tree_of it.delimiter trees)
 abbrev pub StandAs : Stand → (trees : Forest) → (put : Option Forest) → Type 0
 StandAs it trees put = StandUnder it.len it trees put
 
--- trees that come of a call under conditions are past a limit as a tree
+-- the expansion of a call under conditions exceeds a limit as a tree
 abbrev pub IsTooLarge : (attributes : ℕ) → Stand → (trees : Forest) → MacroFault → Type 0
 IsTooLarge zero it trees fault = ⊥
 IsTooLarge (suc more) it trees (wrong.TooLarge why) = IsPastLimit (tree_of it.delimiter trees) why
 IsTooLarge (suc more) it trees fault = ⊥
 
--- why they do not stand in its place: they can not under its conditions, or are past a limit as a tree
+-- why an expansion does not fit its place: the conditions cannot be put before its parts, or it exceeds a limit as a tree
 abbrev pub IsMisplaced : Stand → (trees : Forest) → MacroFault → Type 0
 IsMisplaced it trees fault = ((fault ≡ wrong.Conditional) × StandAs it trees None) ⊎ IsTooLarge it.len it trees fault
 
--- why a call stays of which such trees come, and the byte where that shows: they do not stand in its place, and it shows where the call begins;
--- or they do, but are not written in the text
+-- why a call with that expansion stays, and its byte: the expansion does not fit its place, which shows at the beginning of the call; or it
+-- does, but is not written in the text
 abbrev pub IsKept : (in_text : Bool) → Stand → (trees : Forest) → (begin at : ℕ) → MacroFault → Type 0
 IsKept in_text it trees begin at fault =
     (IsMisplaced it trees fault × (at ≡ begin))

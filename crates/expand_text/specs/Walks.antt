@@ -1,4 +1,4 @@
--- A walk through trees in which macros are defined and called.
+-- A walk through trees that define and call macros.
 use Rattle.std.specs.Prelude.{◌≡◌, ◌<◌, ◌+◌, ◌*◌, ◌-◌, ℕ, Bool, true, false, suc, List, [], ◌∷◌, length, map, reverse, Option, None, Some, if◌then◌else◌}
 use Rattle.tt.specs.Forest.{Forest, size}
 use Rattle.tt.specs.Gluing.{after_trees}
@@ -30,8 +30,8 @@ use Rattle.expand_text.specs.Outcomes.{Outcome, nothing, passes, enters, stays, 
 use Rattle.expand_text.specs.Standing.{Stand, StandAs, IsKept}
 use Rattle.expand_items.specs.Positions.{begun as begun_among, first_in, behind, behind_leaf, behind_subtree, keeps_macros}
 
--- what is left of the trees of a subtree, what stands before them, how many of them are taken as they are, where it closes, and how many
--- macros are in scope behind it, if not all
+-- the trees of a subtree that are left, the position before them, how many are taken as they are, where the subtree closes, and how many
+-- macros stay in scope behind it, if not all
 pub record Level : Type 0 where
   pub rest : Forest
   pub position : Position
@@ -39,7 +39,7 @@ pub record Level : Type 0 where
   pub close : Span
   pub kept : Option ℕ
 
--- what the code's values mean: the innermost level stands first
+-- what the values of the code mean: the innermost level comes first
 abbrev pub level_of : rust.Level → Level
 level_of it = record { rest = rest_of it.rest; position = it.position; plain = it.plain; close = it.close; kept = it.kept }
 
@@ -58,11 +58,11 @@ past_leaf it level =
 abbrev pub past_subtree : DelimiterKind → Level → Level
 past_subtree kind level = record level { rest = after_tree level.rest; position = behind_subtree kind level.position; plain = level.plain - 1 }
 
--- so many trees are passed, which end a statement or an item, or do not
+-- so many trees are passed, which end a statement or an item if `ends`
 abbrev pub past : (len : ℕ) → (ends : Bool) → Level → Level
 past len ends level = record level { rest = after_trees len level.rest; position = behind ends level.position }
 
--- the `;` that stands first is passed, if it is taken
+-- the `;` that comes first is passed, if it is taken
 abbrev pub past_semicolon : (takes : Bool) → Level → Level
 past_semicolon takes level =
     record level {
@@ -70,12 +70,12 @@ past_semicolon takes level =
       position = if takes then behind true level.position else level.position;
     }
 
--- a call is passed, and the `;` behind it, if that is a part of it
+-- a call is passed, and the `;` behind it if that is a part of it
 abbrev pub past_call : Call → Level → Level
 past_call it level =
     past_semicolon (takes_in level.position it level.rest) (past it.len (is_brace it.delimiter.kind) level)
 
--- what comes of what is left of each level, the innermost first
+-- what the rest of each level expands to, the innermost first
 abbrev pub Ends : Setting → (in_text : Bool) → (limit : ℕ) → List Level → (before after : Known) → List Outcome → Type 0
 Ends setting in_text limit [] before after [] = before ≡ after
 Ends setting in_text limit [] before after (it ∷ others) = ⊥
@@ -83,7 +83,7 @@ Ends setting in_text limit (level ∷ outer) before after [] = ⊥
 Ends setting in_text limit (level ∷ outer) before after (it ∷ others) =
     (inside : Known) × Comes setting in_text limit level.position level.plain before level.rest inside it × Ends setting in_text limit outer (left_in_scope level.kept inside) after others
 
--- what comes of levels, where something comes first in the innermost
+-- what levels expand to, with something first in the innermost
 abbrev pub first_leaf : Leaf → List Outcome → List Outcome
 first_leaf it [] = []
 first_leaf it (others ∷ outer) = passes it others ∷ outer
@@ -101,7 +101,7 @@ abbrev pub first_becomes : (attributes : Forest) → (first last : Span) → (pu
 first_becomes attributes first last put [] = []
 first_becomes attributes first last put (others ∷ outer) = stays attributes (becomes first last put others) ∷ outer
 
--- the levels and what is known become others, and what comes of those, so grown, comes of these
+-- the levels and what is known become others, and what those expand to, so grown, is what these expand to
 abbrev pub Leads : Setting → (in_text : Bool) → (limit : ℕ) → List Level → Known → (grown : List Outcome → List Outcome) → List Level → Known → Type 0
 Leads setting in_text limit levels known grown nexts others =
     (after : Known) (outcomes : List Outcome) → Ends setting in_text limit nexts others after outcomes → Ends setting in_text limit levels known after (grown outcomes)
@@ -115,11 +115,11 @@ abbrev pub work_in : List Level → ℕ
 work_in [] = 0
 work_in (level ∷ outer) = suc (2 * size level.rest + work_in outer)
 
--- before trees that are such siblings
+-- the level before sibling trees
 abbrev pub begun : Siblings → Forest → (close : Span) → Level
 begun siblings trees close = record { rest = trees; position = begun_among siblings; plain = 0; close = close; kept = None }
 
--- a subtree that stands first in the innermost level is entered, behind which so many macros are in scope, if not all
+-- the first tree of the innermost level, a subtree, is entered; so many macros, or all, stay in scope behind it
 abbrev pub kept_behind : (are_kept : Bool) → ℕ → Option ℕ
 kept_behind true macros = None
 kept_behind false macros = Some macros
@@ -133,12 +133,12 @@ entered delimiter children macros [] = []
 entered delimiter children macros (level ∷ outer) =
     inside delimiter children level.position (kept_behind (keeps_macros delimiter.kind level.position) macros) ∷ past_subtree delimiter.kind level ∷ outer
 
--- the level that is left, and those round it
+-- the level that is left, and the outer levels
 abbrev pub IsLeft : Walk → Option Span → Walk → Type 0
 IsLeft old None new = map level_of (reverse old.outer.items) ≡ []
 IsLeft old (Some close) new = (close ≡ old.level.close) × (map level_of (reverse old.outer.items) ≡ levels_of new)
 
--- how a call stands that is expanded
+-- the place of a call that is expanded
 abbrev pub stand_of : Invocation → Stand
 stand_of it =
     record {
@@ -149,11 +149,11 @@ stand_of it =
       delimiter = it.delimiter;
     }
 
--- what is found in a call
+-- a finding in a call
 abbrev pub found_by : Invocation → (at : ℕ) → MacroFault → Finding
 found_by it at fault = record { name = it.name; at = at; fault = fault; defined_at = Some it.defined_at }
 
--- what comes then past a call of which those trees come: they stand in its place, where they can and may; or it stays, which is found
+-- what comes next behind a call that expands to these trees: they replace it if they fit and are allowed; or the call stays, which is found
 pub record GoesPast (setting : Setting) (in_text : Bool) (limit : ℕ) (levels : List Level) (known : Known) (it : Invocation) (trees : Forest) (nexts : List Level) (inside : Known) : Type 0 where
   pub stands :
       (put : Forest) → StandAs (stand_of it) trees (Some put) → MayStand in_text it.delimiter put
@@ -162,7 +162,7 @@ pub record GoesPast (setting : Setting) (in_text : Bool) (limit : ℕ) (levels :
       (at : ℕ) (fault : MacroFault) → IsKept in_text (stand_of it) trees (start_of it.first_span.range) at fault
       → Leads setting in_text limit levels known (first_stay (trees_of it.whole)) nexts (with_finding (found_by it at fault) inside)
 
--- what comes next in a walk, and what comes then
+-- the next event of a walk, and what follows
 abbrev pub IsNext : Setting → (in_text : Bool) → (limit : ℕ) → List Level → Known → Event → List Level → Known → Type 0
 IsNext setting in_text limit levels known event.End nexts others = Ends setting in_text limit levels known others (nothing ∷ [])
 IsNext setting in_text limit levels known (event.Leaf it) nexts others = Leads setting in_text limit levels known (first_leaf it) nexts others
@@ -183,22 +183,22 @@ Steps levels (event.Leaf it) nexts = (closes_of nexts ≡ closes_of levels) × (
 Steps levels (event.Stays trees) nexts = (closes_of nexts ≡ closes_of levels) × (work_in nexts < work_in levels)
 Steps levels (event.Invocation it) nexts = (closes_of nexts ≡ closes_of levels) × (work_in nexts < work_in levels)
 
--- a call is expanded only where an expansion may stand inside
+-- a call is expanded only if one expansion more is allowed
 abbrev pub IsWithin : (limit : ℕ) → Event → Type 0
 IsWithin limit (event.Invocation it) = 0 < limit
 IsWithin limit other = Unit {0}
 
--- whatever is known, if that may be known there, that comes next, in the text or in an expansion, and something is known then
+-- whatever is known, if that is allowed there: the event is the next, in the text or in an expansion, and something is known then
 abbrev pub Goes : (may : Known → Type 0) → Setting → (limit : ℕ) → (old : Walk) → (before : known_in_code.Known) → Event → (new : Walk) → (after : known_in_code.Known) → Type 0
 Goes may setting limit old before it new after =
     (known : Known) → IsKnown known before → may known
     → (others : Known) × IsKnown others after × ((in_text : Bool) → IsNext setting in_text limit (levels_of old) known it (levels_of new) others)
 
--- that stands first
+-- the item comes first
 abbrev pub IsFirst : Item → (root : List ℕ) → Walk → Type 0
 IsFirst it root walk = item_at root walk.level.position (rest_of walk.level.rest) ≡ it
 
--- that stands first, no tree is to be taken as it is, and calls are expanded still
+-- the item comes first, no tree is to be taken as it is, and calls are still expanded
 pub record IsAtItem (it : Item) (setting : Setting) (walk : Walk) (known : Known) : Type 0 where
   pub first : walk.level.plain ≡ 0
   pub goes_on : known.is_over ≡ false

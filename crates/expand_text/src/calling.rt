@@ -1,4 +1,4 @@
-//! What comes of a call.
+//! What a call expands to.
 ghost use Rattle.std.specs.Prelude.{◌≡◌, List, IfOk, OnOk, is_some, option_copied};
 ghost use Rattle.tt.specs.Iters.{rest_of};
 ghost use Rattle.expand_text.specs.Calling.{IsMade, IsMadeWithin, IsCalled, IsCalledWithin};
@@ -21,25 +21,25 @@ use std::alloc::Global;
 use syntax_edit::start_of;
 use tt::{TopSubtree, TtFault};
 
-/// What rules make of a call: a tree, or what is wrong with it and the byte where that shows.
+/// What rules make of a call: a tree, or a fault and the byte at which it shows.
 #[derive(Drop)]
 pub(crate) enum Made {
     Tree(TopSubtree),
     Faulty(u32, MacroFault),
 }
 
-/// What comes of a call.
+/// What becomes of a call.
 #[derive(Drop)]
 pub(crate) enum Called {
-    /// Nothing expands it.
+    /// No macro expands it.
     Other,
-    /// Something is wrong with it.
+    /// It has a fault.
     Faulty,
-    /// That tree, by a macro whose name stands at that byte in its definition.
+    /// The tree, and the byte at which the macro's name begins in its definition.
     Tree(TopSubtree, u32),
 }
 
-// What rules make of a call, with so many expansions one inside the other.
+// Expands a call by rules, with at most `limit` nested expansions.
 fn make(
     alloc: Global,
     limit: usize,
@@ -68,7 +68,7 @@ fn make(
     }
 }
 
-// The macro that a call is one of, if there is one.
+// Returns the macro that a call names, if it is in scope.
 fn called_by<'k>(setting: &Setting, scope: &'k Scope, call: &Call<'_>) -> Option<&'k Macro>
     ensures { (macros : List MacroOf) → AreReady macros scope.now.macros.items → IsReadyIf (called_by (setting_of setting.now) macros (call_of call.now)) (option_copied result) }
 {
@@ -79,7 +79,7 @@ fn called_by<'k>(setting: &Setting, scope: &'k Scope, call: &Call<'_>) -> Option
     }
 }
 
-/// Whether arms expand a call.
+/// Returns whether arms expand the call.
 pub(crate) fn is_expanded(setting: &Setting, scope: &Scope, call: &Call<'_>) -> bool
     ensures { (macros : List MacroOf) → AreReady macros scope.now.macros.items → result ≡ is_some (arms_of (called_by (setting_of setting.now) macros (call_of call.now))) }
 {
@@ -89,7 +89,7 @@ pub(crate) fn is_expanded(setting: &Setting, scope: &Scope, call: &Call<'_>) -> 
     }
 }
 
-/// What comes of a call, with so many expansions one inside the other. What is wrong with it, or that it is left as it is, is found.
+/// Expands a call, with at most `limit` nested expansions. Adds a finding if the call has a fault, or if its macro is left as it is.
 pub(crate) fn expand_call(
     setting: &Setting,
     known: &mut Known,

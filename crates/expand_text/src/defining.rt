@@ -19,14 +19,14 @@ use mbe_rules::{ArmFault, MacroRules};
 use syntax_edit::start_of;
 use tt::TtFault;
 
-/// The rules of a definition, or what is wrong with it, and the byte where that shows.
+/// The rules of a definition, or its fault and the byte at which it shows.
 #[derive(Drop)]
 pub(crate) enum Rules {
     Known(MacroRules),
     Faulty(u32, MacroFault),
 }
 
-// The rules of a definition, where a word stands for the root of the crate.
+// Reads the rules of a definition, with the root's word for each `$crate`.
 fn rules_of(setting: &Setting, definition: &Definition<'_>) -> Result<Rules, OutOfMemory>
     ensures { IfOk result (IsRules (definition_of definition.now) (rooted setting.now.root (rest_of definition.now.arms))) }
 {
@@ -53,7 +53,7 @@ fn rules_of(setting: &Setting, definition: &Definition<'_>) -> Result<Rules, Out
     }
 }
 
-// The macro is in scope from then on. Where something is wrong with it, that is found, and the macro is left as it is.
+// Adds the macro to the scope. If the definition has a fault, adds a finding too, and the macro is left as it is.
 fn define(
     setting: &Setting,
     known: &mut Known,
@@ -77,7 +77,7 @@ fn define(
     Ok(())
 }
 
-/// The macro is in scope from then on, if macros of its name are read.
+/// Adds the macro to the scope, if the setting requests macros of its name.
 pub(crate) fn read(
     setting: &Setting,
     known: &mut Known,

@@ -1,4 +1,4 @@
-//! What comes of trees.
+//! Expanding trees into a builder.
 ghost use Rattle.std.specs.Prelude.{◌≡◌, ◌<◌, IfOk, OnOk};
 ghost use Rattle.tt.specs.Building.{depth};
 ghost use Rattle.tt.specs.Iters.{rest_of};
@@ -14,7 +14,7 @@ use expand_items::{Siblings, put_under};
 use syntax_edit::start_of;
 use tt::{Delimiter, DelimiterKind, Refused, Span, TopSubtreeBuilder, TtFault, TtIter};
 
-// Adds what comes of a call under conditions, each part of that under them, or tells why that cannot be.
+// Adds what a call under conditions expands to, each part under the conditions; or returns why that is impossible.
 #[cycle(expansion)]
 fn place_under(
     setting: &Setting,
@@ -71,8 +71,8 @@ fn place_under(
     }
 }
 
-/// Adds what comes of a call, in which so many expansions may stand one inside the other, as it stands in the place of that; or tells why
-/// it does not stand there.
+/// Expands a call with at most `limit` nested expansions, and adds the result in the place of the call. Returns the fault if the result
+/// does not fit there.
 #[cycle(expansion)]
 pub(crate) fn place(
     setting: &Setting,
@@ -117,7 +117,8 @@ pub(crate) fn place(
     Ok(None)
 }
 
-// Adds a call's attributes, and behind them what comes of it, as it stands in its place; or the call itself, and that is found.
+// Adds a call's attributes, and behind them what it expands to, in its place. If the result
+// does not fit there, adds the call itself and a finding.
 #[cycle(expansion)]
 fn pass_call(
     setting: &Setting,
@@ -139,7 +140,8 @@ fn pass_call(
     Ok(())
 }
 
-/// Adds what comes of trees that are such siblings, with so many expansions one inside the other. It calls itself for each expansion, so at most `limit` deep.
+/// Expands sibling trees into the builder, with at most `limit` nested expansions. It calls
+/// itself for each expansion, so at most `limit` deep.
 #[cycle(expansion)]
 pub(crate) fn expand_trees(
     setting: &Setting,

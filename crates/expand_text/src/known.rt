@@ -1,4 +1,4 @@
-//! What is known while trees are gone through: the macros in scope, and what is found.
+//! The state of an expansion: the macros in scope, and the findings.
 ghost use Rattle.std.specs.Prelude.{◌≡◌, IfOk, OnOk};
 ghost use Rattle.tt.specs.Iters.{rest_of};
 ghost use Rattle.expand_text.specs.Knowing.{Known as KnownOf, IsKnown, knows_nothing, with_finding, left_in_scope, setting_of};
@@ -8,18 +8,18 @@ use crate::scope::Scope;
 use std::alloc::{AllocError, Global};
 use tt::Symbol;
 
-/// What is known while trees are gone through.
+/// The state of an expansion.
 #[derive(Drop)]
 pub(crate) struct Known {
     pub(crate) scope: Scope,
-    /// What is found, in order.
+    /// The findings, in order.
     pub(crate) findings: Vec<Finding>,
-    /// Whether nothing is expanded any more, since there were too many expansions, one inside the other.
+    /// Whether no call is expanded any more, because the expansions were nested too deeply.
     pub(crate) is_over: bool,
 }
 
 impl Known {
-    /// Nothing.
+    /// Returns the empty state.
     pub(crate) fn new(alloc: Global) -> Known
         ensures { IsKnown knows_nothing result }
     {
@@ -30,7 +30,7 @@ impl Known {
         }
     }
 
-    /// Something more is found of the macro of that name.
+    /// Adds a finding about the macro of that name.
     pub(crate) fn find(
         &mut self,
         name: &Symbol,
@@ -53,7 +53,7 @@ impl Known {
         Ok(())
     }
 
-    /// So many macros are left in scope, the first ones, or all.
+    /// Keeps the first `kept` macros in scope, or all.
     pub(crate) fn leave(&mut self, kept: Option<usize>)
         ensures { (known : KnownOf) → IsKnown known self.old → IsKnown (left_in_scope kept known) self.new }
     {

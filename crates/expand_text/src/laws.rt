@@ -1,4 +1,4 @@
-//! Laws of expanded texts: each is the contract of a function that does nothing.
+//! Laws of expanded texts: each is the contract of a function without effect.
 ghost use Rattle.std.specs.Prelude.{◌≡◌, ℕ, [], List, codes, string_bytes};
 ghost use Rattle.tt.specs.Forest.{Root};
 ghost use Rattle.expand_text.specs.Expansion.{IsExpanded};
@@ -8,7 +8,7 @@ ghost use Rattle.expand_text.specs.declared.text.Expanded.{Expanded};
 ghost use Rattle.syntax_edit.specs.Places.{text_part};
 ghost use Rattle.syntax_parse.specs.Parsed.{IsParse};
 
-/// A text without the word `macro_rules` stays as it is, and nothing is found in it.
+/// A text without the word `macro_rules` stays as it is, and has no findings.
 pub fn unchanged()
     ensures { (options : ExpandOptions) → (source : List ℕ) → (it : Expanded) → IsExpanded options source it
         → ((tree : Root) → IsParse text_part source tree → Lacks (codes "macro_rules") tree.children)

@@ -1,8 +1,8 @@
-//! Want of memory, which alone ends a walk.
+//! Memory that runs out. Only this ends a walk.
 use std::alloc::AllocError;
 use tt::{Refused, TtFault};
 
-/// Memory is wanting. So it is said to be where a builder would hold more than 4,294,967,295 tokens.
+/// Memory runs out. It is reported also if a builder would hold more than 4,294,967,295 tokens.
 #[derive(Clone, Copy)]
 pub(crate) struct OutOfMemory;
 

@@ -1,25 +1,25 @@
-//! How a text is expanded.
+//! The options of an expansion.
 ghost use Rattle.std.specs.Prelude.{◌≡◌, false, None, codes};
 
-/// How many expansions may stand one inside the other, where nothing else is asked for.
+/// The default limit of nested expansions.
 pub const USUAL_LIMIT: usize = 128;
 
-/// How a text is expanded.
+/// The options of an expansion.
 #[derive(Debug, Clone, Copy)]
 pub struct ExpandOptions<'a> {
-    /// How many expansions may stand one inside the other. Expanding takes stack in proportion to it.
+    /// The limit of nested expansions. The stack that an expansion needs is linear in it.
     pub limit: usize,
     /// The word that `$crate` becomes.
     pub root: &'a str,
-    /// Whether calls that are not expanded are gone into.
+    /// Whether the walk enters calls that are not expanded.
     pub everywhere: bool,
-    /// The one name whose macros are read and expanded, if not all are.
+    /// The name of the only macros that are read and expanded; `None` for all macros.
     pub only: Option<&'a str>,
 }
 
 impl<'a> ExpandOptions<'a> {
-    /// All macros, with 128 expansions one inside the other at most; `$crate` becomes `crate`, and calls that are not expanded stay as
-    /// they are.
+    /// The usual options: all macros, with at most 128 nested expansions. `$crate` becomes
+    /// `crate`, and calls that are not expanded stay as they are.
     pub fn usual() -> ExpandOptions<'a>
         ensures limit { result.limit ≡ 128 }
         ensures root { result.root.now ≡ codes "crate" }

@@ -1,4 +1,4 @@
-//! Where in the text something stands.
+//! Byte places in the text.
 ghost use Rattle.std.specs.Prelude.{◌≡◌, ◌*◌};
 ghost use Rattle.tt.specs.Gluing.{after_trees};
 ghost use Rattle.tt.specs.Iters.{rest_of};
@@ -11,13 +11,13 @@ use mbe_rules::{ArmFault, RulesError, TemplateError};
 use syntax_edit::start_of;
 use tt::{TokenTreesView, TtIter};
 
-/// How many trees an arm is with the `;` behind it: a pattern, `=`, `>`, a template and `;`.
+/// The number of trees of an arm with the `;` behind it: a pattern, `=`, `>`, a template and `;`.
 const ARM_LEN: usize = 5;
 
-/// How many trees stand before an arm's template.
+/// The number of trees before an arm's template.
 const BEFORE_TEMPLATE: usize = 3;
 
-/// The byte where the token of a flat place among trees begins, or else that one.
+/// Returns the byte at which the token of a flat place among trees begins, or `behind` if there is none.
 pub(crate) fn start_at(trees: TokenTreesView<'_>, place: usize, behind: u32) -> u32
     ensures { result ≡ byte_at (trees_of trees.entry) place behind }
 {
@@ -27,7 +27,7 @@ pub(crate) fn start_at(trees: TokenTreesView<'_>, place: usize, behind: u32) -> 
     }
 }
 
-// The same in the subtree that stands first, or else where that closes; or that byte, where none stands first.
+// The same in the first tree if that is a subtree, or the byte at which it closes. Returns `behind` if the first tree is no subtree.
 fn start_within(mut trees: TtIter<'_>, place: usize, behind: u32) -> u32
     ensures { result ≡ byte_within (rest_of trees.entry) place behind }
 {
@@ -41,7 +41,7 @@ fn start_within(mut trees: TtIter<'_>, place: usize, behind: u32) -> u32
     }
 }
 
-// The flat place of a pattern's fault.
+// Returns the flat place of a pattern's fault.
 fn pattern_place(error: PatternError) -> usize
     ensures { result ≡ pattern_place error }
 {
@@ -55,7 +55,7 @@ fn pattern_place(error: PatternError) -> usize
     }
 }
 
-// The flat place of a template's fault.
+// Returns the flat place of a template's fault.
 fn template_place(error: TemplateError) -> usize
     ensures { result ≡ template_place error }
 {
@@ -65,7 +65,7 @@ fn template_place(error: TemplateError) -> usize
     }
 }
 
-// Passes so many arms.
+// Passes `count` arms.
 fn pass_arms(trees: &mut TtIter<'_>, count: usize)
     ensures { rest_of trees.new ≡ after_trees (count * arm_len) (rest_of trees.old) }
 {
@@ -74,7 +74,7 @@ fn pass_arms(trees: &mut TtIter<'_>, count: usize)
     }
 }
 
-/// The byte where the fault of a definition shows, whose arms these are, which end at that byte.
+/// Returns the byte at which the fault of a definition shows. The definition has these arms, which end at the byte `behind`.
 pub(crate) fn definition_place(arms: TtIter<'_>, error: RulesError, behind: u32) -> u32
     ensures { result ≡ definition_byte (rest_of arms.entry) error behind }
 {

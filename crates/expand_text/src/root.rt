@@ -1,4 +1,4 @@
-//! `$crate` in the arms of a macro. What is left of each subtree that was entered is kept in memory, so a tree may be as deep as that holds.
+//! `$crate` in the arms of a macro. The walk keeps the open subtrees in memory, so only memory limits the depth of a tree.
 ghost use Rattle.std.specs.Prelude.{◌≡◌, IfOk, IfErr, OnOk};
 ghost use Rattle.tt.specs.Iters.{rest_of};
 ghost use Rattle.tt.specs.Stored.{IsWithinLimits};
@@ -13,21 +13,21 @@ use tt::{
     TopSubtreeBuilder, TtElement, TtFault, TtIter,
 };
 
-// What is left of a subtree that was entered, and where it closes.
+// The rest of an open subtree, and where it closes.
 #[derive(Drop)]
 struct Level<'a> {
     rest: TtIter<'a>,
     close: Span,
 }
 
-// Whether the leaf and what stands behind it are `$crate`.
+// Returns whether the leaf and the next tree are `$crate`.
 fn is_crate_root(leaf: &Leaf, behind: TtIter<'_>) -> bool
     ensures { result ≡ is_crate_root leaf.now (rest_of behind.entry) }
 {
     is_dollar(leaf) && is_at_word(behind, "crate")
 }
 
-// The leaf before these trees: of `$crate` the root's word, and then `crate` is passed.
+// Returns the leaf before these trees. If it begins `$crate`, returns the root's word instead, and passes `crate`.
 fn rooted_leaf(leaf: Leaf, trees: &mut TtIter<'_>, root: &Symbol) -> Result<Leaf, AllocError>
     ensures leaf { IfOk result (λ it. it ≡ rooted_leaf root.now leaf (rest_of trees.old)) }
     ensures rest { OnOk result (rest_of trees.new ≡ after_leaf leaf (rest_of trees.old)) }
@@ -45,7 +45,7 @@ fn rooted_leaf(leaf: Leaf, trees: &mut TtIter<'_>, root: &Symbol) -> Result<Leaf
     }))
 }
 
-/// The trees under that delimiter, with the root's word for each `$crate`.
+/// Returns the trees under that delimiter, with the root's word for each `$crate`.
 pub(crate) fn rooted(
     alloc: Global,
     delimiter: Delimiter,
@@ -58,7 +58,7 @@ pub(crate) fn rooted(
 {
     let mut builder = TopSubtreeBuilder::new(alloc, delimiter)?;
     let mut rest = trees.iter();
-    // what is left of the levels round it, the innermost last
+    // the rest of each outer subtree, the innermost last
     let mut outer = Vec::new(alloc);
     'tokens: loop {
         match rest.next() {

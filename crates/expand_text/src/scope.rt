@@ -9,11 +9,11 @@ use mbe_rules::MacroRules;
 use std::alloc::{AllocError, Global};
 use tt::Symbol;
 
-/// A macro in scope: its name, and its rules, unless it is left as it is.
+/// A macro in scope: its name, and its rules unless it is left as it is.
 #[derive(Drop)]
 pub(crate) struct Macro {
     pub(crate) name: Symbol,
-    /// The byte of the text where that stands in its definition.
+    /// The byte of the text at which the name begins in the definition.
     pub(crate) defined_at: u32,
     pub(crate) rules: Option<MacroRules>,
 }
@@ -22,15 +22,15 @@ pub(crate) struct Macro {
 #[derive(Drop)]
 pub(crate) struct Scope {
     macros: Vec<Macro>,
-    // of each, the place of the last before it that has its name
+    // for each macro, the place of the last macro before it of the same name
     links: Vec<Option<usize>>,
-    // of each name, the place of the last that has it
+    // for each name, the place of the last macro of that name
     places: IndexMap<Symbol, usize>,
     ghost linked: { links.items ≡ links_of (map (λ it. it.name) macros.items) } by { Prim.hlevel props },
     ghost indexed: { (name : List ℕ) → get bytes_eq places name ≡ last_place (map (λ it. it.name) macros.items) name } by { Prim.hlevel props },
 }
 
-// The last of a name stands at that place, and is linked to the last before it. Where memory is refused, both stay as they are.
+// Makes `place` the last place of a name, and links it to the last before it. Changes neither if memory runs out.
 fn link(
     links: &mut Vec<Option<usize>>,
     places: &mut IndexMap<Symbol, usize>,
@@ -55,7 +55,7 @@ fn link(
     }
 }
 
-// The last of a name stands at that place, or none has it any more.
+// Puts back the last place of a name, or removes the name if there is none.
 fn put_back(places: &mut IndexMap<Symbol, usize>, name: &Symbol, place: Option<usize>)
     requires { IsSome (get bytes_eq places.old name.now) }
     ensures { Updates bytes_eq places.old places.new name.now place }
@@ -75,7 +75,7 @@ fn put_back(places: &mut IndexMap<Symbol, usize>, name: &Symbol, place: Option<u
 impl Scope {
     ghost use Rattle.expand_text.specs.Scopes.{last_by};
 
-    /// None.
+    /// Returns the empty scope.
     pub(crate) fn new(alloc: Global) -> Scope
         ensures { result.macros.items ≡ [] }
     {
@@ -86,14 +86,14 @@ impl Scope {
         }
     }
 
-    /// How many there are.
+    /// Returns the number of macros.
     pub(crate) fn len(&self) -> usize
         ensures { result ≡ length self.now.macros.items }
     {
         self.macros.len()
     }
 
-    /// One more. Where memory is refused, those that there were.
+    /// Adds a macro. Changes nothing if memory runs out.
     pub(crate) fn define(&mut self, it: Macro) -> Result<(), AllocError>
         ensures ok { OnOk result (self.new.macros.items ≡ self.old.macros.items ++ it ∷ []) }
         ensures err { OnErr result (self.new.macros.items ≡ self.old.macros.items) }
@@ -110,7 +110,7 @@ impl Scope {
         }
     }
 
-    // All but the last.
+    // Removes the last macro.
     fn drop_last(&mut self)
         ensures { self.new.macros.items ≡ take (length self.old.macros.items - 1) self.old.macros.items }
     {
@@ -121,7 +121,7 @@ impl Scope {
         put_back(&mut self.places, &it.name, before);
     }
 
-    /// So many of them, the first ones.
+    /// Keeps the first `len` macros.
     pub(crate) fn leave(&mut self, len: usize)
         ensures { self.new.macros.items ≡ take len self.old.macros.items }
     {
@@ -130,7 +130,7 @@ impl Scope {
         }
     }
 
-    /// The last of that name.
+    /// Returns the last macro of that name.
     pub(crate) fn last(&self, name: &Symbol) -> Option<&Macro>
         ensures { option_copied result ≡ last_by (λ it. it.name) name.now self.now.macros.items }
     {

@@ -1,24 +1,24 @@
-//! How trees are gone through.
+//! The setting of a walk.
 ghost use Rattle.std.specs.Prelude.{◌≡◌};
 ghost use Rattle.expand_text.specs.Knowing.{asks_for};
 
 use std::alloc::Global;
 use tt::Symbol;
 
-/// How trees are gone through, and where memory comes from.
+/// The setting of a walk, and the allocator.
 #[derive(Drop)]
 pub(crate) struct Setting {
     pub(crate) alloc: Global,
-    /// What `$crate` becomes.
+    /// The word that `$crate` becomes.
     pub(crate) root: Symbol,
-    /// Whether calls that are not expanded are gone into.
+    /// Whether the walk enters calls that are not expanded.
     pub(crate) everywhere: bool,
-    /// The one name whose macros are read and expanded, if not all are.
+    /// The name of the only macros that are read and expanded; `None` for all macros.
     pub(crate) only: Option<Symbol>,
 }
 
 impl Setting {
-    /// Whether macros of that name are read and expanded.
+    /// Returns whether macros of that name are read and expanded.
     pub(crate) fn asks_for(&self, name: &Symbol) -> bool
         ensures { result ≡ asks_for self.now.only name.now }
     {

@@ -1,4 +1,4 @@
-//! A source, and what its calls become.
+//! A source text, and the text with its calls replaced.
 ghost use Rattle.std.specs.Prelude.{◌≡◌, IfOk, OnOk, string_bytes};
 ghost use Rattle.tt.specs.Stored.{IsWithinLimits};
 ghost use Rattle.expand_text.specs.Macros.{tree_of};
@@ -20,14 +20,15 @@ use syntax_edit::{Output, end_of, start_of};
 use syntax_unparse::{WriteFault, rust_text};
 use tt::{Delimiter, DelimiterKind, Refused, TopSubtree, TopSubtreeBuilder, TtFault};
 
-/// The text of what comes of a call, or why there is none and the byte where that shows.
+/// The text of an expansion, or why there is none and the byte at which that shows.
 #[derive(Drop)]
 pub(crate) enum Written {
     Text(String),
     Faulty(u32, MacroFault),
 }
 
-// What comes of a call that begins at a byte, and is a tree within the limits, as a text, or why it has none.
+// Writes the expansion of a call as a text, or returns why it has none. The call begins at
+// the byte `begin`. The tree must be within the limits.
 fn write_tree(
     alloc: Global,
     begin: u32,
@@ -48,7 +49,7 @@ fn write_tree(
     }
 }
 
-// The text of what comes of a call, or why it has none.
+// Returns the text of what a call expands to, or why it has none.
 fn invocation_text(
     setting: &Setting,
     known: &mut Known,
@@ -79,7 +80,7 @@ fn invocation_text(
     }
 }
 
-// Writes what comes of a call in its place, in which so many expansions may stand one inside the other. Where that has no text, it is found.
+// Expands a call with at most `limit` nested expansions, and writes the result in its place. Adds a finding if there is no text.
 fn write_invocation(
     setting: &Setting,
     known: &mut Known,
@@ -104,7 +105,7 @@ fn write_invocation(
     }
 }
 
-// Writes what comes of a call; all else stays as it is. Whether this is not the end.
+// Writes the expansion if the event is a call; all other trees stay as they are. Returns whether the walk goes on.
 fn write_event(
     setting: &Setting,
     known: &mut Known,
@@ -126,7 +127,7 @@ fn write_event(
     }
 }
 
-/// The text in which calls are replaced by what comes of them.
+/// Returns the text with each call replaced by its expansion.
 pub(crate) fn expand_source(
     setting: &Setting,
     known: &mut Known,

@@ -1,4 +1,4 @@
-//! The macros of a text, and what its calls of them become.
+//! The macros of a text, and the expansion of its calls.
 ghost use Rattle.std.specs.Prelude.{◌≡◌, None, IfOk, IfErr, MatchOption};
 ghost use Rattle.expand_text.specs.Expansion.{setting_by, IsExpanded, IsLenientError, IsExpandTextError, first_fault, IsFirstFault};
 ghost use Rattle.expand_text.specs.Knowing.{setting_of};
@@ -13,16 +13,16 @@ use std::alloc::Global;
 use syntax_edit::parse;
 use tt::Symbol;
 
-/// A text whose calls are expanded.
+/// An expanded text.
 #[derive(Drop)]
 pub struct Expanded {
     /// The text.
     pub text: String,
-    /// What is found in its macros and calls, in the order in which they are gone through.
+    /// The findings in its macros and calls, in the order of the walk.
     pub findings: Vec<Finding>,
 }
 
-// How a text is gone through.
+// Returns the setting of these options.
 fn setting_by(alloc: Global, options: ExpandOptions<'_>) -> Result<Setting, OutOfMemory>
     ensures { IfOk result (λ setting. setting_of setting ≡ setting_by options.entry) }
 {
@@ -38,10 +38,10 @@ fn setting_by(alloc: Global, options: ExpandOptions<'_>) -> Result<Setting, OutO
     })
 }
 
-/// The text in which each call of a macro that is in scope is replaced by what comes of it, written as Rust. A definition or a call in which
-/// something is wrong stays as it is, and that is found.
+/// Returns the text in which each call of a macro in scope is replaced by its expansion, written as Rust. A definition or a call with a
+/// fault stays as it is, and yields a finding.
 ///
-/// Time is in proportion to the text, and to what the macros take and write; the stack to the options' limit.
+/// Time is linear in the text, and in what the macros read and write; the stack is linear in the options' limit.
 pub fn expand_leniently(
     alloc: Global,
     text: &str,
@@ -60,7 +60,7 @@ pub fn expand_leniently(
     })
 }
 
-// The place of the first finding that is no warning.
+// Returns the place of the first finding that is no warning.
 fn first_fault(findings: &[Finding]) -> Option<usize>
     ensures { MatchOption result (first_fault findings.now ≡ None) (IsFirstFault findings.now) }
 {
@@ -72,7 +72,7 @@ fn first_fault(findings: &[Finding]) -> Option<usize>
     None
 }
 
-/// The same, where nothing is wrong, though something may be left as it is; and else the first fault.
+/// The same if there is no fault, though a call may be left as it is; otherwise returns the first fault.
 pub fn expand_text(
     alloc: Global,
     text: &str,

@@ -1,4 +1,4 @@
-//! The walk through trees in which macros are defined and called.
+//! The walk through trees that define and call macros.
 ghost use Rattle.std.specs.Prelude.{◌≡◌, ◌∷◌, [], ℕ, IfOk, OnOk, if◌then◌else◌};
 ghost use Rattle.tt.specs.Iters.{rest_of};
 ghost use Rattle.tt.specs.Views.{trees_of};
@@ -25,29 +25,28 @@ use tt::{
     TtIter,
 };
 
-/// What is left of the trees of a subtree.
+/// The trees of a subtree that are left.
 #[derive(Drop)]
 pub(crate) struct Level<'a> {
     rest: TtIter<'a>,
     position: Position,
-    /// How many of the first trees are taken as they are.
+    /// The number of first trees that are taken as they are.
     plain: usize,
     close: Span,
-    /// How many macros are in scope behind it, if not all.
+    /// The number of macros that stay in scope behind it, or all.
     kept: Option<usize>,
 }
 
-/// A call that is expanded: the name of its macro and the byte where that stands in its definition, where the call begins and ends, where
-/// its subtree stands, whether it is a statement or an item, and what comes of it and is among such siblings.
+/// A call that is expanded: its macro, its place, the siblings of its expansion, and the expansion.
 #[derive(Drop)]
 pub(crate) struct Invocation<'a> {
     pub(crate) name: Symbol,
     pub(crate) defined_at: u32,
-    /// All of its trees, with the attributes before it if it stands under a condition, and with the `;` that is a part of it.
+    /// All of its trees, with the attributes before it if it is under a condition, and with the `;` that is a part of it.
     pub(crate) whole: TokenTreesView<'a>,
-    /// How many of them are attributes.
+    /// The number of these trees that are attributes.
     pub(crate) attributes: usize,
-    /// Where it begins, behind those.
+    /// The beginning of the call, behind the attributes.
     pub(crate) first_span: Span,
     pub(crate) last_span: Span,
     pub(crate) delimiter: Delimiter,
@@ -56,15 +55,15 @@ pub(crate) struct Invocation<'a> {
     pub(crate) tree: TopSubtree,
 }
 
-/// What comes next in a walk.
+/// The next event of a walk.
 #[derive(Drop)]
 pub(crate) enum Event<'a> {
-    /// Nothing does.
+    /// The end of the trees.
     End,
     Leaf(Leaf),
     Opens(Subtree),
     Closes(Span),
-    /// Trees that stay with all that they hold.
+    /// Trees that stay with all that they contain.
     Stays(TokenTreesView<'a>),
     Invocation(Invocation<'a>),
 }
@@ -73,12 +72,11 @@ pub(crate) enum Event<'a> {
 #[derive(Drop)]
 pub(crate) struct Walk<'a> {
     level: Level<'a>,
-    /// The innermost last.
+    /// The outer levels, the innermost last.
     outer: Vec<Level<'a>>,
 }
 
-// How many trees behind a leaf are no call, where these stand there: the name of a lifetime, and behind a literal a `.` and the name of a
-// field.
+// Returns the number of trees behind a leaf that begin no call: the name of a lifetime, or behind a literal a `.` and the name of a field.
 fn named_behind(leaf: &Leaf, behind: TtIter<'_>) -> usize
     ensures { result ≡ named_behind leaf.now (rest_of behind.entry) }
 {
@@ -90,7 +88,7 @@ fn named_behind(leaf: &Leaf, behind: TtIter<'_>) -> usize
 }
 
 impl<'a> Level<'a> {
-    // Behind the leaf that stands first.
+    // Passes the first tree, a leaf.
     fn pass_leaf(&mut self, leaf: &Leaf)
         ensures { level_of self.new ≡ past_leaf leaf.now (level_of self.old) }
     {
@@ -101,7 +99,7 @@ impl<'a> Level<'a> {
         self.position = self.position.behind_leaf(leaf, behind.iter());
     }
 
-    // Behind the subtree of that kind that stands first.
+    // Passes the first tree, a subtree of that kind.
     fn pass_subtree(&mut self, kind: DelimiterKind)
         ensures { level_of self.new ≡ past_subtree kind (level_of self.old) }
     {
@@ -110,7 +108,7 @@ impl<'a> Level<'a> {
         self.position = self.position.behind_subtree(kind);
     }
 
-    // Behind so many trees, which end a statement or an item, or do not.
+    // Passes `len` trees, which end a statement or an item if `ends`.
     fn pass_all(&mut self, len: usize, ends: bool)
         ensures { level_of self.new ≡ past len ends (level_of self.old) }
     {
@@ -118,7 +116,7 @@ impl<'a> Level<'a> {
         self.position = self.position.behind(ends);
     }
 
-    // The same, with these trees.
+    // The same, and returns these trees.
     fn take_all(&mut self, len: usize, ends: bool) -> TokenTreesView<'a>
         ensures taken { trees_of result ≡ front_trees len (rest_of self.old.rest) }
         ensures level { level_of self.new ≡ past len ends (level_of self.old) }
@@ -128,7 +126,7 @@ impl<'a> Level<'a> {
         self.rest.from_savepoint(start)
     }
 
-    // Behind the `;` that stands first, if that is to be passed: it, and else the other span.
+    // Passes the `;` that comes first if `takes`, and returns its span; otherwise returns the other span.
     fn pass_semicolon(&mut self, takes: bool, other: Span) -> Span
         ensures last { result ≡ (if takes then begin_at (rest_of self.old.rest) other else other) }
         ensures level { level_of self.new ≡ past_semicolon takes (level_of self.old) }
@@ -141,7 +139,7 @@ impl<'a> Level<'a> {
         last
     }
 
-    // Where a call that stands first begins, behind its attributes.
+    // Returns the beginning of the call that comes first, behind its attributes.
     fn begin_of(&self, call: &Call<'_>) -> Span
         ensures { result ≡ begin_in (call_of call.now) (rest_of self.now.rest) }
     {
@@ -152,14 +150,14 @@ impl<'a> Level<'a> {
 }
 
 impl<'a> Invocation<'a> {
-    /// The attributes before it.
+    /// Returns the attributes before the call.
     pub(crate) fn attributes(&self) -> TokenTreesView<'a>
         ensures { trees_of result ≡ (stand_of self.now).attributes }
     {
         take(&mut self.whole.iter(), self.attributes)
     }
 
-    /// Its trees behind those.
+    /// Returns the trees of the call, behind its attributes.
     pub(crate) fn call(&self) -> TokenTreesView<'a>
         ensures { trees_of result ≡ after_trees self.now.attributes (trees_of self.now.whole) }
     {
@@ -170,7 +168,7 @@ impl<'a> Invocation<'a> {
 }
 
 impl<'a> Walk<'a> {
-    /// A walk through trees that are such siblings.
+    /// Returns a walk through sibling trees.
     pub(crate) fn new(alloc: Global, trees: TtIter<'a>, siblings: Siblings, close: Span) -> Walk<'a>
         ensures { levels_of result ≡ begun siblings (rest_of trees.entry) close ∷ [] }
     {
@@ -186,7 +184,7 @@ impl<'a> Walk<'a> {
         }
     }
 
-    // Into the subtree that stands first, where so many macros are in scope.
+    // Enters the first tree, a subtree, with `macros` macros in scope.
     fn enter(
         &mut self,
         delimiter: Delimiter,
@@ -212,7 +210,7 @@ impl<'a> Walk<'a> {
         }
     }
 
-    // Out of the innermost level: where it closes, if there is one round it.
+    // Leaves the innermost level, and returns where it closes, if there is an outer level.
     fn leave(&mut self) -> Option<Span>
         ensures { IsLeft self.old result self.new }
     {
@@ -223,7 +221,7 @@ impl<'a> Walk<'a> {
     }
 }
 
-// The first tree as it is, or the end of a level.
+// Takes the first tree as it is, or ends a level.
 fn next_tree<'a>(walk: &mut Walk<'a>, known: &mut Known) -> Result<Event<'a>, AllocError>
     ensures limit { IfOk result (λ event. (limit : ℕ) → IsWithin limit event) }
     ensures steps { IfOk result (λ event. Steps (levels_of walk.old) event (levels_of walk.new)) }
@@ -248,7 +246,7 @@ fn next_tree<'a>(walk: &mut Walk<'a>, known: &mut Known) -> Result<Event<'a>, Al
     }
 }
 
-// Past a definition that stands first, which is in scope from then on.
+// Passes the definition that comes first, and adds it to the scope.
 fn next_definition<'a>(
     walk: &mut Walk<'a>,
     setting: &Setting,
@@ -263,7 +261,7 @@ fn next_definition<'a>(
     Ok(Event::Stays(walk.level.take_all(definition.len, true)))
 }
 
-// Past a call that stands first, which stays as it is.
+// Passes the call that comes first, which stays as it is.
 fn stay<'a>(walk: &mut Walk<'a>, call: &Call<'a>) -> Event<'a>
     ensures { IsStay (call_of call.now) walk.old result walk.new }
 {
@@ -271,7 +269,7 @@ fn stay<'a>(walk: &mut Walk<'a>, call: &Call<'a>) -> Event<'a>
     Event::Stays(walk.level.take_all(call.len, ends))
 }
 
-// Past a call that stands first, of which that tree comes, by a macro whose name stands at that byte in its definition.
+// Passes the call that comes first, which expands to `tree`. Its macro's name begins at the byte `defined_at` in the definition.
 fn invoke<'a>(
     walk: &mut Walk<'a>,
     call: &Call<'a>,
@@ -304,7 +302,7 @@ fn invoke<'a>(
     }))
 }
 
-// Past a call that stands first, or into it, or into the attributes before it.
+// Passes the call that comes first, or enters it or the attributes before it.
 fn next_call<'a>(
     walk: &mut Walk<'a>,
     setting: &Setting,
@@ -334,7 +332,7 @@ fn next_call<'a>(
     }
 }
 
-/// What comes next, with so many expansions one inside the other. What is defined is in scope from then on.
+/// Returns the next event, with at most `limit` nested expansions. A definition is in scope from then on.
 pub(crate) fn next<'a>(
     walk: &mut Walk<'a>,
     setting: &Setting,

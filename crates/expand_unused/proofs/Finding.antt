@@ -1,4 +1,4 @@
--- What is needed, as it is looked for.
+-- What is needed, as the search goes on.
 use Rattle.std.proofs.Common.{◌≡◌, ◌⊎◌, ◌++◌, ℕ, Bool, true, false, List, [], ◌∷◌, Option, None, Some, inl, inr, refl, ap, sym, subst, ◌∙◌, cond}
 use Rattle.std.specs.Prelude.{bytes_eq, is_some}
 use Rattle.std.proofs.lemmas.Slice.Eq.{bytes_eq-Decides}
@@ -25,7 +25,7 @@ module _ {A : Type 0} where
       by (inl there) = inl (inr there)
       by (inr there) = inr there
 
--- Words outside are those that stand there.
+-- The words outside are those that occur there.
 outside_there : (text : List ℕ) (parts : List Part) → IsAmong (word text) parts → IsAmong text (words_outside parts)
 outside_there text [] is = absurd is
 outside_there text (word it ∷ more) (inl is) = inl (same is)
@@ -43,7 +43,7 @@ outside_only text (word it ∷ more) (inr is) = inr (outside_only text more is)
 outside_only text (rules it ∷ more) is = inr (outside_only text more is)
 
 module _ (parts : List Part) (waiting : List ℕ → Option (List (List ℕ))) where
-  -- At first all wait.
+  -- At first all definitions wait.
   pub first_between : IsWaiting parts waiting → IsBetween parts waiting (words_outside parts)
   first_between it =
       record {
@@ -55,7 +55,7 @@ module _ (parts : List Part) (waiting : List ℕ → Option (List (List ℕ))) w
         others = it.others;
       }
 
-  -- In the end none waits that is needed.
+  -- In the end no needed name waits.
   module _ (it : IsBetween parts waiting []) where
     needed_gone : {name : List ℕ} → Needed parts name → waiting name ≡ None
     needed_gone {name} (outside among) = by (it.outside name among)
@@ -76,7 +76,7 @@ module _ (parts : List Part) (waiting : List ℕ → Option (List (List ℕ))) w
         by None is = it.gone r among is
         by (Some words) is = λ needed. absurd (cc (sym is ∙ needed_gone needed))
 
-  -- A name that is needed waits no more, and what waits under it is needed.
+  -- A needed name waits no more, and what waits under it is needed.
   module _ (needed : List (List ℕ)) (name : List ℕ) (next : List ℕ → Option (List (List ℕ))) (it : IsBetween parts waiting (needed ++ name ∷ []))
       (removed : (other : List ℕ) → next other ≡ cond (bytes_eq name other) None (waiting other)) where
     -- it is that name, or nothing changes
@@ -98,7 +98,7 @@ module _ (parts : List Part) (waiting : List ℕ → Option (List (List ℕ))) w
     name_gone : next name ≡ None
     name_gone = removed name ∙ ap (λ b. cond b None (waiting name)) ((bytes_eq-Decides name name).1 refl)
 
-    -- what was needed or gone is so still
+    -- what was needed or gone still is
     either : (other : List ℕ) → IsAmong other (needed ++ name ∷ []) ⊎ (waiting other ≡ None) → IsAmong other (needed ++ words_of (waiting name)) ⊎ (next other ≡ None)
     either other (inr none) = inr (still_gone other none)
     either other (inl is) = by (among_either other needed (name ∷ []) is)
@@ -155,12 +155,12 @@ module _ (parts : List Part) (waiting : List ℕ → Option (List (List ℕ))) w
         others other text is (inl same) = absurd (subst (λ w. IsAmong text (words_of w)) same.1 is)
         others other text is (inr same) = it.others other text (subst (λ w. IsAmong text (words_of w)) same is)
 
--- None waits where there is no definition.
+-- Without definitions nothing waits.
 pub none_waiting : IsWaiting [] (λ name. None)
 none_waiting = record { there = λ r among none. absurd among; all = λ r text among is. absurd among; others = λ name text is. absurd is }
 
 module _ (parts : List Part) (waiting : List ℕ → Option (List (List ℕ))) (it : IsWaiting parts waiting) where
-  -- A word more changes nothing.
+  -- One word more changes nothing.
   pub waits_word : (text : List ℕ) → IsWaiting (parts ++ word text ∷ []) waiting
   waits_word text =
       record {
@@ -177,7 +177,7 @@ module _ (parts : List Part) (waiting : List ℕ → Option (List (List ℕ))) (
           by (inr (inl is)) = absurd (cc is)
           by (inr (inr is)) = absurd is
 
-  -- A definition more waits with those of its name.
+  -- One definition more waits with those of its name.
   module _ (new : Rules) (words : List (List ℕ)) (next : List ℕ → Option (List (List ℕ))) (are : words ≡ words_of (waiting new.name) ++ new.inside)
       (added : (other : List ℕ) → next other ≡ cond (bytes_eq new.name other) (Some words) (waiting other)) where
     one_or : (other : List ℕ) → ((new.name ≡ other) × (next other ≡ Some words)) ⊎ (next other ≡ waiting other)

@@ -1,4 +1,4 @@
--- What is cut of a text fits into it.
+-- The cuts of a text fit into it.
 use Rattle.std.proofs.Common.{◌≡◌, ◌≤◌, ◌-◌, ◌++◌, ℕ, zero, suc, Bool, true, false, List, [], ◌∷◌, length, Option, None, Some, map, refl, ap, sym, subst, ◌∙◌, arith, cond, codes}
 use Rattle.std.specs.Prelude.{◌&&◌, ◌||◌, ◌==◌, is_some}
 use Rattle.std.specs.Str.{IsCharBoundary, IsUtf8}
@@ -30,7 +30,7 @@ use Rattle.expand_items.specs.Positions.{is_bracket}
 use Rattle.mbe_pattern.specs.Units.{is_at_word, is_brace, is_at_punct}
 use Rattle.syntax_parse.specs.Parsed.{IsParse}
 
--- What is cut of one list of parts and then another is what is cut of both.
+-- The cuts of two lists of parts, one behind the other, are those of both.
 cuts_both : (goes : List ℕ → Bool) (these others : List Part) → cuts goes (these ++ others) ≡ cuts goes these ++ cuts goes others
 cuts_both goes [] others = refl
 cuts_both goes (word it ∷ more) others = cuts_both goes more others
@@ -41,12 +41,12 @@ cuts_both goes (rules it ∷ more) others = by (goes it.name) (cuts_both goes mo
     by true same = ap (λ l. cut_of it ∷ l) same
     by false same = same
 
--- Nothing is cut of words.
+-- Words cut nothing.
 cuts_words : (goes : List ℕ → Bool) (words : List (List ℕ)) (others : List Part) → cuts goes (map word words ++ others) ≡ cuts goes others
 cuts_words goes [] others = refl
 cuts_words goes (it ∷ more) others = cuts_words goes more others
 
--- a definition is four trees, of which the last is a subtree, and a `;` may stand behind them
+-- a definition is four trees, the last of which is a subtree, and a `;` may follow
 pub record EndsWithSubtree (trees : Forest) (it : Definition) : Type 0 where
   pub rest : Forest
   pub stands : after_trees 3 trees ≡ node it.delimiter it.arms rest
@@ -70,7 +70,7 @@ definition_ends trees = by (is_at_word (codes "macro_rules") trees) (is_at_punct
     by true false name = tt
     by false b name = tt
 
--- The definition that stands first and may go ends with its subtree, or with a `;` behind that.
+-- The definition that comes first and may go ends with its subtree, or with a `;` behind it.
 first_ends : (only : Option (List ℕ)) (trees : Forest) (it : Definition) → first_in only trees ≡ drops it → EndsWithSubtree trees it
 first_ends only trees it is = by (definition_in trees) (call_in (codes "crate") trees) (definition_ends trees) is
   where
@@ -91,7 +91,7 @@ pub record EndsAt (text : List ℕ) (from : ℕ) (trees : Forest) (it : Definiti
   pub some : suc (it.len - 1) ≡ it.len
 
 module _ {text : List ℕ} {to : ℕ} where
-  -- It ends with its subtree.
+  -- A definition ends with its subtree.
   subtree_ends : {from : ℕ} (it : Definition) (rest : Forest) → Laid text from (node it.delimiter it.arms rest) to
       → (from ≤ end_of it.delimiter.close.range) × IsCharBoundary text (end_of it.delimiter.close.range) × Laid text (end_of it.delimiter.close.range) rest to
   subtree_ends it rest (lies_node opens inside closes behind) = (omega (arith, opens.after, laid_order inside, closes.order), closes.ends, behind)
@@ -164,12 +164,12 @@ module _ {text : List ℕ} {to : ℕ} where
       by false true a b = at_semicolon b (ends.len ∙ ap (λ x. cond x 4 (cond (is_at_punct (codes ";") ends.rest) 5 4)) a ∙ ap (λ x. cond x 5 4) b)
       by false false a b = at_close (ends.len ∙ ap (λ x. cond x 4 (cond (is_at_punct (codes ";") ends.rest) 5 4)) a ∙ ap (λ x. cond x 5 4) b)
 
--- it is a place in a text between two, if it is there
+-- it is a byte of a text between two, if it is there
 abbrev IsSince : (text : List ℕ) → (base from : ℕ) → Option ℕ → Type 0
 IsSince text base from None = Unit {0}
 IsSince text base from (Some start) = (base ≤ start) × (start ≤ from) × IsCharBoundary text start
 
--- trees lie in a text behind a byte, and attributes and what is passed between that and a byte before
+-- trees lie in a text behind a byte, and attributes and passed trees lie between that and a byte before
 record IsFree (text : List ℕ) (base from to : ℕ) (attributes : Attributes) (trees : Forest) : Type 0 where
   order : base ≤ from
   laid : Laid text from trees to
@@ -185,7 +185,7 @@ since_later : (text : List ℕ) (base from place : ℕ) → from ≤ place → (
 since_later text base from place order None is = tt
 since_later text base from place order (Some start) (after, before, boundary) = (after, omega (arith, before, order), boundary)
 
--- Where brackets are not those of an attribute, no attribute stands behind them.
+-- If brackets are not those of an attribute, no attribute is behind them.
 shut : (bracket : Bool) (sign since : Option ℕ) → (bracket && is_some sign) ≡ false → cond bracket (signed sign since) no_attributes ≡ no_attributes
 shut false sign since is = refl
 shut true None since is = refl
@@ -240,7 +240,7 @@ module _ (text : List ℕ) (only : Option (List ℕ)) (goes : List ℕ → Bool)
   ready_signed {base} {from} {place} rest (Some start) (Some first) after order laid signs is =
       record { order = omega (arith, order, after); laid = laid; since = since_later text base from place after (Some first) is; sign = tt }
 
-  -- A definition that stands first is cut, or not, and then others are.
+  -- The definition that comes first is cut, or not, and then other definitions follow.
   rules_follow : {base from to : ℕ} (attributes : Attributes) (it : Definition) (first : Leaf) (rest : Forest) (more : List Part)
       → first_in only (leaf first rest) ≡ drops it → IsFree text base from to attributes (leaf first rest)
       → Follow text (end_of (last_span it (leaf first rest)).range) (cuts goes more) to
@@ -265,7 +265,7 @@ module _ (text : List ℕ) (only : Option (List ℕ)) (goes : List ℕ → Bool)
       by true = next (begins ready.laid attributes.since ready.since) others
       by false = follow_from (omega (arith, ready.order, ends.order)) others
 
-  -- what is cut of trees follows one another, wherever they lie
+  -- the cuts of trees follow one another, wherever the trees lie
   abbrev AllFollow : Forest → Type 0
   AllFollow trees = (base from to : ℕ) (place : Place) → IsReady text base from to place trees → Follow text base (cuts goes (parts_in only place trees)) to
 
@@ -330,7 +330,7 @@ module _ (text : List ℕ) (only : Option (List ℕ)) (goes : List ℕ → Bool)
               subst (λ its. Follow text base its to) (sym (cuts_both goes (parts_in only begun inside) (parts_in only next_place rest)))
               (follow_both (follow_from (omega (arith, ready.order, opens.after)) inner) closes.order outer)
 
-  -- What is cut of trees that lie in a text follows one another.
+  -- The cuts of trees that lie in a text follow one another.
   parts_follow : (trees : Forest) → AllFollow trees
   parts_follow end base from to (at.Passed left) (order, laid) = none (omega (arith, order, laid_order laid))
   parts_follow end base from to (at.Taken left) (order, laid) = none (omega (arith, order, laid_order laid))
@@ -350,7 +350,7 @@ module _ (text : List ℕ) (only : Option (List ℕ)) (goes : List ℕ → Bool)
   parts_follow (node delimiter inside rest) base from to (at.Free attributes) ready =
       node_follow base from to delimiter inside rest attributes (parts_follow inside) (parts_follow rest) ready
 
--- What is cut of the trees of a text fits into it.
+-- The cuts of the trees of a text fit into it.
 pub cuts_fit : (only : Option (List ℕ)) (goes : List ℕ → Bool) (part : SpanPart) (text : List ℕ) (root : Root) → IsUtf8 text → IsParse part text root
     → FitAll (cuts goes (parts_in only begun root.children)) (begun_text text)
 cuts_fit only goes part text root utf8 parse =

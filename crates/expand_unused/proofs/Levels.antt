@@ -1,4 +1,4 @@
--- What is noted of trees, and what is left of the levels that are open.
+-- What is noted of trees, and what is left of the open levels.
 use Rattle.std.proofs.Common.{◌≡◌, ◌+◌, ◌*◌, ◌++◌, ℕ, suc, List, [], ◌∷◌, map, Option, refl, ap, ap₂, sym, ◌∙◌, arith}
 use Rattle.std.proofs.lemmas.List.{append_assoc, append-nil}
 use Rattle.tt.specs.Forest.{size}
@@ -12,7 +12,7 @@ use Rattle.expand_unused.specs.Parts.{Part, part_of, parts_in}
 use Rattle.expand_unused.specs.Places.{begun}
 use Rattle.expand_unused.specs.Steps.{left_in, to_come, IsStep}
 
--- what is left of levels, of which the innermost is the last
+-- the parts left in levels, the innermost last
 abbrev pub left_of : (only : Option (List ℕ)) → List Level → List Part
 left_of only [] = []
 left_of only (level ∷ inner) = left_of only inner ++ left_in only level

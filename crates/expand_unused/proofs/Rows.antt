@@ -15,12 +15,12 @@ use Rattle.mbe_pattern.proofs.Rows.{word as ident, alone}
 abbrev definition : (name : List ℕ) → (arms rest : Forest) → Forest
 definition name arms rest = ident (codes "macro_rules") (alone 33 (ident name (join (subtree Brace arms) rest)))
 
--- `#[a]`, of which the `#` begins at a byte
+-- `#[a]`, whose `#` begins at a byte
 abbrev attribute : (start : ℕ) → Forest → Forest
 attribute start rest =
     leaf (leaf_of.Punct (record { char = 35; spacing = Alone; span = span start 1 })) (join (subtree Bracket (ident (codes "a") end)) rest)
 
--- the definition of `m`, whose arms have that word alone
+-- the definition of `m`, whose arms contain only that word
 abbrev m_rules : (start stop : ℕ) → Part
 m_rules start stop = rules (record { name = codes "m"; start = start; end = stop; inside = codes "x" ∷ [] })
 
@@ -33,7 +33,7 @@ definition_below : parts_in None begun (ident (codes "mod") (join (subtree Brace
     ≡ word (codes "mod") ∷ m_rules 0 2 ∷ []
 definition_below = refl
 
--- Behind `#[a]` and `#[a] #[a]` it begins where the first of them does; what stands between ends them.
+-- Behind `#[a]` and `#[a] #[a]` it begins where the first of them does; what comes between ends the attributes.
 behind_attribute : parts_in None begun (attribute 7 (definition (codes "m") (ident (codes "x") end) end)) ≡ word (codes "a") ∷ m_rules 7 2 ∷ []
 behind_attribute = refl
 
@@ -44,7 +44,7 @@ behind_attributes = refl
 not_behind_attribute : parts_in None begun (attribute 7 (alone 59 (definition (codes "m") (ident (codes "x") end) end))) ≡ word (codes "a") ∷ m_rules 0 2 ∷ []
 not_behind_attribute = refl
 
--- What a call holds, and a definition that may not go, are words.
+-- The contents of a call, and a definition that may not go, are words.
 called : parts_in None begun (ident (codes "n") (alone 33 (join (subtree Parenthesis (definition (codes "m") (ident (codes "x") end) end)) end)))
     ≡ word (codes "n") ∷ word (codes "macro_rules") ∷ word (codes "m") ∷ word (codes "x") ∷ []
 called = refl

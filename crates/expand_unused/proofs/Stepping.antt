@@ -1,4 +1,4 @@
--- A step past the first tree of a level.
+-- A step that passes the first tree of a level.
 use Rattle.std.proofs.Common.{◌≡◌, ◌<◌, ◌+◌, ◌++◌, ℕ, Bool, true, false, List, [], map, Option, Some, ap, ap₂, sym, subst, ◌∙◌, arith}
 use Rattle.std.proofs.lemmas.List.{append_assoc, append-nil}
 use Rattle.tt.specs.Forest.{Forest, end, leaf, node, size}
@@ -19,18 +19,18 @@ use Rattle.expand_unused.specs.Parts.{Part, word, words_in, held, leaf_parts, pa
 use Rattle.expand_unused.specs.Places.{begun, first_in, passing, taking, is_attribute, behind_leaf, behind_subtree}
 use Rattle.expand_unused.specs.Steps.{to_come, IsLess, IsStep, IsTaken, IsHeld, IsEntered}
 
--- less is left behind a step than before, with what is to be gone through
+-- less is left behind a step than before, with what is to be walked
 abbrev IsLessBy : Step → (behind trees : Forest) → Type 0
 IsLessBy step.Over behind trees = ⊥
 IsLessBy step.Past behind trees = size behind < size trees
 IsLessBy (step.Into children) behind trees = size (rest_of children) + size behind < size trees
 
 module _ (only : Option (List ℕ)) (before after : List part_in_code.Part) where
-  -- what is noted, with what is to be gone through and what is left behind, is what was noted and left
+  -- what is noted, with what is to be walked and what is left behind, is what was noted and left
   abbrev Notes : (place : Place) → (trees : Forest) → Step → (next : Place) → (behind : Forest) → Type 0
   Notes place trees it next behind = (map part_of after ++ to_come only it) ++ parts_in only next behind ≡ map part_of before ++ parts_in only place trees
 
-  -- Past a leaf.
+  -- A leaf is passed.
   leaf_noted : (trees : Forest) (it : Leaf) (place : Place) → IsFirstElement trees (Some (element.Leaf it))
       → map part_of after ≡ map part_of before ++ leaf_parts (first_in only trees) it place trees
       → (size (after_tree trees) < size trees) × Notes place trees step.Past (behind_leaf (first_in only trees) it place) (after_tree trees)
@@ -60,7 +60,7 @@ module _ (only : Option (List ℕ)) (before after : List part_in_code.Part) wher
         noted = ap₂ (λ p f. (map part_of after ++ []) ++ parts_in only p f) place passed ∙ noted.1;
       }
 
-  -- Past a subtree whose trees are noted,
+  -- A subtree is passed whose trees are noted,
   taken_noted : (held rest : Forest) (delimiter : Delimiter) (children : TtIter) (it : Step) (behind : List Part) → rest_of children ≡ held → IsTaken children before it after
       → IsLessBy it rest (node delimiter held rest)
       × ((map part_of after ++ to_come only it) ++ behind ≡ map part_of before ++ (map word (words_in held) ++ behind))
@@ -72,7 +72,7 @@ module _ (only : Option (List ℕ)) (before after : List part_in_code.Part) wher
         ∙ ap (λ f. map part_of before ++ (map word (words_in f) ++ behind)) holds,
   )
 
-  -- or may be gone through.
+  -- or are still to be walked.
   held_noted : (holds_attribute : Bool) (inside rest : Forest) (delimiter : Delimiter) (children : TtIter) (it : Step) (behind : List Part) → rest_of children ≡ inside
       → IsHeld holds_attribute children before it after
       → IsLessBy it rest (node delimiter inside rest)
@@ -85,7 +85,7 @@ module _ (only : Option (List ℕ)) (before after : List part_in_code.Part) wher
         ∙ ap (λ f. map part_of before ++ (parts_in only begun f ++ behind)) holds,
   )
 
-  -- Past a subtree.
+  -- A subtree is passed.
   node_noted : (trees : Forest) (header : Subtree) (children : TtIter) (place : Place) (it : Step) → IsFirstElement trees (Some (element.Subtree header children))
       → IsEntered header.delimiter.kind place children before it after
       → IsLessBy it (after_tree trees) trees × Notes place trees it (behind_subtree header.delimiter.kind place) (after_tree trees)

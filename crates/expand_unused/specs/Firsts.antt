@@ -1,4 +1,4 @@
--- What the code's first thing means.
+-- What the first tree of the code means.
 use Rattle.expand_unused.specs.declared.first.First as first_in_code
 use Rattle.expand_unused.specs.declared.first.First.TheVariants as rust
 use Rattle.expand_unused.specs.Places.{First, drops, takes, others}

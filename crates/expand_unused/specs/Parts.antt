@@ -1,4 +1,4 @@
--- What stands in a text, as far as it matters to what is needed: words, and definitions that may go.
+-- The parts of a text, as far as they matter to what is needed: words, and definitions that may go.
 use Rattle.std.specs.Prelude.{◌==◌, ◌++◌, ℕ, Bool, true, false, List, [], ◌∷◌, map, Option, None, Some, if◌then◌else◌}
 use Rattle.tt.specs.Forest.{Forest, end, leaf, node, flat}
 use Rattle.tt.specs.Gluing.{after_trees}
@@ -19,7 +19,8 @@ use Rattle.expand_unused.specs.Places.{First, drops, takes, others, first_in, be
 use Rattle.syntax_edit.specs.Places.{begin_at}
 use Rattle.expand_items.specs.Items.{Definition}
 
--- the definition of a macro that may go: its name, the bytes at which its attributes or it begin and at which it ends, and the words in its arms
+-- the definition of a macro that may go: its name, the bytes at which its attributes or it
+-- begin and at which it ends, and the words in its arms
 pub record Rules : Type 0 where
   pub name : List ℕ
   pub start : ℕ
@@ -50,11 +51,11 @@ words_among (it ∷ behind) = token_words it ++ words_among behind
 abbrev pub words_in : Forest → List (List ℕ)
 words_in trees = words_among (flat trees)
 
--- four trees of a definition stand before the `;` that may be the last
+-- four trees of a definition precede the `;` that may be the last
 abbrev pub before_semicolon : ℕ
 before_semicolon = 4
 
--- the last span of a definition that stands first
+-- the last span of a definition that comes first
 abbrev pub last_span : Definition → Forest → Span
 last_span it trees = if it.len == 5 then begin_at (after_trees before_semicolon trees) it.delimiter.close else it.delimiter.close
 
@@ -63,7 +64,7 @@ abbrev pub byte_or : (since : Option ℕ) → (start : ℕ) → ℕ
 byte_or None start = start
 byte_or (Some first) start = first
 
--- the definition that stands first, behind such attributes
+-- the definition that comes first, behind such attributes
 abbrev pub rules_from : Attributes → Definition → Leaf → Forest → Rules
 rules_from attributes it first trees =
     record {
@@ -73,7 +74,7 @@ rules_from attributes it first trees =
       inside = words_in it.arms;
     }
 
--- what a leaf is that begins these trees
+-- the parts that a leaf begins
 abbrev pub first_parts : First → Leaf → Attributes → Forest → List Part
 first_parts (drops it) first attributes trees = rules (rules_from attributes it first trees) ∷ []
 first_parts (takes len) first attributes trees = map word (leaf_words first)
@@ -84,12 +85,12 @@ leaf_parts first it (at.Passed left) trees = []
 leaf_parts first it (at.Taken left) trees = map word (leaf_words it)
 leaf_parts first it (at.Free attributes) trees = first_parts first it attributes trees
 
--- what a subtree holds: that of an attribute is taken as it is
+-- the contents of a subtree: those of an attribute are taken as they are
 abbrev pub held : (is_attribute : Bool) → (words : List (List ℕ)) → List Part → List Part
 held true words parts = map word words
 held false words parts = parts
 
--- all that stands in trees at a place, in order
+-- all parts of trees at a place, in order
 abbrev pub parts_in : (only : Option (List ℕ)) → Place → Forest → List Part
 parts_in only place end = []
 parts_in only place (leaf it rest) =
@@ -100,7 +101,7 @@ parts_in only (at.Free attributes) (node delimiter children rest) =
     held (is_attribute delimiter.kind attributes) (words_in children) (parts_in only begun children)
     ++ parts_in only (behind_subtree delimiter.kind (at.Free attributes)) rest
 
--- what the code's values mean
+-- what the values of the code mean
 abbrev pub rules_of : rules_in_code.Rules → Rules
 rules_of it = record { name = it.name; start = it.start; end = it.end; inside = it.inside.items }
 

@@ -1,4 +1,4 @@
--- What stands before a tree among its siblings, as far as it matters to what is cut, and what stands first there.
+-- The place of a tree among its siblings, as far as it matters to what is cut, and what comes first there.
 use Rattle.std.specs.Prelude.{◌-◌, ◌==◌, ◌&&◌, ℕ, zero, suc, Bool, true, false, List, Option, None, Some, codes, bytes_eq, is_some, if◌then◌else◌}
 use Rattle.tt.specs.Forest.{Forest}
 use Rattle.tt.specs.Span.{start_of}
@@ -12,12 +12,13 @@ use Rattle.expand_unused.specs.declared.place.Place.TheVariants as at
 use Rattle.expand_items.specs.Items.{Definition, Item, defines, calls, other, item_in}
 use Rattle.expand_items.specs.Positions.{is_bracket}
 
--- a definition of that name may go, where those of one name alone may, or all
+-- a definition of that name may go: only those of one name may, or all
 abbrev pub may_go : (only : Option (List ℕ)) → (name : List ℕ) → Bool
 may_go None name = true
 may_go (Some it) name = bytes_eq it name
 
--- what stands first: a definition that may go; so many trees that are taken as they are, a call or a definition that stays; or something else
+-- what comes first: a definition that may go; a number of trees that are taken as they are,
+-- which are a call or a definition that stays; or something else
 pub data First : Type 0 where
   drops : Definition → First
   takes : (len : ℕ) → First
@@ -28,11 +29,11 @@ first_from only (defines it) = if may_go only it.name.sym then drops it else tak
 first_from only (calls it) = takes it.len
 first_from only other = others
 
--- what stands first among these trees
+-- what comes first among these trees
 abbrev pub first_in : (only : Option (List ℕ)) → Forest → First
 first_in only trees = first_from only (item_in (codes "crate") trees)
 
--- no attribute stands right before
+-- no attribute right before
 abbrev pub no_attributes : Attributes
 no_attributes = record { since = None; sign = None }
 
@@ -40,7 +41,7 @@ no_attributes = record { since = None; sign = None }
 abbrev pub begun : Place
 begun = at.Free no_attributes
 
--- so many trees more are of a definition, or are taken as they are
+-- so many of the next trees are part of a definition, or are taken as they are
 abbrev pub passing : ℕ → Place
 passing zero = begun
 passing (suc left) = at.Passed left
@@ -55,7 +56,7 @@ is_sign (leaf_of.Literal it) = false
 is_sign (leaf_of.Punct it) = it.char == 35
 is_sign (leaf_of.Ident it) = false
 
--- where the attributes begin: a `#` with no brackets behind it is none
+-- where the attributes begin: a `#` with no brackets behind it is no attribute
 abbrev pub since_without : (sign since : Option ℕ) → Option ℕ
 since_without None since = since
 since_without (Some start) since = None
@@ -69,7 +70,7 @@ since_or (Some first) start = Some first
 abbrev pub behind_sign : (start : ℕ) → Attributes → Attributes
 behind_sign start it = record { since = since_without it.sign it.since; sign = Some start }
 
--- behind brackets that stand behind a `#`, or behind nothing
+-- behind brackets that follow a `#`, or follow no `#`
 abbrev pub signed : (sign since : Option ℕ) → Attributes
 signed None since = no_attributes
 signed (Some start) since = record { since = since_or since start; sign = None }
@@ -78,14 +79,14 @@ signed (Some start) since = record { since = since_or since start; sign = None }
 abbrev pub is_attribute : DelimiterKind → Attributes → Bool
 is_attribute kind it = is_bracket kind && is_some it.sign
 
--- behind a leaf that is of nothing else, and behind a subtree
+-- behind a leaf that is no part of anything else, and behind a subtree
 abbrev pub attributes_behind_leaf : Leaf → Attributes → Attributes
 attributes_behind_leaf leaf it = if is_sign leaf then behind_sign (start_of (leaf_span leaf).range) it else no_attributes
 
 abbrev pub attributes_behind_subtree : DelimiterKind → Attributes → Attributes
 attributes_behind_subtree kind it = if is_bracket kind then signed it.sign it.since else no_attributes
 
--- behind a leaf with which that begins, where no tree is passed or taken as it is
+-- behind the leaf that begins what comes first, if no tree is passed or taken as it is
 abbrev pub behind_first : First → Leaf → Attributes → Place
 behind_first (drops it) leaf attributes = passing (it.len - 1)
 behind_first (takes len) leaf attributes = taking (len - 1)

@@ -1,4 +1,4 @@
--- What a step through the trees of a level comes to.
+-- The result of a step through the trees of a level.
 use Rattle.std.specs.Prelude.{◌≡◌, ◌<◌, ◌+◌, ◌++◌, ℕ, Bool, true, false, List, [], map, Option}
 use Rattle.tt.specs.Forest.{end, size}
 use Rattle.tt.specs.Iters.{rest_of}
@@ -13,11 +13,11 @@ use Rattle.expand_unused.specs.Places.{begun, is_attribute}
 use Rattle.tt.specs.Types.DelimiterKind.{DelimiterKind}
 use Rattle.tt.specs.Types.TtIter.{TtIter}
 
--- what is left to be noted in a level
+-- the parts of a level that are left to note
 abbrev pub left_in : (only : Option (List ℕ)) → Level → List Part
 left_in only level = parts_in only level.place (rest_of level.rest)
 
--- what is to be gone through before that
+-- what is to be walked before that
 abbrev pub to_come : (only : Option (List ℕ)) → Step → List Part
 to_come only step.Over = []
 to_come only step.Past = []
@@ -29,12 +29,12 @@ IsLess old step.Over new = rest_of new.rest ≡ end
 IsLess old step.Past new = size (rest_of new.rest) < size (rest_of old.rest)
 IsLess old (step.Into children) new = size (rest_of children) + size (rest_of new.rest) < size (rest_of old.rest)
 
--- a step: what is noted, what is to be gone through and what is left are what was noted and left before
+-- a step: what is noted, what is to be walked and what is left are what was noted and left before
 pub record IsStep (only : Option (List ℕ)) (old : Level) (before : List part_in_code.Part) (it : Step) (new : Level) (after : List part_in_code.Part) : Type 0 where
   pub less : IsLess old it new
   pub noted : (map part_of after ++ to_come only it) ++ left_in only new ≡ map part_of before ++ left_in only old
 
--- what a subtree holds is noted, is to be gone through, or neither
+-- the contents of a subtree are noted, are to be walked, or neither
 abbrev pub IsPassed : TtIter → (before : List part_in_code.Part) → Step → (after : List part_in_code.Part) → Type 0
 IsPassed children before it after = (it ≡ step.Past) × (map part_of after ≡ map part_of before)
 

@@ -1,10 +1,10 @@
--- Macros that nothing is known to need, and what is known while it is looked for what is.
+-- Macros that are not known to be needed, and what is known while the search goes on.
 use Rattle.std.specs.Prelude.{◌≡◌, ◌⊎◌, ℕ, Vec, Bool, List, [], ◌∷◌, Option, None, Some, option_map, bytes_eq, is_some}
 use Rattle.indexmap.specs.IndexMap.{IndexMap, get}
 use Rattle.expand_unused.specs.Needing.{IsAmong, Needed}
 use Rattle.expand_unused.specs.Parts.{Part, word, rules, Rules}
 
--- the words that wait under a name in a map, and whether that waits there
+-- the words that wait under a name in a map, and whether any wait there
 abbrev pub waiting_in : {Y S : Type 0} → IndexMap (List ℕ) (Vec (List ℕ) Y) S → (name : List ℕ) → Option (List (List ℕ))
 waiting_in map name = option_map (λ words. words.items) (get bytes_eq map name)
 
@@ -28,7 +28,7 @@ pub record IsWaiting (parts : List Part) (waiting : List ℕ → Option (List (L
   pub all : (it : Rules) (text : List ℕ) → IsAmong (rules it) parts → IsAmong text it.inside → IsAmong text (words_of (waiting it.name))
   pub others : (name text : List ℕ) → IsAmong text (words_of (waiting name)) → (it : Rules) × IsAmong (rules it) parts × (it.name ≡ name) × IsAmong text it.inside
 
--- some names are needed, and what they need is looked for; those that wait are not known to be needed, and all others are known
+-- some names are needed, and what they need is being searched for; those that wait are not known to be needed, and all others are
 pub record IsBetween (parts : List Part) (waiting : List ℕ → Option (List (List ℕ))) (needed : List (List ℕ)) : Type 0 where
   pub sound : (name : List ℕ) → IsAmong name needed → Needed parts name
   pub gone : (it : Rules) → IsAmong (rules it) parts → waiting it.name ≡ None → Needed parts it.name

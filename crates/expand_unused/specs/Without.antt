@@ -11,17 +11,17 @@ use Rattle.syntax_edit.specs.Texts.{Replacement, Writing, begun as begun_text, r
 use Rattle.syntax_parse.specs.Parsed.{IsParse}
 use Rattle.syntax_parse.specs.Refusal.{IsRefusal}
 
--- nothing takes the place of a definition
+-- a definition is replaced by nothing
 abbrev pub cut_of : Rules → Replacement
 cut_of it = record { start = it.start; end = it.end; text = [] }
 
--- all that is cut, in order
+-- all cuts, in order
 abbrev pub cuts : (goes : List ℕ → Bool) → List Part → List Replacement
 cuts goes [] = []
 cuts goes (word it ∷ more) = cuts goes more
 cuts goes (rules it ∷ more) = if goes it.name then cut_of it ∷ cuts goes more else cuts goes more
 
--- behind something that stands in a text: where it is a definition that goes, it is passed
+-- the writing behind a part of a text: a definition that goes is passed
 abbrev pub cut_behind : (goes : List ℕ → Bool) → Part → Writing → Writing
 cut_behind goes (word it) writing = writing
 cut_behind goes (rules it) writing = if goes it.name then replaced (cut_of it) writing else writing
@@ -35,7 +35,7 @@ pub record IsWithout (only : Option (List ℕ)) (source result : List ℕ) : Typ
   pub fits : FitAll (cuts goes (parts_in only begun tree.children)) (begun_text source)
   pub text : result ≡ with_all (cuts goes (parts_in only begun tree.children)) (begun_text source)
 
--- why none comes of a text: it is not read, or memory is wanting
+-- why no text results: it is not read, or memory runs out
 abbrev pub IsDropRulesError : (text : List ℕ) → DropRulesError → Type 0
 IsDropRulesError text (error.Text fault) = IsRefusal text_part text fault
 IsDropRulesError text error.Memory = Unit {0}

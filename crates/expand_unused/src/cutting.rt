@@ -11,7 +11,7 @@ use std::alloc::{AllocError, Global};
 use syntax_edit::Output;
 use tt::Symbol;
 
-// Writes the text up to a definition, which is passed.
+// Writes the text up to a definition, and passes the definition.
 fn cut(output: &mut Output<'_>, rules: &Rules) -> Result<(), AllocError>
     requires { FitsIn rules.now.start rules.now.end (writing_of output.old) }
     ensures { OnOk result (writing_of output.new ≡ replaced (cut_of (rules_of rules.now)) (writing_of output.old)) }
@@ -20,7 +20,7 @@ fn cut(output: &mut Output<'_>, rules: &Rules) -> Result<(), AllocError>
     Ok(())
 }
 
-// The same where it is one that goes; nothing else is done.
+// The same if the part is a definition that goes; otherwise does nothing.
 fn cut_part(
     output: &mut Output<'_>,
     part: &Part,
@@ -38,7 +38,7 @@ fn cut_part(
     Ok(())
 }
 
-/// The text without the definitions of names that are not needed.
+/// Returns the text without the definitions of names that are not needed.
 pub(crate) fn without(
     alloc: Global,
     text: &str,

@@ -1,4 +1,4 @@
-//! Why a text is not written without what it does not need.
+//! Why a text is not written without its unneeded definitions.
 ghost use Rattle.std.specs.Prelude.{◌≡◌};
 ghost use Rattle.expand_unused.specs.declared.fault.DropRulesError.TheVariants.{Text, Memory};
 
@@ -6,13 +6,13 @@ use std::alloc::AllocError;
 use syntax_parse::TextFault;
 use thiserror::Error;
 
-/// Why a text is not written without what it does not need.
+/// The reason why a text is not written without its unneeded definitions.
 #[derive(Debug, Clone, Copy, PartialEq, Eq, Error)]
 pub enum DropRulesError {
-    /// The text is not read as trees.
+    /// The text cannot be read as trees.
     #[error("{0}")]
     Text(TextFault),
-    /// Memory is wanting.
+    /// Memory runs out.
     #[error("out of memory")]
     Memory,
 }

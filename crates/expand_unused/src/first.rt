@@ -1,4 +1,4 @@
-//! What stands first among trees, as far as definitions may go.
+//! What comes first among trees, as far as definitions may go.
 ghost use Rattle.std.specs.Prelude.{◌≡◌, IfOk};
 ghost use Rattle.tt.specs.Iters.{rest_of};
 ghost use Rattle.tt.specs.Token.{leaf_span};
@@ -16,21 +16,21 @@ use std::alloc::{AllocError, Global};
 use syntax_edit::{begin_at, end_of, start_of};
 use tt::{Leaf, Span, Symbol, TtIter};
 
-/// How many trees of a definition stand before the `;` that may be the last.
+/// The number of trees of a definition before the `;` that may be the last.
 const BEFORE_SEMICOLON: usize = 4;
 
-/// What stands first among trees.
+/// What comes first among trees.
 #[derive(Drop)]
 pub(crate) enum First<'a> {
     /// A definition that may go.
     Drops(Definition<'a>),
-    /// So many trees that are taken as they are: a call, or a definition that stays.
+    /// A number of trees that are taken as they are: a call, or a definition that stays.
     Takes(usize),
     /// Something else.
     Others,
 }
 
-// Whether a definition of that name may go.
+// Returns whether a definition of that name may go.
 fn may_go(only: &Option<Symbol>, name: &Symbol) -> bool
     ensures { result ≡ may_go only.now name.now }
 {
@@ -40,7 +40,7 @@ fn may_go(only: &Option<Symbol>, name: &Symbol) -> bool
     }
 }
 
-/// What stands first.
+/// Returns what comes first.
 pub(crate) fn first_in<'a>(trees: TtIter<'a>, only: &Option<Symbol>) -> First<'a>
     ensures { first_of result ≡ first_in only.now (rest_of trees.entry) }
 {
@@ -57,7 +57,7 @@ pub(crate) fn first_in<'a>(trees: TtIter<'a>, only: &Option<Symbol>) -> First<'a
     }
 }
 
-// The last span of a definition that stands first.
+// Returns the last span of the definition that comes first.
 fn last_span(definition: &Definition<'_>, mut trees: TtIter<'_>) -> Span
     ensures { result ≡ last_span (definition_of definition.now) (rest_of trees.entry) }
 {
@@ -69,7 +69,7 @@ fn last_span(definition: &Definition<'_>, mut trees: TtIter<'_>) -> Span
     begin_at(&trees, close)
 }
 
-/// The definition that stands first, behind such attributes.
+/// Returns the definition that comes first, behind such attributes.
 pub(crate) fn rules_from(
     alloc: Global,
     attributes: Attributes,

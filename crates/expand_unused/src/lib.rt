@@ -1,4 +1,4 @@
-//! A text without the macros that it defines and does not need.
+//! A text without the macros that it defines but does not need.
 //!
 //! `without_rules` notes which names each definition mentions, keeps the definitions that a call outside of all definitions needs, directly
 //! or through others, and cuts the rest out of the text with the attributes before them.

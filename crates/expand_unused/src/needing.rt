@@ -20,7 +20,7 @@ fn add_words(words: &mut Vec<Symbol>, more: &[Symbol]) -> Result<(), AllocError>
     Ok(())
 }
 
-// What waits under a name, which waits no more.
+// Returns the words that wait under a name, and removes them.
 fn take(waiting: &mut IndexMap<Symbol, Vec<Symbol>>, name: &Symbol) -> Option<Vec<Symbol>>
     ensures words { option_map (λ words. words.items) result ≡ waiting_in waiting.old name.now }
     ensures others { (other : List ℕ) → waiting_in waiting.new other ≡ (if bytes_eq name.now other then None else waiting_in waiting.old other) }
@@ -29,7 +29,7 @@ fn take(waiting: &mut IndexMap<Symbol, Vec<Symbol>>, name: &Symbol) -> Option<Ve
     waiting.swap_remove(name)
 }
 
-// The same, or nothing.
+// The same, or no words if none wait.
 fn take_words(
     alloc: Global,
     waiting: &mut IndexMap<Symbol, Vec<Symbol>>,
@@ -44,7 +44,7 @@ fn take_words(
     }
 }
 
-// One more definition of that name waits, with the words in its arms.
+// Adds a definition of that name to the waiting ones, with the words in its arms.
 fn wait(
     alloc: Global,
     waiting: &mut IndexMap<Symbol, Vec<Symbol>>,
@@ -59,7 +59,7 @@ fn wait(
     Ok(())
 }
 
-// What stands in a text waits, if it may go.
+// Adds a part of a text to the waiting ones, if it may go.
 fn wait_part(
     alloc: Global,
     waiting: &mut IndexMap<Symbol, Vec<Symbol>>,
@@ -77,7 +77,7 @@ fn wait_part(
     }
 }
 
-// All that may go wait.
+// Returns all definitions that may go, as waiting ones.
 fn all_waiting(alloc: Global, parts: &[Part]) -> Result<IndexMap<Symbol, Vec<Symbol>>, AllocError>
     ensures { IfOk result (λ waiting. IsWaiting (map part_of parts.now) (waiting_in waiting)) }
 {
@@ -88,7 +88,7 @@ fn all_waiting(alloc: Global, parts: &[Part]) -> Result<IndexMap<Symbol, Vec<Sym
     Ok(waiting)
 }
 
-// The words outside of them.
+// Returns the words outside of them.
 fn words_outside(alloc: Global, parts: &[Part]) -> Result<Vec<Symbol>, AllocError>
     ensures { IfOk result (λ words. words.items ≡ words_outside (map part_of parts.now)) }
 {
@@ -101,7 +101,7 @@ fn words_outside(alloc: Global, parts: &[Part]) -> Result<Vec<Symbol>, AllocErro
     Ok(words)
 }
 
-// The words that waited under the next name that is needed.
+// Takes names from `needed` up to the first one under which words wait, and returns those words.
 fn next_needed(
     waiting: &mut IndexMap<Symbol, Vec<Symbol>>,
     needed: &mut Vec<Symbol>,
@@ -118,7 +118,7 @@ fn next_needed(
     None
 }
 
-// What these names need waits no more.
+// Removes from the waiting names all that these names need.
 fn settle(
     waiting: &mut IndexMap<Symbol, Vec<Symbol>>,
     mut needed: Vec<Symbol>,
@@ -131,7 +131,7 @@ fn settle(
     Ok(())
 }
 
-/// The names of the macros that are not needed, of those that may go.
+/// Returns the names of the macros that may go and are not needed.
 pub(crate) fn unneeded(
     alloc: Global,
     parts: &[Part],

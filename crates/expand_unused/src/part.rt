@@ -1,4 +1,4 @@
-//! What stands in a text, as far as it matters to what is needed.
+//! The parts of a text, as far as they matter to what is needed.
 
 use tt::Symbol;
 
@@ -6,9 +6,9 @@ use tt::Symbol;
 #[derive(Drop)]
 pub(crate) struct Rules {
     pub(crate) name: Symbol,
-    /// The byte of the text where its attributes begin, or it.
+    /// The byte of the text at which its attributes, or else the definition, begin.
     pub(crate) start: u32,
-    /// The byte where it ends.
+    /// The byte at which it ends.
     pub(crate) end: u32,
     /// The words in its arms.
     pub(crate) inside: Vec<Symbol>,

@@ -1,31 +1,31 @@
-//! What stands before a tree among its siblings, as far as it matters to what is cut.
+//! The place of a tree among its siblings, as far as it matters to what is cut.
 ghost use Rattle.std.specs.Prelude.{◌≡◌};
 ghost use Rattle.expand_unused.specs.Places.{no_attributes, begun, passing, taking, is_sign, is_attribute, attributes_behind_leaf, attributes_behind_subtree, behind_subtree};
 
 use syntax_edit::start_of;
 use tt::{DelimiterKind, Leaf};
 
-/// The attributes that stand right before.
+/// The attributes right before a tree.
 #[derive(Clone, Copy)]
 pub(crate) struct Attributes {
-    /// The byte where they begin, if there are any.
+    /// The byte at which they begin, if there are any.
     pub(crate) since: Option<u32>,
-    /// The byte where a `#` begins that stands behind them.
+    /// The byte at which a `#` begins that follows them.
     pub(crate) sign: Option<u32>,
 }
 
-/// What stands before a tree among its siblings, as far as it matters to what is cut.
+/// The place of a tree among its siblings, as far as it matters to what is cut.
 #[derive(Clone, Copy)]
 pub(crate) enum Place {
-    /// It is of a definition that is noted, and so many more behind it.
+    /// The tree is part of a definition that is noted, and so are as many trees behind it.
     Passed(usize),
-    /// It is taken as it is, and so many more behind it.
+    /// The tree is taken as it is, and so are as many trees behind it.
     Taken(usize),
     /// Neither.
     Free(Attributes),
 }
 
-// Whether the leaf is a `#`.
+// Returns whether the leaf is a `#`.
 fn is_sign(leaf: &Leaf) -> bool
     ensures { result ≡ is_sign leaf.now }
 {
@@ -36,7 +36,7 @@ fn is_sign(leaf: &Leaf) -> bool
 }
 
 impl Attributes {
-    /// None.
+    /// Returns no attributes.
     pub(crate) fn none() -> Attributes
         ensures { result ≡ no_attributes }
     {
@@ -46,7 +46,7 @@ impl Attributes {
         }
     }
 
-    /// Behind a leaf.
+    /// Returns the attributes behind a leaf.
     pub(crate) fn behind_leaf(self, leaf: &Leaf) -> Attributes
         ensures { result ≡ attributes_behind_leaf leaf.now self }
     {
@@ -62,14 +62,14 @@ impl Attributes {
         }
     }
 
-    /// Whether brackets of a kind are those of an attribute.
+    /// Returns whether brackets of a kind are those of an attribute.
     pub(crate) fn is_attribute(self, kind: DelimiterKind) -> bool
         ensures { result ≡ is_attribute kind self }
     {
         kind == DelimiterKind::Bracket && self.sign.is_some()
     }
 
-    // Behind a subtree of a kind.
+    // Returns the attributes behind a subtree of a kind.
     fn behind_subtree(self, kind: DelimiterKind) -> Attributes
         ensures { result ≡ attributes_behind_subtree kind self }
     {
@@ -90,14 +90,14 @@ impl Attributes {
 }
 
 impl Place {
-    /// Before the first of some trees.
+    /// Returns the place before the first of some trees.
     pub(crate) fn begun() -> Place
         ensures { result ≡ begun }
     {
         Place::Free(Attributes::none())
     }
 
-    /// So many trees more are of a definition.
+    /// Returns the place at which the next `len` trees are part of a definition.
     pub(crate) fn passing(len: usize) -> Place
         ensures { result ≡ passing len }
     {
@@ -107,7 +107,7 @@ impl Place {
         }
     }
 
-    /// So many more are taken as they are.
+    /// Returns the place at which the next `len` trees are taken as they are.
     pub(crate) fn taking(len: usize) -> Place
         ensures { result ≡ taking len }
     {
@@ -117,7 +117,7 @@ impl Place {
         }
     }
 
-    /// Behind a subtree of a kind.
+    /// Returns the place behind a subtree of a kind.
     pub(crate) fn behind_subtree(self, kind: DelimiterKind) -> Place
         ensures { result ≡ behind_subtree kind self }
     {

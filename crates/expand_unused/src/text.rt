@@ -1,4 +1,4 @@
-//! A text without the macros that it defines and does not need.
+//! A text without the macros that it defines but does not need.
 ghost use Rattle.std.specs.Prelude.{◌≡◌, option_map, IfOk, IfErr, string_bytes};
 ghost use Rattle.expand_unused.specs.Without.{IsWithout, IsDropRulesError};
 
@@ -10,7 +10,7 @@ use std::alloc::{AllocError, Global};
 use syntax_edit::parse;
 use tt::Symbol;
 
-// The name, if there is one.
+// Returns the name, if there is one.
 fn name_of(alloc: Global, only: Option<&str>) -> Result<Option<Symbol>, AllocError>
     ensures { IfOk result (λ it. it ≡ option_map (λ name. name.now) only.entry) }
 {
@@ -23,11 +23,11 @@ fn name_of(alloc: Global, only: Option<&str>) -> Result<Option<Symbol>, AllocErr
     }
 }
 
-/// The text without the definitions of macros whose names are not needed, and without the attributes right before them. Of these, only
-/// those of one name may go, where one is given. A name is needed that stands outside of the definitions that may go, or in the arms of one
-/// whose name is needed.
+/// Returns the text without the definitions of macros whose names are not needed, and without the attributes right before them. If a name
+/// is given, only definitions of that name may go. A name is needed if it occurs outside of the definitions that may go, or in the arms of
+/// one whose name is needed.
 ///
-/// Time and memory are in proportion to the text.
+/// Time and memory are linear in the text.
 pub fn without_rules(
     alloc: Global,
     text: &str,

@@ -1,4 +1,4 @@
-//! The walk through a text's trees. What is left of each subtree that was entered is kept in memory, so a tree may be as deep as that holds.
+//! The walk through a text's trees. It keeps the rest of each open subtree in memory, so only memory limits the depth of a tree.
 ghost use Rattle.std.specs.Prelude.{◌≡◌, ◌++◌, IfOk, OnOk, map};
 ghost use Rattle.tt.specs.Iters.{rest_of};
 ghost use Rattle.tt.specs.Views.{trees_of};
@@ -14,21 +14,21 @@ use crate::words::{leaf_word, words_in};
 use std::alloc::{AllocError, Global};
 use tt::{DelimiterKind, Leaf, Symbol, TokenTreesView, TtElement, TtIter};
 
-// What is left of the trees of a subtree, and what stands before them.
+// The trees of a subtree that are left, and the place before them.
 #[derive(Drop)]
 struct Level<'a> {
     rest: TtIter<'a>,
     place: Place,
 }
 
-// What a step through a level comes to.
+// The result of a step through a level.
 #[derive(Drop)]
 enum Step<'a> {
     // Nothing is left.
     Over,
-    // Past the first tree.
+    // The first tree was passed.
     Past,
-    // Past a subtree that holds these trees, which are to be gone through.
+    // A subtree was passed that contains these trees, which are still to be walked.
     Into(TtIter<'a>),
 }
 
@@ -56,7 +56,7 @@ fn note_words(
     Ok(())
 }
 
-// Past a subtree that holds these trees, of which it notes the texts of all idents.
+// Passes a subtree that contains these trees, and notes the texts of all their idents.
 fn take_held<'a>(
     alloc: Global,
     parts: &mut Vec<Part>,
@@ -68,7 +68,7 @@ fn take_held<'a>(
     Ok(Step::Past)
 }
 
-// Notes what begins with a leaf that stands first among trees: what stands behind that.
+// Notes what begins with the leaf that comes first among trees, and returns the place behind that leaf.
 fn note_first(
     alloc: Global,
     parts: &mut Vec<Part>,
@@ -100,7 +100,7 @@ fn note_first(
 }
 
 impl<'a> Level<'a> {
-    // Before the first of some trees.
+    // Returns the level before the first of some trees.
     fn begun(trees: TtIter<'a>) -> Level<'a>
         ensures rest { result.rest ≡ trees.entry }
         ensures place { result.place ≡ begun }
@@ -111,7 +111,7 @@ impl<'a> Level<'a> {
         }
     }
 
-    // Notes what a leaf is that stands first among trees: what stands behind it.
+    // Notes what the first tree, a leaf, begins; returns the place behind it.
     fn behind_leaf(
         &self,
         alloc: Global,
@@ -135,7 +135,7 @@ impl<'a> Level<'a> {
         }
     }
 
-    // Notes what a subtree of a kind holds that stands first, or has it gone through.
+    // Notes the contents of the first tree, a subtree of a kind, or returns them to be walked.
     fn enter(
         &self,
         alloc: Global,
@@ -158,7 +158,7 @@ impl<'a> Level<'a> {
         }
     }
 
-    // Past the first tree, of which it notes what it is.
+    // Passes the first tree, and notes what it is.
     fn step(
         &mut self,
         alloc: Global,
@@ -185,7 +185,7 @@ impl<'a> Level<'a> {
     }
 }
 
-/// All that stands in trees, in order.
+/// Returns all parts of trees, in order.
 pub(crate) fn parts_in(
     alloc: Global,
     trees: TtIter<'_>,
@@ -196,7 +196,7 @@ pub(crate) fn parts_in(
     let mut parts = Vec::new(alloc);
     let mut levels = Vec::new(alloc);
     levels.push(Level::begun(trees))?;
-    // The innermost is the last.
+    // The innermost level comes last.
     'levels: while let Some(mut level) = levels.pop() {
         match level.step(alloc, &mut parts, only)? {
             Step::Over => {}

@@ -6,7 +6,7 @@ ghost use Rattle.expand_unused.specs.Parts.{leaf_words, token_words, words_in};
 use std::alloc::{AllocError, Global};
 use tt::{Leaf, Symbol, TokenTree, TokenTreesView};
 
-/// The text of an ident.
+/// Returns the text of an ident.
 pub(crate) fn leaf_word(leaf: Leaf) -> Option<Symbol>
     ensures { option_to_list result ≡ leaf_words leaf }
 {
@@ -29,7 +29,7 @@ fn add_word(words: &mut Vec<Symbol>, token: TokenTree) -> Result<(), AllocError>
     Ok(())
 }
 
-/// The texts of all idents in trees, at any depth.
+/// Returns the texts of all idents in trees, at any depth.
 pub(crate) fn words_in(alloc: Global, trees: TokenTreesView<'_>) -> Result<Vec<Symbol>, AllocError>
     ensures { IfOk result (λ words. words.items ≡ words_in (trees_of trees.entry)) }
 {

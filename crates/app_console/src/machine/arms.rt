@@ -10,7 +10,7 @@ use mbe_rules::{Expansion, MacroRules};
 use std::alloc::Global;
 use tt::TopSubtree;
 
-// What the macro of these arms makes of the input, or the answer that tells why there is no such tree.
+// Returns the expansion of the input by the macro of these arms, or the answer that says why there is no such tree.
 fn made_by_arms(alloc: Global, arms: &TopSubtree, input: &TopSubtree) -> Result<TopSubtree, Answer>
     ensures tree { IfOk result (λ tree. IsMadeByArms arms.now input.now tree) }
     ensures none { IfErr result (λ answer. TellsNoneByArms arms.now input.now answer) }

@@ -1,4 +1,4 @@
-//! What the commands on the builder do.
+//! The commands on the builder.
 ghost use Rattle.std.specs.Prelude.{◌≡◌, IfErr, IfOk, string_bytes};
 ghost use Rattle.app_console.specs.Answer.{fault_line, ok_line};
 ghost use Rattle.app_console.specs.Building.{expected_text};
@@ -14,7 +14,7 @@ use tt::{
     TopSubtreeBuilder,
 };
 
-// The kinds of the open subtrees, on one line.
+// Returns the kinds of the open subtrees, on one line.
 fn expected_text(alloc: Global, builder: &TopSubtreeBuilder) -> Result<String, AllocError>
     ensures { IfOk result (λ text. string_bytes text ≡ expected_text builder.now) }
 {
@@ -150,7 +150,7 @@ impl Machine {
         Answer::counts(parts, symbols)
     }
 
-    // Keeps what a builder came to: the tree in the slot, or the builder that was refused.
+    // Stores the result of a builder: the tree in the slot, or the builder that was refused.
     fn keep_built(
         &mut self,
         slot: Slot,

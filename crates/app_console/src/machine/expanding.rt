@@ -13,7 +13,7 @@ use mbe_rule::Rule;
 use std::alloc::Global;
 use tt::TopSubtree;
 
-// What the rule makes of the input, or the answer that tells why there is no such tree.
+// Returns the expansion of the input by the rule, or the answer that says why there is no such tree.
 fn made_by_rule(
     alloc: Global,
     pattern: &TopSubtree,

@@ -13,7 +13,7 @@ use syntax_parse::{TextFault, parse_to_token_tree};
 use tt::{ErasedFileAstId, FileId, SpanAnchor, Symbol, SyntaxContext, TtFault};
 
 impl Machine {
-    // Why a text is refused.
+    // Returns why a text is refused.
     fn refusal(&self, fault: TextFault) -> Answer
         ensures { (result ≡ refusal_line fault) ⊎ (result ≡ fault_line Memory) }
     {

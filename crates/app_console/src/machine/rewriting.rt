@@ -32,7 +32,7 @@ impl Machine {
         Answer::ok()
     }
 
-    // Why the actions are refused for this slot, if they are.
+    // Returns why the actions are refused for this slot, if they are.
     fn first_refusal(&self, slot: Slot, actions: &[Action]) -> Option<Answer>
         ensures { result ≡ first_refusal self.now slot actions.now }
     {
@@ -44,7 +44,7 @@ impl Machine {
         None
     }
 
-    // Why the action is refused, if it is.
+    // Returns why the action is refused, if it is.
     fn put_refusal(&self, slot: Slot, action: Action) -> Option<Answer>
         ensures { result ≡ put_refusal self.now slot action }
     {
@@ -60,7 +60,7 @@ impl Machine {
         Some(Answer::empty())
     }
 
-    // What the action does with a token.
+    // Returns what the action does with a token.
     fn action(&self, action: Action) -> TransformTtAction<'_>
         ensures { action_of result ≡ action_in self.now action }
     {
@@ -74,7 +74,7 @@ impl Machine {
         }
     }
 
-    // Rewrites a tree by the actions, behind which all is kept.
+    // Rewrites a tree by the actions; all later tokens are kept.
     fn rewrite_tree(&self, tree: &mut TopSubtree, actions: &[Action]) -> Result<(), TtFault>
         ensures ok { OnOk result (one_root (rewritten_by self.now actions.now tree.old) ≡ Some tree.new) }
         ensures limits { OnOk result (IsWithinLimits tree.new) }

@@ -1,18 +1,18 @@
-//! What becomes of a token in a rewriting, as one word.
+//! An action of a rewriting, as one word.
 ghost use Rattle.app_language.specs.Token.{action_word, ActionFits};
 ghost use Rattle.app_language.specs.WordLaws.{spaceless_action};
 
 use crate::command::word::{Word, is, named};
 use crate::slot::Slot;
 
-/// What becomes of a token that is shown.
+/// What happens to a token that is shown.
 #[derive(Debug, Clone, Copy, PartialEq, Eq)]
 pub enum Action {
-    /// It stays.
+    /// The token stays.
     Keep,
-    /// It goes.
+    /// The token is removed.
     Remove,
-    /// The trees of a slot take its place.
+    /// The trees of a slot replace the token.
     Put(Slot),
 }
 

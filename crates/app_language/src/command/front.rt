@@ -1,8 +1,8 @@
-//! Words that a text may begin with, told byte by byte.
+//! Words at the beginning of a text, compared byte by byte.
 ghost use Rattle.std.specs.Prelude.{◌≡◌, ◌≢◌, ◌∷◌, ℕ, List, MatchOption, codes};
 ghost use Rattle.app_language.specs.Reading.{words};
 
-// What follows these bytes and a space.
+// Returns what follows these bytes and a space.
 macro_rules! after {
     ($text:expr; $($byte:literal),+) => {
         match $text {
@@ -12,7 +12,7 @@ macro_rules! after {
     };
 }
 
-/// What follows the byte.
+/// Returns what follows the byte.
 #[inline(always)]
 pub fn after_byte(text: &[u8], byte: u8) -> Option<&[u8]>
     ensures { MatchOption result ((rest : List ℕ) → text.now ≢ byte ∷ rest) (λ rest. text.now ≡ byte ∷ rest.now) }
@@ -23,7 +23,7 @@ pub fn after_byte(text: &[u8], byte: u8) -> Option<&[u8]>
     }
 }
 
-/// What follows `item` and a space.
+/// Returns what follows `item` and a space.
 #[inline(always)]
 pub fn after_item(text: &[u8]) -> Option<&[u8]>
     ensures { MatchOption result ((rest : List ℕ) → text.now ≢ words (codes "item") rest) (λ rest. text.now ≡ words (codes "item") rest.now) }
@@ -31,7 +31,7 @@ pub fn after_item(text: &[u8]) -> Option<&[u8]>
     after!(text; b'i', b't', b'e', b'm')
 }
 
-/// What follows `sub` and a space.
+/// Returns what follows `sub` and a space.
 #[inline(always)]
 pub fn after_sub(text: &[u8]) -> Option<&[u8]>
     ensures { MatchOption result ((rest : List ℕ) → text.now ≢ words (codes "sub") rest) (λ rest. text.now ≡ words (codes "sub") rest.now) }
@@ -39,7 +39,7 @@ pub fn after_sub(text: &[u8]) -> Option<&[u8]>
     after!(text; b's', b'u', b'b')
 }
 
-/// What follows `punct` and a space.
+/// Returns what follows `punct` and a space.
 #[inline(always)]
 pub fn after_punct(text: &[u8]) -> Option<&[u8]>
     ensures { MatchOption result ((rest : List ℕ) → text.now ≢ words (codes "punct") rest) (λ rest. text.now ≡ words (codes "punct") rest.now) }
@@ -47,7 +47,7 @@ pub fn after_punct(text: &[u8]) -> Option<&[u8]>
     after!(text; b'p', b'u', b'n', b'c', b't')
 }
 
-/// What follows `ident` and a space.
+/// Returns what follows `ident` and a space.
 #[inline(always)]
 pub fn after_ident(text: &[u8]) -> Option<&[u8]>
     ensures { MatchOption result ((rest : List ℕ) → text.now ≢ words (codes "ident") rest) (λ rest. text.now ≡ words (codes "ident") rest.now) }
@@ -55,7 +55,7 @@ pub fn after_ident(text: &[u8]) -> Option<&[u8]>
     after!(text; b'i', b'd', b'e', b'n', b't')
 }
 
-/// What follows `lit` and a space.
+/// Returns what follows `lit` and a space.
 #[inline(always)]
 pub fn after_lit(text: &[u8]) -> Option<&[u8]>
     ensures { MatchOption result ((rest : List ℕ) → text.now ≢ words (codes "lit") rest) (λ rest. text.now ≡ words (codes "lit") rest.now) }
@@ -63,7 +63,7 @@ pub fn after_lit(text: &[u8]) -> Option<&[u8]>
     after!(text; b'l', b'i', b't')
 }
 
-/// What follows `alone` and a space.
+/// Returns what follows `alone` and a space.
 #[inline(always)]
 pub fn after_alone(text: &[u8]) -> Option<&[u8]>
     ensures { MatchOption result ((rest : List ℕ) → text.now ≢ words (codes "alone") rest) (λ rest. text.now ≡ words (codes "alone") rest.now) }
@@ -71,7 +71,7 @@ pub fn after_alone(text: &[u8]) -> Option<&[u8]>
     after!(text; b'a', b'l', b'o', b'n', b'e')
 }
 
-/// What follows `joint` and a space.
+/// Returns what follows `joint` and a space.
 #[inline(always)]
 pub fn after_joint(text: &[u8]) -> Option<&[u8]>
     ensures { MatchOption result ((rest : List ℕ) → text.now ≢ words (codes "joint") rest) (λ rest. text.now ≡ words (codes "joint") rest.now) }
@@ -79,7 +79,7 @@ pub fn after_joint(text: &[u8]) -> Option<&[u8]>
     after!(text; b'j', b'o', b'i', b'n', b't')
 }
 
-/// What follows `hidden` and a space.
+/// Returns what follows `hidden` and a space.
 #[inline(always)]
 pub fn after_hidden(text: &[u8]) -> Option<&[u8]>
     ensures { MatchOption result ((rest : List ℕ) → text.now ≢ words (codes "hidden") rest) (λ rest. text.now ≡ words (codes "hidden") rest.now) }
@@ -87,7 +87,7 @@ pub fn after_hidden(text: &[u8]) -> Option<&[u8]>
     after!(text; b'h', b'i', b'd', b'd', b'e', b'n')
 }
 
-/// What follows `plain` and a space.
+/// Returns what follows `plain` and a space.
 #[inline(always)]
 pub fn after_plain(text: &[u8]) -> Option<&[u8]>
     ensures { MatchOption result ((rest : List ℕ) → text.now ≢ words (codes "plain") rest) (λ rest. text.now ≡ words (codes "plain") rest.now) }
@@ -95,7 +95,7 @@ pub fn after_plain(text: &[u8]) -> Option<&[u8]>
     after!(text; b'p', b'l', b'a', b'i', b'n')
 }
 
-/// What follows `raw` and a space.
+/// Returns what follows `raw` and a space.
 #[inline(always)]
 pub fn after_raw(text: &[u8]) -> Option<&[u8]>
     ensures { MatchOption result ((rest : List ℕ) → text.now ≢ words (codes "raw") rest) (λ rest. text.now ≡ words (codes "raw") rest.now) }
@@ -103,7 +103,7 @@ pub fn after_raw(text: &[u8]) -> Option<&[u8]>
     after!(text; b'r', b'a', b'w')
 }
 
-/// What follows `int` and a space.
+/// Returns what follows `int` and a space.
 #[inline(always)]
 pub fn after_int(text: &[u8]) -> Option<&[u8]>
     ensures { MatchOption result ((rest : List ℕ) → text.now ≢ words (codes "int") rest) (λ rest. text.now ≡ words (codes "int") rest.now) }
@@ -111,7 +111,7 @@ pub fn after_int(text: &[u8]) -> Option<&[u8]>
     after!(text; b'i', b'n', b't')
 }
 
-/// What follows `str` and a space.
+/// Returns what follows `str` and a space.
 #[inline(always)]
 pub fn after_str(text: &[u8]) -> Option<&[u8]>
     ensures { MatchOption result ((rest : List ℕ) → text.now ≢ words (codes "str") rest) (λ rest. text.now ≡ words (codes "str") rest.now) }

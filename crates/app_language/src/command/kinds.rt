@@ -1,4 +1,4 @@
-//! Kinds of delimiters and literals, spacings and rawness, each one word.
+//! Kinds of delimiters and literals, spacings and rawness, one word each.
 ghost use Rattle.tt_base.specs.Fits.{KindFits};
 ghost use Rattle.app_language.specs.Token.{kind_word, spacing_word, raw_word, literal_kind_word};
 ghost use Rattle.app_language.specs.WordLaws.{spaceless_kind, spaceless_spacing, spaceless_rawness, spaceless_literal_kind};
@@ -106,7 +106,7 @@ impl Word for LitKind {
         )
     }
 
-    // The kinds of most literals are told at once.
+    // The kinds of most literals are recognized at once.
     #[inline(always)]
     fn read_before_space(text: &[u8]) -> Option<(LitKind, &[u8])> {
         if let Some(rest) = after_int(text) {

@@ -8,7 +8,7 @@ use crate::command::front::after_byte;
 use crate::command::word::Word;
 use crate::slot::Slot;
 
-/// A number, in decimal without leading zeros.
+/// Reads a number in decimal without leading zeros.
 pub fn number(word: &[u8]) -> Option<u32>
     ensures { Reads decimal (λ n. n < 2 ^ 32) word.now result }
 {
@@ -22,7 +22,7 @@ pub fn number(word: &[u8]) -> Option<u32>
 // A number has fewer digits.
 const TOO_MANY_DIGITS: usize = 19;
 
-/// The number that the text begins with, and what follows its digits.
+/// Returns the number at the beginning of the text, and what follows its digits.
 #[inline(always)]
 pub fn leading_number(text: &[u8]) -> Option<(u32, &[u8])>
     ensures { ReadsFront decimal (λ n. n < 2 ^ 32) text.now result }
@@ -42,7 +42,7 @@ pub fn leading_number(text: &[u8]) -> Option<(u32, &[u8])>
     number_to(text, end, value)
 }
 
-// The number of the first so many bytes, which are digits with that value, and what follows them.
+// Returns the number of the first `end` bytes, which are digits with that value, and what follows them.
 #[inline(always)]
 fn number_to(text: &[u8], end: usize, value: u64) -> Option<(u32, &[u8])>
     requires digits { (end ≤ length text.now) × AllDigits 10 (take end text.now) }
@@ -62,7 +62,7 @@ fn number_to(text: &[u8], end: usize, value: u64) -> Option<(u32, &[u8])>
     Some((value as u32, &text[end..]))
 }
 
-// The same, where the number may be as large as that of a point.
+// The same for a number of up to 64 bits, as a restore point has.
 fn long_number(word: &[u8]) -> Option<u64>
     ensures { Reads decimal (λ n. n < 2 ^ 64) word.now result }
 {
@@ -82,7 +82,7 @@ fn long_number(word: &[u8]) -> Option<u64>
     u64::try_from(value).ok()
 }
 
-/// The number up to the first such byte, and what follows that byte.
+/// Returns the number up to the first such byte, and what follows that byte.
 #[inline(always)]
 pub fn number_before(text: &[u8], byte: u8) -> Option<(u32, &[u8])>
     requires { byte < 48 ⊎ 57 < byte }

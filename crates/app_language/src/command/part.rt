@@ -13,13 +13,13 @@ use crate::digits::Digits;
 use crate::many::Many;
 use tt_base::{Leaf, Symbol, Texts, TokenTree, TtFault, new_symbol};
 
-/// Values that the pieces behind the first word of a line spell.
+/// The values that the pieces behind the first word of a line spell.
 pub trait Part: Sized {
     ghost pieces: { Self → List (List ℕ) };
 
     ghost fits: { Self → Type 0 };
 
-    /// The values that the text spells, each piece behind a space.
+    /// Reads the values that the text spells, each piece behind a space.
     fn read(texts: &mut Texts, text: &[u8]) -> Result<Option<Self>, TtFault>
         ensures reads { IfOk result (ReadsPieces pieces fits text.now) }
         ensures err { IfErr result (λ fault. fault ≡ Memory) };
@@ -39,7 +39,7 @@ impl Part for () {
     }
 }
 
-// A word, and more.
+// A word, and further parts.
 impl<W: Word + Drop, P: Part> Part for (W, P) {
     ghost pieces = { λ p. W.spelling p.0 ∷ P.pieces p.1 };
 
@@ -76,7 +76,7 @@ impl<W: Word + Drop> Part for Many<W> {
     }
 }
 
-// One character, which is all the rest.
+// One character, which is the whole rest.
 impl Part for char {
     ghost pieces = { λ char. encode_utf8 char ∷ [] };
 
@@ -90,7 +90,7 @@ impl Part for char {
     }
 }
 
-// Bytes take all the rest.
+// Bytes, which are the whole rest.
 impl Part for Digits {
     ghost pieces = { λ bytes. encode_lower bytes ∷ [] };
 
@@ -104,7 +104,7 @@ impl Part for Digits {
     }
 }
 
-// A text takes all the rest.
+// A text, which is the whole rest.
 impl Part for Symbol {
     ghost pieces = { λ text. text ∷ [] };
 
@@ -118,7 +118,7 @@ impl Part for Symbol {
     }
 }
 
-// A leaf takes all the rest.
+// A leaf, which is the whole rest.
 impl Part for Leaf {
     ghost pieces = { λ leaf. leaf_words leaf ∷ [] };
 
@@ -132,7 +132,7 @@ impl Part for Leaf {
     }
 }
 
-// So does a token.
+// A token, which is the whole rest.
 impl Part for TokenTree {
     ghost pieces = { λ token. token_words token ∷ [] };
 

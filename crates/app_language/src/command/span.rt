@@ -32,7 +32,7 @@ impl Word for Span {
     ghost has_no_space = { spaceless_span };
 }
 
-// The span that the text begins with, and what follows its last digit.
+// Returns the span at the beginning of the text, and what follows its last digit.
 fn leading_span(text: &[u8]) -> Option<(Span, &[u8])>
     ensures { ReadsFront span_text SpanFits text.now result }
 {

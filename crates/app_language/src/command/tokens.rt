@@ -1,4 +1,4 @@
-//! Tokens, as the rest of a line.
+//! Tokens as the rest of a line.
 ghost use Rattle.std.specs.Prelude.{◌≡◌, IfOk, IfErr, encode_utf8};
 ghost use Rattle.std.specs.Char.{IsScalar};
 ghost use Rattle.tt_base.specs.Fits.{LeafFits, TokenFits};
@@ -16,7 +16,7 @@ use tt_base::{
     Delimiter, Ident, Leaf, Literal, Punct, Span, Subtree, Symbol, Texts, TokenTree, TtFault,
 };
 
-/// The token that the text spells.
+/// Reads the token that the text spells.
 #[inline(always)]
 pub fn token(texts: &mut Texts, text: &[u8]) -> Result<Option<TokenTree>, TtFault>
     ensures reads { IfOk result (Reads token_words TokenFits text.now) }
@@ -28,7 +28,7 @@ pub fn token(texts: &mut Texts, text: &[u8]) -> Result<Option<TokenTree>, TtFaul
     Ok(leaf(texts, text)?.map(TokenTree::Leaf))
 }
 
-/// The leaf that the text spells.
+/// Reads the leaf that the text spells.
 #[inline(always)]
 pub fn leaf(texts: &mut Texts, text: &[u8]) -> Result<Option<Leaf>, TtFault>
     ensures reads { IfOk result (Reads leaf_words LeafFits text.now) }
@@ -46,7 +46,7 @@ pub fn leaf(texts: &mut Texts, text: &[u8]) -> Result<Option<Leaf>, TtFault>
     Ok(None)
 }
 
-// What follows `sub`.
+// Reads what follows `sub`.
 fn subtree(text: &[u8]) -> Option<Subtree>
     ensures { Reads subtree_words (λ subtree. TokenFits (token.Subtree subtree)) text.now result }
 {
@@ -62,7 +62,7 @@ fn subtree(text: &[u8]) -> Option<Subtree>
     Some(Subtree { delimiter, len })
 }
 
-// What follows `punct`.
+// Reads what follows `punct`.
 fn punct(text: &[u8]) -> Option<Punct>
     ensures { Reads punct_words (λ punct. LeafFits (leaf.Punct punct)) text.now result }
 {
@@ -76,7 +76,7 @@ fn punct(text: &[u8]) -> Option<Punct>
     })
 }
 
-/// The one character of the text.
+/// Reads the only character of the text.
 pub fn character(text: &[u8]) -> Option<char>
     ensures { Reads encode_utf8 IsScalar text.now result }
 {
@@ -86,7 +86,7 @@ pub fn character(text: &[u8]) -> Option<char>
     text.parse().ok()
 }
 
-// What follows `ident`.
+// Reads what follows `ident`.
 #[inline(always)]
 fn ident(texts: &mut Texts, text: &[u8]) -> Result<Option<Ident>, TtFault>
     ensures reads { IfOk result (Reads ident_words (λ ident. LeafFits (leaf.Ident ident)) text.now) }
@@ -101,7 +101,7 @@ fn ident(texts: &mut Texts, text: &[u8]) -> Result<Option<Ident>, TtFault>
     Ok(Some(Ident { sym, span, is_raw }))
 }
 
-// What follows `lit`.
+// Reads what follows `lit`.
 #[inline(always)]
 fn literal(texts: &mut Texts, text: &[u8]) -> Result<Option<Literal>, TtFault>
     ensures reads { IfOk result (Reads literal_words (λ literal. LeafFits (leaf.Literal literal)) text.now) }
@@ -119,7 +119,7 @@ fn literal(texts: &mut Texts, text: &[u8]) -> Result<Option<Literal>, TtFault>
     Ok(Literal::from_parts(symbol, span, kind, suffix_len))
 }
 
-// A span, and all the rest as a text.
+// Reads a span, and the whole rest as a text.
 #[inline(always)]
 fn placed(texts: &mut Texts, text: &[u8]) -> Result<Option<(Span, Symbol)>, TtFault>
     ensures reads { IfOk result (Reads placed_words PlacedFits text.now) }

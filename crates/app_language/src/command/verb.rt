@@ -2,7 +2,7 @@
 use crate::command::view::View;
 use crate::command::word::{Word, is, named};
 
-/// What a command does, and the first word of its line.
+/// What a command does, as the first word of its line.
 #[derive(Clone, Copy)]
 pub enum Verb {
     Item,

@@ -1,7 +1,7 @@
-//! The forms in which a tree is shown, each one word.
+//! The forms in which a tree is shown, one word each.
 use crate::command::word::{Word, is, named};
 
-/// In which form a slot's tree is shown.
+/// The form in which a slot's tree is shown.
 #[derive(Debug, Clone, Copy, PartialEq, Eq)]
 pub enum View {
     /// Its Display text.
@@ -16,13 +16,13 @@ pub enum View {
     Siblings,
     /// The places of a walk through all of it.
     Walk,
-    /// How many puncts below the top stand together as one, one after another.
+    /// How many puncts below the top come as one, one after another.
     Glue,
-    /// The bytes that are stored.
+    /// The stored bytes.
     Bytes,
-    /// The span parts that are stored.
+    /// The stored span parts.
     Parts,
-    /// The symbols that are stored.
+    /// The stored symbols.
     Symbols,
 }
 

@@ -1,4 +1,4 @@
-//! What it is to be one word of a line, and how a word is cut off.
+//! The words of a line, and how a word is cut off.
 ghost use Rattle.std.specs.Prelude.{◌≡◌, ◌≢◌, ◌++◌, ◌∷◌, ℕ, List, MatchBool, MatchOption};
 ghost use Rattle.app_language.specs.Reading.{IsTail, Lacks, Reads, ReadsBefore, ReadsNext};
 
@@ -8,13 +8,13 @@ pub trait Word: Sized {
 
     ghost fits: { Self → Type 0 };
 
-    /// The value that the word spells.
+    /// Reads the value that the word spells.
     fn read(word: &[u8]) -> Option<Self>
         ensures { Reads spelling fits word.now result };
 
     ghost has_no_space: { (value : Self) → fits value → Lacks 32 (spelling value) };
 
-    /// The first word's value, and what follows the space after it.
+    /// Reads the value of the first word, and returns it with what follows the space behind it.
     fn read_before_space(text: &[u8]) -> Option<(Self, &[u8])>
         ensures { ReadsBefore 32 spelling fits text.now result }
     {
@@ -24,7 +24,7 @@ pub trait Word: Sized {
     }
 }
 
-/// The value of the word behind the space that the text begins with, and the text from the next space on.
+/// Reads the value of the word behind the space at the beginning of the text, and returns it with the text from the next space on.
 pub fn next<W: Word>(text: &[u8]) -> Option<(W, &[u8])>
     ensures { ReadsNext W.spelling W.fits text.now result }
 {
@@ -34,7 +34,7 @@ pub fn next<W: Word>(text: &[u8]) -> Option<(W, &[u8])>
     Some((value, rest))
 }
 
-/// The text up to its first space, and from there on.
+/// Returns the text up to its first space, and from there on.
 pub fn first_word(text: &[u8]) -> (&[u8], &[u8])
     ensures whole { text.now ≡ result.0.now ++ result.1.now }
     ensures word { Lacks 32 result.0.now }
@@ -48,7 +48,7 @@ pub fn first_word(text: &[u8]) -> (&[u8], &[u8])
     (text, &text[text.len()..])
 }
 
-/// What stands before the first such byte, and what stands after it.
+/// Returns what precedes the first such byte, and what follows it.
 pub fn cut(text: &[u8], byte: u8) -> Option<(&[u8], &[u8])>
     ensures { MatchOption result (Lacks byte text.now) (λ parts.
         (text.now ≡ parts.0.now ++ byte ∷ parts.1.now) × Lacks byte parts.0.now) }
@@ -61,14 +61,14 @@ pub fn cut(text: &[u8], byte: u8) -> Option<(&[u8], &[u8])>
     None
 }
 
-/// Whether the word is that name.
+/// Returns whether the word is that name.
 pub fn is(word: &[u8], name: &[u8]) -> bool
     ensures { MatchBool result (word.now ≡ name.now) (word.now ≢ name.now) }
 {
     word == name
 }
 
-// The value that the word names, of those listed.
+// Returns the value that the word names, among those listed.
 macro_rules! named {
     ($word:expr; $($text:literal => $value:expr),*) => {{
         $(if is($word, $text) {

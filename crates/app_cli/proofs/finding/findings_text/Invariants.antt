@@ -1,4 +1,4 @@
--- The texts so far, and then those of what is left.
+-- The texts so far, and then those of the findings that are left.
 use Rattle.std.proofs.Common.{ℕ, List, ◌++◌, drop}
 use Rattle.std.specs.Prelude.{string_bytes}
 use Rattle.app_cli.proofs.finding.findings_text.Given as goal

@@ -1,4 +1,4 @@
--- Each step gives a token, or leaves a level.
+-- Each step yields a token, or leaves a level.
 use Rattle.std.proofs.Common.{◌+◌, ◌*◌, ◌∷◌, length, reverse}
 use Rattle.app_cli.proofs.TokensLeft.{tokens_in}
 use Rattle.app_cli.proofs.tree_lines.write_tree.Given as goal

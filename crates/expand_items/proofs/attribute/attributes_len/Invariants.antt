@@ -1,4 +1,4 @@
--- So many trees are passed, and the attributes that are left are the others of them.
+-- So many trees are passed, and the attributes that are left are the rest of them.
 use Rattle.std.proofs.Common.{◌≡◌, ◌+◌, ◌≤◌}
 use Rattle.tt.specs.Forest.{size}
 use Rattle.tt.specs.Iters.{rest_of}

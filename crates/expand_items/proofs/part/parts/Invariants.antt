@@ -1,4 +1,4 @@
--- What is told so far, and what is left.
+-- The parts so far, and the trees that are left.
 use Rattle.tt.specs.Forest.{size}
 use Rattle.tt.specs.Iters.{rest_of}
 use Rattle.expand_items.proofs.Telling.{AreTold}

@@ -1,4 +1,4 @@
--- What is built, with what comes of what is left, is what comes of all; and as many subtrees are open as are entered.
+-- What is built and what the rest expands to is what all expand to; and as many subtrees are open as are entered.
 use Rattle.std.proofs.Common.{◌≡◌, ◌+◌, ◌*◌, suc, length}
 use Rattle.tt.specs.Building.{depth}
 use Rattle.tt.specs.Iters.{rest_of}

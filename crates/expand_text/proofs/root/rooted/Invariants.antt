@@ -1,4 +1,4 @@
--- What is built, with what is left, is all; and as many subtrees are open as are entered.
+-- What is built and what is left is all; and as many subtrees are open as are entered.
 use Rattle.std.proofs.Common.{◌≡◌, ◌+◌, ◌*◌, length, reverse}
 use Rattle.tt.specs.Building.{lowest, depth}
 use Rattle.tt.specs.Forest.{size}

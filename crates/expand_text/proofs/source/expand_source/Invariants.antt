@@ -1,4 +1,4 @@
--- What is replaced so far, with what comes of what is left, is what comes of all.
+-- The replacements so far and those of the rest are those of all trees.
 use Rattle.std.proofs.Common.{List}
 use Rattle.expand_text.specs.Knowing.{Known, IsKnown, setting_of}
 use Rattle.syntax_edit.specs.Texts.{Replacement, begun, writing_of, AreReplaced}

@@ -1,4 +1,4 @@
--- All before are warnings.
+-- All findings before are warnings.
 use Rattle.std.proofs.Common.{◌≡◌, drop}
 use Rattle.expand_text.specs.Expansion.{first_fault}
 use Rattle.expand_text.proofs.text.first_fault.Given as goal

@@ -1,4 +1,4 @@
--- What is left to be cut fits, and the text with all that is that which is wanted.
+-- The cuts that are left fit, and the text with all of them is the wanted text.
 use Rattle.std.proofs.Common.{◌≡◌, map, drop}
 use Rattle.expand_unused.specs.Parts.{part_of}
 use Rattle.expand_unused.specs.Without.{cuts}

@@ -1,4 +1,4 @@
--- All that may go of the parts so far wait.
+-- All parts so far that may go wait.
 use Rattle.std.proofs.Common.{map, take}
 use Rattle.expand_unused.specs.Parts.{part_of}
 use Rattle.expand_unused.specs.Waiting.{waiting_in, IsWaiting}

@@ -1,4 +1,4 @@
--- Nothing is known to be needed that waited.
+-- No name that waits is known to be needed.
 use Rattle.std.proofs.Common.{◌≡◌, length}
 use Rattle.indexmap.specs.IndexMap.{index_map_len}
 use Rattle.expand_unused.specs.Waiting.{waiting_in, GoesOn}

@@ -1,4 +1,4 @@
--- What is needed is looked for still.
+-- The search for what is needed goes on.
 use Rattle.indexmap.specs.IndexMap.{index_map_len}
 use Rattle.expand_unused.specs.Waiting.{waiting_in, GoesOn}
 use Rattle.expand_unused.proofs.needing.settle.Given as goal

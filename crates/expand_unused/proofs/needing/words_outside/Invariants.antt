@@ -1,4 +1,4 @@
--- The words so far, and those to come, are all of them.
+-- The words so far, and those to come, are all words.
 use Rattle.std.proofs.Common.{◌≡◌, ◌++◌, map, drop}
 use Rattle.expand_unused.specs.Parts.{part_of}
 use Rattle.expand_unused.specs.Waiting.{words_outside}

@@ -1,4 +1,4 @@
--- What is noted, and the words to come, are all of them.
+-- What is noted, and the words to come, are all words.
 use Rattle.std.proofs.Common.{◌≡◌, ◌++◌, map}
 use Rattle.std.specs.Vec.Iter.{into_iter_items}
 use Rattle.tt.specs.Views.{trees_of}

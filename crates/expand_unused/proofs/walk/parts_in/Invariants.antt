@@ -1,4 +1,4 @@
--- What is noted, and what is left of the levels, are all that stands in the trees.
+-- What is noted, and what is left of the levels, are all parts of the trees.
 use Rattle.std.proofs.Common.{◌≡◌, ◌++◌, map}
 use Rattle.tt.specs.Iters.{rest_of}
 use Rattle.expand_unused.specs.Parts.{part_of, parts_in}

@@ -1,4 +1,4 @@
--- The words so far, and those of the tokens to come, are all of them.
+-- The words so far, and those of the tokens to come, are all words.
 use Rattle.std.proofs.Common.{◌≡◌, ◌++◌}
 use Rattle.tt.specs.Forest.{flat}
 use Rattle.tt.specs.SubtreeViews.{flat_rest}

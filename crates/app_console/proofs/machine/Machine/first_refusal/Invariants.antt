@@ -1,4 +1,4 @@
--- What is left has the same first refusal.
+-- The actions that are left have the same first refusal.
 use Rattle.std.proofs.Common.{◌≡◌, drop}
 use Rattle.app_console.specs.Editing.{first_refusal}
 use Rattle.app_console.proofs.machine.Machine.first_refusal.Given as goal

@@ -1,4 +1,4 @@
--- An answer for each verb: what follows it is read as the command's values.
+-- An answer for each verb: what follows the verb is read as the command's values.
 use Rattle.std.proofs.Common.{◌≡◌}
 use Rattle.std.specs.Option.{option_map}
 use Rattle.app_language.specs.declared.command.verb.Verb.TheVariants as verb

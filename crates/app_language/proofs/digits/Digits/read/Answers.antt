@@ -14,7 +14,7 @@ returns-then-ne-clause-reads c value fits e =
     let again : c.as_bytes.result.now ≡ c.args.text.now = search (rules, sym (e ∙ ap encode_lower (sym same))) in
     search (rules, again)
 
--- A text that was not decoded spells no bytes, unless memory was refused.
+-- A text that was not decoded spells no bytes, unless memory ran out.
 none_read : (text : List ℕ) (error : FromHexError) (result : Result (Option (List ℕ)) TtFault) → (error ≡ OutOfMemory → result ≡ Err Memory)
     → ((error ≡ OutOfMemory → ⊥) → result ≡ Ok None) → (error ≡ OutOfMemory) ⊎ (decode_of text ≡ Err error) → IfOk result (Reads encode_lower IsBytes text)
 none_read text OutOfMemory result memory other why = rw (memory refl) tt

@@ -1,4 +1,4 @@
--- The first of them are those that there were.
+-- The first macros are those from before.
 use Rattle.std.proofs.Common.{◌≡◌, length, take}
 use Rattle.expand_text.proofs.scope.Scope.leave.Given as goal
 
