@@ -12,7 +12,7 @@ use Rattle.mbe_grammar.specs.Positions.{Position, first_position, behind, takes}
 use Rattle.mbe_grammar.specs.Tests.{passes, taken_size}
 use Rattle.mbe_grammar.specs.Units.{first_unit}
 
--- After so many trees, and then so many more.
+-- After that many trees, and then that many more.
 after_both : (n m : ℕ) (trees : Forest) → after_trees m (after_trees n trees) ≡ after_trees (n + m) trees
 after_both zero m trees = let same : m ≡ 0 + m = omega arith in ap (λ k. after_trees k trees) same
 after_both (suc n) m trees = let same : suc (n + m) ≡ suc n + m = omega arith in after_both n m (after_tree trees) ∙ ap (λ k. after_trees k trees) same
@@ -25,7 +25,7 @@ behind_both n m from =
 behind_none : (from : Position) → from ≡ behind 0 from
 behind_none from = let same : from.passed ≡ from.passed + 0 = omega arith in ap (λ (p : ℕ). record { passed = p; rest = from.rest }) same
 
--- an answer is after so many trees, if it is a place
+-- an answer is after that many trees, if it is a place
 abbrev pub IsBehind : (from : Position) → (answer : Option Position) → Type 0
 IsBehind from None = Unit {0}
 IsBehind from (Some to) = (n : ℕ) × (to ≡ behind n from)

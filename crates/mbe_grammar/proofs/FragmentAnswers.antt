@@ -36,7 +36,7 @@ takes_some fragment.Stmt = refl
 takes_some fragment.Item = refl
 takes_some fragment.Meta = refl
 
--- the place where an expression ends that takes so many trees
+-- the place where an expression ends that takes that many trees
 abbrev place_of : Forest → (count : Option ℕ) → Option Position
 place_of trees count = option_map (λ n. behind n (first_position trees)) count
 

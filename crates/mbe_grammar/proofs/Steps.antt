@@ -17,7 +17,7 @@ module _ (takes : Test → Position → Option Position) (looks : ℕ → Positi
   abbrev Goes : Begun → List Frame → (final : Option Position) → Type 0
   Goes begun frames final = (all : ℕ) × Ends takes looks rules all begun.state (awaited begun.waiting frames) final
 
-  -- the machine ends from there on after so many steps
+  -- the machine ends from there on after that many steps
   abbrev EndsFrom : State → List Frame → (steps : ℕ) → (final : Option Position) → Type 0
   EndsFrom state frames steps final = Ends takes looks rules steps state frames final
 

@@ -20,6 +20,6 @@ name_of fragment.Stmt = statement
 name_of fragment.Item = item
 name_of fragment.Meta = meta
 
--- the fragment takes so many of these trees from the first on, or none if they do not begin with such a fragment
+-- the fragment takes `count` of these trees from the first on, or none if they do not begin with such a fragment
 abbrev pub Reaches : GrammarFragment → (trees : Forest) → (count : Option ℕ) → Type 0
 Reaches which trees count = Answers stands (stands (name_of which)) (first_position trees) (option_map (λ n. behind n (first_position trees)) count)

@@ -125,7 +125,7 @@ IsStep takes looks rules (reading at from) before step after =
 IsStep takes looks rules (answered found) [] step after = step ≡ ends found
 IsStep takes looks rules (answered found) (frame ∷ before) step after = (step ≡ goes (resumed frame found)) × (after ≡ before)
 
--- the machine stops with this answer after exactly so many steps
+-- the machine stops with this answer after exactly that many steps
 abbrev pub Ends : (takes : Test → Position → Option Position) → (looks : ℕ → Position → Glance) → List Rule → (count : ℕ) → State → List Frame → (answer : Option Position) → Type 0
 Ends takes looks rules zero (reading at from) frames answer = ⊥
 Ends takes looks rules zero (answered found) [] answer = found ≡ answer

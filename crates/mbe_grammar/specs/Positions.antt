@@ -15,7 +15,7 @@ pub record Position : Type 0 where
 abbrev pub first_position : Forest → Position
 first_position trees = record { passed = 0; rest = trees }
 
--- the place after so many more trees
+-- the place after that many more trees
 abbrev pub behind : (count : ℕ) → Position → Position
 behind count from = record { passed = from.passed + count; rest = after_trees count from.rest }
 

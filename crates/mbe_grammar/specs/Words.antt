@@ -93,7 +93,7 @@ word_of_more text =
     if bytes_eq text (codes "unsized") then word.Reserved else (
     if bytes_eq text (codes "virtual") then word.Reserved else word.Name))))))
 
--- the word of so many letters
+-- the word of that many letters
 abbrev pub word_of_length : (letters : ℕ) → (text : List ℕ) → Word
 word_of_length letters text =
     if letters == 0 then word.Name else (

@@ -36,7 +36,7 @@ impl<'t> Place<'t> {
     ghost use Rattle.mbe_grammar.specs.Positions.{first_position, behind, takes};
     ghost use Rattle.mbe_grammar.specs.Running.{answer_at};
 
-    // Returns the place before these trees, after so many passed ones.
+    // Returns the place before these trees, after that many passed ones.
     fn before(rest: TokenTreesView<'t>, passed: usize) -> Place<'t>
         requires fits { passed + size (trees_of rest) < 2 ^ 64 }
         ensures rest { trees_of result.rest ≡ trees_of rest.entry }
@@ -75,7 +75,7 @@ impl<'t> Place<'t> {
         self.passed
     }
 
-    // Returns the place after so many trees. There must be at least one, and none may be missing.
+    // Returns the place after that many trees. There must be at least one, and none may be missing.
     fn moved(&self, count: usize) -> Place<'t>
         requires some { 0 < count }
         requires within { count + size (after_trees count (trees_of self.now.rest)) ≤ size (trees_of self.now.rest) }

@@ -7,7 +7,7 @@ use Rattle.mbe_matcher.specs.Ends.{sums, counted_on, ends_with}
 use Rattle.mbe_matcher.specs.Grouping.{counts_by}
 use Rattle.mbe_matcher.specs.Marks.{Note, note_of, taken, begun, ended}
 
--- all ends, after so many rounds
+-- all ends, after that many rounds
 abbrev pub ends_by : (number : ℕ) → (so_far : ℕ) → List Note → List ℕ
 ends_by number so_far [] = []
 ends_by number so_far (it ∷ more) = ends_with number so_far it (ends_by number (counted_on number so_far it) more)

@@ -34,7 +34,7 @@ entries_some at (repetition inner separator repeat.ZeroOrOne others) behind full
     omega (arith, entries_some at inner [] full.1 (inl full.0), length-append (entries at inner []) (entries (at + place_count inner + separator_count separator) others behind))
 
 module _ (places : List Place) (left : ℕ) where
-  -- one of the edges leads to where so many are left
+  -- one of the edges leads to where that many are left
   abbrev Comes : (edges : List ℕ) → (levels : List Forest) → Type 0
   Comes edges levels = (path : List ℕ) × Via places (AreLeft left) edges levels path
 

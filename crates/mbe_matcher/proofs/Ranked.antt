@@ -21,8 +21,8 @@ length_stops places pattern are =
     let last : Stop = record { asked = ask.leave; edges = [] } in
     omega (arith, length-map places stop_of, ap length are, length-append (stops 0 pattern (place_count pattern ∷ [])) (last ∷ []), length-stops 0 pattern (place_count pattern ∷ []))
 
--- the rank of a variable's place, of so many places: above those further on; if everything after it may be nothing, a round may begin anew,
--- so its rank is above all others too
+-- the rank of a variable's place, of that many places: above those further on; if everything after it may be nothing, a round may begin
+-- anew, so its rank is above all others too
 abbrev variable_rank : (most at : ℕ) → (may : Bool) → (is_last : Bool) → ℕ
 variable_rank most at false is_last = 0
 variable_rank most at true true = most + (most - suc at)

@@ -92,7 +92,7 @@ pub past_separator : (separator : ℕ) (steps : List Step) → drop (pass_count 
 past_separator zero steps = refl
 past_separator (suc n) steps = refl
 
--- the variables of a pattern before others; so many steps follow the pattern, and these repetitions enclose it
+-- the variables of a pattern before others; that many steps follow the pattern, and these repetitions enclose it
 abbrev placed_before : Pattern → (behind : ℕ) → (nest : List ℕ) → (left : List Where) → List Where
 placed_before nothing behind nest left = left
 placed_before (variable it others) behind nest left = record { variable = it; number = step_count others + behind; nest = nest } ∷ placed_before others behind nest left

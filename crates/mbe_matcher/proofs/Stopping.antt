@@ -73,7 +73,7 @@ no_end_at_once : (levels : List Forest) (trees : Forest) (views : List View) →
 no_end_at_once levels trees views stands place none ends = asks_inside (ask_of place.atom) trees none ends.0
 
 module _ (places : List Place) (starts : List ℕ) (input : Forest) where
-  -- so many tokens precede the place where paths stop
+  -- that many tokens precede the place where paths stop
   abbrev pub Comes : (at : ℕ) → Type 0
   Comes at = (left : ℕ) × (at + left ≡ size input) × ((left ≡ size input) ⊎ ((path : List ℕ) × StopsAll places left starts input path))
 

@@ -6,12 +6,12 @@ use Rattle.mbe_matcher.specs.declared.steps.Step.{Step}
 use Rattle.mbe_matcher.specs.declared.steps.Step.TheVariants as step
 use Rattle.mbe_matcher.specs.Walking.{Spot, innermost, outside, stepped}
 
--- each of them has at most so many steps
+-- each of them has at most that many steps
 abbrev pub AreShort : (most : ℕ) → List (List Step) → Type 0
 AreShort most [] = Unit {0}
 AreShort most (it ∷ others) = (length it ≤ most) × AreShort most others
 
--- the steps ahead, and those where rounds begin, are at most so many
+-- the steps ahead, and those where rounds begin, are at most that many
 abbrev pub IsShort : (most : ℕ) → Spot → Type 0
 IsShort most spot = (length spot.here ≤ most) × AreShort most spot.opened
 

@@ -34,6 +34,6 @@ IsNodeAhead trees kind children = (delimiter : Delimiter) × (delimiter.kind ≡
 abbrev pub TakesNone : Fragment → Forest → Type 0
 TakesNone which trees = takes which trees ≡ true → takes_nothing which trees ≡ true
 
--- it takes at least one tree, and after the first a thread waits for so many
+-- it takes at least one tree, and after the first a thread waits for that many
 abbrev pub WaitsFor : Fragment → Forest → (wait : ℕ) → Type 0
 WaitsFor which trees wait = (takes which trees ≡ true) × (takes_nothing which trees ≡ false) × (wait ≡ reach which trees - 1)

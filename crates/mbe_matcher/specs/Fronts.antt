@@ -12,18 +12,19 @@ use Rattle.mbe_pattern.specs.Patterns.{Pattern, nothing, variable, token, subtre
 use Rattle.mbe_pattern.specs.Units.{IsUnitLike, IsNodeOf}
 
 module _ (op : RepeatKind) (separator : List Leaf) (One : Forest → Forest → Type 0) (Within Behind : Forest → Type 0) where
-  -- after so many rounds: what follows the repetition, or a separator and then another round; it stops in that round or continues after it
+  -- after that many rounds: what follows the repetition, or a separator and then another round; it
+  -- stops in that round or continues after it
   abbrev pub OtherRoundsUpTo : ℕ → (input : Forest) → Type 0
   OtherRoundsUpTo zero input = Behind input
   OtherRoundsUpTo (suc n) input =
       (start : Forest) × (may_be_more op ≡ true) × Separates separator input start × (Within start ⊎ ((rest : Forest) × One start rest × OtherRoundsUpTo n rest))
 
-  -- a first round, in which it stops, or several rounds; or no round if there may be none
+  -- a first round, in which it stops, or one or more rounds; or no round if there may be none
   abbrev pub RoundsUpTo : (input : Forest) → Type 0
   RoundsUpTo input =
       (Within input ⊎ ((n : ℕ) × (rest : Forest) × One input rest × OtherRoundsUpTo n rest)) ⊎ ((may_be_none op ≡ true) × Behind input)
 
--- the pattern, or a beginning of it, takes trees until so many tokens are left, counting the `outside` tokens after the input; it stops
+-- the pattern, or a beginning of it, takes trees until that many tokens are left, counting the `outside` tokens after the input; it stops
 -- before a part, or takes it and continues
 abbrev pub TakesUpTo : Pattern → (input : Forest) → (outside left : ℕ) → Type 0
 TakesUpTo nothing input outside left = left ≡ size input + outside

@@ -16,7 +16,7 @@ pub record Where : Type 0 where
 abbrev pub held_in : (number : ℕ) → Where → Where
 held_in number it = record { variable = it.variable; number = it.number; nest = number ∷ it.nest }
 
--- the variables of a pattern that so many steps follow, in reading order
+-- the variables of a pattern, in reading order; that many steps follow the pattern
 abbrev pub variables_of : Pattern → (behind : ℕ) → List Where
 variables_of nothing behind = []
 variables_of (variable it others) behind = record { variable = it; number = step_count others + behind; nest = [] } ∷ variables_of others behind

@@ -109,7 +109,7 @@ pub record IsOnly (Whole : List ℕ → Type 0) (path : List ℕ) : Type 0 where
   pub holds : Whole path
   pub alone : (other : List ℕ) → Whole other → other ≡ path
 
--- paths stop before that flat place of so many tokens, or nothing is passed; no path stops after it
+-- paths stop at the flat place `at` of `total` tokens, or nothing is passed; no path stops after it
 pub record AreStopped (Stops : (left : ℕ) → List ℕ → Type 0) (total at : ℕ) : Type 0 where
   pub left : ℕ
   pub place : at + left ≡ total

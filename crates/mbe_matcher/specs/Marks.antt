@@ -19,7 +19,7 @@ note_of (mark.Took number trees) = taken number (trees_of trees)
 note_of (mark.Round number) = begun number
 note_of (mark.Over number) = ended number
 
--- how many steps a separator of so many leaves has
+-- how many steps a separator of that many leaves has
 abbrev pub pass_count : ℕ → ℕ
 pass_count zero = 0
 pass_count (suc n) = 1

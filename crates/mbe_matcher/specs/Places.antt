@@ -33,7 +33,7 @@ Passes (ask.same its) levels = IsUnitLike its (front levels)
 Passes (ask.enter kind) levels = IsNodeOf kind (front levels)
 Passes ask.leave levels = IsEnded levels
 
--- the levels after so many trees of the innermost
+-- the levels after that many trees of the innermost
 abbrev pub passed : ℕ → List Forest → List Forest
 passed n [] = []
 passed n (trees ∷ outer) = after_trees n trees ∷ outer
@@ -101,10 +101,10 @@ abbrev pub left_in : List Forest → ℕ
 left_in [] = 0
 left_in (trees ∷ outer) = size trees + left_in outer
 
--- so many tokens are left, at any place
+-- that many tokens are left, at any place
 abbrev pub AreLeft : (left : ℕ) → Option Place → List Forest → Type 0
 AreLeft left place levels = left ≡ left_in levels
 
--- the path leads from a start to where so many tokens are left
+-- the path leads from a start to where that many tokens are left
 abbrev pub StopsAll : (places : List Place) → (left : ℕ) → (starts : List ℕ) → (input : Forest) → (path : List ℕ) → Type 0
 StopsAll places left = GoesAll places (AreLeft left)

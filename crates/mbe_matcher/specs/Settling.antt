@@ -43,12 +43,12 @@ abbrev pub settled_all : List Place → Forest → List View → List View → L
 settled_all places trees [] old = old
 settled_all places trees (view ∷ views) old = settled_all places trees views (settled_one places trees view old)
 
--- the same, so many times
+-- the same, that many times
 abbrev pub settled : List Place → Forest → ℕ → List View → List View
 settled places trees zero views = views
 settled places trees (suc n) views = settled places trees n (settled_all places trees views [])
 
--- the threads were settled several times, until none went on at once, or twice as often as there are places
+-- the threads were settled until none went on at once, or at least twice as often as there are places
 pub record IsSettledBy (places : List Place) (trees : Forest) (old new : List View) : Type 0 where
   pub count : ℕ
   pub same : new ≡ settled places trees count old

@@ -70,7 +70,7 @@ thread_added thread [] = thread ∷ []
 thread_added thread (other ∷ others) =
     if threads_meet other thread then record other { is_many = true } ∷ others else other ∷ thread_added thread others
 
--- the thread waits for so many trees
+-- the thread waits for that many trees
 abbrev pub delayed : ℕ → View → View
 delayed n view = record view { wait = n }
 

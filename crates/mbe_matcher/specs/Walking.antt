@@ -83,7 +83,7 @@ noted (step.Close ways ∷ rest) turn spot = close_notes turn ways rest spot
 abbrev pub behind_turn : (path : List ℕ) → Spot → Spot
 behind_turn path spot = record { here = spot.here; path = path; levels = spot.levels; opened = spot.opened; is_back = spot.is_back }
 
--- the path ends after so many steps, which note this
+-- the path ends after that many steps, which note this
 abbrev pub Ends : ℕ → Spot → List Note → Type 0
 Ends zero spot notes = (spot.path ≡ []) × (notes ≡ [])
 Ends (suc n) spot notes =

@@ -26,7 +26,7 @@ pub struct Binding<'i> {
 /// In how many ways an input is an instance of a pattern.
 #[derive(Drop)]
 pub enum Found<'i> {
-    /// In none. The pattern, read as far as it goes, stops at that flat place: so many tokens precede it.
+    /// In none. The pattern, read as far as it goes, stops at that flat place: that many tokens precede it.
     Nothing(usize),
     /// In exactly one, which binds this.
     One(Binding<'i>),

@@ -35,7 +35,7 @@ pub(crate) enum Paths {
     Many,
 }
 
-// Returns these trees as a level with no threads. So many tokens precede its end.
+// Returns these trees as a level with no threads. That many tokens precede its end.
 fn level_of<'i>(alloc: Global, rest: TtIter<'i>, until: usize) -> Level<'i>
     ensures { (rest_of result.rest ≡ rest_of rest.entry) × (result.until ≡ until) × (result.threads.items ≡ []) }
 {

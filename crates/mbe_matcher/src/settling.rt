@@ -11,7 +11,7 @@ use crate::threads::{Thread, Turn, add, spread_to};
 use std::alloc::{AllocError, Global};
 use tt::TtIter;
 
-// Returns the edges of the place, if a thread that waits for so many of these trees goes on from it at once.
+// Returns the edges of the place, if a thread that waits for that many of these trees goes on from it at once.
 fn edges_at_once<'p>(
     places: &'p [Place],
     trees: &TtIter<'_>,
@@ -91,7 +91,7 @@ fn settle_all(
     Ok(())
 }
 
-// Moves the threads on several times: until no thread goes on at once, or as many times as there are places.
+// Moves the threads on until no thread goes on at once, or as many times as there are places.
 fn settle_some(
     alloc: Global,
     places: &[Place],

@@ -18,7 +18,7 @@ use tt::Symbol;
 pub(crate) enum Step {
     /// The fragment takes the trees at the front.
     Take(Fragment),
-    /// Passes so many trees, those of a token.
+    /// Passes that many trees, those of a token.
     Pass(usize),
     /// Enters a subtree.
     Enter,
@@ -85,7 +85,7 @@ fn again_count(tail: &Tail, entries: &[usize], at: usize) -> usize
     }
 }
 
-// Returns how many steps a separator of so many leaves has.
+// Returns how many steps a separator of that many leaves has.
 fn pass_count(separator: usize) -> usize
     ensures { result ≡ pass_count separator }
 {

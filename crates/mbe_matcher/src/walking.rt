@@ -59,7 +59,7 @@ fn take_of<'i>(
     Ok(view)
 }
 
-// Passes so many trees of the innermost level.
+// Passes that many trees of the innermost level.
 fn pass_of(levels: &mut Vec<TtIter<'_>>, count: usize) -> Result<(), AllocError>
     ensures { OnOk result (map rest_of (reverse levels.new.items) ≡ passed count (map rest_of (reverse levels.old.items))) }
 {

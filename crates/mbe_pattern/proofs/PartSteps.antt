@@ -21,7 +21,7 @@ use Rattle.mbe_pattern.specs.Spelling as spelling
 use Rattle.mbe_pattern.specs.Units.{quote, is_at_ident, unit_from, front_leaves, first_unit}
 use Rattle.mbe_pattern.proofs.Passing.{after_end}
 
--- After so many trees, the pattern is that of the trees that are left.
+-- After that many trees, the pattern is that of the trees that are left.
 pub behind_passed : (n : ℕ) (trees : Forest) → pattern_behind n trees ≡ pattern_of (after_trees n trees)
 behind_passed zero trees = refl
 behind_passed (suc n) end = sym (ap pattern_of (after_end n))
@@ -76,7 +76,7 @@ token_first it rest behind other left =
     (pattern.token (first_unit (leaf it rest)) (pattern_behind (unit_from it rest - 1) rest))) other
     ∙ ap (pattern.token (first_unit (leaf it rest))) (behind_passed (unit_from it rest - 1) rest ∙ ap pattern_of (sym left))
 
--- there are so many leaves at the front
+-- there are that many leaves at the front
 abbrev Fits : ℕ → Forest → Type 0
 Fits n trees = length (front_leaves n trees) ≡ n
 

@@ -61,7 +61,7 @@ module _ (count i : ℕ) (trees : Forest) (so_far whole : List Leaf) (before : s
       let none : count - i ≡ 0 = omega (arith, le) in
       sym (append-nil so_far) ∙ ap (λ l. so_far ++ l) (sym (ap (λ n. front_leaves n trees) none)) ∙ before
 
--- So many trees at the front, and then the others.
+-- That many trees at the front, and then the others.
 pub front_joined : (n : ℕ) (trees : Forest) → trees ≡ join (front_trees n trees) (after_trees n trees)
 front_joined zero trees = refl
 front_joined (suc n) end = sym (after_end n)

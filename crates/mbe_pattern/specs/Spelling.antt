@@ -174,7 +174,7 @@ part_of it (repetition tail) held others = pattern.repetition held tail.separato
 part_of it crate_root held others = pattern.token (it ∷ []) others
 part_of it nothing held others = pattern.token (it ∷ []) others
 
--- the pattern that trees spell after so many of them, which belong to an earlier part
+-- the pattern that trees spell after that many of them, which belong to an earlier part
 abbrev pub pattern_behind : ℕ → Forest → Pattern
 pattern_behind passed end = pattern.nothing
 pattern_behind zero (leaf it rest) =

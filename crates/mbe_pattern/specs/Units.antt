@@ -49,14 +49,14 @@ unit_size end = 1
 unit_size (leaf it rest) = unit_from it rest
 unit_size (node delimiter children rest) = 1
 
--- the first leaves at the front, at most so many; a subtree or the end stops them
+-- the first leaves at the front, at most that many; a subtree or the end stops them
 abbrev pub front_leaves : ℕ → Forest → List Leaf
 front_leaves zero trees = []
 front_leaves (suc n) end = []
 front_leaves (suc n) (leaf it rest) = it ∷ front_leaves n rest
 front_leaves (suc n) (node delimiter children rest) = []
 
--- so many trees at the front, or fewer if the end comes before
+-- that many trees at the front, or fewer if the end comes before
 abbrev pub front_trees : ℕ → Forest → Forest
 front_trees zero trees = end
 front_trees (suc n) end = end

@@ -301,8 +301,8 @@ fn first_fault(alloc: Global, trees: TtIter<'_>) -> Result<Option<PatternError>,
 
 /// Checks that the trees spell a pattern without faults.
 ///
-/// Each name is given once. Each `$` begins something whose fragment is supported. No repetition may take no tree, and none has a
-/// separator if it never has two rounds.
+/// Each name is given once. Each `$` begins something whose fragment is supported. The parts of a repetition may not all take no tree, and
+/// a repetition that never has two rounds has no separator.
 ///
 /// Time and memory are linear in the number of tokens. Returns the first fault in reading order; fails also if memory runs out.
 pub fn judge(alloc: Global, trees: TtIter<'_>) -> Result<(), PatternError>

@@ -64,7 +64,7 @@ stops old new outer before after is all = is all.0
 
 module _ (P : Type 0) (all : List Forest) (olds news : List Pair) (before after : List Forest) (goes : Goes olds before news after)
     (old_pairs new_pairs : List Pair) (was : reverse old_pairs ≡ olds) (is : reverse new_pairs ≡ news) where
-  -- What was left agrees exactly if what is left agrees.
+  -- A claim equivalent to the agreement of the old pairs is equivalent to that of the new ones.
   pub agrees_on : P ↔ AllMatch (reverse old_pairs) → P ↔ AllMatch (reverse new_pairs)
   agrees_on same = (
     λ p. subst AllMatch (sym is) (goes.agree.0 (subst AllMatch was (same.0 p))),

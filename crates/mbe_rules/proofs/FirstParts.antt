@@ -28,7 +28,7 @@ node_there variables (leaf it rest) tail is none = no_repetition (is_crate_in (l
 node_there variables (node delimiter children rest) tail is none = cc none
 
 module _ (variables : List Where) (until : ℕ) where
-  -- After so many trees, the template is that of the trees that are left.
+  -- After that many trees, the template is that of the trees that are left.
   pub behind_passed : (n : ℕ) (trees : Forest) → template_behind variables until n trees ≡ template_until variables until (after_trees n trees)
   behind_passed zero trees = refl
   behind_passed (suc n) end = sym (ap (template_until variables until) (after_end n))

@@ -10,7 +10,7 @@ use Rattle.mbe_matcher.specs.Marks.{Note}
 use Rattle.mbe_rules.specs.Filling.{round_count}
 use Rattle.mbe_rules.specs.Rounds.{round_at, bound_in, rounds, seen_of, time_seen, nested, lesser, first_at, count_at}
 
--- the number of the first round of that time, if so many came before all
+-- the number of the first round of that time, if that many came before all
 abbrev first_from : (so_far : ℕ) → (ends : List ℕ) → (time : ℕ) → ℕ
 first_from so_far ends zero = so_far
 first_from so_far ends (suc before) = get_or ends before 0
@@ -96,7 +96,7 @@ module _ (all : List Bound) (counts : List ℕ) (time : ℕ) where
   abbrev here : List Bound
   here = between (first_at (sums 0 counts) time) (get_or (sums 0 counts) time 0) all
 
-  -- If no round of it is under way, so many rounds are seen.
+  -- If no round of it is under way, that many rounds are seen.
   pub seen_rounds : seen_of (get_or (grouped counts all) time none) ≡ rounds (count_at (sums 0 counts) time (length all))
   seen_rounds = ap seen_of (grouped_at all counts time) ∙ seen_listed here ∙ ap rounds (between_length (sums 0 counts) time all)
 

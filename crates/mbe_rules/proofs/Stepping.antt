@@ -43,7 +43,7 @@ module _ (bits : List Bit) (whole : Binding) (levels : List Level) (left : List 
         top = top;
       }
 
-  -- Or so many more tokens give an error.
+  -- Or that many more tokens give an error.
   want_stops : (old : Filling) (rounds : List Round) (closes : List Span) (behind : List Bit) (change : Stack → Stack) (more : ℕ) (fault : TtFault)
       → Next bits whole levels rounds closes behind change → tokens_held (change old.builder.stack) ≡ tokens_held old.builder.stack + more → IsWant more old fault
       → IsStop (finished levels (written_by old)) (error.Tree fault)

@@ -10,7 +10,7 @@ use Rattle.mbe_rules.specs.Filling.{FillFault, lengths_differ, no_round, enough}
 use Rattle.mbe_rules.specs.Parts.{Bit, uses, same, enter, leave, begin, close}
 use Rattle.mbe_rules.specs.Rounds.{Seen, trees, rounds}
 
--- one more variable, which has so many rounds
+-- one more variable, which has that many rounds
 abbrev pub counted_with : ℕ → Count → Count
 counted_with n Unknown = Same n
 counted_with n (Same m) = if nat_eq n m then Same m else Differ
@@ -37,7 +37,7 @@ abbrev pub round_error : FillFault → FillError
 round_error (lengths_differ at) = LengthsDiffer at
 round_error (no_round at) = NoRound at
 
--- the variables used before the end of the repetition, if so many inner repetitions are open
+-- the variables used before the end of the repetition, if that many inner repetitions are open
 abbrev pub uses_before : (open_count : ℕ) → List Bit → List ℕ
 uses_before n [] = []
 uses_before n (uses at variable ∷ others) = variable ∷ uses_before n others

@@ -18,7 +18,7 @@ use_fault at depth bound = if nat_lt depth bound then Some (error.StillRepeats a
 abbrev pub round_fault : (at depth deep : ℕ) → Option TemplateError
 round_fault at depth deep = if nat_lt depth deep then None else Some (error.NothingRepeats at)
 
--- the first fault in reading order, if so many repetitions enclose the template
+-- the first fault in reading order, if that many repetitions enclose the template
 abbrev pub fault_at : List Where → (depth : ℕ) → Template → Option TemplateError
 fault_at variables depth nothing = None
 fault_at variables depth (use_of at variable others) = or_else (use_fault at depth (depth_of variables variable)) (fault_at variables depth others)

@@ -111,13 +111,13 @@ then_if (Some fault) trees others = record { trees = trees; fault = Some fault }
 abbrev pub and_then : Filled → Filled → Filled
 and_then it others = then_if it.fault it.trees others
 
--- so many rounds, each with a separator before it
+-- that many rounds, each with a separator before it
 abbrev pub more_rounds : (fill : Binding → Filled) → (separator : Forest) → ℕ → Binding → Filled
 more_rounds fill separator zero binding = all_filled end
 more_rounds fill separator (suc n) binding =
     and_then (all_filled separator) (and_then (fill (map (in_round first_of) binding)) (more_rounds fill separator n (map (in_round others_of) binding)))
 
--- so many rounds, with separators between them
+-- that many rounds, with separators between them
 abbrev pub filled_rounds : (fill : Binding → Filled) → (separator : Forest) → ℕ → Binding → Filled
 filled_rounds fill separator zero binding = all_filled end
 filled_rounds fill separator (suc n) binding =

@@ -74,7 +74,7 @@ pub record Grows (more : Forest) (old new : Filling) : Type 0 where
   pub rounds : new.rounds ≡ old.rounds
   pub closes : new.closes ≡ old.closes
 
--- so many tokens cannot be written: memory ran out, or they are too many
+-- that many tokens cannot be written: memory ran out, or they are too many
 abbrev pub IsWant : ℕ → Filling → TtFault → Type 0
 IsWant more old fault = (fault ≡ limit.Memory) ⊎ ((fault ≡ limit.TooManyTokens) × (most_tokens < tokens_held old.builder.stack + more))
 

@@ -11,7 +11,7 @@ use Rattle.mbe_rules.specs.Filling.{FillFault, Filled, filled, more_rounds}
 use Rattle.mbe_rules.specs.Parts.{Bit, leave, close}
 use Rattle.mbe_rules.specs.Templates.{Template}
 
--- what follows the end of a level: nothing, the rest of what encloses a subtree, or so many more rounds and then what follows them
+-- what follows the end of a level: nothing, the rest of what encloses a subtree, or that many more rounds and then what follows them
 pub data Closing : Type 0 where
   last : Closing
   shut : Span → Closing

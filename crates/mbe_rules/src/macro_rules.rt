@@ -18,7 +18,7 @@ pub struct MacroRules {
 /// What a macro makes of an input.
 #[derive(Drop)]
 pub enum Expansion {
-    /// The input is no instance of the pattern of any arm. The arm that comes farthest stops at that flat place: so many tokens of
+    /// The input is no instance of the pattern of any arm. The arm that comes farthest stops at that flat place: that many tokens of
     /// the input precede it, at any depth.
     NoMatch(usize),
     /// The input is an instance of the pattern of that arm by different readings, and of no earlier arm's

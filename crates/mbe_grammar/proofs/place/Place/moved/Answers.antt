@@ -18,7 +18,7 @@ behind_first (suc count) trees h =
 abbrev place_at : (passed : ℕ) (rest : Forest) → Position
 place_at passed rest = record { passed = passed; rest = rest }
 
--- What is left comes after so many trees.
+-- What is left comes after that many trees.
 abbrev Left : (count : ℕ) (all left : Forest) → Type 0
 Left count all left = left ≡ after_trees count all
 
