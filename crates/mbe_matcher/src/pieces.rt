@@ -14,7 +14,7 @@ pub(crate) enum Piece {
     Close(usize, Tail, Vec<usize>),
 }
 
-/// What is left of a subtree or a repetition, the tail of a repetition, where it may begin, and whether no
+/// What is left of a subtree or a repetition. It has the tail of a repetition, where it may begin, and whether no
 /// required part of it was read so far.
 #[derive(Drop)]
 pub(crate) struct Level<'p> {

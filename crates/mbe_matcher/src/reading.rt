@@ -16,7 +16,8 @@ use crate::threads::{Move, Thread, Turn, spread_to, step_all};
 use std::alloc::{AllocError, Global};
 use tt::TtIter;
 
-/// What is left of an input's subtree that was entered, how many tokens of the input precede its end, and the threads before what is left.
+/// What is left of an input's subtree that was entered. It has how many tokens of the input precede its end,
+/// and the threads before what is left.
 #[derive(Drop)]
 pub(crate) struct Level<'i> {
     rest: TtIter<'i>,

@@ -16,7 +16,8 @@ pub(crate) struct Turn {
     pub(crate) before: usize,
 }
 
-/// The place of a path, how many trees are still to be passed before it is there, whether other paths lead there too, and its last turn.
+/// The place of a path, and how many trees are still to be passed before it is there. Also whether other
+/// paths lead there too, and its last turn.
 #[derive(Clone, Copy)]
 pub(crate) struct Thread {
     pub(crate) at: usize,

@@ -29,8 +29,8 @@ pub enum Mark<'i> {
     Over(usize),
 }
 
-/// The steps ahead, the turns that are left (the next last), what is left of the input's levels, where the rounds of the open repetitions
-/// begin, whether a round began anew since a tree was passed, and the marks so far.
+/// The steps ahead, the turns that are left (the next last), and what is left of the input's levels. Also where the rounds of the open
+/// repetitions begin, whether a round began anew since a tree was passed, and the marks so far.
 #[derive(Drop)]
 pub(crate) struct Walk<'s, 'i> {
     here: &'s [Step],

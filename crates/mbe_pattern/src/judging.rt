@@ -22,7 +22,8 @@ pub(crate) struct Opened {
     is_sound: bool,
 }
 
-/// What is left of a subtree or a repetition, the flat place after it, the repetition, and whether all of it so far may take no tree.
+/// What is left of a subtree or a repetition. It has the flat place after it, the repetition, and
+/// whether all of it so far may take no tree.
 #[derive(Drop)]
 pub(crate) struct Level<'p> {
     rest: TtIter<'p>,

@@ -4,7 +4,7 @@
 //! not count. In a template `$x` is a use; the tree that `x` took replaces it.
 //!
 //! A `Rule` is two views and a set of the pattern's names. `expand` goes through pattern and input side by side with a stack of
-//! pairs of iterators, and keeps a view of each tree that a variable takes. Then it goes through the template with a stack of
+//! pairs of iterators. It keeps a view of each tree that a variable takes. Then it goes through the template with a stack of
 //! iterators and writes with a `TopSubtreeBuilder`.
 #![tactic(auto)]
 

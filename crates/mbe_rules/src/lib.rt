@@ -2,7 +2,7 @@
 //!
 //! A `Template` is a list of parts: tokens, uses of variables, and the ends of subtrees and repetitions. `Template::new` reads the parts
 //! (`cutting`, `first`) and then goes through them from the last to find the first fault (`judging`). `Template::fill` goes through the
-//! parts with an index, the rounds that are under way and the close spans of the open subtrees, and writes with a `TopSubtreeBuilder`. An
+//! parts and writes with a `TopSubtreeBuilder`. It keeps an index, the rounds under way and the close spans of the open subtrees. An
 //! expression, type or pattern of several tokens goes into an opaque subtree (`placing`).
 //!
 //! A `MacroRules` is a list of arms, each a `Matcher`, a `Template` and a delimiter. `expand` returns what the first arm

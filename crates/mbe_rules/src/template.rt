@@ -56,9 +56,9 @@ impl Template {
     /// repetition is filled as often as its variables have rounds, with its separator between the rounds. The variables must be
     /// those that the template was made for.
     ///
-    /// Time and memory are linear in what is written, in the number of marks of the binding times the number of variables, and in the
-    /// number of parts of the repetitions, each time that one begins. Returns the first fault in the order of filling, or the limit that
-    /// the tree exceeds; fails also if memory runs out.
+    /// Time and memory are linear in what is written, and in the number of marks of the binding times the number of variables. They are
+    /// also linear in the number of parts of the repetitions, counted each time that one begins. Returns the first fault in the order of
+    /// filling, or the limit that the tree exceeds; fails also if memory runs out.
     pub fn fill(
         &self,
         alloc: Global,
