@@ -9,14 +9,14 @@ use Rattle.mbe_grammar.specs.declared.test.Test.{Test}
 use Rattle.mbe_grammar.specs.Parses.{Answering, Holds, ParsesIn}
 use Rattle.mbe_grammar.specs.Positions.{Position}
 
--- an answer is as a look tells
+-- an answer is as a look says
 abbrev pub Agrees : Glance → (from : Position) → (answer : Option Position) → Type 0
 Agrees glance.Fails from answer = answer ≡ None
 Agrees glance.Idles from answer = answer ≡ Some from
 Agrees glance.Open from answer = Unit {0}
 
 module _ (takes : Test → Position → Option Position) (rules : List Rule) where
-  -- a unit that stands alone is taken
+  -- a unit that is an expression by itself is taken
   abbrev pub UnitsTaken : Answering → Type 0
   UnitsTaken P = (at : ℕ) (from : Position) (answer : Option Position) (wanted : Test) → slice_get rules at ≡ Some (rule.Unit wanted) → P at from answer → answer ≡ takes wanted from
 

@@ -1,4 +1,4 @@
--- A unit that passes a test is of one of the kinds that are told of the test.
+-- A unit that passes a test has one of the kinds that belong to the test.
 use Rattle.std.proofs.Common.{rules, ◌≡◌, ℕ, Bool, true, false, [], ◌∷◌, refl, sym, subst}
 use Rattle.std.proofs.lemmas.Bool.{eqb-true}
 use Rattle.std.proofs.lemmas.Nat.Bits.{bit_at-pow_same}
@@ -218,6 +218,6 @@ test_told test.AssignmentOperator it e = among_told
     (codes "=") (codes "+=" ∷ codes "-=" ∷ codes "*=" ∷ codes "/=" ∷ codes "%=" ∷ codes "^=" ∷ codes "&=" ∷ codes "|=" ∷ []) (codes "<<=" ∷ codes ">>=" ∷ []) (begins test.AssignmentOperator) refl refl refl it e
 test_told test.BeginsExpression it e = beginning_told it e
 
--- What passes is of one of the kinds.
+-- What passes has one of the kinds.
 pub begins_told : (wanted : Test) (it : Unit) → passes wanted it ≡ true → IsOf (begins wanted) (kind_of it)
 begins_told wanted it e = test_told wanted it (tested wanted it e)

@@ -1,4 +1,4 @@
--- Where an expression ends is behind so many trees of those that it was read from.
+-- An expression ends after some number of the trees that it was read from.
 use Rattle.std.proofs.Common.{◌≡◌, inl, inr, ◌+◌, ℕ, suc, zero, Bool, true, false, List, Some, None, refl, sym, subst, ap, ap₂, ◌∙◌, cond, arith}
 use Rattle.std.specs.Prelude.{slice_get, Option}
 use Rattle.tt.specs.Forest.{Forest}
@@ -12,7 +12,7 @@ use Rattle.mbe_grammar.specs.Positions.{Position, first_position, behind, takes}
 use Rattle.mbe_grammar.specs.Tests.{passes, taken_size}
 use Rattle.mbe_grammar.specs.Units.{first_unit}
 
--- Behind so many, and then so many more.
+-- After that many trees, and then that many more.
 after_both : (n m : ℕ) (trees : Forest) → after_trees m (after_trees n trees) ≡ after_trees (n + m) trees
 after_both zero m trees = let same : m ≡ 0 + m = omega arith in ap (λ k. after_trees k trees) same
 after_both (suc n) m trees = let same : suc (n + m) ≡ suc n + m = omega arith in after_both n m (after_tree trees) ∙ ap (λ k. after_trees k trees) same
@@ -25,12 +25,12 @@ behind_both n m from =
 behind_none : (from : Position) → from ≡ behind 0 from
 behind_none from = let same : from.passed ≡ from.passed + 0 = omega arith in ap (λ (p : ℕ). record { passed = p; rest = from.rest }) same
 
--- an answer is behind so many trees, if it is a place
+-- an answer is after that many trees, if it is a place
 abbrev pub IsBehind : (from : Position) → (answer : Option Position) → Type 0
 IsBehind from None = Unit {0}
 IsBehind from (Some to) = (n : ℕ) × (to ≡ behind n from)
 
--- What is behind what is behind is.
+-- What is after a later place is also after the earlier one.
 further : (from middle : Position) (n : ℕ) → middle ≡ behind n from → (answer : Option Position) → IsBehind middle answer → IsBehind from answer
 further from middle n e None b = tt
 further from middle n e (Some to) b = (n + b.0, b.1 ∙ ap (behind b.0) e ∙ behind_both n b.0 from)
@@ -70,12 +70,12 @@ behind_in : (rules : List Rule) (depth : ℕ) → AreBehind (ParsesIn takes rule
 behind_in rules zero at from answer h = absurd h
 behind_in rules (suc depth) at from answer h = behind_by (ParsesIn takes rules depth) (behind_in rules depth) at (slice_get rules at) from answer h
 
--- Where an expression ends is behind so many trees.
+-- An expression ends after some number of trees.
 pub parsed_behind : (rules : List Rule) → AreBehind (Parses rules)
 unfolding Parses
 parsed_behind rules at from answer h = behind_in rules h.0 at from answer h.1
 
--- So the place has passed as many as it is behind.
+-- So the number of passed trees is the number that the place is after.
 pub counted : (trees : Forest) (to : Position) → IsBehind (first_position trees) (Some to) → to ≡ behind to.passed (first_position trees)
 counted trees to b =
     let passed : to.passed ≡ 0 + b.0 = ap (λ (p : Position). p.passed) b.1 in

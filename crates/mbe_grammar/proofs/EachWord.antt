@@ -1,4 +1,4 @@
--- What is so of each word, by going through all of them.
+-- What holds of each word, by going through all words.
 use Rattle.std.proofs.Common.{◌≡◌, ℕ, suc, zero, Bool, true, false, List, [], ◌∷◌, Some, refl, subst}
 use Rattle.std.proofs.lemmas.Bool.{eqb-true}
 use Rattle.std.specs.Prelude.{◌==◌, ◌&&◌, ◌||◌, not, slice_get}
@@ -19,7 +19,7 @@ words =
     word.Trait ∷ word.True ∷ word.Try ∷ word.Type ∷ word.Unsafe ∷ word.Use ∷ word.Where ∷ word.While ∷ word.Yield ∷
     word.Underscore ∷ word.Auto ∷ word.Default ∷ word.MacroRules ∷ word.Raw ∷ word.Safe ∷ word.Union ∷ []
 
--- the place of each
+-- the index of each
 place_in : (it : Word) → (n : ℕ) × (slice_get words n ≡ Some it)
 place_in word.Name = (0, refl)
 place_in word.Reserved = (1, refl)
@@ -86,11 +86,11 @@ every_at fact (first ∷ its) zero it e is =
     subst (λ w. fact w ≡ true) same (left_true (fact first) (every fact its) e)
 every_at fact (first ∷ its) (suc n) it e is = every_at fact its n it (right_true (fact first) (every fact its) e) is
 
--- What is so of all words is so of each.
+-- What holds of all words holds of each.
 pub of_each : (fact : Word → Bool) → every fact words ≡ true → (it : Word) → fact it ≡ true
 of_each fact e it = let there = place_in it in every_at fact words there.0 it e there.1
 
--- words that are the same are of one kind
+-- equal words have the same kind
 abbrev pair_fact : (a b : Word) → Bool
 pair_fact a b = not (same_unit (unit.Word a) (unit.Word b)) || (kind_of_word a == kind_of_word b)
 

@@ -1,4 +1,4 @@
--- A fragment of Rust's grammar has one answer, and what it takes is a tree at least.
+-- A fragment of Rust's grammar has one answer, and takes at least one tree.
 use Rattle.std.proofs.Common.{◌≡◌, ◌<◌, ◌+◌, ℕ, zero, suc, Some, None, refl, ap, arith}
 use Rattle.std.specs.Prelude.{Option, option_map, false}
 use Rattle.tt.specs.Forest.{Forest, end, size}
@@ -24,7 +24,7 @@ use Rattle.mbe_pattern.specs.declared.pattern.GrammarFragment.TheVariants as fra
 good : IsGood rust_rules
 good = record { marks = MARKS; are_right = refl }
 
--- No fragment takes nothing, as they tell.
+-- By the marks, no fragment takes nothing.
 takes_some : (which : GrammarFragment) → may_take_nothing MARKS (start (name_of which)) ≡ false
 takes_some fragment.Expr = refl
 takes_some fragment.Expr2021 = refl
@@ -36,31 +36,31 @@ takes_some fragment.Stmt = refl
 takes_some fragment.Item = refl
 takes_some fragment.Meta = refl
 
--- where what an expression takes ends
+-- the place where an expression ends that takes that many trees
 abbrev place_of : Forest → (count : Option ℕ) → Option Position
 place_of trees count = option_map (λ n. behind n (first_position trees)) count
 
--- What the table's expression answers is an answer of the fragment.
+-- An answer of the table's expression is an answer of the fragment.
 told : (which : GrammarFragment) (trees : Forest) (answer : Option Position) → Parses rust_rules (start (name_of which)) (first_position trees) answer
     → (count : Option ℕ) × Reaches which trees count
 told which trees None h = (None, failed which trees h)
 told which trees (Some to) h = (Some to.passed, reached which trees to h)
 
--- And the other way round.
+-- And vice versa.
 parsed : (which : GrammarFragment) (trees : Forest) (count : Option ℕ) → Reaches which trees count
     → Parses rust_rules (start (name_of which)) (first_position trees) (place_of trees count)
 parsed which trees count h =
     rules_of_answers rust_rules start stands are_laid (stands (name_of which)) (start (name_of which)) (first_position trees) (place_of trees count)
     (are_laid (name_of which)) h
 
--- Each fragment takes so many trees, or none.
+-- Each fragment takes some number of trees, or none.
 pub has_answer : (which : GrammarFragment) (trees : Forest) → (count : Option ℕ) × Reaches which trees count
 unfolding Parses
 has_answer which trees =
     let it = has takes size_left takes_shrinks rust_rules good (start (name_of which)) (first_position trees) in
     told which trees it.1 (it.0, it.2)
 
--- Places behind all trees are the same where as many are passed.
+-- Places within the same trees are equal if the same number of trees was passed.
 same_count : (trees : Forest) (count other : Option ℕ) → place_of trees count ≡ place_of trees other → count ≡ other
 same_count trees None None is = refl
 same_count trees None (Some m) is = absurd (cc is)
@@ -87,11 +87,11 @@ less_left which trees n h =
     let it = parsed which trees (Some n) h in
     (sound takes size_left takes_shrinks rust_rules good it.0 (start (name_of which)) (first_position trees) (behind n (first_position trees)) it.1).1 (takes_some which)
 
--- So it is a tree at least.
+-- So it takes at least one tree.
 pub takes_a_tree : (which : GrammarFragment) (trees : Forest) (n : ℕ) → Reaches which trees (Some n) → (less : ℕ) × (n ≡ suc less)
 takes_a_tree which trees zero h = let less = less_left which trees zero h in absurd (omega (arith, less))
 takes_a_tree which trees (suc n) h = (n, refl)
 
--- And where no tree is it takes none.
+-- At the end it takes none.
 pub takes_no_end : (which : GrammarFragment) (n : ℕ) → Reaches which end (Some n) → ⊥
 takes_no_end which n h = let less = less_left which end n h in absurd (omega (arith, less))

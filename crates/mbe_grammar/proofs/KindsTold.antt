@@ -1,4 +1,4 @@
--- A unit that passes a test is of a kind that is told of the test.
+-- A unit that passes a test has a kind that belongs to the test.
 use Rattle.std.proofs.Common.{rules, ◌≡◌, ℕ, suc, zero, Bool, true, false, List, [], ◌∷◌, Option, Some, refl, sym, subst}
 use Rattle.std.proofs.lemmas.Bool.{eqb-true}
 use Rattle.std.specs.Int.{bit_at}
@@ -17,7 +17,7 @@ use Rattle.mbe_grammar.specs.Words.{is_reserved, is_path_segment, is_truth_value
 use Rattle.mbe_grammar.proofs.EachWord.{of_each}
 use Rattle.mbe_grammar.proofs.Marks.{left_true, right_true}
 
--- the kind is among those
+-- the kind is among those kinds
 abbrev pub IsOf : (kinds kind : ℕ) → Type 0
 IsOf kinds kind = bit_at kinds (kind % 64) ≡ 1
 
@@ -30,7 +30,7 @@ from_test kinds kind e = eqb-true (bit_at kinds (kind % 64)) 1 e
 to_test : (kinds kind : ℕ) → IsOf kinds kind → is_of kinds kind ≡ true
 to_test kinds kind e = subst (λ n. (n == 1) ≡ true) (sym e) refl
 
--- what is so of each word
+-- what holds of each word
 abbrev name_fact : Word → Bool
 name_fact it = is_reserved it || is_of (begins test.Name) (kind_of_word it)
 
@@ -84,7 +84,7 @@ first_told it e = from_test (begins test.BeginsExpression) (kind_of_word it) (th
 told_segment : (it : Word) → IsOf (begins test.PathSegment) (kind_of_word it) → is_path_segment it ≡ true
 told_segment it e = then_so (is_of (begins test.PathSegment) (kind_of_word it)) (is_path_segment it) (facts it).4 (to_test (begins test.PathSegment) (kind_of_word it) e)
 
--- no punct is of the kinds of a path's segments
+-- no punct has a kind of a path's segments
 abbrev is_apart : Option ℕ → Bool
 is_apart it = not (is_of (begins test.PathSegment) (kind_or_other it))
 
@@ -157,7 +157,7 @@ first_of_them : (its : List (List ℕ)) (kinds one : ℕ) (others : List ℕ) �
 first_of_them [] kinds one others all e = absurd (cc e)
 first_of_them (it ∷ its) kinds one others all e = first_by it its kinds one others all (first_of_them its kinds one others) (bytes_eq it (one ∷ others)) refl e
 
--- what is among these begins with them
+-- a unit from these lists has one of those kinds
 pub among_told : (ones : List ℕ) (twos threes : List (List ℕ)) (kinds : ℕ) → begin_all ones kinds ≡ true → all_begin_with twos kinds ≡ true → all_begin_with threes kinds ≡ true
     → (it : Unit) → is_among ones twos threes it ≡ true → IsOf kinds (kind_of it)
 among_told ones twos threes kinds a b c unit.End e = absurd (cc e)

@@ -1,4 +1,4 @@
--- Expressions that are laid out as rules have the rules' answers, and no others.
+-- Expressions that are laid out as rules have exactly the rules' answers.
 use Rattle.std.proofs.Common.{◌≡◌, inl, inr, ℕ, suc, zero, List, Some, None, sym, subst}
 use Rattle.std.specs.Prelude.{slice_get, Option}
 use Rattle.mbe_grammar.specs.declared.rule.Rule.{Rule}
@@ -15,7 +15,7 @@ twice zero = zero
 twice (suc n) = suc (suc (twice n))
 
 module _ (stands : Name → Expression) where
-  -- A derivation may be called deeper by one.
+  -- The bound on a derivation's depth may be raised by one.
   deeper : (depth : ℕ) (it : Expression) (from : Position) (answer : Option Position) → AnswersIn stands depth it from answer → AnswersIn stands (suc depth) it from answer
   deeper zero it from answer h = absurd h
   deeper (suc depth) nothing from answer h = h
@@ -37,14 +37,14 @@ module _ (rules : List Rule) (starts : Name → ℕ) (stands : Name → Expressi
   of_rule : (depth at : ℕ) (from : Position) (answer : Option Position) (it : Rule) → slice_get rules at ≡ Some it → ParsesIn takes rules (suc depth) at from answer → Holds takes (ParsesIn takes rules depth) at (Some it) from answer
   of_rule depth at from answer it is h = subst (λ r. Holds takes (ParsesIn takes rules depth) at r from answer) is h
 
-  -- all that is laid out has the grammar's answers of a depth, and those of a depth that are the rules'
+  -- all that is laid out has the grammar's answers up to a depth, and those up to a depth that are the rules'
   abbrev ToRules : (depth : ℕ) → Type 0
   ToRules depth = (it : Expression) (at : ℕ) (from : Position) (answer : Option Position) → IsLaid rules starts it at → AnswersIn stands depth it from answer → ParsesIn takes rules depth at from answer
 
   abbrev OfRules : (depth : ℕ) → Type 0
   OfRules depth = (it : Expression) (at : ℕ) (from : Position) (answer : Option Position) → IsLaid rules starts it at → ParsesIn takes rules depth at from answer → AnswersIn stands (twice depth) it from answer
 
-  -- What is laid out at a name's start is what that stands for.
+  -- The expression of a name is laid out at the name's start.
   part_to_rules : (depth : ℕ) → ToRules depth → (it : Expression) (at : ℕ) (from : Position) (answer : Option Position) → IsThere starts it at (IsLaid rules starts it at)
       → AnswersIn stands depth it from answer → ParsesIn takes rules depth at from answer
   part_to_rules zero f it at from answer l h = absurd h
@@ -119,7 +119,7 @@ module _ (rules : List Rule) (starts : Name → ℕ) (stands : Name → Expressi
     | inr k ↦ inr (k.0, part_of_rules depth (of_rules depth) part l.0 from (Some k.0) l.2 k.1, k.2)
   ]
 
-  -- The grammar's answers are the rules'.
+  -- The grammar's answers are the rules' answers.
   pub answers_of_rules : (it : Expression) (at : ℕ) (from : Position) (answer : Option Position) → IsLaid rules starts it at → Parses rules at from answer → Answers stands it from answer
   unfolding Parses Answers
   answers_of_rules it at from answer l h = (twice h.0, of_rules h.0 it at from answer l h.1)

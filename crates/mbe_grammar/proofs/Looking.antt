@@ -25,7 +25,7 @@ use Rattle.mbe_grammar.proofs.Bits.{of_both, of_one, of_outer, of_nothing, of_ap
 use Rattle.mbe_grammar.proofs.KindsTold.{IsOf, segment_of_kind}
 use Rattle.mbe_grammar.proofs.Marks.{left_true, right_true}
 
--- what is known is right, where there is an expression, and elsewhere nothing is
+-- what is known is right if there is an expression; otherwise nothing is known
 abbrev RightIn : List Known → List Rule → (at : ℕ) → Option Rule → Type 0
 RightIn known rules at None = slice_get known at ≡ None
 RightIn known rules at (Some it) = is_right_rule known rules at it ≡ true
@@ -49,7 +49,7 @@ right_from known rules first (suc k) (it ∷ others) e =
 no_bit : (kind : ℕ) → IsOf 0 kind → ⊥
 no_bit kind e = absurd (cc (sym (bit_at-zero (kind % 64)) ∙ e))
 
--- the tests all of whose units pass
+-- the tests that all units of these kinds pass
 always_told : (it : Option Rule) (from : Position) → IsOf (always_passes it) (kind_of (first_unit from.rest))
     → (wanted : Test) × (it ≡ Some (rule.Unit wanted)) × (passes wanted (first_unit from.rest) ≡ true)
 always_told None from e = absurd (no_bit (kind_of (first_unit from.rest)) e)
@@ -73,7 +73,7 @@ always_told (Some (rule.Unit test.BinaryOperator)) from e = absurd (no_bit (kind
 always_told (Some (rule.Unit test.AssignmentOperator)) from e = absurd (no_bit (kind_of (first_unit from.rest)) e)
 always_told (Some (rule.Unit test.BeginsExpression)) from e = absurd (no_bit (kind_of (first_unit from.rest)) e)
 
--- what passes a test is taken, and what does not pass it is not
+-- what passes a test is taken, and what does not pass is not
 taken_of : (wanted : Test) (from : Position) (b : Bool) → passes wanted (first_unit from.rest) ≡ b
     → takes wanted from ≡ cond b (Some (behind (taken_size wanted (first_unit from.rest)) from)) None
 taken_of wanted from b e = ap (λ (c : Bool). cond c (Some (behind (taken_size wanted (first_unit from.rest)) from)) None) e
@@ -84,7 +84,7 @@ module _ (known : List Known) (rules : List Rule) (right : are_right known rules
       let same : 0 + at ≡ at = omega arith in
       subst (λ n. RightIn known rules n (slice_get rules at)) same (right_from known rules 0 at rules right)
 
-  -- what the bits of the kind that stands first say of an answer
+  -- what the bits of the first unit's kind say of an answer
   abbrev FailsHere : (at : ℕ) (from : Position) → Type 0
   FailsHere at from = IsOf (fails_of known at) (kind_of (first_unit from.rest))
 
@@ -110,7 +110,7 @@ module _ (known : List Known) (rules : List Rule) (right : are_right known rules
       by true e = absurd (of_apart fails (begins wanted) (kind_of (first_unit from.rest) % 64) g f (begins_told wanted (first_unit from.rest) e))
       by false e = taken_of wanted from false e
 
-  -- the same place behind a part that takes nothing
+  -- the same place after a part that takes nothing
   same_place : (from middle : Position) → Some middle ≡ Some from → from ≡ middle
   same_place from middle e = cc e
 
@@ -215,7 +215,7 @@ module _ (known : List Known) (rules : List Rule) (right : are_right known rules
         λ e. not_idles P f part from answer h (of_outer (idles_of known at) (fails_of known part) k b e),
       )
 
-  -- Each derivation answers so.
+  -- Each derivation gives this answer.
   told : (depth : ℕ) → TellsOf (ParsesIn takes rules depth)
   told zero at from answer h = absurd h
   told (suc depth) at from answer h = told_by (ParsesIn takes rules depth) (told depth) (units_taken takes rules depth) at from answer (slice_get rules at) (right_at at) h
@@ -230,7 +230,7 @@ module _ (known : List Known) (rules : List Rule) (right : are_right known rules
       by false true p q = g (eqb-true (bit_at it.idles kind) 1 q)
       by false false p q = tt
 
-  -- So a look tells the answer.
+  -- So a look agrees with the answer.
   pub agrees : (depth at : ℕ) (from : Position) (answer : Option Position) → ParsesIn takes rules depth at from answer → Agrees (glance_at known at from) from answer
   agrees depth at from answer h =
       let it = told depth at from answer h in agrees_by (slice_get known at) (kind_of (first_unit from.rest) % 64) from answer it.0 it.1

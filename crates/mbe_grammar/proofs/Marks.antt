@@ -18,14 +18,14 @@ right_true false b e = absurd (cc e)
 below : (n m : ℕ) → nat_lt n m ≡ true → n < m
 below n m e = grind (arith, nat_tests)
 
--- what may take nothing needs it of both
+-- if a sequence takes at least one unit, so does one of its parts
 one_takes : (a b c : Bool) → (c || not (a && b)) ≡ true → c ≡ false → (a ≡ false) ⊎ (b ≡ false)
 one_takes false b c e f = inl refl
 one_takes true false c e f = inr refl
 one_takes true true false e f = absurd (cc e)
 one_takes true true true e f = absurd (cc f)
 
--- and of one of two choices
+-- if a choice takes at least one unit, so do both of its parts
 other_takes : (a b c : Bool) → (c || not (a || b)) ≡ true → c ≡ false → (a ≡ false) × (b ≡ false)
 other_takes false false c e f = (refl, refl)
 other_takes false true false e f = absurd (cc e)
@@ -97,7 +97,7 @@ not_split marks at part g = (
   right_true (nat_lt (rank_of marks part) (rank_of marks at)) (may_take_nothing marks at) g,
 )
 
--- the marks are right, where there is an expression
+-- the marks are right if there is an expression
 abbrev pub GoodIn : List Mark → (at : ℕ) → Option Rule → Type 0
 GoodIn marks at None = Unit {0}
 GoodIn marks at (Some it) = is_good_rule marks at it ≡ true

@@ -1,4 +1,4 @@
--- Where nothing is known of a table, that is right.
+-- Knowing nothing of a table is right.
 use Rattle.std.proofs.Common.{◌≡◌, ℕ, suc, Bool, true, arith, List, [], ◌∷◌, refl, ap}
 use Rattle.std.proofs.lemmas.Bool.Decides.{nat_tests}
 use Rattle.std.specs.Int.Bits.{and_zero_l}

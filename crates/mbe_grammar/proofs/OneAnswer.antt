@@ -8,7 +8,7 @@ use Rattle.mbe_grammar.specs.Parses.{Answering, Holds, ParsesIn}
 use Rattle.mbe_grammar.specs.Positions.{Position}
 
 module _ (takes : Test → Position → Option Position) where
-  -- An answer by the parts' answers is one by any that hold as well.
+  -- An answer from the answers of the parts holds for any answers that include those.
   pub held : (P Q : Answering) → ((at : ℕ) (from : Position) (answer : Option Position) → P at from answer → Q at from answer)
       → (at : ℕ) (it : Option Rule) (from : Position) (answer : Option Position) → Holds takes P at it from answer → Holds takes Q at it from answer
   held P Q f at None from answer h = h
@@ -24,7 +24,7 @@ module _ (takes : Test → Position → Option Position) where
   held P Q f at (Some (rule.Not part)) from answer (inl h) = inl (f _ _ _ h.0, h.1)
   held P Q f at (Some (rule.Not part)) from answer (inr h) = inr (h.0, f _ _ _ h.1, h.2)
 
-  -- There is one answer where the parts have one each.
+  -- There is one answer if each part has one.
   pub held_once : (P Q : Answering)
       → ((at : ℕ) (from : Position) (answer other : Option Position) → P at from answer → Q at from other → answer ≡ other)
       → (at : ℕ) (it : Option Rule) (from : Position) (answer other : Option Position) → Holds takes P at it from answer → Holds takes Q at it from other → answer ≡ other
@@ -54,7 +54,7 @@ module _ (takes : Test → Position → Option Position) where
   held_once P Q f at (Some (rule.Not part)) from answer other (inr h) (inr k) = h.2 ∙ sym k.2
 
   module _ (rules : List Rule) where
-    -- A derivation may be called deeper.
+    -- The bound on a derivation's depth may be raised.
     pub deeper : (n m : ℕ) → n ≤ m → (at : ℕ) (from : Position) (answer : Option Position) → ParsesIn takes rules n at from answer → ParsesIn takes rules m at from answer
     deeper zero m le at from answer h = absurd h
     deeper (suc n) zero le at from answer h = absurd (omega (arith, le))

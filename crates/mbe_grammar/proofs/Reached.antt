@@ -1,4 +1,4 @@
--- What the machine answers by Rust's table is how far a fragment reaches.
+-- The machine's answer by Rust's table is how far a fragment reaches.
 use Rattle.std.proofs.Common.{◌≡◌, ℕ, List, Some, None, subst}
 use Rattle.std.specs.Prelude.{Option}
 use Rattle.tt.specs.Forest.{Forest}
@@ -31,7 +31,7 @@ reached which trees to h =
 pub failed : (which : GrammarFragment) (trees : Forest) → Parses rust_rules (start (name_of which)) (first_position trees) None → Reaches which trees None
 failed which trees h = answered which trees None h
 
--- An answer is one where all is the same.
+-- An answer carries over if everything is equal.
 pub carried : (rules others : List Rule) (at there : ℕ) (from place : Position) (answer found : Option Position) → rules ≡ others → at ≡ there → from ≡ place
     → answer ≡ found → Parses rules at from answer → Parses others there place found
 carried rules others at there from place answer found r a f g h =

@@ -1,4 +1,4 @@
--- The machine over trees: what its loop keeps, and that it ends.
+-- The machine over trees: what its loop preserves, and why it ends.
 use Rattle.std.proofs.Common.{◌≡◌, ◌<◌, ℕ, suc, zero, true, List, [], ◌∷◌, refl, sym, subst, ◌∙◌, arith}
 use Rattle.std.specs.Prelude.{Option}
 use Rattle.mbe_grammar.specs.declared.known.Glance.{Glance}
@@ -35,7 +35,7 @@ module _ (takes : Test → Position → Option Position) (looks : ℕ → Positi
       let same : resumed frame found ≡ to = cc (s.0) in
       (count, refl, subst (λ fs. Ends takes looks rules count to fs answer) (sym s.1) (subst (λ t. Ends takes looks rules count t before answer) same e))
 
-  -- Where it stops, that is the answer.
+  -- When the machine stops, that is the answer.
   pub has_ended : (at : State) (before : List Frame) (found : Option Position) (after : List Frame) (count : ℕ) (answer : Option Position)
       → IsStep takes looks rules at before (machine.ends found) after → Ends takes looks rules count at before answer → found ≡ answer
   has_ended (machine.reading at from) before found after count answer s e = absurd (cc (s.0))
@@ -44,7 +44,7 @@ module _ (takes : Test → Position → Option Position) (looks : ℕ → Positi
   has_ended (machine.answered other) (frame ∷ before) found after count answer s e = absurd (cc (s.0))
 
 module _ (known : List Known) (rules : List Rule) where
-  -- what the loop keeps: it ends in an answer that the expression has
+  -- what the loop preserves: the machine ends with an answer that the expression has
   pub record Reaches (at : ℕ) (from : Position) (now : State) (frames : List Frame) : Type 0 where
     pub answer : Option Position
     pub parses : Parses rules at from answer

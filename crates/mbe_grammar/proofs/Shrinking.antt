@@ -19,7 +19,7 @@ use Rattle.mbe_pattern.proofs.Passing.{after_less}
 use Rattle.mbe_pattern.proofs.PartSteps.{unit_length}
 use Rattle.mbe_pattern.specs.Units.{quote, is_at_ident, unit_from, unit_size, front_leaves}
 
--- A unit has a tree.
+-- A unit has at least one tree.
 unit_full : (it : Unit) → (less : ℕ) × (size_of_unit it ≡ suc less)
 unit_full unit.End = (0, refl)
 unit_full (unit.Word word) = (0, refl)
@@ -30,7 +30,7 @@ unit_full (unit.TwoPuncts one two) = (1, refl)
 unit_full (unit.ThreePuncts one two three) = (2, refl)
 unit_full (unit.Subtree kind) = (0, refl)
 
--- So has what is taken of it.
+-- So does what is taken of it.
 taken_full : (it : Test) (of : Unit) → (less : ℕ) × (taken_size it of ≡ suc less)
 taken_full (test.Front char) of = (0, refl)
 taken_full (test.Is wanted) of = unit_full of
@@ -108,7 +108,7 @@ punct_told it rest true true e f = rw (e, f)
 punct_told it rest true false e f = rw (e, f, told it rest, quote_alone it rest (is_quote it e))
 punct_told it rest false c e f = rw (e, told it rest)
 
--- A unit has as many trees as stand as one.
+-- A first unit has as many trees as `unit_size` says.
 pub unit_size_told : (trees : Forest) → size_of_unit (first_unit trees) ≡ unit_size trees
 unit_size_told end = refl
 unit_size_told (node delimiter children rest) = refl
@@ -116,14 +116,14 @@ unit_size_told (leaf (leaf_of.Literal it) rest) = refl
 unit_size_told (leaf (leaf_of.Ident it) rest) = refl
 unit_size_told (leaf (leaf_of.Punct it) rest) = punct_told it rest (it.char == quote) (is_at_ident rest) refl refl
 
--- Leaves at the front and what is behind them have no more tokens than all of it.
+-- The leaves at the front and what follows them have together no more tokens than the whole.
 front_size : (n : ℕ) (trees : Forest) → length (front_leaves n trees) + size (after_trees n trees) ≤ size trees
 front_size zero trees = omega arith
 front_size (suc n) end = omega (arith, after_less n end)
 front_size (suc n) (leaf it rest) = omega (arith, front_size n rest)
 front_size (suc n) (node delimiter children rest) = omega (arith, after_less n rest)
 
--- A unit that is not the end, and what is behind it, have no more tokens than all of it.
+-- A unit other than the end, and what follows it, have together no more tokens than the whole.
 unit_fits : (trees : Forest) → (trees ≡ end → ⊥) → unit_size trees + size (after_trees (unit_size trees) trees) ≤ size trees
 unit_fits end some = absurd (some refl)
 unit_fits (leaf it rest) some =
@@ -141,7 +141,7 @@ whole : (trees : Forest) → (trees ≡ end → ⊥)
     → size_of_unit (first_unit trees) + size (after_trees (size_of_unit (first_unit trees)) trees) ≤ size trees
 whole trees some = subst (λ n. n + size (after_trees n trees) ≤ size trees) (sym (unit_size_told trees)) (unit_fits trees some)
 
--- What is taken and what is behind it have no more tokens than all of it.
+-- What is taken and what follows it have together no more tokens than the whole.
 pub taken_fits : (it : Test) (trees : Forest) → passes it (first_unit trees) ≡ true
     → taken_size it (first_unit trees) + size (after_trees (taken_size it (first_unit trees)) trees) ≤ size trees
 taken_fits (test.Front char) end e = absurd (cc e)

@@ -13,15 +13,15 @@ use Rattle.mbe_grammar.specs.Positions.{Position}
 use Rattle.mbe_grammar.proofs.Agreeing.{Agrees, AgreesWith, UnitsTaken, units_taken}
 
 module _ (takes : Test → Position → Option Position) (looks : ℕ → Position → Glance) (rules : List Rule) where
-  -- what begins so ends, where these wait
+  -- the machine ends from this beginning, while these frames wait
   abbrev Goes : Begun → List Frame → (final : Option Position) → Type 0
   Goes begun frames final = (all : ℕ) × Ends takes looks rules all begun.state (awaited begun.waiting frames) final
 
-  -- from there on it ends after so many steps
+  -- the machine ends from there on after that many steps
   abbrev EndsFrom : State → List Frame → (steps : ℕ) → (final : Option Position) → Type 0
   EndsFrom state frames steps final = Ends takes looks rules steps state frames final
 
-  -- From an expression that has an answer it ends as from the answer.
+  -- From an expression that has an answer, the machine ends as it does from the answer.
   abbrev pub Leads : (P : Answering) → Type 0
   Leads P = (at : ℕ) (from : Position) (answer : Option Position) → P at from answer → (frames : List Frame) (steps : ℕ) (final : Option Position)
       → EndsFrom (machine.answered answer) frames steps final → (all : ℕ) × Ends takes looks rules all (machine.reading at from) frames final
@@ -31,7 +31,7 @@ module _ (takes : Test → Position → Option Position) (looks : ℕ → Positi
         → EndsFrom (machine.answered found) frames steps final
     answers answer found e frames steps final ends = subst (λ a. EndsFrom (machine.answered a) frames steps final) e ends
 
-    -- one after another, where the first part fails
+    -- a sequence whose first part fails
     fails_open : (first second : ℕ) (from : Position) (it : Option Rule) → slice_get rules first ≡ it → P first from None → (frames : List Frame) (steps : ℕ) (final : Option Position)
         → EndsFrom (machine.answered None) frames steps final → Goes (begun_sequence_open takes first second from it) frames final
     fails_open first second from (Some (rule.Unit wanted)) is h frames steps final e =
@@ -50,7 +50,7 @@ module _ (takes : Test → Position → Option Position) (looks : ℕ → Positi
     first_fails first second from glance.Idles a h frames steps final e = absurd (cc a)
     first_fails first second from glance.Open a h frames steps final e = fails_open first second from (slice_get rules first) refl h frames steps final e
 
-    -- and where it takes what is before a place
+    -- a sequence whose first part takes trees up to a place
     takes_open : (first second : ℕ) (from middle : Position) (it : Option Rule) → slice_get rules first ≡ it → P first from (Some middle) → (frames : List Frame) (steps : ℕ) (final : Option Position)
         → EndsFrom (machine.reading second middle) frames steps final → Goes (begun_sequence_open takes first second from it) frames final
     takes_open first second from middle (Some (rule.Unit wanted)) is h frames steps final e =
@@ -91,7 +91,7 @@ module _ (takes : Test → Position → Option Position) (looks : ℕ → Positi
     other_taken first other from answer glance.Open a h k frames steps final e =
         then_other first other from answer (looks other from) (agree other from answer k) h k frames steps final e
 
-    -- and one whose first part does not fail
+    -- a choice whose first part does not fail
     without_other : (first other : ℕ) (from to : Position) (look : Glance) → P first from (Some to) → (frames : List Frame) (steps : ℕ) (final : Option Position)
         → EndsFrom (machine.answered (Some to)) frames steps final → Goes (begun_first first other from look) frames final
     without_other first other from to glance.Fails h frames steps final e = f first from (Some to) h frames steps final e
@@ -117,7 +117,7 @@ module _ (takes : Test → Position → Option Position) (looks : ℕ → Positi
     many_goes_on at part from middle glance.Idles a h frames steps final e = f part from (Some middle) h (machine.in_repetition at from ∷ frames) (suc steps) final e
     many_goes_on at part from middle glance.Open a h frames steps final e = f part from (Some middle) h (machine.in_repetition at from ∷ frames) (suc steps) final e
 
-    -- the opposite
+    -- a negation
     not_taken : (part : ℕ) (from : Position) (look : Glance) → Agrees look from None → P part from None → (frames : List Frame) (steps : ℕ) (final : Option Position)
         → EndsFrom (machine.answered (Some from)) frames steps final → Goes (begun_not part from look) frames final
     not_taken part from glance.Fails a h frames steps final e = (steps, e)
@@ -169,7 +169,7 @@ module _ (takes : Test → Position → Option Position) (looks : ℕ → Positi
         let it = leads_by (ParsesIn takes rules depth) (leads depth) (agree depth) (units_taken takes rules depth) at from answer (looks at from) (agree (suc depth) at from answer h) h frames steps final e in
         (suc it.0, it.1)
 
-  -- It stops once, after one number of steps.
+  -- The machine stops only once, after one number of steps.
   pub one_end : (n m : ℕ) (at : State) (frames : List Frame) (answer other : Option Position)
       → Ends takes looks rules n at frames answer → Ends takes looks rules m at frames other → (n ≡ m) × (answer ≡ other)
   one_end zero m (machine.reading at from) frames answer other h k = absurd h

@@ -1,4 +1,4 @@
--- By a good table each expression has an answer, and the machine ends.
+-- With a good table each expression has an answer, and the machine ends.
 use Rattle.std.proofs.Common.{◌≡◌, inl, inr, ◌+◌, ◌≤◌, ◌<◌, ℕ, suc, zero, Bool, true, false, List, [], ◌∷◌, Some, None, refl, sym, subst, ap, arith}
 use Rattle.std.specs.Prelude.{◌⊎◌, slice_get, Option}
 use Rattle.mbe_grammar.specs.declared.known.Glance.{Glance}
@@ -21,7 +21,7 @@ module _ (takes : Test → Position → Option Position) (size : Position → �
       let same : 0 + at ≡ at = omega arith in
       subst (λ n. GoodIn good.marks n (slice_get rules at)) same (good_from good.marks 0 at rules good.are_right)
 
-  -- what is taken leaves no more, and less where something must be taken
+  -- what is taken leaves no more, and less if something must be taken
   abbrev pub Shrinks : (at : ℕ) (from to : Position) → Type 0
   Shrinks at from to = (size to ≤ size from) × (may_take_nothing good.marks at ≡ false → size to < size from)
 
@@ -84,7 +84,7 @@ module _ (takes : Test → Position → Option Position) (size : Position → �
   module _ (n k : ℕ) (smaller : (at : ℕ) (from : Position) → size from < n → Has at from)
       (lower : (at : ℕ) (from : Position) → size from < suc n → rank_of good.marks at < k → Has at from)
       (at : ℕ) (from : Position) (few : size from < suc n) (low : rank_of good.marks at < suc k) where
-    -- what stands behind a part
+    -- what follows a part
     behind : (first second : ℕ) (middle : Position) → Shrinks first from middle → (may_take_nothing good.marks first ≡ true → rank_of good.marks second < rank_of good.marks at)
         → Has second middle
     behind first second middle s ranks = by (may_take_nothing good.marks first) refl
@@ -142,7 +142,7 @@ module _ (takes : Test → Position → Option Position) (size : Position → �
   has_sized zero at from few = absurd (omega (arith, few))
   has_sized (suc n) at from few = has_ranked n (has_sized n) (suc (rank_of good.marks at)) at from few (omega arith)
 
-  -- Each expression has an answer from each unit on.
+  -- Each expression has an answer from each place on.
   pub has : (at : ℕ) (from : Position) → Has at from
   has at from = has_sized (suc (size from)) at from (omega arith)
 
@@ -162,6 +162,6 @@ module _ (takes : Test → Position → Option Position) (size : Position → �
     stops_back [] found = (0, found, refl)
     stops_back (frame ∷ frames) found = let it = stops_at frames (stops_back frames) (resumed frame found) in (suc it.0, it.1, it.2)
 
-    -- The machine stops, whatever it is at.
+    -- The machine stops in any state.
     pub stops : (at : State) (frames : List Frame) → Stops at frames
     stops at frames = stops_at frames (stops_back frames) at

@@ -1,4 +1,4 @@
--- Parsing expressions as one writes them, and what they take.
+-- Parsing expressions as they are written, and what they take.
 use Rattle.std.specs.Prelude.{◌≡◌, ◌⊎◌, ℕ, zero, suc, List, [], ◌∷◌, Option, None, Some}
 use Rattle.tt.specs.Types.DelimiterKind.{DelimiterKind}
 use Rattle.mbe_grammar.specs.declared.test.Test.{Test}
@@ -9,8 +9,8 @@ use Rattle.mbe_grammar.specs.declared.words.Word.{Word}
 use Rattle.mbe_grammar.specs.Names.{Name}
 use Rattle.mbe_grammar.specs.Positions.{Position, takes}
 
--- a parsing expression: nothing, a unit that passes a test, what a name stands for, one after another, the other only where the
--- first fails, as often as it goes, and only where it fails
+-- a parsing expression: nothing, a unit that passes a test, the expression of a name, a sequence, a choice (the other part only if the
+-- first fails), a repetition (as often as possible), and a negation (only if the part fails)
 pub data Expression : Type 0 where
   nothing : Expression
   unit : Test → Expression
@@ -28,7 +28,7 @@ maybe it = choice it nothing
 abbrev pub some : Expression → Expression
 some it = sequence it (many it)
 
--- ahead, and not taken
+-- the expression comes next, and is not taken
 abbrev pub ahead : Expression → Expression
 ahead it = never (never it)
 
@@ -69,16 +69,17 @@ unit_of_chars (one ∷ []) = unit_of.Punct one
 unit_of_chars (one ∷ two ∷ []) = unit_of.TwoPuncts one two
 unit_of_chars (one ∷ two ∷ three ∷ others) = unit_of.ThreePuncts one two three
 
--- puncts that stand as one
+-- glued puncts
 abbrev pub sign : (chars : List ℕ) → Expression
 sign chars = unit (test.Is (unit_of_chars chars))
 
--- a punct, also where others stand as one with it
+-- a punct, even if others are glued to it
 abbrev pub front : (chars : List ℕ) → Expression
 front [] = never nothing
 front (char ∷ others) = unit (test.Front char)
 
--- an expression has this answer, by a derivation that is not deeper, where names stand for these: where it ends, or none if it fails
+-- the expression has this answer by a derivation that is not deeper, with these expressions for the names; the answer
+-- is where it ends, or none if it fails
 abbrev pub AnswersIn : (Name → Expression) → (depth : ℕ) → Expression → (from : Position) → (answer : Option Position) → Type 0
 AnswersIn stands zero it from answer = ⊥
 AnswersIn stands (suc depth) nothing from answer = answer ≡ Some from
@@ -97,6 +98,6 @@ AnswersIn stands (suc depth) (never part) from answer =
     (AnswersIn stands depth part from None × (answer ≡ Some from))
     ⊎ ((to : Position) × AnswersIn stands depth part from (Some to) × (answer ≡ None))
 
--- it has this answer
+-- the expression has this answer
 unfoldable pub Answers : (Name → Expression) → Expression → (from : Position) → (answer : Option Position) → Type 0
 Answers stands it from answer = (depth : ℕ) × AnswersIn stands depth it from answer

@@ -8,7 +8,7 @@ use Rattle.mbe_grammar.specs.Rust.{stands}
 use Rattle.mbe_pattern.specs.declared.pattern.GrammarFragment.{GrammarFragment}
 use Rattle.mbe_pattern.specs.declared.pattern.GrammarFragment.TheVariants as fragment
 
--- the name that a fragment is in the grammar
+-- the name of a fragment in the grammar
 abbrev pub name_of : GrammarFragment → Name
 name_of fragment.Expr = expression
 name_of fragment.Expr2021 = expression_2021_fragment
@@ -20,6 +20,6 @@ name_of fragment.Stmt = statement
 name_of fragment.Item = item
 name_of fragment.Meta = meta
 
--- the fragment takes so many of these trees, from the first on, or it is none of them
+-- the fragment takes `count` of these trees from the first on, or none if they do not begin with such a fragment
 abbrev pub Reaches : GrammarFragment → (trees : Forest) → (count : Option ℕ) → Type 0
 Reaches which trees count = Answers stands (stands (name_of which)) (first_position trees) (option_map (λ n. behind n (first_position trees)) count)

@@ -1,4 +1,4 @@
--- Kinds of units: a number below 64 for each. Units that the grammar seldom tells apart share one.
+-- Kinds of units: each is a number below 64. Units that the grammar seldom distinguishes share one.
 use Rattle.std.specs.Prelude.{ℕ, Option, None, Some, slice_get}
 use Rattle.tt.specs.Types.DelimiterKind.TheVariants as delimiter
 use Rattle.mbe_grammar.specs.declared.kind.TheConstants.{KINDS_OF_CHARS}
@@ -63,12 +63,12 @@ kind_of_word word.Raw = 8
 kind_of_word word.Safe = 8
 kind_of_word word.Union = 8
 
--- the kind of a punct that a table has, or of one that it does not have
+-- the kind of a punct that a table has, or the kind of one that it does not have
 abbrev pub kind_or_other : Option ℕ → ℕ
 kind_or_other None = 36
 kind_or_other (Some kind) = kind
 
--- the kind of a punct, or of puncts of which it is the first
+-- the kind of a punct, or of glued puncts that begin with it
 abbrev pub kind_of_char : (char : ℕ) → ℕ
 kind_of_char char = kind_or_other (slice_get KINDS_OF_CHARS char)
 

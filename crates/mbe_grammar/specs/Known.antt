@@ -1,4 +1,4 @@
--- What is known of a table's expressions before they are read, by the kind of the unit that stands first.
+-- What is known of a table's expressions before they are read, by the kind of the first unit.
 use Rattle.std.specs.Prelude.{◌%◌, ◌^◌, ℕ, suc, Bool, ◌&&◌, ◌==◌, nat_lt, List, [], ◌∷◌, length, Option, None, Some, slice_get, map, codes, if◌then◌else◌}
 use Rattle.std.specs.Int.{bit_at}
 use Rattle.std.specs.Int.RustNames.{bit_and, bit_or}
@@ -13,7 +13,7 @@ use Rattle.mbe_grammar.specs.Kinds.{kind_of, kind_of_char}
 use Rattle.mbe_grammar.specs.Positions.{Position}
 use Rattle.mbe_grammar.specs.Units.{first_unit}
 
--- what an expression of which that is known comes to before a unit of that kind
+-- what an expression with this knowledge does before a unit of that kind
 abbrev pub glance_by : Known → (kind : ℕ) → Glance
 glance_by it kind = if bit_at it.fails kind == 1 then glance.Fails else (if bit_at it.idles kind == 1 then glance.Idles else glance.Open)
 
@@ -21,11 +21,11 @@ abbrev pub glance_in : Option Known → (kind : ℕ) → Glance
 glance_in None kind = glance.Open
 glance_in (Some it) kind = glance_by it kind
 
--- what the expression at that place of the table comes to
+-- what the expression at that index of the table does
 abbrev pub glance_at : List Known → (at : ℕ) → Position → Glance
 glance_at known at from = glance_in (slice_get known at) (kind_of (first_unit from.rest) % 64)
 
--- the kinds before which the expression at that place fails, and those before which it takes nothing
+-- the kinds before which the expression at that index fails, and those before which it takes nothing
 abbrev pub fails_in : Option Known → ℕ
 fails_in None = 0
 fails_in (Some it) = it.fails
@@ -45,11 +45,12 @@ abbrev pub bits : (kinds : List ℕ) → ℕ
 bits [] = 0
 bits (kind ∷ kinds) = bit_or (2 ^ (kind % 64)) (bits kinds)
 
--- the kinds of these puncts, and of those of which they are the first
+-- the kinds of these puncts, and of glued puncts that begin with them
 abbrev pub bits_of : (chars : List ℕ) → ℕ
 bits_of chars = bits (map kind_of_char chars)
 
--- the kinds of words that an expression begins with: of names, of `self` and its like, of `true`, and of those keywords
+-- the kinds of words that an expression begins with: of names, of path roots such as `self`, of `true` and
+-- `false`, and of the keywords that begin one
 abbrev pub first_words : List ℕ
 first_words = 7 ∷ 8 ∷ 9 ∷ 10 ∷ 12 ∷ 13 ∷ 14 ∷ 15 ∷ 19 ∷ 20 ∷ 21 ∷ 22 ∷ 23 ∷ 25 ∷ 26 ∷ 29 ∷ 30 ∷ 32 ∷ 35 ∷ []
 
@@ -69,7 +70,7 @@ begins test.BinaryOperator = bits_of (codes "+-*/%^&|<>=!")
 begins test.AssignmentOperator = bits_of (codes "=+-*/%^&|<>")
 begins test.BeginsExpression = bit_or (bits (1 ∷ 2 ∷ 3 ∷ 5 ∷ 6 ∷ [])) (bit_or (bits first_words) (bits_of (codes "!-*|&<#.:")))
 
--- the kinds all of whose units pass it, where that is asked for
+-- the kinds whose units all pass the rule's test; given only for the test of a path segment
 abbrev pub always_passes : Option Rule → ℕ
 always_passes (Some (rule.Unit test.PathSegment)) = begins test.PathSegment
 always_passes _ = 0
@@ -78,7 +79,7 @@ always_passes _ = 0
 abbrev pub is_within : ℕ → ℕ → Bool
 is_within a b = bit_and a b == a
 
--- what is known is right for the expression at that place
+-- what is known is right for the expression at that index
 abbrev pub is_right_rule : List Known → List Rule → (at : ℕ) → Rule → Bool
 is_right_rule known rules at rule.Empty = fails_of known at == 0
 is_right_rule known rules at (rule.Unit wanted) = bit_and (fails_of known at) (begins wanted) == 0 && (idles_of known at == 0)
@@ -93,7 +94,7 @@ is_right_rule known rules at (rule.ZeroOrMore part) = fails_of known at == 0 && 
 is_right_rule known rules at (rule.Not part) =
     is_within (fails_of known at) (bit_or (idles_of known part) (always_passes (slice_get rules part))) && is_within (idles_of known at) (fails_of known part)
 
--- it is right for each of these, which are those of a table from a place on, and nothing is known of others
+-- it is right for each of these rules, which are those of a table from an index on, and nothing is known of others
 abbrev pub are_right : List Known → (rules : List Rule) → (at : ℕ) → List Rule → Bool
 are_right known rules at [] = nat_lt (length known) (suc at)
 are_right known rules at (this ∷ others) = is_right_rule known rules at this && are_right known rules (suc at) others

@@ -5,12 +5,12 @@ use Rattle.mbe_grammar.specs.declared.rule.Rule.TheVariants as rule
 use Rattle.mbe_grammar.specs.Expressions.{Expression, nothing, unit, name, sequence, choice, many, never}
 use Rattle.mbe_grammar.specs.Names.{Name}
 
--- a part is there: a name where what it stands for begins, and anything else where that is laid out
+-- a part is at that index: a name, if its expression begins there; anything else, if it is laid out there
 abbrev pub IsThere : (starts : Name → ℕ) → Expression → (at : ℕ) → (is_laid : Type 0) → Type 0
 IsThere starts (name n) at is_laid = at ≡ starts n
 IsThere starts _ at is_laid = is_laid
 
--- the expression is laid out at that place, by a rule, and its parts are where that says
+-- the expression is laid out at that index by a rule, and its parts are at the indices of the rule
 abbrev pub IsLaid : List Rule → (starts : Name → ℕ) → Expression → (at : ℕ) → Type 0
 IsLaid rules starts nothing at = slice_get rules at ≡ Some rule.Empty
 IsLaid rules starts (unit wanted) at = slice_get rules at ≡ Some (rule.Unit wanted)
@@ -25,6 +25,6 @@ IsLaid rules starts (many part) at =
     (one : ℕ) × (slice_get rules at ≡ Some (rule.ZeroOrMore one)) × IsThere starts part one (IsLaid rules starts part one)
 IsLaid rules starts (never part) at = (one : ℕ) × (slice_get rules at ≡ Some (rule.Not one)) × IsThere starts part one (IsLaid rules starts part one)
 
--- so is what each name stands for, at its start
+-- the expression of each name is laid out at the name's start
 abbrev pub AreLaid : List Rule → (starts : Name → ℕ) → (stands : Name → Expression) → Type 0
 AreLaid rules starts stands = (n : Name) → IsLaid rules starts (stands n) (starts n)

@@ -7,29 +7,30 @@ use Rattle.mbe_grammar.specs.declared.rule.Rule.TheVariants as rule
 use Rattle.mbe_grammar.specs.declared.test.Test.{Test}
 use Rattle.mbe_grammar.specs.Positions.{Position}
 
--- what it does next: it reads by an expression, or an expression has answered
+-- what the machine does next: it reads an expression, or an expression has answered
 pub data State : Type 0 where
   reading : (at : ℕ) → (from : Position) → State
   answered : (answer : Option Position) → State
 
--- what waits for the answer of a part: the second part; the other choice; the same again, or what was taken so far; the opposite
+-- what waits for the answer of a part: the second part of a sequence; the other part of a choice; a repetition, with
+-- the place reached so far; a negation
 pub data Frame : Type 0 where
   in_sequence : (second : ℕ) → Frame
   in_choice : (other : ℕ) → (from : Position) → Frame
   in_repetition : (at : ℕ) → (from : Position) → Frame
   in_not : (from : Position) → Frame
 
--- what is next when an expression begins, and what waits for it
+-- what is next after an expression begins, and what waits for it
 pub record Begun : Type 0 where
   pub state : State
   pub waiting : Option Frame
 
--- what a step comes to
+-- the outcome of a step
 pub data Next : Type 0 where
   goes : State → Next
   ends : (answer : Option Position) → Next
 
--- what comes of an answer that was waited for
+-- what is next after an answer to a waiting frame
 abbrev pub resumed : Frame → (answer : Option Position) → State
 resumed (in_sequence second) None = answered None
 resumed (in_sequence second) (Some middle) = reading second middle
@@ -40,11 +41,11 @@ resumed (in_repetition at from) (Some middle) = reading at middle
 resumed (in_not from) None = answered (Some from)
 resumed (in_not from) (Some to) = answered None
 
--- it has answered, and nothing waits for it
+-- the expression has answered, and nothing waits for it
 abbrev pub at_once : (answer : Option Position) → Begun
 at_once answer = record { state = answered answer; waiting = None }
 
--- it is read, and nothing waits for it
+-- the expression is read, and nothing waits for it
 abbrev pub alone : (at : ℕ) (from : Position) → Begun
 alone at from = record { state = reading at from; waiting = None }
 
@@ -52,23 +53,23 @@ alone at from = record { state = reading at from; waiting = None }
 abbrev pub within : (part : ℕ) (from : Position) → Frame → Begun
 within part from frame = record { state = reading part from; waiting = Some frame }
 
--- how one after another begins behind a first part that has answered
+-- how a sequence begins after its first part has answered
 abbrev pub begun_behind : (second : ℕ) → (answer : Option Position) → Begun
 begun_behind second None = at_once None
 begun_behind second (Some middle) = alone second middle
 
--- how one after another begins where of the first part nothing is known: a unit is taken at once
+-- how a sequence begins if nothing is known of its first part; a unit is taken at once
 abbrev pub begun_sequence_open : (takes : Test → Position → Option Position) → (first second : ℕ) (from : Position) → Option Rule → Begun
 begun_sequence_open takes first second from (Some (rule.Unit wanted)) = begun_behind second (takes wanted from)
 begun_sequence_open takes first second from _ = within first from (in_sequence second)
 
--- how one after another begins, by what is known of the first part
+-- how a sequence begins, by what is known of its first part
 abbrev pub begun_sequence : (takes : Test → Position → Option Position) → (first second : ℕ) (from : Position) → Option Rule → Glance → Begun
 begun_sequence takes first second from it glance.Fails = at_once None
 begun_sequence takes first second from it glance.Idles = alone second from
 begun_sequence takes first second from it glance.Open = begun_sequence_open takes first second from it
 
--- how a choice begins whose first part is tried: where the other is known to fail nothing waits
+-- how a choice begins whose first part is tried; if the other part is known to fail, nothing waits
 abbrev pub begun_first : (first other : ℕ) (from : Position) → (of_other : Glance) → Begun
 begun_first first other from glance.Fails = alone first from
 begun_first first other from glance.Idles = within first from (in_choice other from)
@@ -80,13 +81,13 @@ begun_choice first other from glance.Fails of_other = alone other from
 begun_choice first other from glance.Idles of_other = at_once (Some from)
 begun_choice first other from glance.Open of_other = begun_first first other from of_other
 
--- how as often as it goes begins, by what is known of the part
+-- how a repetition begins, by what is known of its part
 abbrev pub begun_repetition : (at part : ℕ) (from : Position) → Glance → Begun
 begun_repetition at part from glance.Fails = at_once (Some from)
 begun_repetition at part from glance.Idles = within part from (in_repetition at from)
 begun_repetition at part from glance.Open = within part from (in_repetition at from)
 
--- how only where it fails begins, by what is known of the part
+-- how a negation begins, by what is known of its part
 abbrev pub begun_not : (part : ℕ) (from : Position) → Glance → Begun
 begun_not part from glance.Fails = at_once (Some from)
 begun_not part from glance.Idles = at_once None
@@ -117,14 +118,14 @@ abbrev pub awaited : Option Frame → List Frame → List Frame
 awaited None frames = frames
 awaited (Some frame) frames = frame ∷ frames
 
--- a step: what is next, and what waits then
+-- a step: what is next, and what then waits
 abbrev pub IsStep : (takes : Test → Position → Option Position) → (looks : ℕ → Position → Glance) → List Rule → State → (before : List Frame) → Next → (after : List Frame) → Type 0
 IsStep takes looks rules (reading at from) before step after =
     (step ≡ goes (begun takes looks rules at from).state) × (after ≡ awaited (begun takes looks rules at from).waiting before)
 IsStep takes looks rules (answered found) [] step after = step ≡ ends found
 IsStep takes looks rules (answered found) (frame ∷ before) step after = (step ≡ goes (resumed frame found)) × (after ≡ before)
 
--- the machine stops with this answer after just so many steps
+-- the machine stops with this answer after exactly that many steps
 abbrev pub Ends : (takes : Test → Position → Option Position) → (looks : ℕ → Position → Glance) → List Rule → (count : ℕ) → State → List Frame → (answer : Option Position) → Type 0
 Ends takes looks rules zero (reading at from) frames answer = ⊥
 Ends takes looks rules zero (answered found) [] answer = found ≡ answer

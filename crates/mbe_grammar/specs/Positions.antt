@@ -1,4 +1,4 @@
--- Places among trees, and what takes a unit there.
+-- Places among trees, and how a unit is taken there.
 use Rattle.std.specs.Prelude.{◌+◌, ℕ, Option, None, Some, if◌then◌else◌}
 use Rattle.tt.specs.Forest.{Forest}
 use Rattle.tt.specs.Gluing.{after_trees}
@@ -6,7 +6,7 @@ use Rattle.mbe_grammar.specs.declared.test.Test.{Test}
 use Rattle.mbe_grammar.specs.Tests.{passes, taken_size}
 use Rattle.mbe_grammar.specs.Units.{first_unit}
 
--- a place among trees: how many were passed on the way, and those that are left
+-- a place among trees: how many trees were passed, and those that are left
 pub record Position : Type 0 where
   pub passed : ℕ
   pub rest : Forest
@@ -15,10 +15,10 @@ pub record Position : Type 0 where
 abbrev pub first_position : Forest → Position
 first_position trees = record { passed = 0; rest = trees }
 
--- behind so many trees more
+-- the place after that many more trees
 abbrev pub behind : (count : ℕ) → Position → Position
 behind count from = record { passed = from.passed + count; rest = after_trees count from.rest }
 
--- behind the unit that stands first, if it passes the test
+-- the place after the first unit, if it passes the test
 abbrev pub takes : Test → Position → Option Position
 takes wanted from = if passes wanted (first_unit from.rest) then Some (behind (taken_size wanted (first_unit from.rest)) from) else None

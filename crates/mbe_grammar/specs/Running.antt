@@ -1,4 +1,4 @@
--- The machine as it runs, as its definitions have it.
+-- The running machine, in the terms of its definitions.
 use Rattle.std.specs.Prelude.{Bool, true, false, Option, None, Some, option_map}
 use Rattle.mbe_grammar.specs.declared.machine.Begun.{Begun}
 use Rattle.mbe_grammar.specs.declared.machine.Frame.{Frame}
@@ -11,12 +11,12 @@ use Rattle.mbe_grammar.specs.Machine as machine
 use Rattle.mbe_grammar.specs.Places.{position_of}
 use Rattle.mbe_grammar.specs.Positions.{Position}
 
--- the answer of an expression that ends where the machine is, or fails
+-- the answer of an expression that ends at the machine's place, or fails
 abbrev pub answer_at : (here : Position) → (ends : Bool) → Option Position
 answer_at here true = Some here
 answer_at here false = None
 
--- what it does next there
+-- what the machine does next there
 abbrev pub state_at : (here : Position) → State → machine.State
 state_at here (state.Reading at) = machine.reading at here
 state_at here (state.Answered ends) = machine.answered (answer_at here ends)
@@ -32,7 +32,7 @@ frame_of (frame.InNot from) = machine.in_not (position_of from)
 abbrev pub begun_at : (here : Position) → Begun → machine.Begun
 begun_at here begun = record { state = state_at here begun.state; waiting = option_map frame_of begun.waiting }
 
--- what a step comes to
+-- the outcome of a step
 abbrev pub next_at : (here : Position) → Next → machine.Next
 next_at here (next.Goes state) = machine.goes (state_at here state)
 next_at here (next.Ends ends) = machine.ends (answer_at here ends)

@@ -18,12 +18,12 @@ use Rattle.mbe_grammar.specs.declared.words.Word.{Word}
 abbrev pub same_unit : Unit → Unit → Bool
 same_unit = (unit_impl.ghosts).eq
 
--- it is a word of that kind
+-- the unit is a word of that kind
 abbrev pub is_word : (Word → Bool) → Unit → Bool
 is_word is_such (unit.Word it) = is_such it
 is_word is_such _ = false
 
--- it is a literal
+-- the unit is a literal
 abbrev pub is_literal : Unit → Bool
 is_literal (unit.Literal kind) = true
 is_literal _ = false
@@ -34,18 +34,18 @@ is_text_kind lit.Str = true
 is_text_kind (lit.StrRaw hashes) = true
 is_text_kind _ = false
 
--- it is a number
+-- the literal is a number
 abbrev pub is_number_kind : LitKind → Bool
 is_number_kind lit.Integer = true
 is_number_kind lit.Float = true
 is_number_kind _ = false
 
--- it is a literal of that kind
+-- the unit is a literal of that kind
 abbrev pub is_literal_of : (LitKind → Bool) → Unit → Bool
 is_literal_of is_such (unit.Literal kind) = is_such kind
 is_literal_of is_such _ = false
 
--- the subtree has no delimiters that are printed
+-- the subtree's delimiters are not printed
 abbrev pub is_opaque_kind : DelimiterKind → Bool
 is_opaque_kind delimiter.Parenthesis = false
 is_opaque_kind delimiter.Brace = false
@@ -53,19 +53,19 @@ is_opaque_kind delimiter.Bracket = false
 is_opaque_kind delimiter.Invisible = true
 is_opaque_kind delimiter.InvisibleOpaque = true
 
--- it is a subtree of that kind
+-- the unit is a subtree of that kind
 abbrev pub is_subtree_of : (DelimiterKind → Bool) → Unit → Bool
 is_subtree_of is_such (unit.Subtree kind) = is_such kind
 is_subtree_of is_such _ = false
 
--- it is a punct, or puncts that stand as one, of which the first is this
+-- the unit is this punct, or glued puncts that begin with it
 abbrev pub has_front : (char : ℕ) → Unit → Bool
 has_front char (unit.Punct one) = one == char
 has_front char (unit.TwoPuncts one two) = one == char
 has_front char (unit.ThreePuncts one two three) = one == char
 has_front char _ = false
 
--- one, two or three puncts that a list has
+-- one, two or three puncts from a list
 abbrev pub is_among : (ones : List ℕ) → (twos threes : List (List ℕ)) → Unit → Bool
 is_among ones twos threes (unit.Punct one) = list_any (λ it. it == one) ones
 is_among ones twos threes (unit.TwoPuncts one two) = list_any (λ it. bytes_eq it (one ∷ two ∷ [])) twos
@@ -76,7 +76,7 @@ is_among ones twos threes _ = false
 abbrev pub is_binary_operator : Unit → Bool
 is_binary_operator = is_among (codes "+-*/%^&|<>") (codes "<<" ∷ codes ">>" ∷ codes "==" ∷ codes "!=" ∷ codes "<=" ∷ codes ">=" ∷ codes "&&" ∷ codes "||" ∷ []) []
 
--- one that assigns
+-- an operator that assigns
 abbrev pub is_assignment_operator : Unit → Bool
 is_assignment_operator =
     is_among (codes "=")
@@ -88,12 +88,12 @@ abbrev pub are_first_puncts : Unit → Bool
 are_first_puncts =
     is_among (codes "!-*|&<#") (codes "||" ∷ codes "&&" ∷ codes ".." ∷ codes "<<" ∷ codes "::" ∷ []) (codes "..=" ∷ codes "..." ∷ [])
 
--- a subtree that an expression begins with which may not be a block
+-- the kind of a subtree, other than a block, that an expression begins with
 abbrev pub is_first_kind : DelimiterKind → Bool
 is_first_kind delimiter.Brace = false
 is_first_kind _ = true
 
--- an expression that is no block may begin with it
+-- an expression other than a block may begin with the unit
 abbrev pub may_begin_expression : Unit → Bool
 may_begin_expression it =
     is_literal it || (same_unit it unit.Lifetime || (is_word begins_expression it || (is_subtree_of is_first_kind it || are_first_puncts it)))
@@ -114,12 +114,12 @@ passes_test test.BinaryOperator it = is_binary_operator it
 passes_test test.AssignmentOperator it = is_assignment_operator it
 passes_test test.BeginsExpression it = may_begin_expression it
 
--- it passes the test; at the end nothing does
+-- the unit passes the test; the end passes none
 abbrev pub passes : Test → Unit → Bool
 passes wanted unit.End = false
 passes wanted it = passes_test wanted it
 
--- how many trees are taken of a unit that passes it
+-- how many trees are taken of a unit that passes the test
 abbrev pub taken_size : Test → Unit → ℕ
 taken_size (test.Front char) it = 1
 taken_size _ it = size_of_unit it

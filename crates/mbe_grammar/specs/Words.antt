@@ -93,7 +93,7 @@ word_of_more text =
     if bytes_eq text (codes "unsized") then word.Reserved else (
     if bytes_eq text (codes "virtual") then word.Reserved else word.Name))))))
 
--- the word of so many letters
+-- the word of that many letters
 abbrev pub word_of_length : (letters : ℕ) → (text : List ℕ) → Word
 word_of_length letters text =
     if letters == 0 then word.Name else (
@@ -108,7 +108,7 @@ word_of_length letters text =
 abbrev pub word_named : (text : List ℕ) → Word
 word_named text = word_of_length (length text) text
 
--- the word that an ident of that text is: behind `r#` it is a name
+-- the word that an ident of that text is; after `r#` it is a name
 abbrev pub word_as : IdentIsRaw → (text : List ℕ) → Word
 word_as raw.No text = word_named text
 word_as raw.Yes text = word.Name
@@ -117,7 +117,7 @@ word_as raw.Yes text = word.Name
 abbrev pub word_of : Ident → Word
 word_of ident = word_as ident.is_raw ident.sym
 
--- no name may be spelled so
+-- no name may be spelled like this word
 abbrev pub is_reserved : Word → Bool
 is_reserved word.Name = false
 is_reserved word.Auto = false
@@ -136,7 +136,7 @@ is_root_segment word.Super = true
 is_root_segment word.Crate = true
 is_root_segment _ = false
 
--- a path may have it
+-- a path may contain the word
 abbrev pub is_path_segment : Word → Bool
 is_path_segment it = not (is_reserved it) || is_root_segment it
 
@@ -169,6 +169,6 @@ is_first_keyword word.While = true
 is_first_keyword word.Yield = true
 is_first_keyword _ = false
 
--- an expression may begin with it
+-- an expression may begin with the word
 abbrev pub begins_expression : Word → Bool
 begins_expression it = is_path_segment it || (is_truth_value it || is_first_keyword it)

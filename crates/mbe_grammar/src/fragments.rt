@@ -15,7 +15,7 @@ use mbe_pattern::GrammarFragment;
 use std::alloc::{AllocError, Global};
 use tt::TtIter;
 
-// Where the table has the expression of a fragment.
+// Returns the index of a fragment's expression in the table.
 fn start_of(fragment: GrammarFragment) -> usize
     ensures { result ≡ start (name_of fragment) }
 {
@@ -32,15 +32,15 @@ fn start_of(fragment: GrammarFragment) -> usize
     }
 }
 
-// Rust's grammar.
+// Returns Rust's grammar as a table.
 fn rust_table() -> Table<'static>
     ensures { result.rules.now ≡ rust_rules }
 {
     Table::with_known(&rust::RULES, &MARKS, &KNOWN)
 }
 
-/// How many of the trees the fragment takes, from the first on, by the grammar of docs/GRAMMAR.md; none if it is none of them.
-/// It is refused only where memory is.
+/// Returns how many of the trees the fragment takes from the first on, by the grammar of docs/GRAMMAR.md; none if the trees do not begin
+/// with such a fragment. Fails only if memory runs out.
 pub fn reach(
     alloc: Global,
     fragment: GrammarFragment,

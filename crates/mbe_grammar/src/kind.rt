@@ -1,4 +1,4 @@
-//! Kinds of units, by which it is known what an expression comes to before it is read.
+//! Kinds of units. They show what an expression does before it is read.
 ghost use Rattle.std.specs.Prelude.{◌≡◌, slice_get};
 ghost use Rattle.mbe_grammar.specs.Kinds.{kind_of_word, kind_or_other, kind_of_char, kind_of};
 
@@ -19,7 +19,7 @@ const KINDS_OF_CHARS: [u32; 128] = [
 // The kind of every other punct.
 const OTHER_PUNCT: u32 = 36;
 
-// The kind at that place of a table, or that of every other punct.
+// Returns the kind at that index of a table, or the kind of every other punct.
 fn kind_in(kinds: &[u32], at: usize) -> u32
     ensures { result ≡ kind_or_other (slice_get kinds.now at) }
 {
@@ -29,7 +29,7 @@ fn kind_in(kinds: &[u32], at: usize) -> u32
     }
 }
 
-// The kind of a punct, or of puncts of which it is the first.
+// Returns the kind of a punct, or of glued puncts that begin with it.
 fn kind_of_char(char: char) -> u32
     ensures { result ≡ kind_of_char char }
 {
@@ -37,7 +37,7 @@ fn kind_of_char(char: char) -> u32
 }
 
 impl Word {
-    // The kind of an ident.
+    // Returns the kind of an ident.
     fn kind(self) -> u32
         ensures { result ≡ kind_of_word self }
     {
@@ -84,7 +84,7 @@ impl Word {
 }
 
 impl Unit {
-    /// The kind of a unit.
+    /// Returns the kind of a unit.
     pub(crate) fn kind(self) -> u32
         ensures { result ≡ kind_of self }
     {

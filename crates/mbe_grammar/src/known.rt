@@ -2,7 +2,7 @@
 ghost use Rattle.std.specs.Prelude.{◌≡◌, ◌%◌, slice_get};
 ghost use Rattle.mbe_grammar.specs.Known.{glance_by, glance_in};
 
-/// What is known of an expression before units of some kinds: a bit for each kind.
+/// What is known of an expression before units of some kinds: one bit for each kind.
 #[derive(Clone, Copy)]
 pub struct Known {
     /// The kinds before which it fails.
@@ -11,19 +11,19 @@ pub struct Known {
     pub idles: u64,
 }
 
-/// What an expression comes to before a unit, as far as that is known.
+/// What an expression does before a unit, as far as it is known.
 #[derive(Clone, Copy)]
 pub(crate) enum Glance {
     /// It fails.
     Fails,
     /// It takes nothing.
     Idles,
-    /// That is not known.
+    /// It is not known.
     Open,
 }
 
 impl Known {
-    // What it comes to before a unit of that kind.
+    // Returns what the expression does before a unit of that kind.
     #[inline(always)]
     fn glance(self, kind: u32) -> Glance
         ensures { result ≡ glance_by self (kind % 64) }
@@ -39,7 +39,7 @@ impl Known {
     }
 }
 
-/// What the expression at that place of the table comes to before a unit of that kind.
+/// Returns what the expression at that index of the table does before a unit of that kind.
 #[inline(always)]
 pub(crate) fn look(known: &[Known], at: usize, kind: u32) -> Glance
     ensures { result ≡ glance_in (slice_get known.now at) (kind % 64) }

@@ -1,8 +1,8 @@
 //! How many trees a fragment of Rust's grammar takes, by a table of parsing expressions.
 //!
-//! docs/GRAMMAR.md is the source of the table: `checks/lay_out_grammar.py` writes `src/rust.rt`, `src/rust_marks.rt`,
-//! `src/rust_known.rt`, `specs/Names.antt`, `specs/Rust.antt` and `proofs/RustLaid.antt` of it. `reach` runs the machine of parsing
-//! expressions on the siblings, with a stack of the rules that are under way. It looks into no subtree.
+//! docs/GRAMMAR.md is the source of the table. `checks/lay_out_grammar.py` makes `src/rust.rt`, `src/rust_marks.rt`, `src/rust_known.rt`,
+//! `specs/Names.antt`, `specs/Rust.antt` and `proofs/RustLaid.antt` from it. `reach` runs the machine of parsing expressions on the
+//! siblings, with a stack of the rules that are under way. It does not look into subtrees.
 #![tactic(auto)]
 
 mod fragments;

@@ -13,43 +13,43 @@ use crate::rule::Rule;
 use crate::table::Table;
 use std::alloc::{AllocError, Global};
 
-/// What the machine does next at the place where it is.
+/// What the machine does next at its place.
 #[derive(Clone, Copy)]
 pub(crate) enum State {
-    /// It reads by an expression, from there on.
+    /// It reads the expression at that index, from its place on.
     Reading(usize),
-    /// An expression has answered: it ends there, or it fails.
+    /// An expression has answered: it ends at the machine's place, or it fails.
     Answered(bool),
 }
 
 /// What waits for the answer of a part.
 #[derive(Clone, Copy)]
 pub(crate) enum Frame<'t> {
-    /// The second part.
+    /// A sequence waits to read its second part.
     InSequence(usize),
-    /// The other choice, from a place on.
+    /// A choice waits to try its other part from that place on.
     InChoice(usize, Place<'t>),
-    /// The same again, or what was taken up to a place.
+    /// A repetition waits to read its part again, or to end at that place.
     InRepetition(usize, Place<'t>),
-    /// The opposite, from a place on.
+    /// A negation waits to give the opposite answer, from that place on.
     InNot(Place<'t>),
 }
 
-/// What is next when an expression begins, and what waits for it.
+/// What is next after an expression begins, and what waits for it.
 #[derive(Clone, Copy)]
 pub(crate) struct Begun<'t> {
     state: State,
     waiting: Option<Frame<'t>>,
 }
 
-/// What a step comes to: what is next, or whether the expression ends at the place where the machine is.
+/// The outcome of a step: what is next, or whether the expression ends at the machine's place.
 #[derive(Clone, Copy)]
 pub(crate) enum Next {
     Goes(State),
     Ends(bool),
 }
 
-// What comes of an answer that was waited for.
+// Returns what is next after an answer to a waiting frame.
 #[inline(always)]
 fn resume<'t>(frame: Frame<'t>, ends: bool, here: &mut Place<'t>) -> State
     ensures { state_at (position_of here.new) result ≡ resumed (frame_of frame.entry) (answer_at (position_of here.old) ends) }
@@ -75,7 +75,7 @@ fn resume<'t>(frame: Frame<'t>, ends: bool, here: &mut Place<'t>) -> State
     }
 }
 
-// It has answered, and nothing waits.
+// Returns an answer; nothing waits.
 #[inline(always)]
 fn at_once<'t>(ends: bool) -> Begun<'t>
     ensures state { result.state ≡ State.Answered ends }
@@ -87,7 +87,7 @@ fn at_once<'t>(ends: bool) -> Begun<'t>
     }
 }
 
-// It is read, and nothing waits.
+// Returns that the expression is read; nothing waits.
 #[inline(always)]
 fn alone<'t>(at: usize) -> Begun<'t>
     ensures state { result.state ≡ State.Reading at }
@@ -99,7 +99,7 @@ fn alone<'t>(at: usize) -> Begun<'t>
     }
 }
 
-// A part that is read, and what waits for it.
+// Returns that a part is read, and what waits for it.
 #[inline(always)]
 fn within<'t>(part: usize, frame: Frame<'t>) -> Begun<'t>
     ensures state { result.state ≡ State.Reading part }
@@ -111,7 +111,7 @@ fn within<'t>(part: usize, frame: Frame<'t>) -> Begun<'t>
     }
 }
 
-// How one after another begins where of the first part nothing is known.
+// Begins a sequence if nothing is known of its first part.
 #[inline(always)]
 fn begin_sequence_open<'t>(
     rules: &[Rule],
@@ -133,7 +133,7 @@ fn begin_sequence_open<'t>(
     }
 }
 
-// How one after another begins.
+// Begins a sequence.
 #[inline(always)]
 fn begin_sequence<'t>(
     table: Table<'_>,
@@ -150,7 +150,7 @@ fn begin_sequence<'t>(
     }
 }
 
-// How a choice begins whose first part is tried.
+// Begins a choice whose first part is tried.
 #[inline(always)]
 fn begin_first<'t>(table: Table<'_>, first: usize, other: usize, here: &Place<'t>) -> Begun<'t>
     ensures { begun_at (position_of here.now) result ≡ begun_first first other (position_of here.now) (glance_at table.entry.known.now other (position_of here.now)) }
@@ -161,7 +161,7 @@ fn begin_first<'t>(table: Table<'_>, first: usize, other: usize, here: &Place<'t
     }
 }
 
-// How a choice begins.
+// Begins a choice.
 #[inline(always)]
 fn begin_choice<'t>(table: Table<'_>, first: usize, other: usize, here: &Place<'t>) -> Begun<'t>
     ensures { begun_at (position_of here.now) result ≡ begun_choice first other (position_of here.now) (glance_at table.entry.known.now first (position_of here.now)) (glance_at table.entry.known.now other (position_of here.now)) }
@@ -173,7 +173,7 @@ fn begin_choice<'t>(table: Table<'_>, first: usize, other: usize, here: &Place<'
     }
 }
 
-// How as often as it goes begins.
+// Begins a repetition.
 #[inline(always)]
 fn begin_repetition<'t>(table: Table<'_>, at: usize, part: usize, here: &Place<'t>) -> Begun<'t>
     ensures { begun_at (position_of here.now) result ≡ begun_repetition at part (position_of here.now) (glance_at table.entry.known.now part (position_of here.now)) }
@@ -184,7 +184,7 @@ fn begin_repetition<'t>(table: Table<'_>, at: usize, part: usize, here: &Place<'
     }
 }
 
-// How only where it fails begins.
+// Begins a negation.
 #[inline(always)]
 fn begin_not<'t>(table: Table<'_>, part: usize, here: &Place<'t>) -> Begun<'t>
     ensures { begun_at (position_of here.now) result ≡ begun_not part (position_of here.now) (glance_at table.entry.known.now part (position_of here.now)) }
@@ -196,7 +196,7 @@ fn begin_not<'t>(table: Table<'_>, part: usize, here: &Place<'t>) -> Begun<'t>
     }
 }
 
-// How an expression begins of which nothing is known.
+// Begins an expression of which nothing is known.
 #[inline(always)]
 fn begin_open<'t>(table: Table<'_>, at: usize, here: &mut Place<'t>) -> Begun<'t>
     ensures { begun_at (position_of here.new) result ≡ begun_open takes (glance_at table.entry.known.now) table.entry.rules.now at (position_of here.old) (slice_get table.entry.rules.now at) }
@@ -215,7 +215,7 @@ fn begin_open<'t>(table: Table<'_>, at: usize, here: &mut Place<'t>) -> Begun<'t
     }
 }
 
-// How an expression begins.
+// Begins an expression.
 #[inline(always)]
 fn begin<'t>(table: Table<'_>, at: usize, here: &mut Place<'t>) -> Begun<'t>
     ensures { begun_at (position_of here.new) result ≡ begun takes (glance_at table.entry.known.now) table.entry.rules.now at (position_of here.old) }
@@ -227,7 +227,7 @@ fn begin<'t>(table: Table<'_>, at: usize, here: &mut Place<'t>) -> Begun<'t>
     }
 }
 
-// One step of the machine.
+// Does one step of the machine.
 #[inline(always)]
 fn step<'t>(
     table: Table<'_>,
@@ -252,8 +252,7 @@ fn step<'t>(
     }
 }
 
-/// The place where the expression at that place of the table ends, read from there on, if it does not fail. It is refused
-/// only where memory is.
+/// Reads the expression at that index of the table. Returns the place where it ends, if it does not fail. Fails only if memory runs out.
 pub fn parse<'t>(
     alloc: Global,
     table: Table<'_>,

@@ -1,4 +1,4 @@
-//! A place among trees, and the unit that stands there.
+//! A place among trees, and the unit at that place.
 ghost use Rattle.std.specs.Coded.{Coded-set};
 ghost use Rattle.std.specs.Prelude.{◌≡◌, ◌+◌, ◌<◌, ◌≤◌, ◌^◌};
 ghost use Rattle.tt.specs.Forest.{size};
@@ -14,8 +14,7 @@ use crate::unit::Unit;
 use mbe_pattern::pass;
 use tt::TokenTreesView;
 
-/// A place among trees: those that are left, those behind the first of them, the unit that stands first, and how many were passed on
-/// the way.
+/// A place among trees: the trees that are left, those after the first of them, the first unit, and how many trees were passed.
 #[derive(Clone, Copy)]
 pub struct Place<'t> {
     rest: TokenTreesView<'t>,
@@ -37,7 +36,7 @@ impl<'t> Place<'t> {
     ghost use Rattle.mbe_grammar.specs.Positions.{first_position, behind, takes};
     ghost use Rattle.mbe_grammar.specs.Running.{answer_at};
 
-    // The place before these trees, where so many were passed.
+    // Returns the place before these trees, after that many passed ones.
     fn before(rest: TokenTreesView<'t>, passed: usize) -> Place<'t>
         requires fits { passed + size (trees_of rest) < 2 ^ 64 }
         ensures rest { trees_of result.rest ≡ trees_of rest.entry }
@@ -54,14 +53,14 @@ impl<'t> Place<'t> {
         }
     }
 
-    /// The place before all of these trees.
+    /// Returns the place before all of these trees.
     pub fn first(rest: TokenTreesView<'t>) -> Place<'t>
         ensures { position_of result ≡ first_position (trees_of rest.entry) }
     {
         Place::before(rest, 0)
     }
 
-    /// What the expression at that place of a table comes to here.
+    /// Returns what the expression at that index of a table does here.
     #[inline(always)]
     pub(crate) fn glance(&self, known: &[Known], at: usize) -> Glance
         ensures { result ≡ glance_at known.now at (position_of self.now) }
@@ -69,14 +68,14 @@ impl<'t> Place<'t> {
         look(known, at, self.kind)
     }
 
-    /// How many trees were passed.
+    /// Returns how many trees were passed.
     pub fn passed(self) -> usize
         ensures { result ≡ (position_of self.entry).passed }
     {
         self.passed
     }
 
-    // The place behind so many trees, one at least, of which none is missing.
+    // Returns the place after that many trees. There must be at least one, and none may be missing.
     fn moved(&self, count: usize) -> Place<'t>
         requires some { 0 < count }
         requires within { count + size (after_trees count (trees_of self.now.rest)) ≤ size (trees_of self.now.rest) }
@@ -87,7 +86,7 @@ impl<'t> Place<'t> {
         Place::before(trees.remaining(), self.passed + count)
     }
 
-    /// Takes the unit that stands first, if that passes the test; whether it does.
+    /// Takes the first unit if it passes the test. Returns whether it does.
     pub fn take(&mut self, test: Test) -> bool
         ensures { answer_at (position_of self.new) result ≡ takes test (position_of self.old) }
     {

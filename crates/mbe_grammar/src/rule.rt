@@ -1,4 +1,4 @@
-//! A table of parsing expressions: each names its parts by their places in the table.
+//! A table of parsing expressions. Each refers to its parts by their indices in the table.
 use crate::test::Test;
 
 /// One expression of a table.
@@ -8,23 +8,23 @@ pub enum Rule {
     Empty,
     /// Takes one unit that passes this test.
     Unit(Test),
-    /// Takes what the expression at another place takes.
+    /// Takes what the expression at another index takes.
     Name(usize),
-    /// Takes what the first takes, and then what the second takes.
+    /// Takes what the first part takes, and then what the second part takes.
     Sequence(usize, usize),
-    /// Takes what the first takes, and only where that fails what the second takes.
+    /// Takes what the first part takes; if the first part fails, what the second part takes.
     Choice(usize, usize),
-    /// Takes what the part takes as often as it can, maybe never.
+    /// Takes what the part takes as often as possible, maybe never.
     ZeroOrMore(usize),
-    /// Takes nothing, and only where the part fails.
+    /// Takes nothing; it succeeds only if the part fails.
     Not(usize),
 }
 
-/// What is noted of an expression: whether it may take nothing, and a rank above those of all that it reaches before it takes
-/// a unit.
+/// The mark of an expression: whether it may take nothing, and a rank. The rank is above the ranks of all
+/// that it reaches before it takes a unit.
 #[derive(Clone, Copy)]
 pub enum Mark {
-    /// It takes a unit at least, or fails.
+    /// It takes at least one unit, or fails.
     TakesSome(usize),
     /// It may take nothing.
     MayTakeNone(usize),

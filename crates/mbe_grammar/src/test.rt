@@ -6,16 +6,16 @@ ghost use Rattle.mbe_grammar.specs.Words.{is_reserved, is_path_segment, is_truth
 use crate::unit::Unit;
 use tt::{DelimiterKind, LitKind};
 
-/// What a unit has to be.
+/// What a unit must be.
 #[derive(Clone, Copy)]
 pub enum Test {
-    /// This one.
+    /// Exactly this unit.
     Is(Unit),
-    /// A punct, or puncts that stand as one, of which this is the first, which alone is taken.
+    /// A punct, or glued puncts that begin with it; only this first punct is taken.
     Front(char),
     /// An ident that is no keyword.
     Name,
-    /// An ident that a path may have: a name, `self`, `Self`, `super` or `crate`.
+    /// An ident that a path may contain: a name, `self`, `Self`, `super` or `crate`.
     PathSegment,
     /// `true` or `false`.
     TruthValue,
@@ -27,20 +27,20 @@ pub enum Test {
     Number,
     /// A subtree in parentheses, brackets or braces.
     Delimited,
-    /// A subtree without delimiters that are printed.
+    /// A subtree whose delimiters are not printed.
     Opaque,
     /// An operator between two operands.
     BinaryOperator,
     /// An operator that assigns.
     AssignmentOperator,
-    /// What an expression may begin with that is no block.
+    /// A unit that an expression other than a block may begin with.
     BeginsExpression,
 }
 
 // Operators between two operands.
 const BINARY_OPERATORS: [char; 10] = ['+', '-', '*', '/', '%', '^', '&', '|', '<', '>'];
 
-// Those of two puncts.
+// Operators of two puncts.
 const BINARY_OPERATORS_OF_TWO: [[char; 2]; 8] = [
     ['<', '<'],
     ['>', '>'],
@@ -52,7 +52,7 @@ const BINARY_OPERATORS_OF_TWO: [[char; 2]; 8] = [
     ['|', '|'],
 ];
 
-// What assigns in front of a `=`, and how it is said of two puncts.
+// Assignment operators of two puncts.
 const ASSIGNMENTS: [[char; 2]; 8] = [
     ['+', '='],
     ['-', '='],
@@ -64,13 +64,13 @@ const ASSIGNMENTS: [[char; 2]; 8] = [
     ['|', '='],
 ];
 
-// Those of three.
+// Assignment operators of three puncts.
 const ASSIGNMENTS_OF_THREE: [[char; 3]; 2] = [['<', '<', '='], ['>', '>', '=']];
 
 // Puncts that an expression begins with.
 const FIRST_PUNCTS: [char; 7] = ['!', '-', '*', '|', '&', '<', '#'];
 
-// Two that stand as one.
+// Two glued puncts that an expression begins with.
 const FIRST_TWO_PUNCTS: [[char; 2]; 5] = [
     ['|', '|'],
     ['&', '&'],
@@ -79,24 +79,24 @@ const FIRST_TWO_PUNCTS: [[char; 2]; 5] = [
     [':', ':'],
 ];
 
-// Three that do.
+// Three glued puncts that an expression begins with.
 const FIRST_THREE_PUNCTS: [[char; 3]; 2] = [['.', '.', '='], ['.', '.', '.']];
 
-// The literal is a text.
+// Returns whether the literal is a text.
 fn is_text_kind(kind: LitKind) -> bool
     ensures { result ≡ is_text_kind kind }
 {
     matches!(kind, LitKind::Str | LitKind::StrRaw(_))
 }
 
-// It is a number.
+// Returns whether the literal is a number.
 fn is_number_kind(kind: LitKind) -> bool
     ensures { result ≡ is_number_kind kind }
 {
     matches!(kind, LitKind::Integer | LitKind::Float)
 }
 
-// The subtree has no delimiters that are printed.
+// Returns whether the subtree's delimiters are not printed.
 fn is_opaque_kind(kind: DelimiterKind) -> bool
     ensures { result ≡ is_opaque_kind kind }
 {
@@ -107,7 +107,7 @@ fn is_opaque_kind(kind: DelimiterKind) -> bool
 }
 
 impl Unit {
-    // A punct, or puncts that stand as one, of which the first is this.
+    // Returns whether the unit is this punct, or glued puncts that begin with it.
     fn has_front(self, char: char) -> bool
         ensures { result ≡ has_front char self }
     {
@@ -119,7 +119,7 @@ impl Unit {
         }
     }
 
-    // An operator between two operands.
+    // Returns whether the unit is an operator between two operands.
     fn is_binary_operator(self) -> bool
         ensures { result ≡ is_binary_operator self }
     {
@@ -130,7 +130,7 @@ impl Unit {
         }
     }
 
-    // One that assigns.
+    // Returns whether the unit is an operator that assigns.
     fn is_assignment_operator(self) -> bool
         ensures { result ≡ is_assignment_operator self }
     {
@@ -142,7 +142,7 @@ impl Unit {
         }
     }
 
-    // Puncts that an expression begins with.
+    // Returns whether the unit is puncts that an expression begins with.
     fn are_first_puncts(self) -> bool
         ensures { result ≡ are_first_puncts self }
     {
@@ -154,7 +154,7 @@ impl Unit {
         }
     }
 
-    // An expression that is no block may begin with it.
+    // Returns whether an expression other than a block may begin with the unit.
     fn may_begin_expression(self) -> bool
         ensures { result ≡ may_begin_expression self }
     {
@@ -170,14 +170,14 @@ impl Unit {
 }
 
 impl Test {
-    /// Whether the unit passes it; at the end nothing does.
+    /// Returns whether the unit passes the test; the end passes none.
     pub fn passes(self, unit: Unit) -> bool
         ensures { result ≡ passes self unit }
     {
         !matches!(unit, Unit::End) && self.passes_test(unit)
     }
 
-    // Whether the unit, which is not the end, passes it.
+    // Returns whether the unit, which is not the end, passes the test.
     fn passes_test(self, unit: Unit) -> bool
         ensures { result ≡ passes_test self unit }
     {
@@ -199,7 +199,7 @@ impl Test {
         }
     }
 
-    /// How many trees are taken of a unit that passes it.
+    /// Returns how many trees are taken of a unit that passes the test.
     pub fn taken_size(self, unit: Unit) -> usize
         ensures { result ≡ taken_size self unit }
     {

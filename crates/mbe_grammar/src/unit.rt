@@ -1,4 +1,4 @@
-//! What stands first among trees, as a grammar sees it.
+//! The first unit of trees, as a grammar sees it.
 ghost use Rattle.std.specs.Prelude.{◌≡◌, Some};
 ghost use Rattle.tt.specs.Gluing.{first_punct};
 ghost use Rattle.tt.specs.Iters.{rest_of};
@@ -8,7 +8,7 @@ ghost use Rattle.mbe_grammar.specs.Units.{unit_of_puncts, is_at_lifetime, punct_
 use crate::words::Word;
 use tt::{DelimiterKind, Leaf, LitKind, Punct, Spacing, TtElement, TtIter};
 
-/// What stands first among trees.
+/// The first unit of trees.
 #[derive(Clone, Copy, PartialEq, Eq)]
 pub enum Unit {
     /// No tree is left.
@@ -19,17 +19,17 @@ pub enum Unit {
     Lifetime,
     /// A literal.
     Literal(LitKind),
-    /// A punct that stands alone.
+    /// A punct that is glued to no other.
     Punct(char),
-    /// Two that stand as one.
+    /// Two glued puncts.
     TwoPuncts(char, char),
-    /// Three that stand as one.
+    /// Three glued puncts.
     ThreePuncts(char, char, char),
-    /// A subtree, which is not looked into.
+    /// A subtree; its inside is not read.
     Subtree(DelimiterKind),
 }
 
-// The unit of puncts that stand as one.
+// Returns the unit of glued puncts.
 fn unit_of_puncts(puncts: &[Punct]) -> Unit
     ensures { result ≡ unit_of_puncts puncts.now }
 {
@@ -41,14 +41,14 @@ fn unit_of_puncts(puncts: &[Punct]) -> Unit
     }
 }
 
-// A `'` and an ident stand first.
+// Returns whether a `'` and an ident come first.
 fn is_at_lifetime(mut trees: TtIter<'_>) -> bool
     ensures { result ≡ is_at_lifetime (rest_of trees.entry) }
 {
     trees.expect_char('\'').is_ok() && trees.expect_ident_or_underscore().is_ok()
 }
 
-// The unit that a punct begins, which stands first.
+// Returns the first unit, which begins with this punct.
 fn punct_unit(first: &Punct, mut trees: TtIter<'_>) -> Unit
     requires { first_punct (rest_of trees) ≡ Some first.now }
     ensures { result ≡ punct_unit (rest_of trees.entry) }
@@ -66,7 +66,7 @@ fn punct_unit(first: &Punct, mut trees: TtIter<'_>) -> Unit
 }
 
 impl Unit {
-    /// Takes the first tree: what stands first, of which that tree is the first.
+    /// Takes the first tree. Returns the unit that it begins.
     pub fn take(trees: &mut TtIter<'_>) -> Unit
         ensures unit { result ≡ first_unit (rest_of trees.old) }
         ensures rest { rest_of trees.new ≡ after_tree (rest_of trees.old) }
@@ -81,7 +81,7 @@ impl Unit {
         }
     }
 
-    /// How many trees it is; 1 at the end.
+    /// Returns how many trees the unit has; 1 at the end.
     pub fn size(self) -> usize
         ensures { result ≡ size_of_unit self }
     {

@@ -7,7 +7,7 @@ use tt::{Ident, IdentIsRaw};
 /// What an ident is to the grammar.
 #[derive(Clone, Copy, PartialEq, Eq)]
 pub enum Word {
-    /// None of the others: a name.
+    /// A name: none of the other words.
     Name,
     /// Reserved for a later edition.
     Reserved,
@@ -116,7 +116,7 @@ pub enum Word {
 }
 
 impl Word {
-    // The word of one letter.
+    // Returns the word of one letter.
     fn of_one(text: &str) -> Word
         ensures { result ≡ word_of_one text.now }
     {
@@ -126,7 +126,7 @@ impl Word {
         }
     }
 
-    // The word of two letters.
+    // Returns the word of two letters.
     fn of_two(text: &str) -> Word
         ensures { result ≡ word_of_two text.now }
     {
@@ -140,7 +140,7 @@ impl Word {
         }
     }
 
-    // The word of three letters.
+    // Returns the word of three letters.
     fn of_three(text: &str) -> Word
         ensures { result ≡ word_of_three text.now }
     {
@@ -161,7 +161,7 @@ impl Word {
         }
     }
 
-    // The word of four letters.
+    // Returns the word of four letters.
     fn of_four(text: &str) -> Word
         ensures { result ≡ word_of_four text.now }
     {
@@ -182,7 +182,7 @@ impl Word {
         }
     }
 
-    // The word of five letters.
+    // Returns the word of five letters.
     fn of_five(text: &str) -> Word
         ensures { result ≡ word_of_five text.now }
     {
@@ -206,7 +206,7 @@ impl Word {
         }
     }
 
-    // The word of six letters.
+    // Returns the word of six letters.
     fn of_six(text: &str) -> Word
         ensures { result ≡ word_of_six text.now }
     {
@@ -222,7 +222,7 @@ impl Word {
         }
     }
 
-    // The word of seven letters or more.
+    // Returns the word of seven letters or more.
     fn of_more(text: &str) -> Word
         ensures { result ≡ word_of_more text.now }
     {
@@ -238,7 +238,7 @@ impl Word {
         }
     }
 
-    // The word of that text.
+    // Returns the word of that text.
     fn named(text: &str) -> Word
         ensures { result ≡ word_named text.now }
     {
@@ -254,7 +254,7 @@ impl Word {
         }
     }
 
-    /// The word that an ident is: behind `r#` it is a name.
+    /// Returns the word that an ident is; after `r#` it is a name.
     pub(crate) fn of(ident: &Ident) -> Word
         ensures { result ≡ word_of ident.now }
     {
@@ -264,7 +264,7 @@ impl Word {
         }
     }
 
-    /// Whether no name may be spelled so.
+    /// Returns whether no name may be spelled like this word.
     pub(crate) fn is_reserved(self) -> bool
         ensures { result ≡ is_reserved self }
     {
@@ -280,7 +280,7 @@ impl Word {
         )
     }
 
-    /// Whether a path may have it: a name, `self`, `Self`, `super` or `crate`.
+    /// Returns whether a path may contain the word: a name, `self`, `Self`, `super` or `crate`.
     pub(crate) fn is_path_segment(self) -> bool
         ensures { result ≡ is_path_segment self }
     {
@@ -291,21 +291,21 @@ impl Word {
             )
     }
 
-    /// `true` or `false`.
+    /// Returns whether the word is `true` or `false`.
     pub(crate) fn is_truth_value(self) -> bool
         ensures { result ≡ is_truth_value self }
     {
         matches!(self, Word::True | Word::False)
     }
 
-    /// Whether an expression may begin with it.
+    /// Returns whether an expression may begin with the word.
     pub(crate) fn begins_expression(self) -> bool
         ensures { result ≡ begins_expression self }
     {
         self.is_path_segment() || self.is_truth_value() || self.is_first_keyword()
     }
 
-    // A keyword that an expression begins with.
+    // Returns whether the word is a keyword that an expression begins with.
     fn is_first_keyword(self) -> bool
         ensures { result ≡ is_first_keyword self }
     {

@@ -1,4 +1,4 @@
--- What rounds bind, and so what a whole reading does.
+-- What rounds bind, and so what a whole reading binds.
 use Rattle.std.proofs.Common.{◌≡◌, inl, inr, ◌+◌, ◌<◌, ◌≤◌, ◌∙◌, ℕ, suc, true, List, [], ◌∷◌, ◌++◌, map, length, refl, ap, ap₂, sym, subst, arith, cond}
 use Rattle.std.proofs.lemmas.Bool.Decides.{nat_tests}
 use Rattle.std.proofs.Math.Seq.{take-length}
@@ -56,7 +56,7 @@ variables_are (repetition inner separator op others) behind =
     (of_held number (variables_of inner (suc number)) (variables_in inner) (variables_are inner (suc number))) (variables_are others behind)
 
 module _ (number hi : ℕ) where
-  -- the notes of rounds bind to the variable a list of what each does, and just that list
+  -- the notes of rounds bind to the variable the list of what each round binds, and exactly that list
   pub record IsListed (it : Where) (notes : List Note) (named : Named) : Type 0 where
     pub its : List Bound
     pub variable : it.variable ≡ named.variable
@@ -72,7 +72,7 @@ module _ (number hi : ℕ) where
   AreListed (it ∷ its) notes [] = ⊥
   AreListed (it ∷ its) notes (named ∷ others) = IsListed it notes named × AreListed its notes others
 
-  -- A note of the repetition itself says nothing of what stands in it.
+  -- A note of the repetition itself says nothing about the variables in it.
   lacks_own : (it : Where) (note : Note) → (suc number ≤ it.number) × (it.number < hi) × NestFrom (suc number) hi it.nest → AreFrom number (suc number) (note ∷ [])
       → LacksAll it.nest it.number (note ∷ [])
   lacks_own it note from are = lacks_all (suc number) hi number (suc number) (inr (omega arith)) it.nest it.number (note ∷ []) from.2 from.0 from.1 are
@@ -83,7 +83,7 @@ module _ (number hi : ℕ) where
   ended_own : AreFrom number (suc number) (ended number ∷ [])
   ended_own = ((omega arith, omega arith), tt)
 
-  -- Where there is no further round.
+  -- If there is no further round.
   over_listed : (its : List Where) (those : List Variable) → AreOf its those → VariablesFrom (suc number) hi its → AreListed its (ended number ∷ []) (map unbound those)
   over_listed [] [] x from = tt
   over_listed [] (other ∷ those) x from = absurd x
@@ -102,7 +102,7 @@ module _ (number hi : ℕ) where
         over_listed its those x.1 from.1,
       )
 
-  -- Where there is one.
+  -- If there is one.
   round_listed : (its : List Where) (notes others : List Note) (a b : Binding) → Lacks number notes → VariablesFrom (suc number) hi its → AllAgree its notes a → AreListed its others b
       → AreListed its (begun number ∷ (notes ++ others)) (joined a b)
   round_listed [] notes others [] b lacks from x y = tt
@@ -137,7 +137,7 @@ module _ (number hi : ℕ) where
         round_listed its notes others a b lacks from.1 x.1 y.1,
       )
 
-  -- So what stands in the repetition is bound to its lists.
+  -- So a variable in the repetition is bound to its lists.
   held_agree : (its : List Where) (notes : List Note) (a : Binding) → AreListed its notes a → AllAgree (map (held_in number) its) notes a
   held_agree [] notes [] x = tt
   held_agree [] notes (named ∷ a) x = absurd x
@@ -179,7 +179,7 @@ module _ (number hi : ℕ) where
         round_listed its (One this) (rounds_only number One others) (binds this) (of_rounds those binds others) (lacks this) from (agree input this rest takes) (others_listed others rest are)
     rounds_listed (over more) input are = over_listed its those are_of from
 
--- So it is for all patterns.
+-- The same for all patterns.
 pub all_agree : (pattern : Pattern) (behind : ℕ) (input : Forest) (reading : Reading) (rest : Forest) → Takes pattern input reading rest
     → AllAgree (variables_of pattern behind) (notes_before pattern behind reading []) (binding_of pattern reading)
 all_agree nothing behind input reading rest takes = tt
@@ -248,7 +248,7 @@ all_agree (repetition inner separator op others) behind input reading rest are =
     (agree_behind behind number number most (inl (omega arith)) low R R_from (variables_of others behind) (binding_of others (behind_rounds reading)) (variables_from others behind)
     (all_agree others behind further.0 (behind_rounds reading) rest further.1)))
 
--- What agrees is what is bound.
+-- If they agree, it is what is bound.
 bound_as : (its : List Where) (notes : List Note) (a : Binding) → AllAgree its notes a → binding_by its notes ≡ a
 bound_as [] notes [] x = refl
 bound_as [] notes (named ∷ a) x = absurd x
@@ -257,7 +257,7 @@ bound_as (it ∷ its) notes (named ∷ a) x =
     ap₂ (λ (n : Named) (others : Binding). n ∷ others)
     (ap₂ (λ (v : Variable) (b : Bound). record { variable = v; bound = b }) x.0.variable (ap first_bound x.0.bounds)) (bound_as its notes a x.1)
 
--- The notes of a reading bind what it does.
+-- The notes of a reading bind what the reading binds.
 pub binds : (pattern : Pattern) (input : Forest) (reading : Reading) → IsInstance pattern input reading
     → binding_by (variables_of pattern 1) (notes_of pattern reading) ≡ binding_of pattern reading
 binds pattern input reading is = bound_as (variables_of pattern 1) (notes_of pattern reading) (binding_of pattern reading) (all_agree pattern 1 input reading end is)

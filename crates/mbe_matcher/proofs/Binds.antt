@@ -16,7 +16,7 @@ use Rattle.mbe_pattern.specs.Patterns.{Pattern, nothing, variable, token, subtre
 use Rattle.mbe_matcher.specs.Readings.{Reading, done, took, held, round, over, trees_taken, inside_of, more_of, Takes, AreRounds, AreOtherRounds}
 use Rattle.mbe_matcher.proofs.GroupSteps.{number_of, Lacks, LacksAll, IsWhole, whole-append, whole-lacks, bounds_behind_others, bounds_before_others}
 
--- each number is between these
+-- each number is between these bounds
 abbrev pub AreFrom : (lo hi : ℕ) → List Note → Type 0
 AreFrom lo hi [] = Unit {0}
 AreFrom lo hi (it ∷ others) = ((lo ≤ number_of it) × (number_of it < hi)) × AreFrom lo hi others
@@ -29,7 +29,7 @@ abbrev pub VariablesFrom : (lo hi : ℕ) → List Where → Type 0
 VariablesFrom lo hi [] = Unit {0}
 VariablesFrom lo hi (it ∷ others) = ((lo ≤ it.number) × (it.number < hi) × NestFrom lo hi it.nest) × VariablesFrom lo hi others
 
--- What is between some is between others that are farther apart.
+-- What is between some bounds is between wider bounds.
 nest_wider : (lo hi least most : ℕ) (nest : List ℕ) → least ≤ lo → hi ≤ most → NestFrom lo hi nest → NestFrom least most nest
 nest_wider lo hi least most [] l h are = tt
 nest_wider lo hi least most (it ∷ others) l h are = ((omega (arith, are.0.0, l), omega (arith, are.0.1, h)), nest_wider lo hi least most others l h are.1)
@@ -55,7 +55,7 @@ pub held_from : (lo hi r : ℕ) (its : List Where) → lo ≤ r → r < hi → V
 held_from lo hi r [] l h are = tt
 held_from lo hi r (it ∷ its) l h are = ((are.0.0, are.0.1, ((l, h), are.0.2)), held_from lo hi r its l h are.1)
 
--- The numbers of a pattern's parts are those of its steps.
+-- The numbers of a pattern's parts are the numbers of its steps.
 pub variables_from : (pattern : Pattern) (behind : ℕ) → VariablesFrom behind (step_count pattern + behind) (variables_of pattern behind)
 variables_from nothing behind = tt
 variables_from (variable it others) behind =
@@ -76,7 +76,7 @@ variables_from (repetition inner separator op others) behind =
     (variables_wider (suc number) (step_count inner + suc number) behind most (variables_of inner (suc number)) (omega arith) (omega arith) (variables_from inner (suc number))))
     (variables_wider behind (step_count others + behind) behind most (variables_of others behind) (omega arith) (omega arith) (variables_from others behind))
 
--- What rounds note, without what is behind them.
+-- What rounds note, without what follows them.
 abbrev pub rounds_only : (number : ℕ) → (One : Reading → List Note) → Reading → List Note
 rounds_only number One done = []
 rounds_only number One (took trees more) = []
@@ -92,7 +92,7 @@ rounds_from lo hi number One l h ones (round this others) =
     ((l, h), notes_both lo hi (One this) (rounds_only number One others) (ones this) (rounds_from lo hi number One l h ones others))
 rounds_from lo hi number One l h ones (over more) = ((l, h), tt)
 
--- The notes of rounds, and then those behind them.
+-- The notes of rounds, and then the notes after them.
 module _ (number : ℕ) (One : Reading → List Note → List Note) (Behind : Reading → List Note) (op : RepeatKind) (separator : List Leaf) (Takes_one : Forest → Reading → Forest → Type 0)
     (Takes_behind : Forest → Reading → Type 0) (split : (input : Forest) (this : Reading) (rest : Forest) (left : List Note) → Takes_one input this rest → One this left ≡ One this [] ++ left) where
   abbrev rounds_of : Reading → List Note
@@ -122,7 +122,7 @@ module _ (number : ℕ) (One : Reading → List Note → List Note) (Behind : Re
       ∙ sym (append_assoc (One this []) (rounds_of others) (Behind (behind_rounds others))))
   rounds_split (over more) input are = refl
 
--- The parts behind rounds take what they take.
+-- The parts after rounds take what they take.
 module _ (op : RepeatKind) (separator : List Leaf) (Takes_one : Forest → Reading → Forest → Type 0) (Takes_behind : Forest → Reading → Type 0) where
   behind_others : (reading : Reading) (input : Forest) → AreOtherRounds op separator Takes_one Takes_behind input reading → (from : Forest) × Takes_behind from (behind_rounds reading)
   behind_others done input are = absurd are
@@ -138,7 +138,7 @@ module _ (op : RepeatKind) (separator : List Leaf) (Takes_one : Forest → Readi
   behind_all (round this others) input (rest, takes, are) = behind_others others rest are
   behind_all (over more) input are = (input, are.1)
 
--- The notes of a reading stand before the others.
+-- The notes of a reading precede the others.
 pub notes_split : (pattern : Pattern) (behind : ℕ) (input : Forest) (reading : Reading) (rest : Forest) (left : List Note) → Takes pattern input reading rest
     → notes_before pattern behind reading left ≡ notes_before pattern behind reading [] ++ left
 notes_split nothing behind input reading rest left takes = refl
@@ -165,7 +165,7 @@ notes_split (repetition inner separator op others) behind input reading rest lef
     ∙ sym (append_assoc R (notes_before others behind (behind_rounds reading) []) left)
     ∙ ap (λ l. l ++ left) (sym (rounds_split number One (λ more. notes_before others behind more []) op separator (Takes inner) (λ trees more. Takes others trees more rest) split reading input are))
 
--- Their numbers are those of the pattern's steps.
+-- Their numbers are the numbers of the pattern's steps.
 pub notes_from : (pattern : Pattern) (behind lo hi : ℕ) (reading : Reading) (left : List Note) → lo ≤ behind → step_count pattern + behind ≤ hi → AreFrom lo hi left
     → AreFrom lo hi (notes_before pattern behind reading left)
 notes_from nothing behind lo hi reading left l h are = are
@@ -194,7 +194,7 @@ notes_from (repetition inner separator op others) behind lo hi reading left l h 
     )
     by in_round further (over more) = ((omega (arith, l), omega (arith, h)), further more)
 
--- Numbers that lie apart differ.
+-- Numbers from separate ranges differ.
 pub differ : (n k : ℕ) → (n < k) ⊎ (k < n) → nat_eq n k ≡ false
 differ n k (inl lt) = grind (arith, nat_tests, lt)
 differ n k (inr gt) = grind (arith, nat_tests, gt)
@@ -215,7 +215,7 @@ module _ (lo hi least most : ℕ) (apart : (hi ≤ least) ⊎ (most ≤ lo)) whe
   lacks_all [] number notes nested l h are = lacks_apart number notes l h are
   lacks_all (it ∷ nest) number notes nested l h are = (lacks_apart it notes nested.0.0 nested.0.1 are, lacks_all nest number notes nested.1 l h are)
 
--- the notes bind to the variable just what it is named with
+-- the notes bind to the variable exactly what it is named with
 pub record Agrees (it : Where) (notes : List Note) (named : Named) : Type 0 where
   pub variable : it.variable ≡ named.variable
   pub bounds : bounds_by it.nest it.number notes ≡ named.bound ∷ []
@@ -249,7 +249,7 @@ module _ (lo hi least most : ℕ) (apart : (hi ≤ least) ⊎ (most ≤ lo)) (no
         agree_behind its a from.1 x.1,
       )
 
-  -- Nor do those behind them.
+  -- Notes of other numbers after them change nothing either.
   pub agree_before : (its : List Where) (a : Binding) → VariablesFrom lo hi its → AllAgree its notes a → AllAgree its (notes ++ foreign) a
   agree_before [] [] from x = tt
   agree_before [] (named ∷ a) from x = absurd x

@@ -1,4 +1,4 @@
--- The places of a pattern lead on just where the pattern takes trees.
+-- The places of a pattern lead on exactly if the pattern takes trees.
 use Rattle.std.proofs.Common.{◌≡◌, ◌+◌, ℕ, suc, true, false, List, [], ◌∷◌, ◌++◌, length, refl, ap, sym, subst, arith, length-append}
 use Rattle.std.specs.Prelude.{Option}
 use Rattle.tt.specs.Forest.{Forest, end}
@@ -19,7 +19,7 @@ use Rattle.mbe_matcher.specs.Places.{Goes}
 use Rattle.mbe_matcher.specs.Readings.{Reading, done, took, held, round, over, inside_of, more_of, Takes, AreRounds, AreOtherRounds, Separates}
 use Rattle.mbe_matcher.proofs.Via.{Via, stand_left, stand_right, via_left, via_right, goes_by}
 
--- So many places a pattern has.
+-- How many places a pattern has.
 pub length-separator : (separator : List Leaf) (behind : List ℕ) → length (separator_stops separator behind) ≡ separator_count separator
 length-separator [] behind = refl
 length-separator (it ∷ others) behind = refl
@@ -47,7 +47,7 @@ length-stops at (repetition inner separator op others) behind =
       length-stops (at + place_count inner + separator_count separator) others behind,
     )
 
--- A pattern that takes a tree at least begins where it does, whatever is behind.
+-- A pattern that takes at least one tree begins at the same places, whatever follows.
 pub entries_full : (at : ℕ) (pattern : Pattern) (behind : List ℕ) → may_be_empty pattern ≡ false → IsFull pattern → entries at pattern behind ≡ entries at pattern []
 entries_full at nothing behind full all = absurd (cc full)
 entries_full at (variable it others) behind full all = refl
@@ -59,7 +59,7 @@ entries_full at (repetition inner separator repeat.ZeroOrMore others) behind ful
 entries_full at (repetition inner separator repeat.ZeroOrOne others) behind full all =
     ap (λ l. entries at inner [] ++ l) (entries_full (at + place_count inner + separator_count separator) others behind full all.2)
 
--- Where a pattern stands its parts do.
+-- The places of a pattern include the places of its parts.
 module _ (places : List Place) (at : ℕ) (inner others : Pattern) (behind : List ℕ) where
   module _ (kind : DelimiterKind) (stand : Stand places at (stops at (subtree kind inner others) behind)) where
     pub stand_inside : Stand places (suc at) (stops (suc at) inner ((suc at + place_count inner) ∷ []))
@@ -111,7 +111,7 @@ module _ (places : List Place) (Last : Option Place → List Forest → Type 0) 
       → Via places Last (entries at pattern behind) levels path → Via places Last (entries at pattern []) levels path
   entries_via at pattern behind levels path full all via = subst (λ e. Via places Last e levels path) (entries_full at pattern behind full all) via
 
-  -- Behind a round another is come to.
+  -- A round leads to another round.
   module _ (at : ℕ) (inner : Pattern) (outer : List Forest) where
     pub again_via : (separator : List Leaf) (op : RepeatKind) (input rest : Forest) (path : List ℕ)
         → Stand places (at + place_count inner) (separator_stops separator (entries at inner []))
@@ -125,7 +125,7 @@ module _ (places : List Place) (Last : Option Place → List Forest → Type 0) 
     again_via (it ∷ others) repeat.OneOrMore input rest path stands more separates via =
         from_separator (at + place_count inner) it others (entries at inner []) input rest outer path stands separates via
 
-  -- What a pattern takes is read by its places.
+  -- The places of a pattern read what it takes.
   module _ (at : ℕ) (inner : Pattern) (separator : List Leaf) (op : RepeatKind) (over_edges : List ℕ) (Behind : Forest → Reading → Type 0) (behind_path : Reading → List ℕ)
       (outer : List Forest) (full : may_be_empty inner ≡ false) (all : IsFull inner)
       (stand : Stand places (at + place_count inner) (separator_stops separator (entries at inner [])))
@@ -163,7 +163,7 @@ module _ (places : List Place) (Last : Option Place → List Forest → Type 0) 
     first_via this others input rest takes rounds =
         one_on input this rest (path_of_others separator (length (again at inner separator op)) (path_of at inner) behind_path others) takes (others_via others rest rounds)
 
-  -- Rounds and what is behind them are read.
+  -- The places read rounds and what follows them.
   rounds_via : (at : ℕ) (inner : Pattern) (separator : List Leaf) (op : RepeatKind) (others : Pattern) (behind : List ℕ) (Behind : Forest → Reading → Type 0) (behind_path : Reading → List ℕ)
       (outer : List Forest) (full : may_be_empty inner ≡ false) (all : IsFull inner)
       (stand : Stand places (at + place_count inner) (separator_stops separator (entries at inner [])))

@@ -17,7 +17,7 @@ use Rattle.mbe_matcher.specs.Pieces.{place, begin, close, bits_of}
 abbrev level : Pattern → Option Tail → List ℕ → Bool → LevelLeft
 level rest closing so_far is_open = record { rest = rest; closing = closing; entries = so_far; is_open = is_open }
 
--- Where it may begin, with a part that has to be there.
+-- Where it may begin, with a required part.
 entries_marked : (at next : ℕ) (others : Pattern) (so_far : List ℕ) (is_open : Bool) → gained is_open so_far (at ∷ []) ≡ entries_with next others (gained is_open so_far (at ∷ [])) false
 entries_marked at next others so_far true = refl
 entries_marked at next others so_far false = refl
@@ -48,7 +48,7 @@ module _ (at : ℕ) (others : Pattern) (closing : Option Tail) (so_far : List �
       let next : at + suc (place_count others) ≡ suc at + place_count others = omega arith in
       ap₂ (λ n e. place at (ask.same its) ∷ bits_of (suc at) others (bits_behind n closing e outer)) next (token_entries its is_open)
 
-  -- A subtree is a place, and a level more.
+  -- A subtree is a place and one more level.
   pub left_subtree : (kind : DelimiterKind) (inner : Pattern) → bits_left at (level (subtree kind inner others) closing so_far is_open ∷ outer)
       ≡ place at (ask.enter kind) ∷ bits_left (suc at) (fresh_level inner None ∷ marked at (level others closing so_far is_open) ∷ outer)
   left_subtree kind inner =
@@ -57,7 +57,7 @@ module _ (at : ℕ) (others : Pattern) (closing : Option Tail) (so_far : List �
       ap₂ (λ n e. place at (ask.enter kind) ∷ bits_of (suc at) inner (place leave ask.leave ∷ bits_of (suc leave) others (bits_behind n closing e outer))) next
       (subtree_entries kind inner is_open)
 
-  -- A repetition begins, and is a level more.
+  -- A repetition begins, and is one more level.
   rounds_entries : (inner : Pattern) (separator : List Leaf) (op : RepeatKind) (b : Bool)
       → entries_with at (repetition inner separator op others) so_far b
       ≡ entries_with (at + place_count inner + separator_count separator) others (gained b so_far (entries at inner [])) (b && may_be_none op)

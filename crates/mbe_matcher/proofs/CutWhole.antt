@@ -22,7 +22,7 @@ parts (token its others) = suc (parts others)
 parts (subtree kind inner others) = suc (parts inner + parts others)
 parts (repetition inner separator op others) = suc (parts inner + parts others)
 
--- how much is to be read of levels
+-- how much of the levels is still to be read
 abbrev pub work_of : List LevelLeft → ℕ
 work_of [] = 0
 work_of (level ∷ outer) = suc (2 * parts level.rest + work_of outer)
@@ -31,7 +31,7 @@ work_of (level ∷ outer) = suc (2 * parts level.rest + work_of outer)
 abbrev level_of : Pattern → Option Tail → List ℕ → Bool → LevelLeft
 level_of rest closing so_far is_open = record { rest = rest; closing = closing; entries = so_far; is_open = is_open }
 
--- At its end it may begin where it did so far.
+-- At the end of a level, the entries are those found so far.
 entries_end : (at : ℕ) (so_far : List ℕ) (is_open : Bool) → entries_with at nothing so_far is_open ≡ so_far
 entries_end at so_far true = append-nil so_far
 entries_end at so_far false = refl
@@ -62,7 +62,7 @@ module _ (whole others : Pattern) (at : ℕ) (level : LevelLeft) (outer : List L
   rest_is : (rest : Pattern) → whole ≡ rest → bits_left at (with_rest level whole ∷ outer) ≡ bits_left at (with_rest level rest ∷ outer)
   rest_is rest is = ap (λ p. bits_left at (with_rest level p ∷ outer)) is
 
-  -- The pieces of a part, and what is left behind it, are what was left before.
+  -- The pieces of a part, and what is left after it, are what was left before.
   pub left_step : (found : Part) → IsPart whole found others
       → (stepped found at (with_rest level others) outer).bits ++ bits_left (stepped found at (with_rest level others) outer).count (stepped found at (with_rest level others) outer).levels
       ≡ bits_left at (with_rest level whole ∷ outer)
@@ -75,7 +75,7 @@ module _ (whole others : Pattern) (at : ℕ) (level : LevelLeft) (outer : List L
       sym (rest_is (repetition (pattern_of (rest_of inner)) tail.separator.items tail.kind others) is
       ∙ left_repetition at others level.closing level.entries level.is_open outer (pattern_of (rest_of inner)) tail)
 
-  -- Less is to be read behind a part.
+  -- Less is left to read after a part.
   pub less_step : (found : Part) → IsPart whole found others → work_of (stepped found at (with_rest level others) outer).levels < work_of (with_rest level whole ∷ outer)
   less_step part.End is = omega (arith, less_end at level.entries level.closing outer, ap parts is)
   less_step (part.Variable it) is = omega (arith, ap parts is)
@@ -93,7 +93,7 @@ cut_none pattern =
     let same : 0 + place_count pattern ≡ place_count pattern = omega arith in
     record { whole = ap (λ n. bits_of 0 pattern (place n ask.leave ∷ [])) same }
 
--- A part more is cut.
+-- One more part is cut.
 pub cut_more : (pattern whole others : Pattern) (bits : List Bit) (at : ℕ) (level : LevelLeft) (outer : List LevelLeft) (found : Part) → IsPart whole found others
     → Cut pattern bits at (with_rest level whole ∷ outer)
     → Cut pattern (bits ++ (stepped found at (with_rest level others) outer).bits) (stepped found at (with_rest level others) outer).count (stepped found at (with_rest level others) outer).levels
@@ -101,13 +101,13 @@ cut_more pattern whole others bits at level outer found is it =
     let step = stepped found at (with_rest level others) outer in
     record { whole = append_assoc bits step.bits (bits_left step.count step.levels) ∙ ap (λ l. bits ++ l) (left_step whole others at level outer found is) ∙ it.whole }
 
--- So it stays where bits, count and levels are the same.
+-- The same if bits, count and levels are the same.
 pub cut_same : (pattern : Pattern) (bits new_bits : List Bit) (count new_count : ℕ) (levels new_levels : List LevelLeft)
     → new_bits ≡ bits → new_count ≡ count → new_levels ≡ levels → Cut pattern bits count levels → Cut pattern new_bits new_count new_levels
 cut_same pattern bits new_bits count new_count levels new_levels same_bits same_count same_levels it =
     subst (Cut pattern new_bits new_count) (sym same_levels)
     (subst (λ n. Cut pattern new_bits n levels) (sym same_count) (subst (λ b. Cut pattern b count levels) (sym same_bits) it))
 
--- When nothing is left all is cut.
+-- When nothing is left, everything is cut.
 pub cut_whole : (pattern : Pattern) (bits : List Bit) (count : ℕ) → Cut pattern bits count [] → bits ≡ all_bits pattern
 cut_whole pattern bits count it = sym (append-nil bits) ∙ it.whole

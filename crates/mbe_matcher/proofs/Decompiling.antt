@@ -1,4 +1,4 @@
--- Each path through the places of a pattern is that of a reading, or ends in the pattern.
+-- Each path through the places of a pattern is the path of a reading, or ends in the pattern.
 use Rattle.std.proofs.Common.{◌≡◌, inl, inr, ◌+◌, ℕ, suc, List, [], ◌∷◌, ◌++◌, length, refl, ap, subst, ◌∙◌, arith}
 use Rattle.std.specs.Prelude.{◌⊎◌, Option}
 use Rattle.tt.specs.Forest.{Forest, end}
@@ -28,7 +28,7 @@ module _ (places : List Place) (Last : Option Place → List Forest → Type 0) 
   abbrev pub Found : (at : ℕ) (pattern : Pattern) (behind : List ℕ) (outer : List Forest) (input : Forest) (path : List ℕ) → Type 0
   Found at pattern behind outer input path = Read places Last at pattern behind outer input path ⊎ Halts places Last (TakesUpTo pattern input (left_in outer))
 
-  -- Each path that leads on from a pattern is one of both.
+  -- Each path that leads on from a pattern does one or the other.
   pub to_reading : (at : ℕ) (pattern : Pattern) (behind : List ℕ) (outer : List Forest) (input : Forest) (path : List ℕ)
       → IsFull pattern → Stand places at (stops at pattern behind) → Via places Last (entries at pattern behind) (input ∷ outer) path → Found at pattern behind outer input path
   to_reading at nothing behind outer input path full stand via =

@@ -1,4 +1,4 @@
--- Each path through the places of a repetition is that of its rounds, or ends in one.
+-- Each path through the places of a repetition is the path of its rounds, or ends in one.
 use Rattle.std.proofs.Common.{◌≡◌, inl, inr, ◌+◌, ◌<◌, ◌≤◌, ℕ, suc, zero, Bool, true, false, List, [], ◌∷◌, ◌++◌, length, refl, ap, sym, subst, ◌∙◌, arith}
 use Rattle.std.specs.Prelude.{◌⊎◌, ◌||◌, ◌&&◌, Option, slice_get}
 use Rattle.tt.specs.Forest.{Forest, end, size}
@@ -18,7 +18,7 @@ use Rattle.mbe_matcher.proofs.Compiling.{entries_full}
 use Rattle.mbe_matcher.proofs.Fronts.{front_here}
 use Rattle.mbe_matcher.proofs.Via.{Via, via_split, via_none, via_one, comes_by, ended_by}
 
--- A path is as long as however late its first turn is.
+-- Shifting the first turn does not change the length of a path.
 length-shift : (n : ℕ) (path : List ℕ) → length (shift n path) ≡ length path
 length-shift n [] = refl
 length-shift n (turn ∷ more) = refl
@@ -35,7 +35,7 @@ module _ (places : List Place) (Last : Option Place → List Forest → Type 0) 
     pub shorter : length tail ≤ length path
     pub less : may_be_empty pattern ≡ false → length tail < length path
 
-  -- where a path ends that does not lead through all, so that this holds of how many tokens are left
+  -- where a path ends that does not lead through everything; this holds of how many tokens are left
   pub record Halts (Comes : (left : ℕ) → Type 0) : Type 0 where
     pub place : Option Place
     pub levels : List Forest
@@ -43,12 +43,12 @@ module _ (places : List Place) (Last : Option Place → List Forest → Type 0) 
     pub sooner : Ends place levels → ⊥
     pub comes : Comes (left_in levels)
 
-  -- What follows holds too.
+  -- Whatever follows from it holds too.
   pub halts_with : (Comes Further : (left : ℕ) → Type 0) → ((left : ℕ) → Comes left → Further left) → Halts Comes → Halts Further
   halts_with Comes Further by halts =
       record { place = halts.place; levels = halts.levels; last = halts.last; sooner = halts.sooner; comes = by (left_in halts.levels) halts.comes }
 
-  -- A path that ends at a place ends before all is done, where that is not the end of all.
+  -- A path that ends at a place ends early if the place is not the end of everything.
   pub halts_at : (at : ℕ) (levels : List Forest) (stop : Stop) → IsStop (slice_get places at) stop → (is_leave stop.asked ≡ true → levels ≡ end ∷ [] → ⊥)
       → Last (slice_get places at) levels → (Comes : (left : ℕ) → Type 0) → Comes (left_in levels) → Halts Comes
   halts_at at levels stop stands never last Comes comes =
@@ -119,20 +119,20 @@ module _ (places : List Place) (Last : Option Place → List Forest → Type 0) 
         through it separator repeat.OneOrMore input path refl stand (via_one places Last (input ∷ outer) (at + place_count inner) path via)
 
     module _ (separator : List Leaf) (op : RepeatKind) where
-      -- where what is behind the rounds begins, and where it is gone on behind a round
+      -- where what follows the rounds begins, and where the input continues after a round
       abbrev over_edges : List ℕ
       over_edges = entries (at + place_count inner + separator_count separator) others behind
 
       abbrev next_edges : List ℕ
       next_edges = again at inner separator op ++ over_edges
 
-      -- where rounds behind a round come up to
+      -- how far the rounds after a round come
       abbrev OthersUpTo : Forest → (left : ℕ) → Type 0
       OthersUpTo input left =
           (n : ℕ) × OtherRoundsUpTo op separator (λ trees rest. (reading : Reading) × Takes inner trees reading rest) (λ trees. TakesUpTo inner trees (left_in outer) left)
           (λ trees. TakesUpTo others trees (left_in outer) left) n input
 
-      -- how a path is read by them
+      -- how they read a path
       record Others (input : Forest) (path : List ℕ) : Type 0 where
         reading : Reading
         rest : Forest
@@ -239,7 +239,7 @@ module _ (places : List Place) (Last : Option Place → List Forest → Type 0) 
             by (inr halts) =
                 inr (halts_with (TakesUpTo inner input (left_in outer)) (TakesUpTo (repetition inner separator op others) input (left_in outer)) (λ left up. inr (inl (inl up))) halts)
 
-        -- none
+        -- no round
         no_round : may_be_none op ≡ true → (input : Forest) (path p : List ℕ) → path ≡ shift (entry_count at inner) p → Via places Last over_edges (input ∷ outer) p → Whole input path
         no_round none input path p same v = elim (past input p v) [
           | inl found ↦

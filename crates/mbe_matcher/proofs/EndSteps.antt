@@ -7,7 +7,7 @@ use Rattle.mbe_matcher.specs.Ends.{sums, counted_on, ends_with}
 use Rattle.mbe_matcher.specs.Grouping.{counts_by}
 use Rattle.mbe_matcher.specs.Marks.{Note, note_of, taken, begun, ended}
 
--- all ends, behind so many rounds
+-- all ends, after that many rounds
 abbrev pub ends_by : (number : ℕ) → (so_far : ℕ) → List Note → List ℕ
 ends_by number so_far [] = []
 ends_by number so_far (it ∷ more) = ends_with number so_far it (ends_by number (counted_on number so_far it) more)
@@ -31,7 +31,7 @@ ends_are number before so_far (ended other ∷ more) n is =
     by true same others = ap₂ (λ k l. k ∷ l) is same
     by false same others = others
 
--- What a note ends stands before the others.
+-- The end that a note adds precedes the others.
 ends_before : (number so_far : ℕ) (it : Note) (behind : List ℕ) → ends_with number so_far it behind ≡ ends_with number so_far it [] ++ behind
 ends_before number so_far (taken other trees) behind = refl
 ends_before number so_far (begun other) behind = refl
@@ -41,7 +41,7 @@ ends_before number so_far (ended other) behind = by (nat_eq other number)
     by true = refl
     by false = refl
 
--- No more rounds are counted than notes are passed.
+-- At most as many rounds are counted as notes are passed.
 pub few_on : (number so_far i : ℕ) (it : Note) → so_far ≤ i → counted_on number so_far it ≤ i + 1
 few_on number so_far i (taken other trees) le = omega (arith, le)
 few_on number so_far i (begun other) le = by (nat_eq other number)
@@ -51,7 +51,7 @@ few_on number so_far i (begun other) le = by (nat_eq other number)
     by false = omega (arith, le)
 few_on number so_far i (ended other) le = omega (arith, le)
 
--- One mark more is passed.
+-- One more mark is passed.
 pub ends_on : (number so_far : ℕ) (marks : List Mark) (i : ℕ) (d : Mark) (old new : List ℕ) → i < length marks → new ≡ old ++ ends_with number so_far (note_of (get_or marks i d)) []
     → new ++ ends_by number (counted_on number so_far (note_of (get_or marks i d))) (map note_of (drop (i + 1) marks)) ≡ old ++ ends_by number so_far (map note_of (drop i marks))
 ends_on number so_far marks i d old new lt is =

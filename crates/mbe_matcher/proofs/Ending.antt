@@ -1,4 +1,4 @@
--- What is told at the start, and what at the end.
+-- What holds at the start, and what at the end.
 use Rattle.std.proofs.Common.{append-nil, ◌≡◌, inl, inr, ℕ, suc, zero, Bool, true, false, List, [], ◌∷◌, ◌++◌, Some, None, refl, ap, sym, subst, ◌∙◌, cond}
 use Rattle.std.specs.Prelude.{◌⊎◌, slice_get, Option}
 use Rattle.tt.specs.Forest.{Forest, end}
@@ -23,7 +23,7 @@ use Rattle.mbe_matcher.proofs.Telling as telling
 use Rattle.mbe_pattern.proofs.Passing.{after_end}
 use Rattle.mbe_matcher.proofs.GrammarTaken.{takes_no_tree}
 
--- No fragment takes a tree where none is.
+-- No fragment takes a tree if there is none.
 pub takes_none : (which : Fragment) → takes which end ≡ true → takes_nothing which end ≡ false → ⊥
 takes_none fragment.Ident t some = cc t
 takes_none fragment.Literal t some = cc t
@@ -33,7 +33,7 @@ takes_none fragment.Vis t some = cc some
 takes_none fragment.Tt t some = cc t
 takes_none (fragment.Grammar which) t some = takes_no_tree which t
 
--- Nor does a token stand there.
+-- No token is there either.
 pub no_unit : (its : List Leaf) → IsUnitLike its end → ⊥
 no_unit [] u = cc u.0
 no_unit (it ∷ others) u = u.1.0
@@ -41,7 +41,7 @@ no_unit (it ∷ others) u = u.1.0
 pub passed_end : (n : ℕ) (outer : List Forest) → passed n (end ∷ outer) ≡ end ∷ outer
 passed_end n outer = ap (λ t. t ∷ outer) (after_end n)
 
--- Nothing passes where no level is left.
+-- Nothing passes if no level is left.
 passes_none : (it : Ask) → Passes it [] → ⊥
 passes_none (ask.take which) p = p
 passes_none (ask.same its) p = no_unit its p
@@ -55,7 +55,7 @@ passes_last (ask.same its) some p = absurd (no_unit its p)
 passes_last (ask.enter kind) some p = absurd p
 passes_last ask.leave some p = refl
 
--- What is left asks for something.
+-- A place that is an end requires something.
 leave_some : (it : Ask) → is_leave it ≡ true → asks_nothing it end ≡ false
 leave_some (ask.take which) leave = absurd (cc leave)
 leave_some (ask.same its) leave = refl
@@ -67,7 +67,7 @@ leave_some_at None leave = refl
 leave_some_at (Some place) leave = leave_some (ask_of place.atom) leave
 
 module _ (places : List Place) where
-  -- No path leads on where no level is left.
+  -- No path leads on if no level is left.
   reads_none : (at : ℕ) (path : List ℕ) → Reads places at [] path → ⊥
   reads_none at [] reads = by (slice_get places at) reads
     where
@@ -80,13 +80,13 @@ module _ (places : List Place) where
       by None g = g
       by (Some place) g = passes_none (ask_of place.atom) g.0
 
-  -- No edge leads to a place where nothing holds.
+  -- No edge leads to a place if nothing holds there.
   on_edge_none : (turn : ℕ) (edges : List ℕ) (P : ℕ → Type 0) → ((to : ℕ) → P to → ⊥) → OnEdge turn edges P → ⊥
   on_edge_none turn [] P none on = on
   on_edge_none zero (to ∷ others) P none on = none to on
   on_edge_none (suc turn) (to ∷ others) P none on = on_edge_none turn others P none on
 
-  -- At the end of the outermost level a thread leads to its own path alone, where its place is one that is left.
+  -- At the end of the outermost level a thread leads only to its own path, and only if its place is an end.
   ends_here : (view : View) (path : List ℕ) → asks_nothing_at (slice_get places view.at) end ≡ false → Leads places Ends (thread (end ∷ []) view) path → (is_leave_at (slice_get places view.at) ≡ true) × (path ≡ view.trace)
   ends_here view path some ([], is, reads) = (by (slice_get places view.at) (subst (λ ls. Reads places view.at ls []) (passed_end view.wait []) reads), is ∙ append-nil view.trace)
     where
@@ -109,7 +109,7 @@ module _ (places : List Place) where
       by (Some place) e = (e, refl)
 
   module _ (Whole : List ℕ → Type 0) (log : List Turn) where
-    -- two lead to different paths
+    -- two threads lead to different paths
     record LeadApart (configs : List Config) : Type 0 where
       one : List ℕ
       other : List ℕ
@@ -124,7 +124,7 @@ module _ (places : List Place) where
         Has places Ends configs (path_to log last) × ((path : List ℕ) → Has places Ends configs path → path ≡ path_to log last) × (HasMany places Ends configs → ⊥)
     Means choice.Many configs = HasMany places Ends configs ⊎ LeadApart configs
 
-    -- what a choice says of the paths that are wanted
+    -- what a choice says of the wanted paths
     abbrev pub Says : Choice → Type 0
     Says choice.Nothing = (path : List ℕ) → Whole path → ⊥
     Says (choice.One last) = IsOnly Whole (path_to log last)
@@ -135,7 +135,7 @@ module _ (places : List Place) where
       abbrev here : Config
       here = thread (end ∷ []) (view_of log it)
 
-      -- One that is not at the end says nothing.
+      -- A thread that is not at the end says nothing.
       means_missed : is_leave_at (slice_get places it.at) ≡ false → asks_nothing_at (slice_get places it.at) end ≡ false → (so_far : Choice) → Means so_far news → Means so_far (here ∷ news)
       means_missed missed some so_far means = by so_far means
         where
@@ -163,7 +163,7 @@ module _ (places : List Place) where
           by (choice.One last) m = (inr m.0, only (path_to log last) m.1, none_many m.2)
           by choice.Many m = two m
 
-      -- One that is at the end is one more.
+      -- A thread at the end adds one.
       means_more : is_leave_at (slice_get places it.at) ≡ true → AreApart places Ends (here ∷ news) → (so_far : Choice) → Means so_far news
           → Means (with_thread so_far it) (here ∷ news)
       means_more leave apart so_far means = by so_far means
@@ -202,7 +202,7 @@ module _ (places : List Place) where
               })
           by choice.Many m = more m
 
-    -- Where all threads were looked at the choice says what is wanted.
+    -- After all threads the choice says what is wanted.
     says_all : (news : List Config) → Told places Ends Whole news [] → (it : Choice) → Means it news → Says it
     says_all news told it means = by it means
       where

@@ -1,4 +1,4 @@
--- What is told at the start.
+-- What holds at the start.
 use Rattle.std.proofs.Common.{◌≡◌, inl, inr, ◌+◌, ℕ, false, List, [], ◌∷◌, ◌++◌, ap, sym, subst, ◌∙◌, arith}
 use Rattle.std.specs.Prelude.{Option}
 use Rattle.tt.specs.Forest.{Forest}
@@ -9,12 +9,12 @@ use Rattle.mbe_matcher.specs.Threads.{View, spread}
 use Rattle.mbe_matcher.proofs.Leading.{Config, fan, threads, IsMany, Leads, Has, HasMany, Told, told_spread}
 use Rattle.mbe_matcher.proofs.Telling as telling
 
--- what all starts from
+-- the view that everything starts from
 abbrev pub outside : View
 outside = record { at = 0; wait = 0; is_many = false; trace = [] }
 
 module _ (places : List Place) (Last : Option Place → List Forest → Type 0) where
-  -- At the start the edges from outside tell all.
+  -- At the start the edges from outside account for all paths.
   pub told_start : (starts : List ℕ) (input : Forest) → Told places Last (GoesAll places Last starts input) [] (threads (input ∷ []) (spread outside 0 starts []) ++ [])
   told_start starts input =
       telling.told_joined Config (Leads places Last) IsMany Whole (threads (input ∷ []) (spread outside 0 starts [])) []

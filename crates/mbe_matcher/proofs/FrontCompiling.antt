@@ -1,4 +1,4 @@
--- As far as a pattern comes its places lead on.
+-- The places of a pattern lead on as far as the pattern comes.
 use Rattle.std.proofs.Common.{◌≡◌, inl, inr, ◌+◌, ◌<◌, ℕ, zero, suc, true, false, List, [], ◌∷◌, ◌++◌, length, refl, arith, length-append}
 use Rattle.std.specs.Prelude.{◌⊎◌}
 use Rattle.tt.specs.Forest.{Forest, end}
@@ -20,7 +20,7 @@ use Rattle.mbe_pattern.specs.Patterns.{Pattern, nothing, variable, token, subtre
 use Rattle.mbe_matcher.proofs.Compiling.{stand_inside, stand_leave, stand_round, stand_separator, stand_behind, entries_via, again_via, from_reading}
 use Rattle.mbe_matcher.proofs.Via.{Via, via_left, via_right, goes_by}
 
--- A pattern begins somewhere, where it takes a tree at least or something is behind.
+-- A pattern has an entry if it takes at least one tree or something follows.
 entries_some : (at : ℕ) (pattern : Pattern) (behind : List ℕ) → IsFull pattern → (may_be_empty pattern ≡ false) ⊎ (0 < length behind) → 0 < length (entries at pattern behind)
 entries_some at nothing behind full (inl is) = absurd (cc is)
 entries_some at nothing behind full (inr some) = some
@@ -34,11 +34,11 @@ entries_some at (repetition inner separator repeat.ZeroOrOne others) behind full
     omega (arith, entries_some at inner [] full.1 (inl full.0), length-append (entries at inner []) (entries (at + place_count inner + separator_count separator) others behind))
 
 module _ (places : List Place) (left : ℕ) where
-  -- one of the edges leads to where so many are left
+  -- one of the edges leads to where that many are left
   abbrev Comes : (edges : List ℕ) → (levels : List Forest) → Type 0
   Comes edges levels = (path : List ℕ) × Via places (AreLeft left) edges levels path
 
-  -- Each edge does at once.
+  -- Each edge does so at once.
   comes_here : (edges : List ℕ) (levels : List Forest) → 0 < length edges → left ≡ left_in levels → Comes edges levels
   comes_here [] levels some is = absurd (omega (arith, some))
   comes_here (to ∷ others) levels some is = (0 ∷ [], is)
@@ -49,16 +49,16 @@ module _ (places : List Place) (left : ℕ) where
   comes_right : (xs ys : List ℕ) (levels : List Forest) → Comes ys levels → Comes (xs ++ ys) levels
   comes_right xs ys levels (path, via) = (shift (length xs) path, via_right places (AreLeft left) levels xs ys path via)
 
-  -- Rounds lead on where they come.
+  -- Rounds lead as far as they come.
   module _ (at : ℕ) (inner : Pattern) (separator : List Leaf) (op : RepeatKind) (others : Pattern) (behind : List ℕ) (outer : List Forest) where
-    -- where what is behind the rounds begins, and where it is gone on behind a round
+    -- where what follows the rounds begins, and where the input continues after a round
     abbrev over_edges : List ℕ
     over_edges = entries (at + place_count inner + separator_count separator) others behind
 
     abbrev next_edges : List ℕ
     next_edges = again at inner separator op ++ over_edges
 
-    -- a round, in which it stops, or with what is behind it; and what is behind a round
+    -- a round: the path stops in it, or continues after it; and what follows a round
     abbrev One : Forest → Forest → Type 0
     One trees rest = (reading : Reading) × Takes inner trees reading rest
 
@@ -123,7 +123,7 @@ module _ (places : List Place) (left : ℕ) where
       first_comes at inner separator repeat.OneOrMore others behind outer full all stand one within past input first
   rounds_come at inner separator repeat.OneOrMore others behind outer full all stand one within past input (inr (none, comes)) = absurd (cc none)
 
-  -- As far as a pattern comes one of its entries leads.
+  -- One of the pattern's entries leads as far as the pattern comes.
   pub from_front : (at : ℕ) (pattern : Pattern) (behind : List ℕ) (input : Forest) (outer : List Forest) → IsFull pattern → 0 < length behind
       → Stand places at (stops at pattern behind) → TakesUpTo pattern input (left_in outer) left → Comes (entries at pattern behind) (input ∷ outer)
   from_front at nothing behind input outer full some stand is = comes_here behind (input ∷ outer) some is

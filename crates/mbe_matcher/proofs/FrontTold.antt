@@ -1,4 +1,4 @@
--- As far as a pattern comes, as far its places lead, and no farther.
+-- The places of a pattern lead exactly as far as the pattern comes.
 use Rattle.std.proofs.Common.{◌≡◌, inl, inr, ℕ, List, [], ◌∷◌, sym, subst, arith}
 use Rattle.tt.specs.Forest.{Forest, size}
 use Rattle.mbe_matcher.specs.declared.places.Place.{Place}
@@ -16,13 +16,13 @@ use Rattle.mbe_matcher.proofs.Starting.{last_stop, stand_first, stand_last, to_v
 use Rattle.mbe_matcher.proofs.Via.{via_none, via_one, comes_by}
 
 module _ (places : List Place) (pattern : Pattern) (full : IsFull pattern) (stand : Stand places 0 (all_stops pattern)) (input : Forest) where
-  -- Where it comes a path leads.
+  -- If the pattern comes there, a path leads there.
   pub front_stops : (left : ℕ) → TakesUpTo pattern input 0 left → (path : List ℕ) × StopsAll places left (starts_of pattern) input path
   front_stops left takes =
       let found = from_front places left 0 pattern (place_count pattern ∷ []) input [] full (omega arith) (stand_first places pattern stand) takes in
       (found.0, of_via places (AreLeft left) pattern input found.0 found.1)
 
-  -- Where a path leads it comes.
+  -- If a path leads there, the pattern comes there.
   pub stop_front : (left : ℕ) (path : List ℕ) → StopsAll places left (starts_of pattern) input path → TakesUpTo pattern input 0 left
   stop_front left path stops =
       elim (to_reading places (AreLeft left) 0 pattern (place_count pattern ∷ []) [] input path full (stand_first places pattern stand) (to_via places (AreLeft left) pattern input path stops)) [
@@ -39,7 +39,7 @@ module _ (places : List Place) (pattern : Pattern) (full : IsFull pattern) (stan
             | inr (ended, v) ↦ absurd (via_none places (AreLeft left) [] more v)
           ]
 
-  -- So it stops where paths do.
+  -- So the pattern stops where the paths stop.
   pub stops_there : (at : ℕ) → AreStopped (λ left. StopsAll places left (starts_of pattern) input) (size input) at → StopsAt pattern input at
   stops_there at is =
       record {

@@ -7,7 +7,7 @@ use Rattle.mbe_pattern.specs.Patterns.{Pattern, nothing, variable, token, subtre
 use Rattle.mbe_matcher.specs.Fronts.{OtherRoundsUpTo, TakesUpTo}
 use Rattle.mbe_matcher.specs.Readings.{Reading, done, took, held, round, over, Takes, AreOtherRounds}
 
--- Each pattern stops where it begins.
+-- Each pattern stops at its beginning, if nothing else.
 pub front_here : (pattern : Pattern) (input : Forest) (outside left : ℕ) → left ≡ size input + outside → TakesUpTo pattern input outside left
 front_here nothing input outside left is = is
 front_here (variable it others) input outside left is = inl is
@@ -15,7 +15,7 @@ front_here (token its others) input outside left is = inl is
 front_here (subtree kind inner others) input outside left is = inl is
 front_here (repetition inner separator op others) input outside left is = inl is
 
--- Rounds behind a round are so many, and what is behind them comes as far.
+-- Some number of rounds follows a round, and what follows them comes as far.
 module _ (op : RepeatKind) (separator : List Leaf) (One : Forest → Reading → Forest → Type 0) (Behind : Forest → Reading → Type 0) (Within BehindUpTo : Forest → Type 0)
     (behind : (input : Forest) (more : Reading) → Behind input more → BehindUpTo input) where
   others_front : (reading : Reading) (input : Forest) → AreOtherRounds op separator One Behind input reading
@@ -27,7 +27,7 @@ module _ (op : RepeatKind) (separator : List Leaf) (One : Forest → Reading →
       let found = others_front others rest rounds in (suc found.0, (start, more, separates, inr (rest, (this, one), found.1)))
   others_front (over more) input rounds = (zero, behind input more rounds)
 
--- What a pattern takes whole it takes up to the rest.
+-- If a pattern takes trees whole, it takes them up to the rest.
 pub whole_front : (pattern : Pattern) (input : Forest) (reading : Reading) (rest : Forest) (outside : ℕ) → Takes pattern input reading rest
     → TakesUpTo pattern input outside (size rest + outside)
 whole_front nothing input reading rest outside takes = ap (λ trees. size trees + outside) takes.1

@@ -1,4 +1,4 @@
--- What a fragment of Rust's grammar takes is the grammar's one answer, and is a tree at least.
+-- What a fragment of Rust's grammar takes is the grammar's one answer, and at least one tree.
 use Rattle.std.proofs.Common.{◌≡◌, ◌-◌, ℕ, suc, true, Some, None, refl, arith}
 use Rattle.std.specs.Prelude.{Option, is_some}
 use Rattle.tt.specs.Forest.{Forest, end}
@@ -17,7 +17,7 @@ reach_holds which trees = (has_answer which trees).1
 pub reach_alone : (which : GrammarFragment) (trees : Forest) (count : Option ℕ) → Reaches which trees count → count ≡ grammar_reach which trees
 reach_alone which trees count h = one_answer which trees count (grammar_reach which trees) h (reach_holds which trees)
 
--- It is one tree at least.
+-- It is at least one tree.
 pub reach_full : (which : GrammarFragment) (trees : Forest) → or_one (grammar_reach which trees) ≡ suc (or_one (grammar_reach which trees) - 1)
 reach_full which trees = by (grammar_reach which trees) (reach_holds which trees)
   where
@@ -25,7 +25,7 @@ reach_full which trees = by (grammar_reach which trees) (reach_holds which trees
     by None h = refl
     by (Some n) h = let full = (takes_a_tree which trees n h).1 in omega (arith, full)
 
--- Where no tree is nothing is taken.
+-- If there is no tree, nothing is taken.
 pub takes_no_tree : (which : GrammarFragment) → is_some (grammar_reach which end) ≡ true → ⊥
 takes_no_tree which is = by (grammar_reach which end) (reach_holds which end) is
   where

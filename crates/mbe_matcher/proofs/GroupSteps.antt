@@ -21,7 +21,7 @@ total-append : (ns ms : List ℕ) → total (ns ++ ms) ≡ total ns + total ms
 total-append [] ms = omega arith
 total-append (n ∷ ns) ms = omega (arith, total-append ns ms)
 
--- how many rounds were counted and not told yet, behind the notes
+-- how many rounds the notes count without an end after them
 abbrev pub counted : (number : ℕ) → (so_far : ℕ) → List Note → ℕ
 counted number so_far [] = so_far
 counted number so_far (taken other trees ∷ more) = counted number so_far more
@@ -33,7 +33,7 @@ abbrev pub Lacks : ℕ → List Note → Type 0
 Lacks number [] = Unit {0}
 Lacks number (it ∷ others) = (nat_eq (number_of it) number ≡ false) × Lacks number others
 
--- One list of notes, and then another.
+-- One list of notes after another.
 pub taken-append : (number : ℕ) (xs ys : List Note) → taken_by number (xs ++ ys) ≡ taken_by number xs ++ taken_by number ys
 taken-append number [] ys = refl
 taken-append number (taken other trees ∷ xs) ys = by (nat_eq other number) (taken-append number xs ys)
@@ -104,7 +104,7 @@ counted-lacks number so_far (begun other ∷ xs) lacks =
 counted-lacks number so_far (ended other ∷ xs) lacks =
     ap (λ b. cond b (counted number 0 xs) (counted number so_far xs)) lacks.0 ∙ counted-lacks number so_far xs lacks.1
 
--- So many at a time of one list, and then of another.
+-- The first bounds of one list and then another.
 take_of_both : (n : ℕ) (bs cs : List Bound) → n ≤ length bs → take n (bs ++ cs) ≡ take n bs
 take_of_both zero bs cs le = refl
 take_of_both (suc n) [] cs le = absurd (omega (arith, le))
@@ -127,13 +127,13 @@ grouped-append (n ∷ ns) ms bs cs is =
     ap₂ (λ (l m : List Bound). listed l ∷ grouped (ns ++ ms) m) (take_of_both n bs cs (omega (arith, is))) (drop_of_both n bs cs (omega (arith, is)))
     ∙ ap (λ l. listed (take n bs) ∷ l) (grouped-append ns ms (drop n bs) cs (length_left n (total ns) bs is))
 
--- the rounds of each of the repetitions are told, and so are as many as there are
+-- in each repetition an end follows every round, and the counts sum to the number of bounds
 abbrev pub IsWhole : (nest : List ℕ) → (number : ℕ) → List Note → Type 0
 IsWhole [] number notes = Unit {0}
 IsWhole (outer ∷ nest) number notes =
     (total (counts_by outer 0 notes) ≡ length (bounds_by nest number notes)) × (counted outer 0 notes ≡ 0) × IsWhole nest number notes
 
--- Whole notes bind what they bind, whatever is behind.
+-- Whole notes bind what they bind, whatever follows.
 pub bounds-append : (nest : List ℕ) (number : ℕ) (xs ys : List Note) → IsWhole nest number xs → bounds_by nest number (xs ++ ys) ≡ bounds_by nest number xs ++ bounds_by nest number ys
 bounds-append [] number xs ys whole = ap (map one) (taken-append number xs ys) ∙ map-append one (taken_by number xs) (taken_by number ys)
 bounds-append (outer ∷ nest) number xs ys whole =
@@ -152,7 +152,7 @@ whole-append (outer ∷ nest) number xs ys one_whole other =
       whole-append nest number xs ys one_whole.2 other.2,
     )
 
--- no note has the number of the variable, or of a repetition that it stands in
+-- no note has the number of the variable, or of a repetition around it
 abbrev pub LacksAll : (nest : List ℕ) → (number : ℕ) → List Note → Type 0
 LacksAll [] number notes = Lacks number notes
 LacksAll (outer ∷ nest) number notes = Lacks outer notes × LacksAll nest number notes
@@ -170,7 +170,7 @@ whole-lacks (outer ∷ nest) number xs lacks = (
   whole-lacks nest number xs lacks.1,
 )
 
--- So before other notes, and behind them, they change nothing.
+-- So before other notes, and after them, they change nothing.
 pub bounds_behind_others : (nest : List ℕ) (number : ℕ) (xs ys : List Note) → LacksAll nest number xs → bounds_by nest number (xs ++ ys) ≡ bounds_by nest number ys
 bounds_behind_others nest number xs ys lacks = bounds-append nest number xs ys (whole-lacks nest number xs lacks) ∙ ap (λ l. l ++ bounds_by nest number ys) (bounds-lacks nest number xs lacks)
 

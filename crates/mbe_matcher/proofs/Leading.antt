@@ -1,4 +1,4 @@
--- Where threads lead, and what their steps leave told.
+-- Where threads lead, and what their steps still account for.
 use Rattle.std.proofs.Common.{◌≡◌, inl, inr, ◌+◌, ℕ, suc, zero, Bool, true, false, List, [], ◌∷◌, ◌++◌, map, Some, None, refl, ap, sym, subst, ◌∙◌, arith, append_assoc, cond}
 use Rattle.std.proofs.lemmas.List.{append_cancel_left}
 use Rattle.std.proofs.lemmas.Grind.{common_steps}
@@ -11,12 +11,12 @@ use Rattle.mbe_matcher.specs.Places.{Passes, passed, onward, OnEdge, GoesOn, Goe
 use Rattle.mbe_matcher.specs.Threads.{View, meet, doubled, delayed, added, turned, spread}
 use Rattle.mbe_matcher.proofs.Telling as telling
 
--- a thread before levels, or edges before levels, of which the first has that number
+-- a thread before levels, or edges before levels; the first edge has that number
 pub data Config : Type 0 where
   thread : List Forest → View → Config
   fan : ℕ → List ℕ → List Forest → View → Config
 
--- it stands for many paths
+-- it represents many paths
 abbrev pub IsMany : Config → Type 0
 IsMany (thread levels view) = view.is_many ≡ true
 IsMany (fan turn edges levels view) = view.is_many ≡ true
@@ -45,7 +45,7 @@ module _ (places : List Place) (Last : Option Place → List Forest → Type 0) 
   abbrev pub Told : (List ℕ → Type 0) → List Config → List Config → Type 0
   Told = telling.Told Config Leads IsMany
 
-  -- Where two meet they are at one place, and wait alike.
+  -- If two views meet, they are at one place, and wait alike.
   meet_at : (view other : View) → meet other view ≡ true → other.at ≡ view.at
   meet_at view other same = grind (arith, common_steps, same)
 
@@ -77,7 +77,7 @@ module _ (places : List Place) (Last : Option Place → List Forest → Type 0) 
     ),
   )
 
-  -- two lead to different paths
+  -- two of them lead to different paths
   record LeadApart (configs : List Config) : Type 0 where
     one : List ℕ
     other : List ℕ
@@ -85,7 +85,7 @@ module _ (places : List Place) (Last : Option Place → List Forest → Type 0) 
     one_there : Has configs one
     other_there : Has configs other
 
-  -- the same is told by fewer
+  -- fewer of them account for the same
   record Joins (olds news : List Config) : Type 0 where
     goes : (path : List ℕ) → Has olds path → Has news path ⊎ HasMany news
     comes : (path : List ℕ) → Has news path → Has olds path
@@ -206,7 +206,7 @@ module _ (places : List Place) (Last : Option Place → List Forest → Type 0) 
       by false same rest = passes rest
 
   module _ (Whole : List ℕ → Type 0) where
-    -- What is told stays told where fewer tell it.
+    -- The account stays complete with fewer threads.
     told_joins : (olds news others : List Config) → Joins olds news → Told Whole olds others → Told Whole news others
     told_joins olds news others joins told =
         record {
@@ -288,11 +288,11 @@ module _ (places : List Place) (Last : Option Place → List Forest → Type 0) 
           let heads : turn ≡ suc turn + ahead = cc in
           omega (arith, heads)
 
-  -- No edges lead nowhere.
+  -- An empty list of edges leads nowhere.
   none_lead : (turn : ℕ) (levels : List Forest) (view : View) (path : List ℕ) → Leads (fan turn [] levels view) path → ⊥
   none_lead turn levels view path (ahead, more, is, reads) = reads
 
-  -- Edges give way to a thread behind each.
+  -- A thread for each edge replaces the edges.
   pub told_spread : (Whole : List ℕ → Type 0) (levels : List Forest) (view : View) (turn : ℕ) (edges : List ℕ) (views : List View) (olds : List Config)
       → Told Whole (threads levels views) (fan turn edges levels view ∷ olds) → Told Whole (threads levels (spread view turn edges views)) olds
   told_spread Whole levels view turn [] views olds told =
@@ -304,7 +304,7 @@ module _ (places : List Place) (Last : Option Place → List Forest → Type 0) 
       (thread levels (turned view turn to)) (fan (suc turn) others levels view) told (divides_fan turn to others levels view)))
 
   module _ (levels : List Forest) (view : View) where
-    -- A thread that waits is one tree nearer behind a tree.
+    -- A thread that waits is one tree nearer after a tree.
     pub becomes_nearer : (n : ℕ) (further : List Forest) → passed view.wait levels ≡ passed n further
         → telling.Becomes Config Leads IsMany (thread levels view) (thread further (delayed n view))
     becomes_nearer n further same =
@@ -315,7 +315,7 @@ module _ (places : List Place) (Last : Option Place → List Forest → Type 0) 
         }
 
     module _ (here : passed view.wait levels ≡ levels) where
-      -- A thread whose place is passed gives way to the edges of its place.
+      -- A thread whose place is passed is replaced by the edges of its place.
       pub becomes_fan : (place : Place) → slice_get places view.at ≡ Some place → (n : ℕ) (further : List Forest)
           → onward (ask_of place.atom) levels ≡ passed n further → Passes (ask_of place.atom) levels → (Last (Some place) levels → ⊥)
           → telling.Becomes Config Leads IsMany (thread levels view) (fan 0 place.edges.items further (delayed n view))
@@ -343,7 +343,7 @@ module _ (places : List Place) (Last : Option Place → List Forest → Type 0) 
                     (passes, subst (λ ls. OnEdge ahead place.edges.items (λ to. Goes places Last to ls more)) (sym on) reads)),
               )
 
-      -- A thread whose place is not leads nowhere.
+      -- A thread whose place is not passed leads nowhere.
       pub leads_nowhere : ((place : Place) → slice_get places view.at ≡ Some place → Passes (ask_of place.atom) levels → ⊥) → ((place : Option Place) → Last place levels → ⊥)
           → (path : List ℕ) → Leads (thread levels view) path → ⊥
       leads_nowhere stuck goes_on path (more, is, reads) = by (slice_get places view.at) refl more (subst (λ ls. Goes places Last view.at ls more) here reads)

@@ -1,4 +1,4 @@
--- What stands first is compared leaf by leaf, and counted.
+-- Compares the trees at the front leaf by leaf, and counts them.
 use Rattle.std.proofs.Common.{◌+◌, ◌<◌, ◌≤◌, ℕ, List, length, get_or, drop, sym, subst}
 use Rattle.std.proofs.lemmas.List.{drop_more, drop_all}
 use Rattle.std.specs.Prelude.{◌↔◌}
@@ -7,7 +7,7 @@ use Rattle.tt.specs.Moves.{after_tree}
 use Rattle.tt.specs.Types.Leaf.{Leaf}
 use Rattle.mbe_pattern.specs.Units.{IsLeafLike, AreLeavesLike}
 
--- so far the leaves are like the trees just where those that are left are
+-- so far: the leaves are like the trees exactly if the leaves that are left are
 abbrev pub AreAlikeSoFar : List Leaf → (before : Forest) → ℕ → (now : Forest) → Type 0
 AreAlikeSoFar leaves before i now = AreLeavesLike leaves before ↔ AreLeavesLike (drop i leaves) now
 

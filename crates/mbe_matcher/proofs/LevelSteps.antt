@@ -1,4 +1,4 @@
--- What a step from tree to tree leaves told.
+-- What a step from tree to tree still accounts for.
 use Rattle.std.proofs.Common.{arith, append-nil, ◌-◌, suc, zero, false, ◌≡◌, inl, inr, List, [], ◌∷◌, ◌++◌, Some, None, true, refl, ap, sym, subst, ◌∙◌}
 use Rattle.std.specs.Prelude.{◌⊎◌, ◌&&◌, ℕ, Bool, slice_get, Option}
 use Rattle.tt.specs.Forest.{Forest, end, leaf, node, size}
@@ -36,7 +36,7 @@ abbrev pub configs_of : List LevelView → List Config
 configs_of [] = []
 configs_of (level ∷ outer) = threads (level.trees ∷ levels_of outer) level.views ++ configs_of outer
 
--- A thread at its place that does not go on at once asks for something.
+-- A thread at its place that does not go on at once requires something.
 calm_place : (places : List Place) (trees : Forest) (view : View) (place : Place) → is_here trees view.wait ≡ true → goes_at_once places trees view.at view.wait ≡ false
     → slice_get places view.at ≡ Some place → asks_nothing (ask_of place.atom) trees ≡ false
 calm_place places trees view place here calm found =
@@ -64,7 +64,7 @@ module _ (places : List Place) (Last : Option Place → List Forest → Type 0) 
           (telling.told_same Config (Leads places Last) IsMany Whole (threads further old) olds (thread levels view) (fan 0 place.edges.items further (delayed n view)) told
           (becomes_fan places Last levels view here place found n further is.1 is.0 (goes_on (Some place))))
 
-  -- A thread whose place asks for something else goes.
+  -- A thread whose place requires something else is dropped.
   told_stuck : (news : List Config) (view : View) (olds : List Config) → ((place : Option Place) → Last place levels → ⊥) → passed view.wait levels ≡ levels
       → ((place : Place) → slice_get places view.at ≡ Some place → Passes (ask_of place.atom) levels → ⊥)
       → Told places Last Whole news (thread levels view ∷ olds) → Told places Last Whole news olds
@@ -81,7 +81,7 @@ module _ (places : List Place) (Last : Option Place → List Forest → Type 0) 
       (telling.told_same Config (Leads places Last) IsMany Whole (threads further old) olds (thread levels view) (thread further (delayed (view.wait - 1) view)) told
       (becomes_nearer places Last levels view (view.wait - 1) further same)))
 
-  -- Where all that pass are moved alike.
+  -- If all threads that pass are moved alike.
   module _ (by : Move) (further : List Forest) (sound : (it : Ask) → IsMoved by it → Passes it levels × (onward it levels ≡ passed (wait_of by it) further))
       (trees : Forest) (complete : (it : Ask) → asks_nothing it trees ≡ false → Passes it levels → IsMoved by it)
       (here : (n : ℕ) → is_waiting by n ≡ false → passed n levels ≡ levels)
@@ -106,7 +106,7 @@ module _ (places : List Place) (Last : Option Place → List Forest → Type 0) 
     told_steps (view ∷ views) old new olds calm goes_on (middle, step, steps) told =
         told_steps views middle new olds calm.1 (λ stands. goes_on (inr stands)) steps (told_step view old middle (threads levels views ++ olds) calm.0 (λ here. goes_on (inl here)) step told)
 
-  -- Where some pass the first tree, and some enter it.
+  -- If some threads pass the first tree, and some enter it.
   module _ (before : Ahead) (kind : DelimiterKind) (behind inside : List Forest)
       (pass_sound : (it : Ask) → IsMoved (move.Passes before) it → Passes it levels × (onward it levels ≡ passed (wait_of (move.Passes before) it) behind))
       (enter_sound : (it : Ask) → IsMoved (move.Enters kind) it → Passes it levels × (onward it levels ≡ passed (wait_of (move.Enters kind) it) inside))
@@ -148,7 +148,7 @@ module _ (places : List Place) (Last : Option Place → List Forest → Type 0) 
         stuck : (place : Place) → slice_get places view.at ≡ Some place → Passes (ask_of place.atom) levels → ⊥
         stuck place found passes = which place found (complete (ask_of place.atom) (some place found) passes)
 
-    -- One that waits goes on behind the tree.
+    -- A thread that waits goes on after the tree.
     told_waits : (view : View) (old new old_in new_in : List View) (olds : List Config) → is_waiting (move.Passes before) view.wait ≡ true
         → new ≡ added (delayed (view.wait - 1) view) old → new_in ≡ old_in
         → Told places Last Whole (threads inside old_in) ((thread levels view ∷ olds) ++ threads behind old)
@@ -187,12 +187,12 @@ module _ (places : List Place) (Last : Option Place → List Forest → Type 0) 
         told_both views middle new middle_in new_in olds calm.1 (λ stands. goes_on (inr stands)) steps steps_in
         (told_either view old middle old_in middle_in (threads levels views ++ olds) calm.0 (λ here. goes_on (inl here)) step step_in told)
 
--- One that does not wait is at its place; one that does is a tree nearer behind the first.
+-- A thread that does not wait is at its place; one that waits is a tree nearer after the first.
 stands_here : (before : Ahead) (trees : Forest) (outer : List Forest) (n : ℕ) → is_waiting (move.Passes before) n ≡ false → passed n (trees ∷ outer) ≡ trees ∷ outer
 stands_here before trees outer zero stands = refl
 stands_here before trees outer (suc n) stands = absurd (cc stands)
 
--- It stands there, whatever the trees.
+-- It is there, for any trees.
 is_there : (before : Ahead) (trees : Forest) (n : ℕ) → is_waiting (move.Passes before) n ≡ false → is_here trees n ≡ true
 is_there before end zero stands = refl
 is_there before (leaf it rest) zero stands = refl
@@ -207,7 +207,7 @@ goes_nearer before trees outer (suc n) waits =
     ap (λ k. passed k (after_tree trees ∷ outer)) same
 
 module _ (places : List Place) (Last : Option Place → List Forest → Type 0) (Whole : List ℕ → Type 0) where
-  -- a tree that stands first is no end
+  -- trees with a first tree are not the end
   leaf_no_end : (trees rest : Forest) (it : Leaf) → trees ≡ leaf it rest → trees ≡ end → ⊥
   leaf_no_end trees rest it is ended = cc (sym is ∙ ended)
 
@@ -363,7 +363,7 @@ module _ (places : List Place) (Last : Option Place → List Forest → Type 0) 
           (λ n stands. stands_here is.before level.trees (levels_of outer) n stands) (λ n stands. is_there is.before level.trees n stands) (λ n waits. goes_nearer is.before level.trees (levels_of outer) n waits) level.views [] is.views [] is.inside rest calm goes_on is.steps is.enters
           (subst (λ o. Told places Last Whole [] o) (sym (append-nil (threads levels level.views ++ rest))) told)
 
-  -- A subtree that none enters is passed.
+  -- A subtree that no thread enters is passed.
   pub told_skipped : (level : LevelView) (outer news : List LevelView) → AreSettled places level.trees level.views
       → AreGoingOn Last (level.trees ∷ levels_of outer) level.trees level.views → IsSkipped places level outer news
       → Told places Last Whole [] (configs_of (level ∷ outer)) → Told places Last Whole [] (configs_of news)
@@ -384,7 +384,7 @@ module _ (places : List Place) (Last : Option Place → List Forest → Type 0) 
         news_are = refl;
       }) told)
 
-  -- Each step leaves told what was.
+  -- Each step still accounts for all paths.
   pub told_advances : (level : LevelView) (outer news : List LevelView) → AreSettled places level.trees level.views
       → AreGoingOn Last (level.trees ∷ levels_of outer) level.trees level.views → Advances places level outer news
       → Told places Last Whole [] (configs_of (level ∷ outer)) → Told places Last Whole [] (configs_of news)

@@ -1,4 +1,4 @@
--- What a step makes of the levels as they are stored, and that less is left to do.
+-- What a step makes of the levels as they are stored, and why less is left to do.
 use Rattle.std.proofs.Common.{length, ◌≡◌, inl, inr, ◌+◌, ◌*◌, ◌-◌, ◌<◌, ℕ, suc, List, [], ◌∷◌, ◌++◌, None, reverse, refl, ap, ap₂, sym, subst, ◌∙◌, arith}
 use Rattle.std.proofs.lemmas.List.{reverse-append}
 use Rattle.tt.specs.Forest.{Forest, size}
@@ -17,12 +17,12 @@ use Rattle.mbe_matcher.specs.Levels.{LevelView, level_view, view_before, level_v
 use Rattle.mbe_matcher.specs.Threads.{View, views_of, AreWithin, IsGrown, AllStep}
 use Rattle.mbe_matcher.proofs.Logs.{views_kept, within_kept, grown_both}
 
--- A level is what is left of it, where it ends, and what its threads stand for.
+-- A level is what is left of it, where it ends, and the views of its threads.
 level_is : (trees other : Forest) (until end_of : ℕ) (views its : List View) → trees ≡ other → until ≡ end_of → views ≡ its
     → ◌≡◌ {A = LevelView} (record { trees = trees; until = until; views = views }) (record { trees = other; until = end_of; views = its })
 level_is trees other until end_of views its rest ends same = cc
 
--- There is none.
+-- There is no thread.
 pub no_threads : (its : List Thread) → length its ≡ 0 → its ≡ []
 no_threads [] is = refl
 no_threads (it ∷ others) is = absurd (omega (arith, is))
@@ -32,7 +32,7 @@ pub views_last : (log : List Turn) (levels popped : List Level) (level : Level) 
     → level_views log (reverse levels) ≡ level_view log level ∷ level_views log (reverse popped)
 views_last log levels popped level was = ap (level_views log) (ap reverse was ∙ reverse-append popped (level ∷ []))
 
--- Levels stand for what they stood for while turns are noted.
+-- The views of levels do not change when turns are noted.
 pub levels_kept : (old log : List Turn) (levels : List Level) → IsGrown old log → AreLevelsWithin old levels → level_views log levels ≡ level_views old levels
 levels_kept old log [] grown within = refl
 levels_kept old log (level ∷ others) grown within =
@@ -43,12 +43,12 @@ pub levels_within_kept : (old log : List Turn) (levels : List Level) → IsGrown
 levels_within_kept old log [] grown within = tt
 levels_within_kept old log (level ∷ others) grown within = (within_kept old log level.threads.items grown within.0, levels_within_kept old log others grown within.1)
 
--- One level more.
+-- One more level.
 pub within_push : (log : List Turn) (levels : List Level) (level : Level) → AreLevelsWithin log levels → AreWithin log level.threads.items → AreLevelsWithin log (levels ++ level ∷ [])
 within_push log [] level within own = (own, tt)
 within_push log (first ∷ others) level within own = (within.0, within_push log others level within.1 own)
 
--- Or one less.
+-- One level less.
 pub within_rest : (log : List Turn) (levels : List Level) (level : Level) → AreLevelsWithin log (levels ++ level ∷ []) → AreLevelsWithin log levels
 within_rest log [] level within = tt
 within_rest log (first ∷ others) level within = (within.0, within_rest log others level within.1)
@@ -57,7 +57,7 @@ pub within_last : (log : List Turn) (levels : List Level) (level : Level) → Ar
 within_last log [] level within = within.0
 within_last log (first ∷ others) level within = within_last log others level within.1
 
--- The other way round.
+-- The same in reverse order.
 pub within_reverse : (log : List Turn) (levels : List Level) → AreLevelsWithin log levels → AreLevelsWithin log (reverse levels)
 within_reverse log [] within = tt
 within_reverse log (level ∷ others) within =
@@ -88,13 +88,13 @@ module _ (places : List Place) (log middle new : List Turn) (before : Ahead) (le
     (within : AreLevelsWithin log levels) (own : AreWithin log level.threads.items) (rest : rest_of level.rest ≡ after_tree (rest_of before.trees))
     (next : Level) (next_within : AreWithin middle next.threads.items) (next_rest : rest_of next.rest ≡ rest_of level.rest) (next_until : next.until ≡ level.until)
     (steps : AllStep places (move.Passes before) (views_of log level.threads.items) [] (views_of middle next.threads.items)) where
-  -- the level behind the first tree, as it stands for at the end
+  -- the view of the level after the first tree, at the end
   behind_is : level_view new next ≡ record { trees = after_tree (rest_of before.trees); until = level.until; views = views_of middle next.threads.items }
   behind_is =
       level_is (rest_of next.rest) (after_tree (rest_of before.trees)) next.until level.until (views_of new next.threads.items) (views_of middle next.threads.items)
       (next_rest ∙ rest) next_until (views_kept middle new next.threads.items later next_within)
 
-  -- Those outside stand for what they did.
+  -- The views of the levels outside do not change.
   outside_are : level_views new (reverse levels) ≡ level_views log (reverse levels)
   outside_are = levels_kept log new (reverse levels) (grown_both log middle new sooner later) (within_reverse log levels within)
 
@@ -145,7 +145,7 @@ module _ (places : List Place) (log middle new : List Turn) (before : Ahead) (le
               (views_last new (levels ++ next ∷ []) levels next refl ∙ ap₂ (λ (l : LevelView) (ls : List LevelView). l ∷ ls) behind_is outside_are);
         })))
 
-    -- A subtree that none enters is passed.
+    -- A subtree that no thread enters is passed.
     pub skipped_step : news ≡ levels ++ next ∷ [] → inside.threads.items ≡ []
         → Advances places (view_before (rest_of before.trees) log level) (level_views log (reverse levels)) (level_views new (reverse news))
     skipped_step is empty =

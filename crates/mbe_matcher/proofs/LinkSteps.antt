@@ -1,4 +1,4 @@
--- What is made of pieces, piece by piece from the last, and what of a whole pattern.
+-- What the pieces make, one by one from the last, and what those of a whole pattern make.
 use Rattle.std.proofs.Common.{◌≡◌, ◌+◌, ℕ, suc, List, [], ◌∷◌, ◌++◌, refl, ap, ap₂, sym, ◌∙◌, append_assoc, cond}
 use Rattle.tt.specs.Types.Leaf.{Leaf}
 use Rattle.mbe_pattern.specs.declared.pattern.RepeatKind.{RepeatKind}
@@ -14,11 +14,11 @@ pub made_last : (bits : List Bit) (it : Bit) (made : Made) → made_of (bits ++ 
 made_last [] it made = refl
 made_last (bit ∷ bits) it made = ap (made_with bit) (made_last bits it made)
 
--- what a pattern makes of what was made behind it
+-- what a pattern makes of what was made after it
 abbrev pub made_before : (at : ℕ) → Pattern → Made → Made
 made_before at pattern made = record { stops = stops at pattern made.edges ++ made.stops; edges = entries at pattern made.edges; around = made.around }
 
--- Where a round may go on.
+-- Where another round may follow.
 pub again_same : (at : ℕ) (inner : Pattern) (separator : List Leaf) (op : RepeatKind)
     → again_from (at + place_count inner) separator (may_be_more op) (entries at inner []) ≡ again at inner separator op
 again_same at inner separator repeat.ZeroOrOne = refl
@@ -69,6 +69,6 @@ made_pattern at (repetition inner separator op others) behind made =
     ∙ sym (append_assoc (stops at inner (again at inner separator op ++ over)) (separator_stops separator (entries at inner []) ++ stops next others after.edges) after.stops))
     (entries_same at inner separator op others after.edges)
 
--- So the pieces of a whole pattern make all of its places, and tell where it begins.
+-- So the pieces of a whole pattern make all of its places and its starts.
 pub made_whole : (pattern : Pattern) → made_of (all_bits pattern) nothing_made ≡ record { stops = all_stops pattern; edges = starts_of pattern; around = [] }
 made_whole pattern = made_pattern 0 pattern (place (place_count pattern) ask.leave ∷ []) nothing_made

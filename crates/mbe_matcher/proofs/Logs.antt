@@ -1,4 +1,4 @@
--- Turns that are noted, and what threads stand for while more are.
+-- Turns that are noted, and what the views of threads are while more are noted.
 use Rattle.std.proofs.Common.{append-nil, ◌≡◌, ◌-◌, ◌<◌, ◌≤◌, ℕ, suc, zero, Bool, true, false, List, [], ◌∷◌, ◌++◌, length, reverse, get_or, refl, ap, ap₂, sym, subst, ◌∙◌, arith, append_assoc, length-append, cond}
 use Rattle.std.proofs.lemmas.List.{reverse-append, length-reverse}
 use Rattle.std.proofs.lemmas.Bool.Decides.{nat_tests}
@@ -9,7 +9,7 @@ use Rattle.mbe_matcher.specs.declared.threads.Thread.{Thread}
 use Rattle.mbe_matcher.specs.declared.threads.Turn.{Turn}
 use Rattle.mbe_matcher.specs.Threads.{View, view_of, views_of, path_in, path_to, AreWithin, IsGrown, added, threads_meet, thread_added, doubled, delayed, spread, threads_spread, waited, threads_waited}
 
--- A number that is no more than another is not the one behind it.
+-- A number that is at most another is not its successor.
 not_next : (k n : ℕ) → k ≤ n → nat_eq k (suc n) ≡ false
 not_next k n le = grind (arith, nat_tests, le)
 
@@ -22,7 +22,7 @@ path_older (turn ∷ newer) older k le =
     ∙ path_older newer older k le
 
 module _ (log more : List Turn) where
-  -- So a thread stands for what it stood for.
+  -- So the view of a thread does not change.
   view_grown : (thread : Thread) → thread.last.before ≤ length log → view_of (log ++ more) thread ≡ view_of log thread
   view_grown thread le =
       ap (λ (path : List ℕ). record { at = thread.at; wait = thread.wait; is_many = thread.is_many; trace = path ++ thread.last.edge ∷ [] })
@@ -37,7 +37,7 @@ module _ (log more : List Turn) where
   within_grown [] within = tt
   within_grown (thread ∷ others) within = (omega (arith, within.0, length-append log more), within_grown others within.1)
 
--- A log has grown by nothing.
+-- A log that has not changed has grown by nothing.
 pub grown_none : (log : List Turn) → IsGrown log log
 grown_none log = ([], sym (append-nil log))
 
@@ -48,7 +48,7 @@ grown_both old log new (before, is) (more, also) = (before ++ more, also ∙ ap 
 pub grown_least : (old log : List Turn) (n : ℕ) → IsGrown old log → n ≤ length old → n ≤ length log
 grown_least old log n (more, is) le = omega (arith, ap length is, length-append old more, le)
 
--- What a thread stood for it stands for.
+-- The view of a thread is kept.
 pub view_kept : (old log : List Turn) (thread : Thread) → IsGrown old log → thread.last.before ≤ length old → view_of log thread ≡ view_of old thread
 view_kept old log thread (more, is) own = ap (λ l. view_of l thread) is ∙ view_grown old more thread own
 
@@ -58,7 +58,7 @@ views_kept old log threads (more, is) own = ap (λ l. views_of l threads) is ∙
 pub within_kept : (old log : List Turn) (threads : List Thread) → IsGrown old log → AreWithin old threads → AreWithin log threads
 within_kept old log threads (more, is) own = subst (λ l. AreWithin l threads) (sym is) (within_grown old more threads own)
 
--- A thread is added, and so is what it stands for.
+-- Adding a thread adds its view.
 pub views_added : (log : List Turn) (thread : Thread) (threads : List Thread)
     → views_of log (thread_added thread threads) ≡ added (view_of log thread) (views_of log threads)
 views_added log thread [] = refl
@@ -70,7 +70,7 @@ views_added log thread (other ∷ others) = by (threads_meet other thread) (view
     by true rest = refl
     by false rest = ap (λ vs. view_of log other ∷ vs) rest
 
--- The turn before its last is one of the log.
+-- The turn before its last is in the log.
 pub within_added : (log : List Turn) (thread : Thread) (threads : List Thread) → thread.last.before ≤ length log → AreWithin log threads
     → AreWithin log (thread_added thread threads)
 within_added log thread [] le within = (le, tt)
@@ -80,7 +80,7 @@ within_added log thread (other ∷ others) le within = by (threads_meet other th
     by true rest = (within.0, within.1)
     by false rest = (within.0, rest)
 
--- So it is where a thread is added for each edge.
+-- The same if a thread is added for each edge.
 pub views_spread : (log : List Turn) (at wait : ℕ) (is_many : Bool) (before turn : ℕ) (edges : List ℕ) (threads : List Thread)
     → views_of log (threads_spread wait is_many before turn edges threads)
     ≡ spread (record { at = at; wait = wait; is_many = is_many; trace = path_in (reverse log) before }) turn edges (views_of log threads)
@@ -97,7 +97,7 @@ within_spread log wait is_many before turn (to ∷ others) threads le within =
     let next : Thread = record { at = to; wait = wait; is_many = is_many; last = record { edge = turn; before = before } } in
     within_spread log wait is_many before (suc turn) others (thread_added next threads) le (within_added log next threads le within)
 
--- And where one that waits is.
+-- The same if a waiting thread is added.
 pub views_waited : (log : List Turn) (by : Move) (thread : Thread) (threads : List Thread)
     → views_of log (threads_waited by thread threads) ≡ waited by (view_of log thread) (views_of log threads)
 views_waited log (move.Passes trees) thread threads = views_added log (record thread { wait = thread.wait - 1 }) threads
@@ -110,7 +110,7 @@ within_waited log (move.Passes trees) thread threads le within = within_added lo
 within_waited log (move.Enters kind) thread threads le within = within
 within_waited log move.Ends thread threads le within = within
 
--- Behind no turn is no path.
+-- No turn means no path.
 pub path_none : (log : List Turn) → path_in log 0 ≡ []
 path_none [] = refl
 path_none (turn ∷ older) =
@@ -128,7 +128,7 @@ module _ (log new : List Turn) (thread : Thread) (noted : new ≡ log ++ thread.
           let same : length (log ++ thread.last ∷ []) ≡ suc (length (reverse log)) = omega (arith, length-append log (thread.last ∷ []), length-reverse log) in
           grind (arith, nat_tests, same)
 
-  -- A turn is noted, and behind it a thread for each edge.
+  -- A turn is noted, and after it a thread for each edge.
   pub step_views : (wait : ℕ) (edges : List ℕ) (next news : List Thread) → AreWithin log next → news ≡ threads_spread wait thread.is_many (length new) 0 edges next
       → views_of new news ≡ spread (delayed wait (view_of log thread)) 0 edges (views_of log next)
   step_views wait edges next news within is =
@@ -145,7 +145,7 @@ module _ (log new : List Turn) (thread : Thread) (noted : new ≡ log ++ thread.
   step_within wait edges next news within is =
       subst (AreWithin new) (sym is) (within_spread new wait thread.is_many (length new) 0 edges next (omega arith) (within_kept log new next step_grown within))
 
--- A thread of some whose turns are of the log.
+-- A thread of a list whose turns are in the log.
 pub within_at : (log : List Turn) (threads : List Thread) (i : ℕ) (d : Thread) → AreWithin log threads → i < length threads → (get_or threads i d).last.before ≤ length log
 within_at log [] i d within lt = absurd (omega (arith, lt))
 within_at log (thread ∷ others) zero d within lt = within.0

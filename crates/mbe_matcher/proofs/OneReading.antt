@@ -1,4 +1,4 @@
--- Two readings have one path only where they are one.
+-- Two readings have the same path only if they are the same.
 use Rattle.std.proofs.Common.{◌≡◌, ◌+◌, ◌<◌, ◌≤◌, ℕ, suc, Bool, true, false, List, [], ◌∷◌, ◌++◌, length, refl, ap, ap₂, sym, subst, ◌∙◌, arith, length-append}
 use Rattle.std.specs.Prelude.{◌||◌, ◌&&◌}
 use Rattle.tt.specs.Forest.{Forest, end}
@@ -27,12 +27,12 @@ below_shift : (n m : ℕ) (path : List ℕ) → Below m path → Below (n + m) (
 below_shift n m [] b = b
 below_shift n m (turn ∷ more) b = omega (arith, b)
 
--- A turn that is so much later is not below.
+-- A turn that is shifted so far is not below.
 not_below : (n : ℕ) (path other : List ℕ) → Below n path → path ≡ shift n other → ⊥
 not_below n path [] b is = subst (Below n) is b
 not_below n path (turn ∷ more) b is = let low : Below n ((n + turn) ∷ more) = subst (Below n) is b in omega (arith, low)
 
--- A path is told by what it is where its first turn is later.
+-- A shifted path determines the path.
 shift_same : (n : ℕ) (path other : List ℕ) → shift n path ≡ shift n other → path ≡ other
 shift_same n [] [] is = refl
 shift_same n [] (turn ∷ more) is = absurd (cc is)
@@ -47,17 +47,17 @@ firsts_same : (separator : List Leaf) (path other : List ℕ) → firsts separat
 firsts_same [] path other is = is
 firsts_same (it ∷ others) path other is = cc is
 
--- A separator leaves one rest.
+-- After a separator there is only one rest.
 separates_same : (separator : List Leaf) (input rest other : Forest) → Separates separator input rest → Separates separator input other → rest ≡ other
 separates_same [] input rest other a b = a ∙ sym b
 separates_same (it ∷ others) input rest other a b = a.1 ∙ sym b.1
 
--- where a pattern may not be empty and begins with none of its first parts, the others may not be
+-- if a pattern may not be empty but its first part may be left out, the others may not be empty
 only_others : (a b c : Bool) → a ≡ true → ((a || b) && c) ≡ false → c ≡ false
 only_others true b c t e = e
 only_others false b c t e = absurd (cc t)
 
--- The first turn of a pattern that takes a tree is one into it.
+-- The first turn of a pattern that takes a tree leads into it.
 pub below_entries : (at : ℕ) (pattern : Pattern) (input : Forest) (reading : Reading) (rest : Forest) (tail : List ℕ) → IsFull pattern → may_be_empty pattern ≡ false
     → Takes pattern input reading rest → Below (length (entries at pattern [])) (path_of at pattern reading tail)
 below_entries at nothing input reading rest tail full some takes = absurd (cc some)
@@ -103,7 +103,7 @@ below_entries at (repetition inner separator repeat.OneOrMore others) input (rou
     full.1 full.0 takes
 below_entries at (repetition inner separator repeat.OneOrMore others) input (over more) rest tail full some (none, takes) = absurd (cc none)
 
--- The first turn of a further round is one that leads to another.
+-- The first turn of a further round leads to another round.
 pub below_again : (at : ℕ) (inner : Pattern) (separator : List Leaf) (op : RepeatKind) (path : List ℕ) → may_be_more op ≡ true → Below (entry_count at inner) path
     → Below (length (again at inner separator op)) (firsts separator path)
 below_again at inner separator repeat.ZeroOrOne path more b = absurd (cc more)
@@ -112,7 +112,7 @@ below_again at inner [] repeat.OneOrMore path more b = b
 below_again at inner (it ∷ others) repeat.ZeroOrMore path more b = omega arith
 below_again at inner (it ∷ others) repeat.OneOrMore path more b = omega arith
 
--- the same in all
+-- the same in all respects
 pub record AreSame (one other : Reading) (rest other_rest : Forest) (tail other_tail : List ℕ) : Type 0 where
   pub readings : one ≡ other
   pub rests : rest ≡ other_rest
@@ -124,7 +124,7 @@ module _ (at : ℕ) (inner : Pattern) (separator : List Leaf) (op : RepeatKind) 
     (past : (input : Forest) (a b : Reading) → Takes others input a rest → Takes others input b other_rest
     → path_of (at + place_count inner + separator_count separator) others a tail ≡ path_of (at + place_count inner + separator_count separator) others b other_tail
     → AreSame a b rest other_rest tail other_tail) where
-  -- the path of further rounds, of the one, and of the other
+  -- the paths of further rounds: of the one reading and of the other
   abbrev further : Reading → List ℕ
   further = path_of_others separator (length (again at inner separator op)) (path_of at inner) (λ r. path_of (at + place_count inner + separator_count separator) others r tail)
 
@@ -196,7 +196,7 @@ module _ (at : ℕ) (inner : Pattern) (separator : List Leaf) (op : RepeatKind) 
       (subst (λ t. AreOtherRounds op separator (Takes inner) (λ trees more. Takes others trees more other_rest) t less) (sym first.rests) rounds') first.tails in
       record { readings = ap₂ round first.readings rest_same.readings; rests = rest_same.rests; tails = rest_same.tails }
 
--- So it is for all patterns.
+-- The same for all patterns.
 pub same_reading : (at : ℕ) (pattern : Pattern) (input : Forest) (a b : Reading) (r s : Forest) (t u : List ℕ) → IsFull pattern → Takes pattern input a r → Takes pattern input b s
     → path_of at pattern a t ≡ path_of at pattern b u → AreSame a b r s t u
 same_reading at nothing input a b r s t u full x y is = record { readings = x.0 ∙ sym y.0; rests = x.1 ∙ sym y.1; tails = is }

@@ -1,4 +1,4 @@
--- The places of a pattern are ranked: from one that may ask for nothing a path comes only to those of a lower rank.
+-- The places of a pattern are ranked: from a place that may require nothing, a path comes only to places of a lower rank.
 use Rattle.std.proofs.Common.{◌≡◌, ◌+◌, ◌-◌, ◌<◌, ◌≤◌, ◌∙◌, ℕ, zero, suc, Bool, true, false, List, [], ◌∷◌, ◌++◌, map, length, get_or, Some, None, refl, ap, sym, subst, arith, append_assoc, length-append}
 use Rattle.std.proofs.lemmas.List.{length-map}
 use Rattle.std.specs.Prelude.{◌&&◌, slice_get, Option}
@@ -15,14 +15,14 @@ use Rattle.mbe_matcher.specs.Settling.{may_ask_nothing, may_ask_nothing_at, AreB
 use Rattle.mbe_matcher.specs.Threads.{edges_of}
 use Rattle.mbe_matcher.proofs.Compiling.{length-stops, length-separator, entries_full}
 
--- There are as many places as the pattern has, and its end.
+-- There are as many places as the pattern has, plus its end.
 pub length_stops : (places : List Place) (pattern : Pattern) → map stop_of places ≡ all_stops pattern → length places ≡ suc (place_count pattern)
 length_stops places pattern are =
     let last : Stop = record { asked = ask.leave; edges = [] } in
     omega (arith, length-map places stop_of, ap length are, length-append (stops 0 pattern (place_count pattern ∷ [])) (last ∷ []), length-stops 0 pattern (place_count pattern ∷ []))
 
--- the rank of a variable's place, of so many: behind those that stand further on; and where all behind it may be nothing, a round may begin
--- anew, so it is behind all others too
+-- the rank of a variable's place, of that many places: above those further on; if everything after it may be nothing, a round may begin
+-- anew, so its rank is above all others too
 abbrev variable_rank : (most at : ℕ) → (may : Bool) → (is_last : Bool) → ℕ
 variable_rank most at false is_last = 0
 variable_rank most at true true = most + (most - suc at)
@@ -68,7 +68,7 @@ length-ranks most at (repetition inner separator op others) =
     )
 
 module _ (rank : ℕ → ℕ) where
-  -- places from there on have these ranks
+  -- the places from there on have these ranks
   abbrev Have : (at : ℕ) → List ℕ → Type 0
   Have at [] = Unit {0}
   Have at (it ∷ others) = (rank at ≡ it) × Have (suc at) others
@@ -109,7 +109,7 @@ module _ (rank : ℕ → ℕ) where
     rank_any at true true is = omega (arith, is)
     rank_any at true false is = omega (arith, is)
 
-    -- The separator and what is behind a repetition.
+    -- The separator and what follows a repetition.
     module _ (at : ℕ) (inner : Pattern) (separator : List Leaf) (op : RepeatKind) (others : Pattern) (have : Have at (ranks most at (repetition inner separator op others))) where
       abbrev between : ℕ
       between = at + place_count inner
@@ -126,7 +126,7 @@ module _ (rank : ℕ → ℕ) where
       have_others : Have next (ranks most next others)
       have_others = have_right between next (separator_ranks separator) (ranks most next others) (omega (arith, length-separator_ranks separator)) have_tail
 
-    -- A pattern that takes a tree at least begins at places of a low rank.
+    -- A pattern that takes at least one tree begins at places of a low rank.
     low_full : (at : ℕ) (pattern : Pattern) → may_be_empty pattern ≡ false → IsFull pattern → Have at (ranks most at pattern) → AreAtMost (most - suc at) (entries at pattern [])
     low_full at nothing some full have = absurd (cc some)
     low_full at (variable it others) some full have = (rank_full at (may_take_none it.fragment) (may_be_empty others) some have.0, tt)
@@ -145,7 +145,7 @@ module _ (rank : ℕ → ℕ) where
         (low_full at inner full.0 full.1 (have_inner at inner separator repeat.ZeroOrOne others have))
         (most_more (most - suc next) (most - suc at) (entries next others []) (omega arith) (low_full next others some full.2 (have_others at inner separator repeat.ZeroOrOne others have)))
 
-    -- Any begins at places that are no higher than what is behind it.
+    -- Any pattern begins at places whose rank is no higher than that of what follows.
     low_any : (n at : ℕ) (pattern : Pattern) (behind : List ℕ) → IsFull pattern → Have at (ranks most at pattern) → most + (most - suc at) ≤ n → AreAtMost n behind
         → AreAtMost n (entries at pattern behind)
     low_any n at nothing behind full have le low = low
@@ -167,7 +167,7 @@ module _ (rank : ℕ → ℕ) where
         (most_more (most - suc at) n (entries at inner []) (omega (arith, le)) (low_full at inner full.0 full.1 (have_inner at inner separator repeat.ZeroOrOne others have)))
         (low_any n next others behind full.2 (have_others at inner separator repeat.ZeroOrOne others have) (omega (arith, le)) low)
 
-    -- a place is ranked, where it may ask for nothing
+    -- a place is ranked if it may require nothing
     abbrev IsRanked : (at : ℕ) → Stop → Type 0
     IsRanked at stop = may_ask_nothing stop.asked ≡ true → (rank at < most + most) × AreBelow rank (rank at) stop.edges
 
@@ -179,7 +179,7 @@ module _ (rank : ℕ → ℕ) where
     ranked_both at to [] ys is a b = let same : to ≡ at = omega (arith, is) in subst (λ n. StopsRanked n ys) same b
     ranked_both at to (x ∷ xs) ys is a b = (a.0, ranked_both (suc at) to xs ys (omega (arith, is)) a.1 b)
 
-    -- A separator asks for something.
+    -- A separator requires something.
     ranked_separator : (at : ℕ) (separator : List Leaf) (behind : List ℕ) → StopsRanked at (separator_stops separator behind)
     ranked_separator at [] behind = tt
     ranked_separator at (it ∷ others) behind = (λ h. absurd (cc h), tt)
@@ -208,7 +208,7 @@ module _ (rank : ℕ → ℕ) where
           (most_below (most - suc (suc at)) (rank at) (entries (suc at) others []) (omega (arith, is, lt)) (low_full (suc at) others (sym e) full have)),
     )
 
-    -- The places of a pattern are ranked, where those behind are low.
+    -- The places of a pattern are ranked if those after it are low.
     ranked_stops : (at : ℕ) (pattern : Pattern) (behind : List ℕ) → IsFull pattern → Have at (ranks most at pattern) → at + place_count pattern < most
         → AreAtMost (most + (most - suc (at + place_count pattern))) behind → StopsRanked at (stops at pattern behind)
     ranked_stops at nothing behind full have lt low = tt
@@ -256,7 +256,7 @@ module _ (rank : ℕ → ℕ) where
         (ranked_stops next others behind full.2 rest (omega (arith, lt))
         (most_more (most + (most - suc (at + (place_count inner + (separator_count separator + place_count others))))) (most + (most - suc (next + place_count others))) behind (omega arith) low)))
 
-    -- Of places that stand as stops each is ranked.
+    -- If the places are these stops, each of them is ranked.
     at_stop : (places : List Place) (at : ℕ) (its : List Stop) → Stand places at its → StopsRanked at its → (n : ℕ) → at ≤ n → n < at + length its
         → may_ask_nothing_at (slice_get places n) ≡ true → (rank n < most + most) × AreBelow rank (rank n) (edges_of (slice_get places n))
     at_stop places at [] stand are n le lt h = absurd (omega (arith, le, lt))

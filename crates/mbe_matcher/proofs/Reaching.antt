@@ -1,4 +1,4 @@
--- What is passed at the front is a tree at least.
+-- What is passed at the front is at least one tree.
 use Rattle.std.proofs.Common.{◌≡◌, ◌-◌, ◌∙◌, ℕ, suc, Bool, true, false, List, [], ◌∷◌, length, Option, Some, None, refl, ap, sym, cond}
 use Rattle.std.specs.Prelude.{◌==◌, not, codes}
 use Rattle.tt.specs.Forest.{Forest, end, leaf, node}
@@ -14,7 +14,7 @@ use Rattle.mbe_pattern.specs.Units.{is_at_word, is_at_ident, unit_from, unit_siz
 use Rattle.mbe_matcher.specs.Places.{passed}
 use Rattle.mbe_matcher.proofs.GrammarTaken.{reach_full}
 
--- it is one at least
+-- it is at least one
 abbrev pub IsSome : ℕ → Type 0
 IsSome n = n ≡ suc (n - 1)
 
@@ -27,7 +27,7 @@ some_length : (b : Bool) (xs ys : List Punct) → IsSome (length xs) → IsSome 
 some_length true xs ys one other = one
 some_length false xs ys one other = other
 
--- Puncts that stand as one are one at least.
+-- Glued puncts are at least one tree.
 two_some : (first second : Punct) → IsSome (length (glued_two first second))
 two_some first second = some_length (is_one_of twos (first.char ∷ second.char ∷ [])) (first ∷ second ∷ []) (first ∷ []) refl refl
 
@@ -45,7 +45,7 @@ glued_some : (first : Punct) (behind : Forest) → IsSome (length (glued_from fi
 glued_some first behind =
     some_length (is_alone first.spacing) (first ∷ []) (glued_behind first (first_punct behind) (after_tree behind)) refl (behind_some first (first_punct behind) (after_tree behind))
 
--- So is what stands as one.
+-- So is a unit.
 from_some : (it : Leaf) (behind : Forest) → IsSome (unit_from it behind)
 from_some (leaf_of.Literal it) behind = refl
 from_some (leaf_of.Punct it) behind =
@@ -58,7 +58,7 @@ unit_some end = refl
 unit_some (leaf it rest) = from_some it rest
 unit_some (node delimiter children rest) = refl
 
--- And what a fragment takes.
+-- So is what a fragment takes.
 visible_some : (b c : Bool) → not b ≡ false → IsSome (cond b (cond c 2 1) 0)
 visible_some true c there = some_either c 2 1 refl refl
 visible_some false c there = absurd (cc there)
@@ -72,7 +72,7 @@ reach_some fragment.Vis trees there = visible_some (is_at_word (codes "pub") tre
 reach_some fragment.Tt trees there = unit_some trees
 reach_some (fragment.Grammar which) trees there = reach_full which trees
 
--- Behind the first tree the rest of it is left to pass.
+-- After the first tree, the rest of what it takes is left to pass.
 pub take_onward : (which : Fragment) (trees seen : Forest) (outer : List Forest) → seen ≡ trees → takes_nothing which trees ≡ false
     → passed (reach which trees) (trees ∷ outer) ≡ passed (reach which seen - 1) (after_tree trees ∷ outer)
 take_onward which trees seen outer same there =

@@ -1,4 +1,4 @@
--- What reading an input begins with and keeps.
+-- What reading an input begins with, and what it preserves.
 use Rattle.std.proofs.Common.{◌≡◌, inl, inr, refl, ◌-◌, ℕ, false, List, [], ◌∷◌, ◌++◌, reverse, ◌+◌, ◌*◌, suc, ap, ap₂, sym, subst, ◌∙◌, arith}
 use Rattle.tt.specs.Forest.{Forest, size}
 use Rattle.tt.specs.Iters.{rest_of}
@@ -20,7 +20,7 @@ use Rattle.mbe_matcher.proofs.FirstThreads.{outside, told_start}
 use Rattle.mbe_matcher.proofs.Stands.{Stands}
 use Rattle.mbe_matcher.proofs.Stopping.{AreCounted, AreTold, IsUpTo, AreUpTo, told_here, told_calm, reached_is}
 
--- At the start the threads tell what is wanted.
+-- At the start the threads account for all wanted paths.
 pub told_init : (places : List Place) (Last : Option Place → List Forest → Type 0) (starts : List ℕ) (input : TtIter) (log : List Turn) (its : List Thread) (levels : List Level) (level : Level)
     → its ≡ threads_spread 0 false 0 0 starts [] → levels ≡ [] ++ level ∷ [] → rest_of level.rest ≡ rest_of input → level.threads.items ≡ its
     → Told places Last (GoesAll places Last starts (rest_of input)) [] (configs_of (level_views log (reverse levels)))
@@ -39,16 +39,16 @@ told_init places Last starts input log its levels level spreads is rest same =
         ∙ views_spread log 0 0 false 0 0 starts []
         ∙ ap (λ (path : List ℕ). spread (record { at = 0; wait = 0; is_many = false; trace = path }) 0 starts []) (path_none (reverse log))
 
--- Their turns are of the log.
+-- Their turns are in the log.
 pub within_init : (log : List Turn) (starts : List ℕ) (its : List Thread) → its ≡ threads_spread 0 false 0 0 starts [] → AreWithin log its
 within_init log starts its spreads = subst (AreWithin log) (sym spreads) (within_spread log 0 false 0 0 starts [] (omega arith) tt)
 
--- A level is what is left of it, where it ends, and what its threads stand for.
+-- A level is what is left of it, where it ends, and the views of its threads.
 level_is : (trees other : Forest) (until end_of : ℕ) (views : List View) → trees ≡ other → until ≡ end_of
     → ◌≡◌ {A = LevelView} (record { trees = trees; until = until; views = views }) (record { trees = other; until = end_of; views = views })
 level_is trees other until end_of views rest ends = cc
 
--- The innermost level where its threads were settled, and those outside.
+-- The innermost level after its threads were settled, and those outside.
 pub calm_is : (log new : List Turn) (popped : List Level) (level next : Level) → IsGrown log new → AreLevelsWithin log popped → rest_of next.rest ≡ rest_of level.rest → next.until ≡ level.until
     → level_view new next ∷ level_views new (reverse popped)
     ≡ record { trees = rest_of level.rest; until = level.until; views = views_of new next.threads.items } ∷ level_views log (reverse popped)
@@ -56,7 +56,7 @@ calm_is log new popped level next grown within rest until =
     ap₂ (λ (l : LevelView) (ls : List LevelView). l ∷ ls) (level_is (rest_of next.rest) (rest_of level.rest) next.until level.until (views_of new next.threads.items) rest until)
     (levels_kept log new (reverse popped) grown (within_reverse log popped within))
 
--- As much is left to do.
+-- The same work is left.
 pub work_kept : (log new : List Turn) (levels popped : List Level) (level next : Level) → levels ≡ popped ++ level ∷ []
     → IsGrown log new → AreLevelsWithin log popped → rest_of next.rest ≡ rest_of level.rest
     → work_left (level_view new next ∷ level_views new (reverse popped)) ≡ work_left (level_views log (reverse levels))
@@ -65,11 +65,11 @@ work_kept log new levels popped level next was grown within rest =
     ∙ sym (ap work_left (views_last log levels popped level was))
 
 module _ (places : List Place) (starts : List ℕ) (input : Forest) (log new : List Turn) (levels popped : List Level) (level next : Level) (far : ℕ) where
-  -- how far threads came, with those of the level
+  -- how far threads came, counting those of the level
   abbrev pub far_with : ℕ
   far_with = reached (rest_of level.rest) (level.until - size (rest_of level.rest)) far level.threads.items
 
-  -- Where the threads of the innermost level stand is looked at.
+  -- Each thread of the innermost level is checked for being at its place.
   told_reached : AreTold places starts input far (level_view log level ∷ level_views log (reverse popped))
       → AreTold places starts input far_with (level_view log level ∷ level_views log (reverse popped)) × IsUpTo places starts input far_with (level_view log level) (level_views log (reverse popped))
   told_reached told = by (reached_is log (rest_of level.rest) (level.until - size (rest_of level.rest)) far level.threads.items)

@@ -1,9 +1,9 @@
--- What holds where there is a value, and what follows from it; which of two numbers is less.
+-- What holds if there is a value, and what follows from it; and which of two numbers is less.
 use Rattle.std.proofs.Common.{◌<◌, ◌≤◌, ℕ, inl, inr}
 use Rattle.std.proofs.lemmas.Bool.Decides.{leb_tells}
 use Rattle.std.specs.Prelude.{◌⊎◌, Result, Ok, Err, OnOk, IfOk}
 
--- What was given gives way to what follows from it.
+-- From a property of the value to one that follows from it.
 pub on_ok : {T E A B : Type 0} (result : Result T E) → (A → B) → OnOk result A → OnOk result B
 on_ok (Ok it) f h = f h
 on_ok (Err fault) f h = h

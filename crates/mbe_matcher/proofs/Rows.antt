@@ -21,7 +21,7 @@ use Rattle.mbe_matcher.specs.Readings.{Reading, done, took, held, round, over, I
 use Rattle.mbe_pattern.specs.Spelling.{pattern_of}
 use Rattle.mbe_pattern.proofs.Rows.{word, raw_word, alone, joint, arrow, life, comma, var, rounds, listed}
 
--- An ident takes an ident, raw or not, but `_`, and no lifetime.
+-- An ident takes an ident, raw or not, except `_`, and no lifetime.
 ident_takes : takes fragment.Ident (word (codes "a") end) ≡ true
 ident_takes = refl
 
@@ -34,7 +34,7 @@ underscore_left = refl
 lifetime_no_ident : takes fragment.Ident (life end) ≡ false
 lifetime_no_ident = refl
 
--- A literal takes a truth value, and a number behind `-`, which are two trees.
+-- A literal takes a truth value, and a number after `-`, which are two trees.
 truth_taken : takes fragment.Literal (word (codes "true") end) ≡ true
 truth_taken = refl
 
@@ -52,14 +52,14 @@ module _ (rest : Forest) where
 quote_left : takes fragment.Lifetime (joint 39 (comma end)) ≡ false
 quote_left = refl
 
--- A block is what stands in braces.
+-- A block is a subtree in braces.
 block_takes : takes fragment.Block (subtree Brace end) ≡ true
 block_takes = refl
 
 parentheses_left : takes fragment.Block (subtree Parenthesis end) ≡ false
 parentheses_left = refl
 
--- A visibility is `pub`, with `(crate)` or `(in ..)` behind it or without, or nothing; `r#pub` is none, and `(a)` is not part of one.
+-- A visibility is `pub`, with or without a following `(crate)` or `(in ..)`, or nothing; `r#pub` is none, and `(a)` is not part of one.
 visible : reach fragment.Vis (word (codes "pub") (comma end)) ≡ 1
 visible = refl
 
@@ -75,7 +75,7 @@ visible_before = refl
 not_visible : reach fragment.Vis (raw_word (codes "pub") end) ≡ 0
 not_visible = refl
 
--- `tt` takes a token, or a subtree; and nothing where nothing is.
+-- `tt` takes a token or a subtree; it takes nothing if there is nothing.
 arrow_taken : taken fragment.Tt (arrow (comma end)) ≡ arrow end
 arrow_taken = refl
 
@@ -106,7 +106,7 @@ listed_instance = (_, (done, refl, refl, (refl, refl)), (_, _, refl, ((refl, (re
 listed_binds : binding_of (pattern_of listed) a_b_reading ≡ record { variable = x_of fragment.Ident; bound = first (one (word (codes "a") end)) (first (one (word (codes "b") end)) none) } ∷ []
 listed_binds = refl
 
--- What is noted of it: two rounds of the first repetition, behind which 4 steps stand, and one of the other, behind which one stands.
+-- Its notes: two rounds of the first repetition, which 4 steps follow, and one round of the other, which one step follows.
 listed_notes : notes_of (pattern_of listed) a_b_reading
     ≡ begun 4 ∷ took_by 5 (word (codes "a") end) ∷ begun 4 ∷ took_by 5 (word (codes "b") end) ∷ ended 4 ∷ begun 1 ∷ ended 1 ∷ []
 listed_notes = refl
@@ -114,18 +114,18 @@ listed_notes = refl
 listed_variables : variables_of (pattern_of listed) 1 ≡ record { variable = x_of fragment.Ident; number = 5; nest = 4 ∷ [] } ∷ []
 listed_variables = refl
 
--- Its steps: the first repetition with its separator, its variable and its end, the other, and the end of all.
+-- Its steps: the first repetition with its separator, its variable and its end, the other repetition, and the final end.
 listed_steps : steps_of (pattern_of listed)
     ≡ step.Begin 1 1 3 ∷ step.Pass 1 ∷ step.Take fragment.Ident ∷ step.Close 1
     ∷ step.Begin 1 0 2 ∷ step.Pass 1 ∷ step.Close 0
     ∷ step.Leave ∷ []
 listed_steps = refl
 
--- Where there is no round an empty list is bound.
+-- With no round, an empty list is bound.
 listed_none : binding_of (pattern_of listed) (over (over done)) ≡ record { variable = x_of fragment.Ident; bound = none } ∷ []
 listed_none = refl
 
--- A variable in a subtree, and one that is written `_`.
+-- A variable in a subtree, and one written as `_`.
 abbrev in_brace : Pattern
 in_brace = pattern_of (join (subtree Brace (var (codes "x") (codes "tt") end)) (var (codes "_") (codes "tt") end))
 
@@ -151,7 +151,7 @@ nested_binds = refl
 nested_noted : binding_by (variables_of nested 1) (notes_of nested nested_reading) ≡ binding_of nested nested_reading
 nested_noted = refl
 
--- Of two variables of one name the first is found, and of an unknown name none is.
+-- Of two variables of one name the first is found; for an unknown name none is.
 twice_bound : bound_to (codes "x")
     (record { variable = nameless; bound = none } ∷ record { variable = x_of fragment.Tt; bound = one end } ∷ record { variable = x_of fragment.Tt; bound = none } ∷ []) ≡ Some (one end)
 twice_bound = refl
@@ -171,7 +171,7 @@ listed_stops : all_stops (pattern_of listed)
     ∷ []
 listed_stops = refl
 
--- `+` wants a round.
+-- `+` requires a round.
 abbrev plus : Pattern
 plus = pattern_of (rounds (comma end) (alone 43 end))
 
@@ -196,7 +196,7 @@ twice_ambiguous =
       other_holds = (refl, (_, ((refl, (refl, tt)), (refl, refl)), (refl, refl)));
     }
 
--- `a $x:ident (b c)` stops before its second part where no name is, and in its subtree where no `c` is.
+-- `a $x:ident (b c)` stops before its second part if there is no name, and in its subtree if there is no `c`.
 abbrev grouped : Pattern
 grouped = pattern_of (word (codes "a") (var (codes "x") (codes "ident") (join (subtree Parenthesis (word (codes "b") (word (codes "c") end))) end)))
 
@@ -224,14 +224,14 @@ stops_in_group =
     least other (inr (a, inr (name, inr (node, inl (inr (b, inr (c, more))))))) = absurd c.1.0
     least other (inr (a, inr (name, inr (node, inr (inside, (b, (c, all)), more))))) = absurd c.1.0
 
--- It comes to the subtree's end, and behind it.
+-- It comes to the subtree's end, and beyond it.
 comes_to_end : TakesUpTo grouped (group (word (codes "b") (word (codes "c") (comma end))) end) 0 1
 comes_to_end = inr ((refl, ((refl, refl), tt)), inr (refl, inr (refl, inl (inr ((refl, ((refl, refl), tt)), inr ((refl, ((refl, refl), tt)), refl))))))
 
 comes_behind : TakesUpTo grouped (group (word (codes "b") (word (codes "c") end)) (comma end)) 0 1
 comes_behind = inr ((refl, ((refl, refl), tt)), inr (refl, inr (refl, inr (done, ((refl, ((refl, refl), tt)), ((refl, ((refl, refl), tt)), (refl, refl))), refl))))
 
--- `$($x:ident +),*` comes behind a separator, and into a round.
+-- `$($x:ident +),*` comes beyond a separator, and into a round.
 abbrev added : Pattern
 added = pattern_of (rounds (var (codes "x") (codes "ident") (alone 43 end)) (comma (alone 42 end)))
 

@@ -1,4 +1,4 @@
--- Threads that go on at once tell what they told, and in the end none does.
+-- Threads that go on at once account for the same paths, and in the end none does so.
 use Rattle.std.proofs.Common.{◌≡◌, inl, inr, ◌+◌, ◌<◌, ◌≤◌, ◌∙◌, ℕ, zero, suc, Bool, true, false, List, [], ◌∷◌, ◌++◌, length, drop, get_or, Some, None, refl, ap, sym, subst, arith, cond}
 use Rattle.std.proofs.lemmas.Bool.Decides.{nat_tests}
 use Rattle.std.specs.Prelude.{◌⊎◌, ◌&&◌, not, nat_eq, codes, slice_get, Option}
@@ -24,7 +24,7 @@ use Rattle.mbe_matcher.proofs.Stands.{AreGoingAtOnce, stands_once}
 use Rattle.mbe_matcher.proofs.Telling as telling
 use Rattle.mbe_pattern.specs.Patterns.{may_take_none}
 
--- What takes nothing takes what is there, and is none of it.
+-- A fragment that takes nothing takes what is there, and none of it.
 takes_it : (which : Fragment) (trees : Forest) → takes_nothing which trees ≡ true → takes which trees ≡ true
 takes_it fragment.Ident trees h = absurd (cc h)
 takes_it fragment.Literal trees h = absurd (cc h)
@@ -47,7 +47,7 @@ reach_none fragment.Vis trees h = not_there (is_at_word (codes "pub") trees) (is
 reach_none fragment.Tt trees h = absurd (cc h)
 reach_none (fragment.Grammar it) trees h = absurd (cc h)
 
--- It is a fragment that may.
+-- Such a fragment may take nothing.
 may_none : (which : Fragment) (trees : Forest) → takes_nothing which trees ≡ true → may_take_none which ≡ true
 may_none fragment.Ident trees h = absurd (cc h)
 may_none fragment.Literal trees h = absurd (cc h)
@@ -67,7 +67,7 @@ may_ask_at : (place : Option Place) (trees : Forest) → asks_nothing_at place t
 may_ask_at None trees h = absurd (cc h)
 may_ask_at (Some place) trees h = may_ask (ask_of place.atom) trees h
 
--- what is asked is passed without a tree
+-- what is required is passed without a tree
 record IsPassedAtOnce (it : Ask) (levels : List Forest) : Type 0 where
   passes : Passes it levels
   stays : onward it levels ≡ passed 0 levels
@@ -82,7 +82,7 @@ at_once ask.leave trees outer h = absurd (cc h)
 not_none : (n : ℕ) → nat_eq (suc n) 0 ≡ true → ⊥
 not_none n h = let none : suc n ≡ 0 = grind (arith, nat_tests, h) in omega (arith, none)
 
--- A thread that is at its place is before all that is left.
+-- A thread that is at its place precedes all that is left.
 pub here_is : (trees : Forest) (n : ℕ) (outer : List Forest) → is_here trees n ≡ true → passed n (trees ∷ outer) ≡ trees ∷ outer
 here_is end n outer h = passed_end n outer
 here_is (leaf it rest) zero outer h = refl
@@ -138,7 +138,7 @@ module _ (places : List Place) (Last : Option Place → List Forest → Type 0) 
 
 module _ (places : List Place) (trees : Forest) where
   module _ (view : View) (old : List View) where
-    -- One that goes on adds those behind its place, and any other itself.
+    -- A thread that goes on adds those after its place; any other adds itself.
     pub settled_on : goes_at_once places trees view.at view.wait ≡ true
         → settled_one places trees view old ≡ spread (delayed 0 view) 0 (edges_of (slice_get places view.at)) old
     settled_on h = ap (λ b. cond b (spread (delayed 0 view) 0 (edges_of (slice_get places view.at)) old) (added view old)) h
@@ -146,7 +146,7 @@ module _ (places : List Place) (trees : Forest) where
     pub settled_still : goes_at_once places trees view.at view.wait ≡ false → settled_one places trees view old ≡ added view old
     settled_still h = ap (λ b. cond b (spread (delayed 0 view) 0 (edges_of (slice_get places view.at)) old) (added view old)) h
 
-  -- A settled thread more among settled ones.
+  -- One more settled thread among settled ones.
   settled_added : (view : View) (views : List View) → goes_at_once places trees view.at view.wait ≡ false → AreSettled places trees views → AreSettled places trees (added view views)
   settled_added view [] calm are = (calm, tt)
   settled_added view (other ∷ others) calm are = by (meet other view) (settled_added view others calm are.1)
@@ -167,7 +167,7 @@ module _ (places : List Place) (trees : Forest) where
   settled_stay zero views calm = calm
   settled_stay (suc n) views calm = settled_stay n (settled_all places trees views []) (settled_same views [] calm tt)
 
-  -- Once more at the end is once more.
+  -- Once more at the end is the same as once more at the beginning.
   pub settled_more : (n : ℕ) (views : List View) → settled_all places trees (settled places trees n views) [] ≡ settled places trees (suc n) views
   settled_more zero views = refl
   settled_more (suc n) views = settled_more n (settled_all places trees views [])
@@ -178,7 +178,7 @@ module _ (places : List Place) (trees : Forest) where
       let same : suc (n + m) ≡ suc n + m = omega arith in
       settled_both n m (settled_all places trees views []) ∙ ap (λ k. settled places trees k views) same
 
-  -- Settled twice they are settled.
+  -- Threads that are settled twice are settled.
   pub settled_twice : (old once new : List View) (n m : ℕ) → once ≡ settled places trees n old → AreSettled places trees once ⊎ (length places ≤ n)
       → new ≡ settled places trees m once → AreSettled places trees new ⊎ (length places ≤ m) → IsSettledBy places trees old new
   settled_twice old once new n m first enough second more =
@@ -189,12 +189,12 @@ module _ (places : List Place) (trees : Forest) where
       by (inl calm) (inr le) = inl (subst (AreSettled places trees) (sym second) (settled_stay m once calm))
       by (inr le) (inr more) = inr (omega (arith, le, more))
 
-  -- Threads of which none goes on are settled as they are.
+  -- Threads that do not go on are settled as they are.
   pub settled_already : (views : List View) → AreSettled places trees views → IsSettledBy places trees views views
   settled_already views calm = record { count = 0; same = refl; enough = inl calm }
 
   module _ (rank : ℕ → ℕ) (ranked : AreRanked places rank) where
-    -- those that go on at once have a lower rank
+    -- threads that go on at once have a lower rank
     abbrev AreLow : ℕ → List View → Type 0
     AreLow k [] = Unit {0}
     AreLow k (view ∷ views) = (goes_at_once places trees view.at view.wait ≡ true → rank view.at < k) × AreLow k views
@@ -260,7 +260,7 @@ module _ (places : List Place) (trees : Forest) where
             let same : is.count ≡ is.count + 0 = omega arith in
             subst (AreSettled places trees) (sym is.same) (low_calm (settled places trees is.count old) (low_settled is.count 0 is.count old same (low_start is.count old le)))
 
--- So are those of a level.
+-- So are the threads of a level.
 pub calm_level : (places : List Place) (rank : ℕ → ℕ) → AreRanked places rank → (trees other : Forest) (old new : List View) → trees ≡ other
     → IsSettledBy places trees old new → AreSettled places other new
 calm_level places rank ranked trees other old new same is = subst (λ t. AreSettled places t new) same (calm places trees rank ranked old new is)
@@ -271,13 +271,13 @@ module _ (places : List Place) (trees : Forest) (log : List Turn) (its : List Th
       drop_more (views_of log its) i (view_of log d) (omega (arith, lt, length-map its (view_of log)))
       ∙ ap (λ v. v ∷ drop (i + 1) (views_of log its)) (get_or-map (view_of log) its i d (view_of log d) lt)
 
-  -- One thread more is settled.
+  -- One more thread is settled.
   pub calm_next : goes_at_once places trees (get_or its i d).at (get_or its i d).wait ≡ false
       → (AreSettled places trees (drop i (views_of log its)) → AreSettled places trees (views_of log its))
       → AreSettled places trees (drop (i + 1) (views_of log its)) → AreSettled places trees (views_of log its)
   calm_next calm before rest = before (subst (AreSettled places trees) (sym thread_next) (calm, rest))
 
-  -- One thread more has gone on.
+  -- One more thread has gone on.
   pub settle_next : (new : List Turn) (views news whole : List View) → IsGrown log new → (get_or its i d).last.before ≤ length log
       → news ≡ settled_one places trees (view_of new (get_or its i d)) views
       → settled_all places trees (drop i (views_of log its)) views ≡ whole → settled_all places trees (drop (i + 1) (views_of log its)) news ≡ whole
@@ -285,7 +285,7 @@ module _ (places : List Place) (trees : Forest) (log : List Turn) (its : List Th
       ap (settled_all places trees (drop (i + 1) (views_of log its))) (is ∙ ap (λ v. settled_one places trees v views) (view_kept log new (get_or its i d) grown own))
       ∙ sym (ap (λ l. settled_all places trees l views) thread_next) ∙ before
 
--- At the end all have.
+-- At the end all have gone on.
 pub settle_done : (places : List Place) (trees : Forest) (log : List Turn) (its : List Thread) (i : ℕ) (views whole : List View) → length its ≤ i
     → settled_all places trees (drop i (views_of log its)) views ≡ whole → views ≡ whole
 settle_done places trees log its i views whole le before =

@@ -1,4 +1,4 @@
--- Threads that stand at their places.
+-- Threads that are at their places.
 use Rattle.std.proofs.Common.{◌≡◌, inl, inr, ℕ, zero, suc, Bool, true, false, List, [], ◌∷◌, Some, refl, cond}
 use Rattle.std.specs.Prelude.{◌⊎◌, ◌&&◌, slice_get, Option}
 use Rattle.tt.specs.Forest.{Forest}
@@ -7,21 +7,21 @@ use Rattle.mbe_matcher.specs.Asks.{ask_of}
 use Rattle.mbe_matcher.specs.Settling.{is_here, asks_nothing, asks_nothing_at, goes_at_once, settled_one, settled_all, settled}
 use Rattle.mbe_matcher.specs.Threads.{View, meet, doubled, added, delayed, turned, spread, edges_of}
 
--- one stands at its place before these trees
+-- a thread is at its place before these trees
 abbrev pub Stands : Forest → List View → Type 0
 Stands trees [] = ⊥
 Stands trees (view ∷ views) = (is_here trees view.wait ≡ true) ⊎ Stands trees views
 
--- where one does, paths do not end
+-- if a thread is at its place, paths do not end
 abbrev pub AreGoingOn : (Last : Option Place → List Forest → Type 0) → (levels : List Forest) → Forest → List View → Type 0
 AreGoingOn Last levels trees views = Stands trees views → (place : Option Place) → Last place levels → ⊥
 
--- nor do they at a place that asks for nothing
+-- paths do not end at a place that requires nothing either
 abbrev pub AreGoingAtOnce : (Last : Option Place → List Forest → Type 0) → (levels : List Forest) → Forest → List View → Type 0
 AreGoingAtOnce Last levels trees views = Stands trees views → (place : Place) → asks_nothing (ask_of place.atom) trees ≡ true → Last (Some place) levels → ⊥
 
 module _ (trees : Forest) where
-  -- One that stands among some with one more is that one, or stood there.
+  -- A thread at its place after an addition is the added one, or was there before.
   stands_added : (view : View) (views : List View) → Stands trees (added view views) → (is_here trees view.wait ≡ true) ⊎ Stands trees views
   stands_added view [] stands = stands
   stands_added view (other ∷ others) stands = by (meet other view) stands (stands_added view others)
@@ -37,7 +37,7 @@ module _ (trees : Forest) where
       by false (inl here) rest = inr (inl here)
       by false (inr stands) rest = later (rest stands)
 
-  -- So it is with one behind each of some edges.
+  -- The same for a thread after each of some edges.
   stands_spread : (view : View) (turn : ℕ) (edges : List ℕ) (views : List View) → Stands trees (spread view turn edges views)
       → (is_here trees view.wait ≡ true) ⊎ Stands trees views
   stands_spread view turn [] views stands = inr stands
@@ -52,7 +52,7 @@ module _ (trees : Forest) where
     both_left true b h = refl
     both_left false b h = absurd (cc h)
 
-    -- What stands where some have gone on at once stood before.
+    -- If some go on at once, a thread that is then at its place was so before.
     stands_one : (view : View) (old : List View) → Stands trees (settled_one places trees view old) → (is_here trees view.wait ≡ true) ⊎ Stands trees old
     stands_one view old stands = by (goes_at_once places trees view.at view.wait) refl stands
       where

@@ -1,4 +1,4 @@
--- The places of a whole pattern, and the paths from where it may begin.
+-- The places of a whole pattern, and the paths from its starts.
 use Rattle.std.proofs.Common.{ℕ, List, [], ◌∷◌, arith}
 use Rattle.std.specs.Prelude.{Option}
 use Rattle.tt.specs.Forest.{Forest}
@@ -10,12 +10,12 @@ use Rattle.mbe_pattern.specs.Patterns.{Pattern}
 use Rattle.mbe_matcher.proofs.Compiling.{length-stops}
 use Rattle.mbe_matcher.proofs.Via.{Via, stand_left, stand_right}
 
--- the place where all ends
+-- the place of the final end
 abbrev pub last_stop : Stop
 last_stop = record { asked = ask.leave; edges = [] }
 
 module _ (places : List Place) (pattern : Pattern) (stand : Stand places 0 (all_stops pattern)) where
-  -- The pattern's places stand first, and then that one.
+  -- The pattern's places come first, and then that one.
   pub stand_first : Stand places 0 (stops 0 pattern (place_count pattern ∷ []))
   stand_first = stand_left places 0 (stops 0 pattern (place_count pattern ∷ [])) (last_stop ∷ []) stand
 
@@ -23,7 +23,7 @@ module _ (places : List Place) (pattern : Pattern) (stand : Stand places 0 (all_
   stand_last =
       stand_right places 0 (place_count pattern) (stops 0 pattern (place_count pattern ∷ [])) (last_stop ∷ []) (omega (arith, length-stops 0 pattern (place_count pattern ∷ []))) stand
 
--- The paths that are wanted, in two spellings.
+-- The wanted paths, in two forms.
 module _ (places : List Place) (Last : Option Place → List Forest → Type 0) (pattern : Pattern) (input : Forest) where
   pub to_via : (path : List ℕ) → GoesAll places Last (starts_of pattern) input path → Via places Last (starts_of pattern) (input ∷ []) path
   to_via [] w = w

@@ -1,4 +1,4 @@
--- What threads add one after the other.
+-- What threads add, one after the other.
 use Rattle.std.proofs.Common.{◌≡◌, inl, inr, ◌+◌, ◌<◌, ◌≤◌, ℕ, suc, Bool, List, ◌∷◌, Some, None, length, get_or, drop, refl, ap, ap₂, sym, subst, ◌∙◌, arith}
 use Rattle.std.proofs.lemmas.List.{drop_more, drop_all, get_or-map, length-map}
 use Rattle.std.specs.Prelude.{slice_get}
@@ -10,7 +10,7 @@ use Rattle.mbe_matcher.specs.Asks.{ask_of}
 use Rattle.mbe_matcher.specs.Threads.{View, view_of, views_of, AreWithin, IsGrown, thread_added, delayed, spread, threads_spread, IsMoved, wait_of, IsMovedAt, wait_at, edges_of, StepsOn, Steps, AllStep}
 use Rattle.mbe_matcher.proofs.Logs.{view_kept}
 
--- One edge more has its thread.
+-- One more edge has its thread.
 pub spread_next : (wait : ℕ) (is_many : Bool) (before i : ℕ) (edges : List ℕ) (threads : List Thread) → i < length edges
     → threads_spread wait is_many before i (drop i edges) threads
     ≡ threads_spread wait is_many before (i + 1) (drop (i + 1) edges)
@@ -26,15 +26,15 @@ pub spread_end : (wait : ℕ) (is_many : Bool) (before i : ℕ) (edges : List �
 spread_end wait is_many before i edges threads le = ap (λ l. threads_spread wait is_many before i l threads) (drop_all i edges le)
 
 module _ (places : List Place) (by : Move) (view : View) (old new : List View) where
-  -- A place that is not there adds none.
+  -- A place that is not there adds no thread.
   pub steps_none : slice_get places view.at ≡ None → new ≡ old → StepsOn places by view old new
   steps_none none same = inr (λ moved. subst (IsMovedAt by) none moved, same)
 
-  -- Nor does one that asks for something else.
+  -- A place that requires something else adds none either.
   pub steps_still : (place : Place) → slice_get places view.at ≡ Some place → (IsMoved by (ask_of place.atom) → ⊥) → new ≡ old → StepsOn places by view old new
   steps_still place found still same = inr (λ moved. still (subst (IsMovedAt by) found moved), same)
 
-  -- One that is passed adds a thread for each edge.
+  -- A place that is passed adds a thread for each edge.
   pub steps_moved : (place : Place) → slice_get places view.at ≡ Some place → IsMoved by (ask_of place.atom) → (wait : ℕ) → wait ≡ wait_of by (ask_of place.atom)
       → new ≡ spread (delayed wait view) 0 place.edges.items old → StepsOn places by view old new
   steps_moved place found moved wait waits is = inl (
@@ -44,7 +44,7 @@ module _ (places : List Place) (by : Move) (view : View) (old new : List View) w
 
 module _ (places : List Place) (by : Move) (Final : List View → Type 0) (old log : List Turn) (threads : List Thread) (i : ℕ) (d : Thread) (views news : List View)
     (lt : i < length threads) where
-  -- One thread more has stepped.
+  -- One more thread has stepped.
   pub step_next : IsGrown old log → AreWithin old threads → (get_or threads i d).last.before ≤ length old
       → Steps places by (view_of log (get_or threads i d)) views news
       → ((final : List View) → AllStep places by (drop i (views_of old threads)) views final → Final final)
@@ -58,7 +58,7 @@ module _ (places : List Place) (by : Move) (Final : List View → Type 0) (old l
           drop_more (views_of old threads) i (view_of old d) (omega (arith, lt, length-map threads (view_of old)))
           ∙ ap (λ v. v ∷ drop (i + 1) (views_of old threads)) (get_or-map (view_of old) threads i d (view_of old d) lt)
 
--- At the end all have.
+-- At the end all have stepped.
 pub step_done : (places : List Place) (by : Move) (Final : List View → Type 0) (old : List Turn) (threads : List Thread) (i : ℕ) (views : List View) → length threads ≤ i
     → ((final : List View) → AllStep places by (drop i (views_of old threads)) views final → Final final) → Final views
 step_done places by Final old threads i views le before =

@@ -1,4 +1,4 @@
--- What is made of the pieces of a pattern are its steps.
+-- The pieces of a pattern make its steps.
 use Rattle.std.proofs.Common.{◌≡◌, ◌+◌, ◌-◌, ◌∙◌, ℕ, zero, suc, List, [], ◌∷◌, ◌++◌, map, reverse, length, refl, ap, ap₂, sym, arith, append_assoc, length-append}
 use Rattle.std.proofs.lemmas.List.{append-nil, map-append, reverse-append}
 use Rattle.std.specs.Prelude.{drop}
@@ -15,7 +15,7 @@ use Rattle.mbe_matcher.specs.Pieces.{Bit, place, begin, close, bits_of, all_bits
 use Rattle.mbe_matcher.specs.Stepping.{Taken, number_of, taken_with, taken_of, nothing_taken}
 use Rattle.mbe_matcher.specs.Steps.{with_pass, steps_before, steps_of}
 
--- So many steps a pattern has.
+-- How many steps a pattern has.
 pub length-steps : (at : ℕ) (pattern : Pattern) (behind : List Step) → length (steps_before at pattern behind) ≡ step_count pattern + length behind
 length-steps at nothing behind = omega arith
 length-steps at (variable it others) behind = omega (arith, length-steps (suc at) others behind)
@@ -33,7 +33,7 @@ length-steps at (repetition inner separator op others) behind =
     passed zero its = omega arith
     passed (suc n) its = omega arith
 
--- The steps of a pattern stand before the others.
+-- The steps of a pattern precede the others.
 steps_append : (at : ℕ) (pattern : Pattern) (behind : List Step) → (its : List Step) × (steps_before at pattern behind ≡ its ++ behind)
 steps_append at nothing behind = ([], refl)
 steps_append at (variable it others) behind =
@@ -64,7 +64,7 @@ steps_append at (repetition inner separator op others) behind =
     passed_append zero its = refl
     passed_append (suc n) its = refl
 
--- Behind as many as stand before others are these.
+-- Dropping the steps of a list leaves those after it.
 drop_before : (its others : List Step) → drop (length its) (its ++ others) ≡ others
 drop_before [] others = refl
 drop_before (it ∷ its) others = drop_before its others
@@ -72,7 +72,7 @@ drop_before (it ∷ its) others = drop_before its others
 drop_more : (its others : List Step) (n : ℕ) → n ≡ length its → drop n (its ++ others) ≡ others
 drop_more its others n is = ap (λ k. drop k (its ++ others)) is ∙ drop_before its others
 
--- Past the rounds of a repetition and its end is what stands behind it.
+-- What follows the rounds of a repetition and its end.
 pub past_rounds : (at : ℕ) (inner : Pattern) (separator : ℕ) (ending : Step) (behind : List Step)
     → drop (length (with_pass separator (steps_before at inner (ending ∷ behind))) - length behind) (with_pass separator (steps_before at inner (ending ∷ behind))) ≡ behind
 past_rounds at inner separator ending behind = by separator (steps_append at inner (ending ∷ behind))
@@ -87,12 +87,12 @@ past_rounds at inner separator ending behind = by separator (steps_append at inn
             drop_more (step.Pass (suc n) ∷ (its ++ ending ∷ [])) behind (suc (length ((its ++ ending ∷ []) ++ behind)) - length behind)
             (omega (arith, length-append (its ++ ending ∷ []) behind))
 
--- The separator of a repetition is passed where a first round begins.
+-- The separator of a repetition is skipped at the beginning of a first round.
 pub past_separator : (separator : ℕ) (steps : List Step) → drop (pass_count separator) (with_pass separator steps) ≡ steps
 past_separator zero steps = refl
 past_separator (suc n) steps = refl
 
--- the variables of a pattern before others, behind which so many steps stand, and which stands in these repetitions
+-- the variables of a pattern before others; that many steps follow the pattern, and these repetitions enclose it
 abbrev placed_before : Pattern → (behind : ℕ) → (nest : List ℕ) → (left : List Where) → List Where
 placed_before nothing behind nest left = left
 placed_before (variable it others) behind nest left = record { variable = it; number = step_count others + behind; nest = nest } ∷ placed_before others behind nest left
@@ -110,7 +110,7 @@ taken_before at pattern taken =
       variables = placed_before pattern (length taken.steps) (map number_of (reverse taken.ends)) taken.variables;
     }
 
--- The same, where so many steps and repetitions stand behind.
+-- The same if the number of following steps and the repetitions are equal.
 taken_as : (steps : List Step) (ends : List End) (pattern : Pattern) (left : List Where) (n m : ℕ) (nest more : List ℕ) → n ≡ m → nest ≡ more
     → ◌≡◌ {A = Taken} (record { steps = steps; ends = ends; variables = placed_before pattern n nest left }) (record { steps = steps; ends = ends; variables = placed_before pattern m more left })
 taken_as steps ends pattern left n m nest more same nests = ap₂ (λ (k : ℕ) (l : List ℕ). record { steps = steps; ends = ends; variables = placed_before pattern k l left }) same nests
@@ -153,11 +153,11 @@ taken_pattern at (repetition inner separator op others) behind taken =
     (suc number) (suc (step_count others + length after.steps)) (map number_of (reverse (ending ∷ after.ends))) (nest ++ (step_count others + length after.steps) ∷ [])
     (ap suc many) (ap (map number_of) (reverse-append (ending ∷ []) after.ends) ∙ map-append number_of (reverse after.ends) (ending ∷ []) ∙ ap (λ n. nest ++ n ∷ []) many)
 
--- a variable that stands in these repetitions too
+-- a variable inside these repetitions too
 abbrev under : List ℕ → Where → Where
 under nest it = record { variable = it.variable; number = it.number; nest = nest ++ it.nest }
 
--- Variables that stand in one repetition more.
+-- Variables in one more repetition.
 under_held : (nest : List ℕ) (number : ℕ) (its : List Where) → map (under (nest ++ number ∷ [])) its ≡ map (under nest) (map (held_in number) its)
 under_held nest number [] = refl
 under_held nest number (it ∷ its) =

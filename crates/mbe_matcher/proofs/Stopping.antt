@@ -1,4 +1,4 @@
--- What is told while an input is read: which paths lead through it, and how far others come.
+-- What holds while an input is read: which paths lead through it, and how far others come.
 use Rattle.std.proofs.Common.{◌≡◌, ◌+◌, ◌-◌, ◌<◌, ◌≤◌, ◌∙◌, inl, inr, ℕ, Bool, true, false, List, [], ◌∷◌, ◌++◌, append-nil, length, drop, get_or, Some, None, refl, ap, ap₂, sym, subst, arith, cond}
 use Rattle.std.proofs.lemmas.List.{drop_more, drop_all}
 use Rattle.std.specs.Global.{Global}
@@ -28,7 +28,7 @@ abbrev pub AreCounted : (total : ℕ) → List LevelView → Type 0
 AreCounted total [] = Unit {0}
 AreCounted total (level ∷ outer) = (level.until + left_in (levels_of outer) ≡ total) × (size level.trees ≤ level.until) × AreCounted total outer
 
--- Each step leaves them so.
+-- Each step keeps them so.
 counted_on : (places : List Place) (total : ℕ) (level : LevelView) (outer news : List LevelView) → Advances places level outer news → AreCounted total (level ∷ outer) → AreCounted total news
 counted_on places total level outer news (inl is) counted =
     subst (AreCounted total) (sym is.news_are) (subst (AreCounted total) is.outer_is counted.2)
@@ -43,14 +43,14 @@ counted_on places total level outer news (inr (inr (inl is))) counted =
 counted_on places total level outer news (inr (inr (inr is))) counted =
     subst (AreCounted total) (sym is.news_are) (counted.0, omega (arith, counted.1, ap size is.first), counted.2)
 
--- And no more tokens.
+-- And it leaves no more tokens.
 left_on : (places : List Place) (level : LevelView) (outer news : List LevelView) → Advances places level outer news → left_in (levels_of news) ≤ left_in (levels_of (level ∷ outer))
 left_on places level outer news (inl is) = omega (arith, ap (λ ls. left_in (levels_of ls)) is.news_are, ap (λ ls. left_in (levels_of ls)) is.outer_is)
 left_on places level outer news (inr (inl is)) = omega (arith, ap (λ ls. left_in (levels_of ls)) is.news_are, ap size is.first)
 left_on places level outer news (inr (inr (inl is))) = omega (arith, ap (λ ls. left_in (levels_of ls)) is.news_are, ap size is.first)
 left_on places level outer news (inr (inr (inr is))) = omega (arith, ap (λ ls. left_in (levels_of ls)) is.news_are, ap size is.first)
 
--- Where a step is made no path ends at the end of all.
+-- If a step is made, no path ends at the end of everything.
 no_end : (places : List Place) (level : LevelView) (outer news : List LevelView) → Advances places level outer news → AreGoingOn Ends (level.trees ∷ levels_of outer) level.trees level.views
 no_end places level outer news is stands None ends = ends
 no_end places level outer news (inl is) stands (Some place) ends =
@@ -62,7 +62,7 @@ no_end places level outer news (inr (inl is)) stands (Some place) ends = let non
 no_end places level outer news (inr (inr (inl is))) stands (Some place) ends = let none : level.trees ≡ end = cc ends.1 in cc (sym is.first ∙ none)
 no_end places level outer news (inr (inr (inr is))) stands (Some place) ends = let none : level.trees ≡ end = cc ends.1 in cc (sym is.first ∙ none)
 
--- What asks for nothing is no end.
+-- A place that requires nothing is no end.
 asks_inside : (it : Ask) (trees : Forest) → asks_nothing it trees ≡ true → is_leave it ≡ true → ⊥
 asks_inside (ask.take which) trees none leave = cc leave
 asks_inside (ask.same its) trees none leave = cc leave
@@ -73,11 +73,11 @@ no_end_at_once : (levels : List Forest) (trees : Forest) (views : List View) →
 no_end_at_once levels trees views stands place none ends = asks_inside (ask_of place.atom) trees none ends.0
 
 module _ (places : List Place) (starts : List ℕ) (input : Forest) where
-  -- so many tokens stand before where paths stop
+  -- that many tokens precede the place where paths stop
   abbrev pub Comes : (at : ℕ) → Type 0
   Comes at = (left : ℕ) × (at + left ≡ size input) × ((left ≡ size input) ⊎ ((path : List ℕ) × StopsAll places left starts input path))
 
-  -- what the threads of the levels tell, where some came up to a flat place
+  -- what the threads of the levels account for, if some came up to a flat place
   pub record AreTold (at : ℕ) (levels : List LevelView) : Type 0 where
     pub whole : Told places Ends (ReadsAll places starts input) [] (configs_of levels)
     pub stops : (left : ℕ) → at + left < size input → Told places (AreLeft left) (StopsAll places left starts input) [] (configs_of levels)
@@ -85,17 +85,17 @@ module _ (places : List Place) (starts : List ℕ) (input : Forest) where
     pub counted : AreCounted (size input) levels
     pub behind : at + left_in (levels_of levels) ≤ size input
 
-  -- the threads that stand are where paths came to
+  -- the threads at their places are where paths came to
   abbrev pub IsUpTo : (at : ℕ) → LevelView → (outer : List LevelView) → Type 0
   IsUpTo at level outer = Stands level.trees level.views → at + left_in (levels_of (level ∷ outer)) ≡ size input
 
-  -- those of the innermost level
+  -- the same of the innermost level
   abbrev pub AreUpTo : (at : ℕ) → List LevelView → Type 0
   AreUpTo at [] = Unit {0}
   AreUpTo at (level ∷ outer) = IsUpTo at level outer
 
   module _ (at : ℕ) (level : LevelView) (outer : List LevelView) where
-    -- One that stands leads to where it stands.
+    -- A thread at its place leads to that place.
     has_path : (left : ℕ) → left ≡ left_in (levels_of (level ∷ outer)) → Stands level.trees level.views
         → (path : List ℕ) × Has places (AreLeft left) (configs_of (level ∷ outer)) path
     has_path left is stands = by level.views stands
@@ -115,7 +115,7 @@ module _ (places : List Place) (starts : List ℕ) (input : Forest) where
         )
         by (view ∷ views) (inr stands) = let found = by views stands in (found.0, inr found.1)
 
-    -- So paths come to where one stands.
+    -- So paths come to where one thread is.
     pub told_here : (here : ℕ) → here ≡ level.until - size level.trees → Stands level.trees level.views → AreTold at (level ∷ outer)
         → AreTold here (level ∷ outer) × IsUpTo here level outer
     told_here here is stands told = (
@@ -150,12 +150,12 @@ module _ (places : List Place) (starts : List ℕ) (input : Forest) where
             by (inl less) = inr (path less)
             by (inr more) = before (omega (arith, more, told.behind))
 
-    -- Up to where they are, paths do not stop.
+    -- Paths do not stop before the place where the threads are.
     no_stop : IsUpTo at level outer → (left : ℕ) → at + left < size input → AreGoingOn (AreLeft left) (level.trees ∷ levels_of outer) level.trees level.views
     no_stop up left less stands place is = omega (arith, up stands, less, is)
 
     module _ (told : AreTold at (level ∷ outer)) (up : IsUpTo at level outer) where
-      -- The same is told where threads were settled.
+      -- Settled threads account for the same.
       pub told_calm : (views : List View) → IsSettledBy places level.trees level.views views
           → AreTold at (record { trees = level.trees; until = level.until; views = views } ∷ outer) × IsUpTo at (record { trees = level.trees; until = level.until; views = views }) outer
       told_calm views by = (
@@ -177,7 +177,7 @@ module _ (places : List Place) (starts : List ℕ) (input : Forest) where
           levels : List Forest
           levels = level.trees ∷ levels_of outer
 
-      -- And behind a step.
+      -- The threads after a step do so too.
       pub told_on : (news : List LevelView) → AreSettled places level.trees level.views → Advances places level outer news → AreTold at news
       told_on news calm is =
           record {
@@ -188,7 +188,7 @@ module _ (places : List Place) (starts : List ℕ) (input : Forest) where
             behind = omega (arith, told.behind, left_on places level outer news is);
           }
 
-      -- At the end of the outermost level the choice says what is wanted.
+      -- At the end of the outermost level the choice says which paths are wanted.
       pub says_ended : (log : List Turn) (its : List Thread) → AreSettled places level.trees level.views → IsEndedWith level outer (views_of log its)
           → Says places (ReadsAll places starts input) log (choice_of places choice.Nothing its)
       says_ended log its calm is =
@@ -245,7 +245,7 @@ module _ (places : List Place) (starts : List ℕ) (input : Forest) where
                   none_many left level.views empty
                   (subst (λ o. HasMany places (AreLeft left) (threads (level.trees ∷ levels_of outer) level.views ++ configs_of o)) is.is_outermost m)
 
-  -- Where no level is left no path is.
+  -- If no level is left, there is no path.
   pub none_told : (at : ℕ) → AreTold at [] → (path : List ℕ) → ReadsAll places starts input path → ⊥
   none_told at told path w = none (told.whole.whole path w)
     where
@@ -255,7 +255,7 @@ module _ (places : List Place) (starts : List ℕ) (input : Forest) where
       none (inr (inl m)) = m
       none (inr (inr m)) = m
 
-  -- And none stops.
+  -- And no path stops.
   pub stopped_nowhere : (at : ℕ) → AreTold at [] → AreStopped (λ left. StopsAll places left starts input) (size input) at
   stopped_nowhere at told =
       record {
@@ -279,7 +279,7 @@ module _ (places : List Place) (starts : List ℕ) (input : Forest) where
   finds log at (choice.One last) says stopped = says
   finds log at choice.Many says stopped = says
 
--- Where a thread stands the place before what is left is reached, and else none is.
+-- If a thread is there, the place before what is left is reached; otherwise none is.
 pub reached_is : (log : List Turn) (trees : Forest) (here so_far : ℕ) (its : List Thread)
     → (Stands trees (views_of log its) × (reached trees here so_far its ≡ here)) ⊎ ((Stands trees (views_of log its) → ⊥) × (reached trees here so_far its ≡ so_far))
 reached_is log trees here so_far [] = inr (λ s. s, refl)
@@ -302,19 +302,19 @@ module _ (trees : Forest) (here so_far : ℕ) (its : List Thread) (i : ℕ) (d :
     begins : drop i its ≡ get_or its i d ∷ drop (i + 1) its
     begins = drop_more its i d lt
 
-    -- The next thread stands.
+    -- The next thread is there.
     pub reached_here : is_here trees (get_or its i d).wait ≡ true → reached trees here so_far (drop i its) ≡ here
     reached_here is =
         ap (reached trees here so_far) begins
         ∙ ap (λ b. cond b here (reached trees here so_far (drop (i + 1) its))) is
 
-    -- It does not.
+    -- The next thread is not there.
     pub reached_next : is_here trees (get_or its i d).wait ≡ false → reached trees here so_far (drop i its) ≡ reached trees here so_far (drop (i + 1) its)
     reached_next is =
         ap (reached trees here so_far) begins
         ∙ ap (λ b. cond b here (reached trees here so_far (drop (i + 1) its))) is
 
-  -- None does.
+  -- None is there.
   pub reached_none : length its ≤ i → reached trees here so_far (drop i its) ≡ so_far
   reached_none le = ap (reached trees here so_far) (drop_all i its le)
 
@@ -322,7 +322,7 @@ module _ (trees : Forest) (here so_far : ℕ) (its : List Thread) (i : ℕ) (d :
 pub here_ended : (trees : Forest) (n : ℕ) → is_end trees ≡ true → is_here trees n ≡ true
 here_ended trees n ended = ap (λ b. b || nat_eq n 0) ended
 
--- So is one that does not wait.
+-- So is a thread that does not wait.
 pub here_now : (trees : Forest) (n : ℕ) → nat_eq n 0 ≡ true → is_here trees n ≡ true
 here_now trees n now = by (is_end trees) (nat_eq n 0) now
   where
@@ -330,6 +330,6 @@ here_now trees n now = by (is_end trees) (nat_eq n 0) now
     by true b t = refl
     by false b t = t
 
--- One that waits before a tree is not.
+-- A thread that waits before a tree is not at its place.
 pub not_here : (trees : Forest) (n : ℕ) → is_end trees ≡ false → nat_eq n 0 ≡ false → is_here trees n ≡ false
 not_here trees n more waits = ap₂ (λ a b. a || b) more waits

@@ -1,4 +1,4 @@
--- How paths are told apart by what leads to them, whatever it is.
+-- How paths are distinguished by what leads to them, for any kind of things that lead.
 use Rattle.std.proofs.Common.{inl, inr, List, [], ◌∷◌, ◌++◌}
 use Rattle.std.specs.Prelude.{◌⊎◌, ◌↔◌, ℕ}
 use Rattle.mbe_matcher.specs.Levels.{AreTwo}
@@ -9,7 +9,7 @@ module _ (Config : Type 0) (Leads : Config → List ℕ → Type 0) (IsMany : Co
   Has [] path = ⊥
   Has (it ∷ others) path = Leads it path ⊎ Has others path
 
-  -- one that stands for many leads somewhere
+  -- one that represents many leads somewhere
   abbrev pub HasMany : List Config → Type 0
   HasMany [] = ⊥
   HasMany (it ∷ others) = ((path : List ℕ) × IsMany it × Leads it path) ⊎ HasMany others
@@ -19,7 +19,7 @@ module _ (Config : Type 0) (Leads : Config → List ℕ → Type 0) (IsMany : Co
   AreApart [] = Unit {0}
   AreApart (it ∷ others) = ((path : List ℕ) → Leads it path → Has others path → ⊥) × AreApart others
 
-  -- What leads to a path is in the one list or in the other.
+  -- What leads to a path is in one list or the other.
   pub Has-append : (xs ys : List Config) (path : List ℕ) → Has (xs ++ ys) path → Has xs path ⊎ Has ys path
   Has-append [] ys path h = inr h
   Has-append (x ∷ xs) ys path (inl l) = inl (inl l)
@@ -34,7 +34,7 @@ module _ (Config : Type 0) (Leads : Config → List ℕ → Type 0) (IsMany : Co
   Has-right [] ys path h = h
   Has-right (x ∷ xs) ys path h = inr (Has-right xs ys path h)
 
-  -- So is what stands for many.
+  -- So is one that represents many.
   pub HasMany-append : (xs ys : List Config) → HasMany (xs ++ ys) → HasMany xs ⊎ HasMany ys
   HasMany-append [] ys h = inr h
   HasMany-append (x ∷ xs) ys (inl l) = inl (inl l)
@@ -49,7 +49,7 @@ module _ (Config : Type 0) (Leads : Config → List ℕ → Type 0) (IsMany : Co
   HasMany-right [] ys h = h
   HasMany-right (x ∷ xs) ys h = inr (HasMany-right xs ys h)
 
-  -- Two lists apart from each other, and each in itself, are apart as one.
+  -- Two lists apart from each other, each apart within itself, are apart together.
   pub apart_both : (xs ys : List Config) → AreApart xs → AreApart ys → ((path : List ℕ) → Has xs path → Has ys path → ⊥) → AreApart (xs ++ ys)
   apart_both [] ys left right cross = right
   apart_both (x ∷ xs) ys left right cross = (
@@ -70,7 +70,7 @@ module _ (Config : Type 0) (Leads : Config → List ℕ → Type 0) (IsMany : Co
   apart_cross (x ∷ xs) ys all path (inl l) b = all.0 path l (Has-right xs ys path b)
   apart_cross (x ∷ xs) ys all path (inr a) b = apart_cross xs ys all.1 path a b
 
-  -- the wanted paths are those to which these lead, but for paths of which there are many anyhow
+  -- the wanted paths are those that these lead to, except for paths that are many anyway
   pub record Told (Whole : List ℕ → Type 0) (news olds : List Config) : Type 0 where
     pub whole : (path : List ℕ) → Whole path → (Has news path ⊎ Has olds path) ⊎ (HasMany news ⊎ HasMany olds)
     pub new_sound : (path : List ℕ) → Has news path → Whole path
@@ -81,7 +81,7 @@ module _ (Config : Type 0) (Leads : Config → List ℕ → Type 0) (IsMany : Co
     pub new_apart : AreApart news
     pub old_apart : AreApart olds
 
-  -- one gives way to two
+  -- one is replaced by two
   pub record Divides (it first second : Config) : Type 0 where
     pub split : (path : List ℕ) → Leads it path → Leads first path ⊎ Leads second path
     pub is_first : (path : List ℕ) → Leads first path → Leads it path
@@ -90,14 +90,14 @@ module _ (Config : Type 0) (Leads : Config → List ℕ → Type 0) (IsMany : Co
     pub many_first : IsMany it ↔ IsMany first
     pub many_second : IsMany it ↔ IsMany second
 
-  -- one gives way to another
+  -- one is replaced by another
   pub record Becomes (it next : Config) : Type 0 where
     pub goes : (path : List ℕ) → Leads it path → Leads next path
     pub comes : (path : List ℕ) → Leads next path → Leads it path
     pub many : IsMany it ↔ IsMany next
 
   module _ (Whole : List ℕ → Type 0) where
-    -- The one of two joins the new ones, and the other stays.
+    -- One of the two joins the new ones, and the other stays.
     pub told_divided : (news olds : List Config) (it first second : Config) → Told Whole news (it ∷ olds) → Divides it first second
         → Told Whole (first ∷ news) (second ∷ olds)
     told_divided news olds it first second told by =
@@ -158,7 +158,7 @@ module _ (Config : Type 0) (Leads : Config → List ℕ → Type 0) (IsMany : Co
         apart path (inr h) (inl b) = told.apart path h (inl (by.is_second path b))
         apart path (inr h) (inr o) = told.apart path h (inr o)
 
-    -- One that leads nowhere goes.
+    -- One that leads nowhere is dropped.
     pub told_dropped : (news olds : List Config) (it : Config) → Told Whole news (it ∷ olds) → ((path : List ℕ) → Leads it path → ⊥) → Told Whole news olds
     told_dropped news olds it told none =
         record {
@@ -181,7 +181,7 @@ module _ (Config : Type 0) (Leads : Config → List ℕ → Type 0) (IsMany : Co
         all path (inr (inr (inl m))) = absurd (none m.0 m.2)
         all path (inr (inr (inr m))) = inr (inr m)
 
-    -- One gives way to another that leads to the same.
+    -- One is replaced by another that leads to the same.
     pub told_same : (news olds : List Config) (it next : Config) → Told Whole news (it ∷ olds) → Becomes it next → Told Whole news (next ∷ olds)
     told_same news olds it next told by =
         record {
@@ -216,7 +216,7 @@ module _ (Config : Type 0) (Leads : Config → List ℕ → Type 0) (IsMany : Co
         apart path h (inl b) = told.apart path h (inl (by.comes path b))
         apart path h (inr o) = told.apart path h (inr o)
 
-    -- The new ones are put before the old ones.
+    -- The new ones come before the old ones.
     pub told_joined : (news olds : List Config) → Told Whole news olds → Told Whole [] (news ++ olds)
     told_joined news olds told =
         record {
@@ -237,7 +237,7 @@ module _ (Config : Type 0) (Leads : Config → List ℕ → Type 0) (IsMany : Co
         all path (inr (inl m)) = inr (inr (HasMany-left news olds m))
         all path (inr (inr m)) = inr (inr (HasMany-right news olds m))
 
-    -- Those in the middle are put apart.
+    -- Those in the middle are separated.
     pub told_lifted : (xs ys zs : List Config) → Told Whole [] (xs ++ (ys ++ zs)) → Told Whole ys (xs ++ zs)
     told_lifted xs ys zs told =
         record {
@@ -288,7 +288,7 @@ module _ (Config : Type 0) (Leads : Config → List ℕ → Type 0) (IsMany : Co
               | inr r ↦ apart_cross ys zs (apart_right xs (ys ++ zs) told.old_apart) path a r
             ]
 
-    -- The new ones and those behind the old ones change places.
+    -- The new ones and those after the old ones change places.
     pub told_swapped : (xs ys zs : List Config) → Told Whole xs (zs ++ ys) → Told Whole ys (zs ++ xs)
     told_swapped xs ys zs told =
         record {
@@ -320,7 +320,7 @@ module _ (Config : Type 0) (Leads : Config → List ℕ → Type 0) (IsMany : Co
         all path (inr (inl m)) = inr (inr (HasMany-right zs xs m))
         all path (inr (inr m)) = inr (old_many (HasMany-append zs ys m))
 
-    -- One is put among the new ones.
+    -- One moves to the new ones.
     pub told_over : (news olds : List Config) (it : Config) → Told Whole news (it ∷ olds) → Told Whole (it ∷ news) olds
     told_over news olds it told =
         record {

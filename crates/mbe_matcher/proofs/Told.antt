@@ -1,4 +1,4 @@
--- What the places of a pattern tell of an input.
+-- What the places of a pattern say about an input.
 use Rattle.std.proofs.Common.{◌≡◌, inl, inr, ℕ, List, [], ◌∷◌, refl, ap, sym, subst, ◌∙◌}
 use Rattle.std.specs.Global.{Global}
 use Rattle.std.specs.Prelude.{Vec}
@@ -33,7 +33,7 @@ module _ (places : List Place) (pattern : Pattern) (full : IsFull pattern) (stan
       ends : Reads places (place_count pattern) (end ∷ []) []
       ends = ends_by places (end ∷ []) (place_count pattern) last_stop (stand_last places pattern stand).0 refl refl
 
-  -- A path is that of an instance.
+  -- A path is the path of an instance.
   pub path_reads : (path : List ℕ) → ReadsAll places (starts_of pattern) input path
       → (reading : Reading) × IsInstance pattern input reading × (path ≡ path_of 0 pattern reading (0 ∷ []))
   path_reads path w =
@@ -56,11 +56,11 @@ module _ (places : List Place) (pattern : Pattern) (full : IsFull pattern) (stan
         | inr (ended, v) ↦ absurd (via_none places Ends [] more v)
       ]
 
-  -- Where no path is, the input is no instance.
+  -- If there is no path, the input is no instance.
   pub no_instance : ((path : List ℕ) → ReadsAll places (starts_of pattern) input path → ⊥) → IsNoInstance pattern input
   no_instance none reading is = none (path_of 0 pattern reading (0 ∷ [])) (instance_reads reading is)
 
-  -- Where one is, it is an instance by one reading.
+  -- If there is one, it is an instance by one reading.
   pub one_instance : (path : List ℕ) → IsOnly (ReadsAll places (starts_of pattern) input) path
       → (reading : Reading) × IsReadBy pattern input reading × (path ≡ path_of 0 pattern reading (0 ∷ []))
   one_instance path only =
@@ -75,7 +75,7 @@ module _ (places : List Place) (pattern : Pattern) (full : IsFull pattern) (stan
         found.2,
       )
 
-  -- Where two are, it is ambiguous.
+  -- If there are two, it is ambiguous.
   pub two_instances : AreTwo (ReadsAll places (starts_of pattern) input) → IsAmbiguous pattern input
   two_instances two =
       let a = path_reads two.one two.one_is in
@@ -88,13 +88,13 @@ module _ (places : List Place) (pattern : Pattern) (full : IsFull pattern) (stan
         other_holds = b.1;
       }
 
-  -- What was found of the paths is so of the readings.
+  -- What was found of the paths also holds of the readings.
   pub tells : (it : Paths) → Finds (ReadsAll places (starts_of pattern) input) (λ left. StopsAll places left (starts_of pattern) input) (size input) it → TellsPaths pattern input it
   tells (paths.Nothing at) finds = (no_instance finds.0, stops_there places pattern full stand input at finds.1)
   tells (paths.One log last) finds = let one = one_instance (path_to log.items last) finds in (one.0, one.1, one.2)
   tells paths.Many finds = two_instances finds
 
--- Where the paths are one, so it is told.
+-- If there is one path, the answer is one.
 pub as_one : (it : Paths) (log : Vec Turn Global) (newest : Turn) (pattern : Pattern) (input : Forest) → it ≡ paths.One log newest → TellsPaths pattern input it
     → TellsPaths pattern input (paths.One log newest)
 as_one it log newest pattern input is told = subst (TellsPaths pattern input) is told

@@ -1,4 +1,4 @@
--- Edges that lead on, and the places of a pattern where they stand.
+-- Edges that lead on, and the places of a pattern at their numbers.
 use Rattle.std.proofs.Common.{◌≡◌, inl, inr, ◌+◌, ℕ, suc, zero, true, List, [], ◌∷◌, ◌++◌, length, Some, None, refl, ap, sym, subst, arith}
 use Rattle.std.specs.Prelude.{◌⊎◌, slice_get, Option}
 use Rattle.tt.specs.Forest.{Forest, end}
@@ -17,7 +17,7 @@ module _ (places : List Place) where
   stand_right at to (x ∷ xs) ys is all = stand_right (suc at) to xs ys (omega (arith, is)) all.1
 
   module _ (levels : List Forest) (at : ℕ) (stop : Stop) (stands : IsStop (slice_get places at) stop) where
-    -- At the end of all a path ends, and only there.
+    -- At the end of everything a path ends, and only there.
     pub ends_by : is_leave stop.asked ≡ true → levels ≡ end ∷ [] → Reads places at levels []
     ends_by leave ended = by (slice_get places at) stands
       where
@@ -60,7 +60,7 @@ module _ (places : List Place) (Last : Option Place → List Forest → Type 0) 
             let next : suc (length xs + turn) ≡ suc (length xs) + turn = omega arith in
             subst (λ n. OnEdge n (x ∷ (xs ++ ys)) (λ to. Goes places Last to levels more)) next (by xs)
 
-    -- By one of both.
+    -- By one of the two.
     pub via_split : (xs ys path : List ℕ) → Via (xs ++ ys) levels path
         → Via xs levels path ⊎ ((rest : List ℕ) × (path ≡ shift (length xs) rest) × Via ys levels rest)
     via_split xs ys [] v = absurd v
@@ -95,7 +95,7 @@ module _ (places : List Place) (Last : Option Place → List Forest → Type 0) 
     via_one to (suc turn ∷ more) v = absurd v
 
     module _ (at : ℕ) (stop : Stop) (stands : IsStop (slice_get places at) stop) where
-      -- What a place asks is there, and an edge of it leads on.
+      -- The place has what it requires, and one of its edges leads on.
       pub goes_by : (path : List ℕ) → Passes stop.asked levels → Via stop.edges (onward stop.asked levels) path → Goes places Last at levels path
       goes_by [] passes v = absurd v
       goes_by (turn ∷ more) passes v = by (slice_get places at) stands
@@ -108,7 +108,7 @@ module _ (places : List Place) (Last : Option Place → List Forest → Type 0) 
                 (subst (λ e. OnEdge turn e (λ to. Goes places Last to (onward stop.asked levels) more)) (sym is.1) v),
           )
 
-      -- So it is where the path does not end.
+      -- Conversely, if the path does not end.
       pub comes_by : (path : List ℕ) → Goes places Last at levels path
           → ((path ≡ []) × Last (slice_get places at) levels) ⊎ (Passes stop.asked levels × Via stop.edges (onward stop.asked levels) path)
       comes_by [] last = inl (refl, last)

@@ -1,4 +1,4 @@
--- A walk comes to its end: each step makes what is left of it less.
+-- A walk ends: each step makes what is left of it less.
 use Rattle.std.proofs.Common.{◌+◌, ◌-◌, ◌*◌, ◌<◌, ◌≤◌, ℕ, suc, zero, Bool, true, false, List, [], ◌∷◌, length, arith, cond}
 use Rattle.std.specs.Prelude.{◌&&◌, not, drop, nat_lt}
 use Rattle.tt.specs.Forest.{Forest}
@@ -6,20 +6,20 @@ use Rattle.mbe_matcher.specs.declared.steps.Step.{Step}
 use Rattle.mbe_matcher.specs.declared.steps.Step.TheVariants as step
 use Rattle.mbe_matcher.specs.Walking.{Spot, innermost, outside, stepped}
 
--- each of them has so many steps at most
+-- each of them has at most that many steps
 abbrev pub AreShort : (most : ℕ) → List (List Step) → Type 0
 AreShort most [] = Unit {0}
 AreShort most (it ∷ others) = (length it ≤ most) × AreShort most others
 
--- the steps ahead are so many at most, and so are those where rounds begin
+-- the steps ahead, and those where rounds begin, are at most that many
 abbrev pub IsShort : (most : ℕ) → Spot → Type 0
 IsShort most spot = (length spot.here ≤ most) × AreShort most spot.opened
 
--- what the turns that are left weigh
+-- the weight of the turns that are left
 abbrev pub turns_weight : (most : ℕ) → (turns : ℕ) → ℕ
 turns_weight most turns = turns * (most + most + 2)
 
--- what a round that began anew no longer weighs
+-- a weight that goes once a round began anew
 abbrev pub back_weight : (most : ℕ) → Bool → ℕ
 back_weight most true = 0
 back_weight most false = suc most
@@ -28,13 +28,13 @@ back_weight most false = suc most
 abbrev pub weight : (most : ℕ) → Spot → ℕ
 weight most spot = turns_weight most (length spot.path) + (back_weight most spot.is_back + length spot.here)
 
--- No more are left behind some.
+-- Dropping steps leaves no more.
 drop_less : (n : ℕ) (steps : List Step) → length (drop n steps) ≤ length steps
 drop_less zero steps = omega arith
 drop_less (suc n) [] = omega arith
 drop_less (suc n) (it ∷ others) = omega (arith, drop_less n others)
 
--- A round that began anew weighs no more than one that did not.
+-- A round that began anew weighs at most as much as one that did not.
 back_most : (most : ℕ) (is_back : Bool) → back_weight most is_back ≤ suc most
 back_most most true = omega arith
 back_most most false = omega arith
@@ -49,14 +49,14 @@ outside_short most [] are = tt
 outside_short most (it ∷ others) are = are.1
 
 module _ (most turn : ℕ) (path : List ℕ) (levels : List Forest) (opened : List (List Step)) (is_back : Bool) where
-  -- before the turn, and behind it
+  -- before the turn, and after it
   abbrev before : List Step → Spot
   before here = record { here = here; path = turn ∷ path; levels = levels; opened = opened; is_back = is_back }
 
   abbrev after : List Step → Spot
   after here = record { here = here; path = path; levels = levels; opened = opened; is_back = is_back }
 
-  -- A step forward takes a turn.
+  -- A step forward uses a turn.
   forward_lighter : (rest : List Step) → length rest ≤ most → (n : ℕ) → n < suc (suc (length rest))
       → turns_weight most (length path) + (suc most + length rest) < turns_weight most (suc (length path)) + (back_weight most is_back + n)
   forward_lighter rest short n le = omega (arith, short)

@@ -5,7 +5,7 @@ use Rattle.mbe_matcher.specs.Marks.{Note}
 use Rattle.mbe_matcher.specs.Walking.{Spot, Ends, Notes, stepped, noted, behind_turn}
 use Rattle.mbe_matcher.proofs.WalkEnds.{IsShort, weight, lighter, still_short}
 
--- what was noted, before what is still to be, is what is noted from the start on
+-- the notes so far, before those still to come, are all notes from the start on
 abbrev pub IsNoted : (start spot : Spot) → (so_far : List Note) → Type 0
 IsNoted start spot so_far = (notes : List Note) → Notes start notes → (left : List Note) × (notes ≡ so_far ++ left) × Notes spot left
 
@@ -13,7 +13,7 @@ IsNoted start spot so_far = (notes : List Note) → Notes start notes → (left 
 pub noted_first : (start spot : Spot) (so_far : List Note) → spot ≡ start → so_far ≡ [] → IsNoted start spot so_far
 noted_first start spot so_far same none notes is = (notes, ap (λ l. l ++ notes) (sym none), subst (λ s. Notes s notes) (sym same) is)
 
--- Where no turn is left nothing is to be noted.
+-- When no turn is left, no note is to come.
 pub noted_last : (start spot : Spot) (so_far notes : List Note) → IsNoted start spot so_far → spot.path ≡ [] → Notes start notes → so_far ≡ notes
 noted_last start spot so_far notes noted none is = by (noted notes is)
   where
@@ -22,11 +22,11 @@ noted_last start spot so_far notes noted none is = by (noted notes is)
     by (left, all, (suc n, (turn, path, more, also, rest, ends))) = absurd (cc (sym none ∙ also))
 
 module _ (spot : Spot) (turn : ℕ) (path : List ℕ) (is : spot.path ≡ turn ∷ path) where
-  -- the spot behind the step
+  -- the spot after the step
   abbrev next : Spot
   next = stepped spot.here turn (behind_turn path spot)
 
-  -- What is noted from a spot on is what its step notes, and what is noted behind it.
+  -- The notes from a spot on are those of its step and those after it.
   notes_on : (notes : List Note) → Notes spot notes → (left : List Note) × (notes ≡ noted spot.here turn (behind_turn path spot) ++ left) × Notes next left
   notes_on notes (zero, ends) = absurd (cc (sym is ∙ ends.0))
   notes_on notes (suc n, (other, others, more, also, rest, ends)) =
@@ -38,7 +38,7 @@ module _ (spot : Spot) (turn : ℕ) (path : List ℕ) (is : spot.path ≡ turn �
         (n, subst (λ p. Ends n (stepped spot.here turn (behind_turn p spot)) more) tails (subst (λ t. Ends n (stepped spot.here t (behind_turn others spot)) more) heads ends)),
       )
 
-  -- A step keeps it noted, and all short, and leaves less.
+  -- A step keeps the notes complete and all lists short, and leaves less to do.
   pub noted_on : (start new : Spot) (so_far news : List Note) → new ≡ next → news ≡ so_far ++ noted spot.here turn (behind_turn path spot) → IsNoted start spot so_far → IsNoted start new news
   noted_on start new so_far news same more so notes whole = by (so notes whole)
     where

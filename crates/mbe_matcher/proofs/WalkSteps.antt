@@ -14,7 +14,7 @@ use Rattle.mbe_matcher.specs.Places.{front, passed, entered, left}
 use Rattle.mbe_matcher.specs.Walking.{Spot, Ends, stepped, noted}
 use Rattle.mbe_matcher.proofs.OneReading.{Below}
 
--- a turn is left, and steps end the path and note this
+-- a turn is left, and steps that note this end the path
 abbrev pub Leads : Spot → List Note → Type 0
 Leads spot notes = (n : ℕ) × Ends (suc n) spot notes
 
@@ -28,7 +28,7 @@ step_first : (here : List Step) (turn : ℕ) (path : List ℕ) (levels : List Fo
     → Leads (at_spot here (turn ∷ path) levels opened is_back) notes
 step_first here turn path levels opened is_back notes more is (n, ends) = (suc n, (turn, path, more, refl, is, ends))
 
--- A turn below a number, and one that is not.
+-- A turn below a number, and one that is not below.
 below_is : (turn ways : ℕ) → turn < ways → nat_lt turn ways ≡ true
 below_is turn ways lt = grind (arith, nat_tests, lt)
 
@@ -64,7 +64,7 @@ module _ (rest : List Step) (levels : List Forest) (opened : List (List Step)) (
       (ap (λ b. cond b (note.begun (length (drop size rest)) ∷ []) (note.ended (length (drop size rest)) ∷ []) ++ left_notes) (sym is))
       (subst (λ b. Leads (cond b (at_spot (drop first rest) (turn ∷ path) levels (rest ∷ opened) is_back) (at_spot (drop size rest) ((turn - ways) ∷ path) levels opened is_back)) left_notes) (sym is) leads)
 
-  -- None does.
+  -- No round begins.
   pub lead_past : (ways first size : ℕ) (path : List ℕ) → Leads (at_spot (drop size rest) path levels opened is_back) left_notes
       → Leads (at_spot (step.Begin ways first size ∷ rest) (shift ways path) levels opened is_back) (note.ended (length (drop size rest)) ∷ left_notes)
   lead_past ways first size [] (n, (turn, path, more, is, others, ends)) = absurd (cc is)
@@ -87,7 +87,7 @@ module _ (rest body : List Step) (levels : List Forest) (opened : List (List Ste
       (ap (λ b. cond (b && true) (note.begun (length rest) ∷ []) (note.ended (length rest) ∷ []) ++ left_notes) (sym is))
       (subst (λ b. Leads (cond (b && true) (at_spot body (turn ∷ path) levels (body ∷ opened) true) (at_spot rest ((turn - ways) ∷ path) levels opened false)) left_notes) (sym is) leads)
 
-  -- None does.
+  -- No other round begins.
   pub lead_over : (ways : ℕ) (path : List ℕ) → Leads (at_spot rest path levels opened false) left_notes
       → Leads (at_spot (step.Close ways ∷ rest) (shift ways path) levels (body ∷ opened) false) (note.ended (length rest) ∷ left_notes)
   lead_over ways [] (n, (turn, path, more, is, others, ends)) = absurd (cc is)

@@ -24,12 +24,12 @@ use Rattle.mbe_matcher.proofs.OneReading.{Below, below_entries, below_again}
 use Rattle.mbe_matcher.proofs.StepsMade.{past_rounds, past_separator, length-steps}
 use Rattle.mbe_matcher.proofs.WalkSteps.{Leads, at_spot, lead_take, lead_pass, lead_enter, lead_leave, lead_round, lead_past, lead_again, lead_over}
 
--- What may be left out may be empty, before what may be.
+-- If a part may be left out and the others may be empty, all may be empty.
 all_empty : (a b c : Bool) → a ≡ true → c ≡ true → ((a || b) && c) ≡ true
 all_empty true b c t e = e
 all_empty false b c t e = absurd (cc t)
 
--- The rounds of a repetition, behind which others stand.
+-- The rounds of a repetition, and what follows them.
 module _ (at : ℕ) (inner : Pattern) (separator : List Leaf) (op : RepeatKind) (behind : List Step) (others_notes : Reading → List Note) (others_path : Reading → List ℕ)
     (Behind : Forest → Reading → Type 0) (is_empty : Bool) (outer : List Forest) (opened : List (List Step)) (full : may_be_empty inner ≡ false) (all : IsFull inner)
     (one : (input : Forest) (this : Reading) (rest : Forest) (tail : List ℕ) (places : List (List Step)) (is_back : Bool) (close : Step) (notes : List Note)
@@ -83,11 +83,11 @@ module _ (at : ℕ) (inner : Pattern) (separator : List Leaf) (op : RepeatKind) 
       subst (λ n. Leads (at_spot (close ∷ behind) (shift n (others_path more)) (input ∷ outer) (body ∷ opened) false) (note.ended (length behind) ∷ others_notes more)) (sym ways_are)
       (lead_over behind body (input ∷ outer) opened (others_notes more) ways (others_path more) (past input more false are (λ e f. cc f)))
 
-  -- what stands before them
+  -- what comes before them
   abbrev begins : List Step
   begins = with_begin (entry_count at inner) (length separator) (length behind) rounds
 
-  -- what is passed where there are none
+  -- what is skipped if there are none
   abbrev size : ℕ
   size = length body - length behind
 
@@ -113,7 +113,7 @@ module _ (at : ℕ) (inner : Pattern) (separator : List Leaf) (op : RepeatKind) 
       (lead_past body (input ∷ outer) opened is_back (others_notes more) (entry_count at inner) (pass_count (length separator)) size path
       (subst (λ s. Leads (at_spot s path (input ∷ outer) opened is_back) (others_notes more)) (sym behind_is) (past input more is_back are.1 (fresh are.0))))
 
--- So it is for all patterns.
+-- The same for all patterns.
 pub walked : (at : ℕ) (pattern : Pattern) (behind : List Step) (input : Forest) (reading : Reading) (rest : Forest) (outer : List Forest) (opened : List (List Step)) (is_back : Bool)
     (tail : List ℕ) (notes : List Note) → IsFull pattern → (may_be_empty pattern ≡ true → is_back ≡ true → ⊥) → Takes pattern input reading rest
     → Leads (at_spot behind tail (rest ∷ outer) opened false) notes

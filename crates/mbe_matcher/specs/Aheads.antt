@@ -1,4 +1,4 @@
--- The tree that an input goes on with.
+-- The next tree of an input.
 use Rattle.std.specs.Prelude.{◌≡◌, ◌-◌, ℕ, true, false, Some}
 use Rattle.tt.specs.Forest.{Forest, leaf, node}
 use Rattle.tt.specs.Iters.{rest_of, IsFirstElement}
@@ -12,21 +12,21 @@ use Rattle.mbe_matcher.specs.declared.threads.Move.TheVariants as move
 use Rattle.mbe_matcher.specs.Fragments.{takes, takes_nothing, reach}
 use Rattle.mbe_pattern.specs.declared.pattern.Fragment.{Fragment}
 
--- the first of its trees was decoded
+-- `first` is the decoded first tree of `trees`
 abbrev pub IsAhead : Ahead → Type 0
 IsAhead ahead = IsFirstElement (rest_of ahead.trees) (Some ahead.first)
 
--- so it is where a tree is passed
+-- the same if the move passes a tree
 abbrev pub IsAheadIn : Move → Type 0
 IsAheadIn (move.Passes ahead) = IsAhead ahead
 IsAheadIn (move.Enters kind) = Unit {0}
 IsAheadIn move.Ends = Unit {0}
 
--- a leaf stands first
+-- the first tree is a leaf
 abbrev pub IsLeafAhead : Forest → Type 0
 IsLeafAhead trees = (it : Leaf) × (trees ≡ leaf it (after_tree trees))
 
--- a subtree of that kind that holds these trees stands first
+-- the first tree is a subtree of that kind that holds these trees
 abbrev pub IsNodeAhead : (trees : Forest) → DelimiterKind → (children : Forest) → Type 0
 IsNodeAhead trees kind children = (delimiter : Delimiter) × (delimiter.kind ≡ kind) × (trees ≡ node delimiter children (after_tree trees))
 
@@ -34,6 +34,6 @@ IsNodeAhead trees kind children = (delimiter : Delimiter) × (delimiter.kind ≡
 abbrev pub TakesNone : Fragment → Forest → Type 0
 TakesNone which trees = takes which trees ≡ true → takes_nothing which trees ≡ true
 
--- it takes one at least, and behind the first a thread waits for so many
+-- it takes at least one tree, and after the first a thread waits for that many
 abbrev pub WaitsFor : Fragment → Forest → (wait : ℕ) → Type 0
 WaitsFor which trees wait = (takes which trees ≡ true) × (takes_nothing which trees ≡ false) × (wait ≡ reach which trees - 1)

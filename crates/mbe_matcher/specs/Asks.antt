@@ -1,4 +1,4 @@
--- What a place of a pattern asks of an input.
+-- What a place of a pattern requires of an input.
 use Rattle.std.specs.Prelude.{List}
 use Rattle.tt.specs.Types.DelimiterKind.{DelimiterKind}
 use Rattle.tt.specs.Types.Leaf.{Leaf}
@@ -6,14 +6,14 @@ use Rattle.mbe_pattern.specs.declared.pattern.Variable.{Variable}
 use Rattle.mbe_matcher.specs.declared.places.Atom.{Atom}
 use Rattle.mbe_matcher.specs.declared.places.Atom.TheVariants as atom
 
--- what a variable takes, a token of these leaves, a subtree of a kind, or the end of a subtree
+-- trees that a variable takes, a token of these leaves, a subtree of a kind, or the end of a subtree
 pub data Ask : Type 0 where
   take : Variable → Ask
   same : List Leaf → Ask
   enter : DelimiterKind → Ask
   leave : Ask
 
--- what an atom asks
+-- what an atom requires
 abbrev pub ask_of : Atom → Ask
 ask_of (atom.Take which) = take which
 ask_of (atom.Same its) = same its.items

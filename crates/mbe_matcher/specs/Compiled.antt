@@ -8,7 +8,7 @@ use Rattle.mbe_matcher.specs.Asks.{Ask, ask_of}
 use Rattle.mbe_matcher.specs.Asks as ask
 use Rattle.mbe_pattern.specs.Patterns.{Pattern, nothing, variable, token, subtree, repetition}
 
--- what a place asks, and where its edges lead
+-- what a place requires, and where its edges lead
 pub record Stop : Type 0 where
   pub asked : Ask
   pub edges : List ℕ
@@ -26,7 +26,7 @@ place_count (token its others) = suc (place_count others)
 place_count (subtree kind inner others) = suc (place_count inner + suc (place_count others))
 place_count (repetition inner separator op others) = place_count inner + (separator_count separator + place_count others)
 
--- where a pattern whose places begin there may begin, and where it may end at once what comes behind
+-- where a pattern whose places begin there may begin, and where what follows may begin at once
 abbrev pub entries : (at : ℕ) → Pattern → (behind : List ℕ) → List ℕ
 entries at nothing behind = behind
 entries at (variable it others) behind = at ∷ []
@@ -38,7 +38,7 @@ entries at (repetition inner separator repeat.ZeroOrMore others) behind =
 entries at (repetition inner separator repeat.ZeroOrOne others) behind =
     entries at inner [] ++ entries (at + place_count inner + separator_count separator) others behind
 
--- where a round may be followed by another
+-- where another round may follow a round
 abbrev pub again : (at : ℕ) → Pattern → (separator : List Leaf) → RepeatKind → List ℕ
 again at inner separator repeat.ZeroOrOne = []
 again at inner [] repeat.ZeroOrMore = entries at inner []
@@ -51,7 +51,7 @@ abbrev pub separator_stops : List Leaf → (behind : List ℕ) → List Stop
 separator_stops [] behind = []
 separator_stops (it ∷ others) behind = record { asked = ask.same (it ∷ others); edges = behind } ∷ []
 
--- the places of a pattern, the first of which has that number, where those edges lead to what comes behind
+-- the places of a pattern; the first has that number, and the given edges lead to what follows
 abbrev pub stops : (at : ℕ) → Pattern → (behind : List ℕ) → List Stop
 stops at nothing behind = []
 stops at (variable it others) behind = record { asked = ask.take it; edges = entries (suc at) others behind } ∷ stops (suc at) others behind
@@ -66,7 +66,7 @@ stops at (repetition inner separator op others) behind =
     ++ (separator_stops separator (entries at inner [])
     ++ stops (at + place_count inner + separator_count separator) others behind)
 
--- the places of a whole pattern, the last of which is left where no tree is
+-- the places of a whole pattern; the last one is passed at the end of the input
 abbrev pub all_stops : Pattern → List Stop
 all_stops pattern = stops 0 pattern (place_count pattern ∷ []) ++ record { asked = ask.leave; edges = [] } ∷ []
 
@@ -79,7 +79,7 @@ abbrev pub IsStop : Option Place → Stop → Type 0
 IsStop None stop = ⊥
 IsStop (Some place) stop = (ask_of place.atom ≡ stop.asked) × (place.edges.items ≡ stop.edges)
 
--- such stops stand from there on
+-- the places from there on are these stops
 abbrev pub Stand : List Place → (at : ℕ) → List Stop → Type 0
 Stand places at [] = Unit {0}
 Stand places at (stop ∷ others) = IsStop (slice_get places at) stop × Stand places (suc at) others

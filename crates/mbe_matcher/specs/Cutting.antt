@@ -13,7 +13,7 @@ use Rattle.mbe_pattern.specs.Patterns.{Pattern, may_be_none}
 use Rattle.mbe_pattern.specs.Spelling.{pattern_of}
 use Rattle.mbe_matcher.specs.Pieces.{Bit, begin, bit_of, bits_of, close, place}
 
--- what is left of a subtree or a repetition, how it is closed, where it may begin, and whether no part of it was there so far that has to be
+-- what is left of a subtree or a repetition, how it is closed, where it may begin, and whether no required part of it was read so far
 pub record LevelLeft : Type 0 where
   pub rest : Pattern
   pub closing : Option Tail
@@ -24,7 +24,7 @@ abbrev pub level_left : Level → LevelLeft
 level_left level =
     record { rest = pattern_of (rest_of level.rest); closing = level.closing; entries = level.entries.items; is_open = level.is_open }
 
--- where it may begin, with what is left
+-- where it may begin, counting what is left
 abbrev pub entries_with : (at : ℕ) → Pattern → (so_far : List ℕ) → (is_open : Bool) → List ℕ
 entries_with at rest so_far true = so_far ++ entries at rest []
 entries_with at rest so_far false = so_far
@@ -57,11 +57,11 @@ bits_left at (level ∷ outer) =
 abbrev pub levels_left : List Level → List LevelLeft
 levels_left levels = map level_left (reverse levels)
 
--- a level with a part that has to be there, at that place
+-- the level after a required part at that place
 abbrev pub marked : (at : ℕ) → LevelLeft → LevelLeft
 marked at level = record { rest = level.rest; closing = level.closing; entries = gained level.is_open level.entries (at ∷ []); is_open = false }
 
--- a level of which nothing was read
+-- a level that is not read yet
 abbrev pub fresh_level : Pattern → Option Tail → LevelLeft
 fresh_level rest closing = record { rest = rest; closing = closing; entries = []; is_open = true }
 
@@ -69,12 +69,12 @@ fresh_level rest closing = record { rest = rest; closing = closing; entries = []
 abbrev pub with_rest : LevelLeft → Pattern → LevelLeft
 with_rest level rest = record { rest = rest; closing = level.closing; entries = level.entries; is_open = level.is_open }
 
--- the level round a repetition that is closed, which may begin where that does
+-- the level around a repetition that is closed; it may begin where the repetition does
 abbrev pub closed_in : Tail → (entries : List ℕ) → LevelLeft → LevelLeft
 closed_in tail its next =
     record { rest = next.rest; closing = next.closing; entries = gained next.is_open next.entries its; is_open = next.is_open && may_be_none tail.kind }
 
--- pieces more, the number of the next place, and the levels that are left then
+-- more pieces, then the number of the next place and the levels that are left
 pub record Step : Type 0 where
   pub bits : List Bit
   pub count : ℕ
@@ -91,11 +91,11 @@ ended at (Some tail) its (next ∷ outer) =
       levels = closed_in tail its next ∷ outer;
     }
 
--- a place with that number, and the level behind it
+-- a place with that number, and the level after it
 abbrev pub placed : (at : ℕ) → Ask → LevelLeft → (outer : List LevelLeft) → Step
 placed at asked level outer = record { bits = place at asked ∷ []; count = suc at; levels = marked at level ∷ outer }
 
--- a level more, in which nothing was read
+-- one more level, not read yet
 abbrev pub entered : (at : ℕ) → Pattern → Option Tail → (outer : List LevelLeft) → Step
 entered at rest closing outer = record { bits = []; count = at; levels = fresh_level rest closing ∷ outer }
 
@@ -103,7 +103,7 @@ entered at rest closing outer = record { bits = []; count = at; levels = fresh_l
 abbrev pub opened : (at : ℕ) → LevelLeft → (outer : List LevelLeft) → Step
 opened at level outer = record { bits = begin ∷ []; count = at; levels = level ∷ outer }
 
--- a part of a level, behind which that is left
+-- a part of a level, and the level that is left after it
 abbrev pub stepped : Part → (at : ℕ) → LevelLeft → (outer : List LevelLeft) → Step
 stepped part.End at level outer = ended at level.closing level.entries outer
 stepped (part.Variable it) at level outer = placed at (ask.take it) level outer
@@ -113,7 +113,7 @@ stepped (part.Subtree kind inner) at level outer =
 stepped (part.Repetition inner tail) at level outer =
     record { bits = begin ∷ []; count = at; levels = fresh_level (pattern_of (rest_of inner)) (Some tail) ∷ level ∷ outer }
 
--- the step is made
+-- `next` is `old` after the step
 pub record IsStepped (step : Step) (old next : Cutting) : Type 0 where
   pub bits : map bit_of next.pieces.items ≡ map bit_of old.pieces.items ++ step.bits
   pub count : next.count ≡ step.count

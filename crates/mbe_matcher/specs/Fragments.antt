@@ -16,7 +16,7 @@ use Rattle.mbe_pattern.specs.declared.pattern.Fragment.TheVariants as fragment
 use Rattle.mbe_pattern.specs.Spelling.{is_parenthesis}
 use Rattle.mbe_pattern.specs.Units.{is_at_ident, is_at_punct, unit_size, is_at_word, is_brace, front_trees}
 
--- a literal, or a truth value, stands first
+-- the first tree is a literal or a truth value
 abbrev pub is_at_literal : Forest → Bool
 is_at_literal trees = is_some (first_leaf_as as_literal trees)
 
@@ -40,48 +40,48 @@ is_number (leaf_of.Literal it) = is_number_kind (kind_of it)
 is_number (leaf_of.Punct it) = false
 is_number (leaf_of.Ident it) = false
 
--- a number stands first
+-- the first tree is a number
 abbrev pub is_at_number : Forest → Bool
 is_at_number end = false
 is_at_number (leaf it rest) = is_number it
 is_at_number (node delimiter children rest) = false
 
--- a `-` and a number stand first
+-- a `-` and a number come first
 abbrev pub is_at_negative : Forest → Bool
 is_at_negative trees = is_at_punct (codes "-") trees && is_at_number (after_tree trees)
 
--- how many trees a literal is
+-- how many trees a literal has
 abbrev pub literal_size : Forest → ℕ
 literal_size trees = if is_at_negative trees then 2 else 1
 
--- a `'` and an ident stand first
+-- a `'` and an ident come first
 abbrev pub is_at_lifetime : Forest → Bool
 is_at_lifetime trees = is_at_punct (codes "'") trees && is_at_ident (after_tree trees)
 
--- a subtree in braces is first
+-- the first tree is a subtree in braces
 abbrev pub is_at_block : Forest → Bool
 is_at_block end = false
 is_at_block (leaf it rest) = false
 is_at_block (node delimiter children rest) = is_brace delimiter.kind
 
--- `in` and what is behind it, or `crate`, `self` or `super` alone
+-- `in` and what follows it, or `crate`, `self` or `super` alone
 abbrev pub is_scope : (inside : Forest) → Bool
 is_scope inside =
     is_at_word (codes "in") inside
     || ((is_at_word (codes "crate") inside || (is_at_word (codes "self") inside || is_at_word (codes "super") inside)) && is_end (after_tree inside))
 
--- parentheses that hold that stand first
+-- the first tree is a subtree in parentheses that holds such a scope
 abbrev pub is_at_scope : Forest → Bool
 is_at_scope end = false
 is_at_scope (leaf it rest) = false
 is_at_scope (node delimiter children rest) = is_parenthesis delimiter.kind && is_scope children
 
--- how many trees a visibility is: `pub` and such parentheses, or `pub`, or none
+-- how many trees a visibility has: 2 for `pub` with such parentheses, 1 for `pub` alone, or 0
 abbrev pub visibility_size : Forest → ℕ
 visibility_size trees = if is_at_word (codes "pub") trees then (if is_at_scope (after_tree trees) then 2 else 1) else 0
 
--- the fragment takes what stands first: an ident other than `_`; a literal, a truth value, or a number behind `-`; a lifetime; a
--- subtree in braces; a visibility, or nothing where none stands; any token or subtree; or what Rust's grammar does
+-- the fragment takes the trees at the front: an ident other than `_`; a literal, a truth value, or a number after `-`; a lifetime; a
+-- subtree in braces; a visibility, or nothing if there is none; any token or subtree; or what Rust's grammar takes
 abbrev pub takes : Fragment → Forest → Bool
 takes fragment.Ident trees = is_some (unless_underscore (first_leaf_as as_ident_or_underscore trees))
 takes fragment.Literal trees = is_at_literal trees || is_at_negative trees
@@ -91,7 +91,7 @@ takes fragment.Vis trees = true
 takes fragment.Tt trees = not (is_end trees)
 takes (fragment.Grammar which) trees = is_some (grammar_reach which trees)
 
--- it takes nothing of them
+-- the fragment takes none of the trees
 abbrev pub takes_nothing : Fragment → Forest → Bool
 takes_nothing fragment.Ident trees = false
 takes_nothing fragment.Literal trees = false
@@ -106,7 +106,7 @@ abbrev pub or_one : Option ℕ → ℕ
 or_one None = 1
 or_one (Some n) = n
 
--- how many trees that is
+-- how many trees the fragment takes
 abbrev pub reach : Fragment → Forest → ℕ
 reach fragment.Ident trees = 1
 reach fragment.Literal trees = literal_size trees
@@ -116,7 +116,7 @@ reach fragment.Vis trees = visibility_size trees
 reach fragment.Tt trees = unit_size trees
 reach (fragment.Grammar which) trees = or_one (grammar_reach which trees)
 
--- the trees that the fragment takes, and those behind them
+-- the trees that the fragment takes; `left_by` is the trees after them
 abbrev pub taken : Fragment → Forest → Forest
 taken which trees = front_trees (reach which trees) trees
 

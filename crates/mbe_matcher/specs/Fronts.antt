@@ -12,19 +12,20 @@ use Rattle.mbe_pattern.specs.Patterns.{Pattern, nothing, variable, token, subtre
 use Rattle.mbe_pattern.specs.Units.{IsUnitLike, IsNodeOf}
 
 module _ (op : RepeatKind) (separator : List Leaf) (One : Forest → Forest → Type 0) (Within Behind : Forest → Type 0) where
-  -- behind so many rounds: what is behind the repetition, or a separator and then another round, in which it stops, or with what is behind it
+  -- after that many rounds: what follows the repetition, or a separator and then another round; it
+  -- stops in that round or continues after it
   abbrev pub OtherRoundsUpTo : ℕ → (input : Forest) → Type 0
   OtherRoundsUpTo zero input = Behind input
   OtherRoundsUpTo (suc n) input =
       (start : Forest) × (may_be_more op ≡ true) × Separates separator input start × (Within start ⊎ ((rest : Forest) × One start rest × OtherRoundsUpTo n rest))
 
-  -- a round, in which it stops, or some rounds; or none where there may be none
+  -- a first round, in which it stops, or one or more rounds; or no round if there may be none
   abbrev pub RoundsUpTo : (input : Forest) → Type 0
   RoundsUpTo input =
       (Within input ⊎ ((n : ℕ) × (rest : Forest) × One input rest × OtherRoundsUpTo n rest)) ⊎ ((may_be_none op ≡ true) × Behind input)
 
--- the pattern, or a beginning of it, takes trees up to where so many tokens are left, of which so many stand outside of the input: it stops
--- before a part, or takes that and goes on
+-- the pattern, or a beginning of it, takes trees until that many tokens are left, counting the `outside` tokens after the input; it stops
+-- before a part, or takes it and continues
 abbrev pub TakesUpTo : Pattern → (input : Forest) → (outside left : ℕ) → Type 0
 TakesUpTo nothing input outside left = left ≡ size input + outside
 TakesUpTo (variable it others) input outside left =
@@ -41,7 +42,7 @@ TakesUpTo (repetition inner separator op others) input outside left =
     ⊎ RoundsUpTo op separator (λ trees rest. (reading : Reading) × Takes inner trees reading rest) (λ trees. TakesUpTo inner trees outside left)
     (λ trees. TakesUpTo others trees outside left) input
 
--- the flat place where the pattern stops that comes farthest: its beginnings take as many tokens as stand before it, and never more
+-- the farthest flat place where the pattern stops: its beginnings take as many tokens as precede it, and never more
 pub record StopsAt (pattern : Pattern) (input : Forest) (at : ℕ) : Type 0 where
   pub left : ℕ
   pub comes : TakesUpTo pattern input 0 left

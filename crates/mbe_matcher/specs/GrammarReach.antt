@@ -4,6 +4,6 @@ use Rattle.tt.specs.Forest.{Forest}
 use Rattle.mbe_grammar.proofs.FragmentAnswers.{has_answer}
 use Rattle.mbe_pattern.specs.declared.pattern.GrammarFragment.{GrammarFragment}
 
--- how many of these trees it takes, from the first on, if it is one of them: the one answer that the grammar has
+-- how many of these trees the fragment takes from the first on, if it takes any: the grammar's one answer
 unfoldable pub grammar_reach : GrammarFragment → Forest → Option ℕ
 grammar_reach which trees = (has_answer which trees).0

@@ -22,7 +22,7 @@ use Rattle.mbe_matcher.specs.Places.{is_leave}
 use Rattle.mbe_matcher.specs.Settling.{is_here}
 use Rattle.mbe_matcher.specs.Threads.{View, views_of, path_to, AreWithin, AllStep}
 
--- what is left of a level, how many tokens of the input stand before its end, and what its threads stand for
+-- what is left of a level, how many tokens of the input precede its end, and the views of its threads
 pub record LevelView : Type 0 where
   pub trees : Forest
   pub until : ℕ
@@ -43,7 +43,7 @@ abbrev pub AreLevelsWithin : (log : List Turn) → List Level → Type 0
 AreLevelsWithin log [] = Unit {0}
 AreLevelsWithin log (level ∷ others) = AreWithin log level.threads.items × AreLevelsWithin log others
 
--- a level that is at its end is left for the one outside
+-- a level at its end is left for the one outside
 pub record IsLeft (places : List Place) (level : LevelView) (outer news : List LevelView) : Type 0 where
   pub next : LevelView
   pub below : List LevelView
@@ -63,7 +63,7 @@ pub record IsPassed (places : List Place) (level : LevelView) (outer news : List
   pub steps : AllStep places (move.Passes before) level.views [] views
   pub news_are : news ≡ record { trees = after_tree level.trees; until = level.until; views = views } ∷ outer
 
--- a subtree is passed by some, and entered by others
+-- a subtree is passed by some threads, and entered by others
 pub record IsEntered (places : List Place) (level : LevelView) (outer news : List LevelView) : Type 0 where
   pub delimiter : Delimiter
   pub children : Forest
@@ -79,7 +79,7 @@ pub record IsEntered (places : List Place) (level : LevelView) (outer news : Lis
       ∷ record { trees = after_tree level.trees; until = level.until; views = views }
       ∷ outer
 
--- a subtree that none enters is passed
+-- a subtree that no thread enters is passed
 pub record IsSkipped (places : List Place) (level : LevelView) (outer news : List LevelView) : Type 0 where
   pub delimiter : Delimiter
   pub children : Forest
@@ -104,19 +104,19 @@ pub record AreTwo (Whole : List ℕ → Type 0) : Type 0 where
   pub one_is : Whole one
   pub other_is : Whole other
 
--- one path is wanted, and no other
+-- this path is wanted, and no other
 pub record IsOnly (Whole : List ℕ → Type 0) (path : List ℕ) : Type 0 where
   pub holds : Whole path
   pub alone : (other : List ℕ) → Whole other → other ≡ path
 
--- paths stop before that flat place of so many tokens, or none is passed, and no path stops behind it
+-- paths stop at the flat place `at` of `total` tokens, or nothing is passed; no path stops after it
 pub record AreStopped (Stops : (left : ℕ) → List ℕ → Type 0) (total at : ℕ) : Type 0 where
   pub left : ℕ
   pub place : at + left ≡ total
   pub comes : (left ≡ total) ⊎ ((path : List ℕ) × Stops left path)
   pub least : (other : ℕ) → other < left → (path : List ℕ) → Stops other path → ⊥
 
--- what was found is so; where there is nothing, paths stop there
+-- what was found is correct; if nothing was found, paths stop there
 abbrev pub Finds : (Whole : List ℕ → Type 0) → (Stops : (left : ℕ) → List ℕ → Type 0) → (total : ℕ) → Paths → Type 0
 Finds Whole Stops total (paths.Nothing at) = ((path : List ℕ) → Whole path → ⊥) × AreStopped Stops total at
 Finds Whole Stops total (paths.One log last) = IsOnly Whole (path_to log.items last)
@@ -128,30 +128,30 @@ pub record IsEndedWith (level : LevelView) (outer : List LevelView) (views : Lis
   pub is_outermost : outer ≡ []
   pub views_are : views ≡ level.views
 
--- whether the place is one that is left
+-- whether the place is the end of a subtree, or of the whole pattern
 abbrev pub is_leave_at : Option Place → Bool
 is_leave_at None = false
 is_leave_at (Some place) = is_leave (ask_of place.atom)
 
--- one thread more at the end: two, or one that stands for many, are many
+-- one more thread at the end: two threads, or one that represents many, are many
 abbrev pub with_thread : Choice → Thread → Choice
 with_thread choice.Nothing thread = if thread.is_many then choice.Many else choice.One thread.last
 with_thread (choice.One last) thread = choice.Many
 with_thread choice.Many thread = choice.Many
 
--- what threads come to, behind that choice
+-- the choice that the threads make, after the choice so far
 abbrev pub choice_of : List Place → (so_far : Choice) → List Thread → Choice
 choice_of places so_far [] = so_far
 choice_of places so_far (thread ∷ others) =
     choice_of places (if is_leave_at (slice_get places thread.at) then with_thread so_far thread else so_far) others
 
--- what is found where the choice is made in that log, and threads came up to that flat place
+-- what is found if the choice is made in that log, and threads came up to that flat place
 abbrev pub found_of : Choice → Vec Turn Global → (at : ℕ) → Paths
 found_of choice.Nothing log at = paths.Nothing at
 found_of (choice.One last) log at = paths.One log last
 found_of choice.Many log at = paths.Many
 
--- the flat place before what is left of a level, where a thread stands there, or else the one so far
+-- the flat place before what is left of a level, if a thread is there; otherwise the one so far
 abbrev pub reached : (trees : Forest) → (here so_far : ℕ) → List Thread → ℕ
 reached trees here so_far [] = so_far
 reached trees here so_far (thread ∷ others) = if is_here trees thread.wait then here else reached trees here so_far others

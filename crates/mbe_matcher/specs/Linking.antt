@@ -1,4 +1,4 @@
--- The places that are made of pieces, from the last.
+-- The places that are made of pieces, from the last to the first.
 use Rattle.std.specs.Prelude.{ℕ, Bool, true, false, List, [], ◌∷◌, ◌++◌, map, reverse, if◌then◌else◌}
 use Rattle.tt.specs.Types.Leaf.{Leaf}
 use Rattle.mbe_matcher.specs.declared.linking.Frame.{Frame}
@@ -11,19 +11,19 @@ use Rattle.mbe_matcher.specs.Compiled.{Stop, entries}
 use Rattle.mbe_pattern.specs.Patterns.{may_be_none, may_be_more}
 use Rattle.mbe_matcher.specs.Pieces.{Bit, begin, close, place}
 
--- a repetition whose beginning is still to come: where a round may begin, its kind, and what comes behind it
+-- a repetition whose beginning is still to come: where a round may begin, its kind, and what follows it
 pub record Around : Type 0 where
   pub entries : List ℕ
   pub kind : RepeatKind
   pub over : List ℕ
 
--- places that were made, where what is before them may go on, and the repetitions that are open
+-- the places so far, where anything before them may continue, and the open repetitions
 pub record Made : Type 0 where
   pub stops : List Stop
   pub edges : List ℕ
   pub around : List Around
 
--- where a round may be followed by another
+-- where another round may follow a round
 abbrev pub again_from : (at : ℕ) → (separator : List Leaf) → (may_be_more : Bool) → (entries : List ℕ) → List ℕ
 again_from at separator false entries = []
 again_from at [] true entries = entries
@@ -34,12 +34,12 @@ abbrev pub with_separator : (separator : List Leaf) → (entries : List ℕ) →
 with_separator [] entries stops = stops
 with_separator (it ∷ others) entries stops = record { asked = ask.same (it ∷ others); edges = entries } ∷ stops
 
--- the beginning of the innermost repetition that is open
+-- the beginning of the innermost open repetition
 abbrev pub begun : List Around → Made → Made
 begun [] made = made
 begun (it ∷ others) made = record { stops = made.stops; edges = if may_be_none it.kind then it.entries ++ it.over else it.entries; around = others }
 
--- one piece more, from the last
+-- one more piece; the pieces come from the last to the first
 abbrev pub made_with : Bit → Made → Made
 made_with (place at asked) made = record { stops = record { asked = asked; edges = made.edges } ∷ made.stops; edges = at ∷ []; around = made.around }
 made_with begin made = begun made.around made
@@ -50,7 +50,7 @@ made_with (close at separator kind entries) made =
       around = record { entries = entries; kind = kind; over = made.edges } ∷ made.around;
     }
 
--- all of them
+-- all pieces
 abbrev pub made_of : List Bit → Made → Made
 made_of [] made = made
 made_of (it ∷ others) made = made_with it (made_of others made)
@@ -63,7 +63,7 @@ nothing_made = record { stops = []; edges = []; around = [] }
 abbrev pub stop_of : Place → Stop
 stop_of it = record { asked = ask_of it.atom; edges = it.edges.items }
 
--- what was made
+-- an open repetition; `made_by` is all that was made
 abbrev pub around_of : Frame → Around
 around_of frame = record { entries = frame.entries.items; kind = frame.kind; over = frame.over.items }
 

@@ -13,18 +13,18 @@ pub data Note : Type 0 where
   begun : (number : ℕ) → Note
   ended : (number : ℕ) → Note
 
--- what a mark says
+-- the note of a mark
 abbrev pub note_of : Mark → Note
 note_of (mark.Took number trees) = taken number (trees_of trees)
 note_of (mark.Round number) = begun number
 note_of (mark.Over number) = ended number
 
--- how many steps a separator of so many leaves is
+-- how many steps a separator of that many leaves has
 abbrev pub pass_count : ℕ → ℕ
 pass_count zero = 0
 pass_count (suc n) = 1
 
--- in how many steps a pattern is walked: one for a variable or a token, and two for the ends of what holds others
+-- how many steps a pattern has: one for a variable or a token, and two for the ends of a subtree or a repetition
 abbrev pub step_count : Pattern → ℕ
 step_count nothing = 0
 step_count (variable it others) = suc (step_count others)
@@ -32,7 +32,7 @@ step_count (token its others) = suc (step_count others)
 step_count (subtree kind inner others) = suc (step_count inner + suc (step_count others))
 step_count (repetition inner separator op others) = suc (pass_count (length separator) + (step_count inner + suc (step_count others)))
 
--- the notes of rounds, where those of a round are these, and those of the parts behind
+-- the notes of rounds, given the notes of one round and of the parts after the rounds
 abbrev pub notes_of_rounds : (number : ℕ) → (One : Reading → List Note → List Note) → (Behind : Reading → List Note) → Reading → List Note
 notes_of_rounds number One Behind done = []
 notes_of_rounds number One Behind (took trees more) = []
@@ -40,7 +40,7 @@ notes_of_rounds number One Behind (held inside more) = []
 notes_of_rounds number One Behind (round this others) = begun number ∷ One this (notes_of_rounds number One Behind others)
 notes_of_rounds number One Behind (over more) = ended number ∷ Behind more
 
--- the notes of a reading, before others: a part has as its number how many steps stand behind it
+-- the notes of a reading, before others; the number of a part is how many steps follow it
 abbrev pub notes_before : Pattern → (behind : ℕ) → Reading → (left : List Note) → List Note
 notes_before nothing behind reading left = left
 notes_before (variable it others) behind reading left =
@@ -51,6 +51,6 @@ notes_before (subtree kind inner others) behind reading left =
 notes_before (repetition inner separator op others) behind reading left =
     notes_of_rounds (step_count others + behind) (notes_before inner (suc (step_count others + behind))) (λ more. notes_before others behind more left) reading
 
--- the notes of a reading of a whole pattern, behind which its end is a step
+-- the notes of a reading of a whole pattern, which its end follows as one step
 abbrev pub notes_of : Pattern → Reading → List Note
 notes_of pattern reading = notes_before pattern 1 reading []

@@ -1,4 +1,4 @@
--- Which matcher is that of a pattern.
+-- Which matchers belong to a pattern.
 use Rattle.std.specs.Prelude.{◌≡◌, suc, length, map}
 use Rattle.mbe_matcher.specs.declared.matcher.Matcher.{Matcher}
 use Rattle.mbe_matcher.specs.Compiled.{Stand, place_count, all_stops, starts_of}
@@ -7,7 +7,7 @@ use Rattle.mbe_pattern.specs.Patterns.{Pattern, IsFull}
 use Rattle.mbe_matcher.specs.Stepping.{where_of}
 use Rattle.mbe_matcher.specs.Steps.{steps_of}
 
--- a matcher of the pattern, each repetition of which holds a tree at least
+-- a matcher of the pattern, whose repetitions each hold at least one tree
 pub record IsMatcherOf (pattern : Pattern) (matcher : Matcher) : Type 0 where
   pub full : IsFull pattern
   pub count : length matcher.places.items ≡ suc (place_count pattern)

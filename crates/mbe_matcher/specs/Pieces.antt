@@ -9,13 +9,13 @@ use Rattle.mbe_matcher.specs.Asks as ask
 use Rattle.mbe_matcher.specs.Compiled.{separator_count, place_count, entries}
 use Rattle.mbe_pattern.specs.Patterns.{Pattern, nothing, variable, token, subtree, repetition}
 
--- a place of that number, or the beginning or the end of a repetition, with the number of its separator and where a round may begin
+-- a place of that number, or the beginning or the end of a repetition; the end has the number of its separator and where a round may begin
 pub data Bit : Type 0 where
   place : ℕ → Ask → Bit
   begin : Bit
   close : ℕ → (separator : List Leaf) → RepeatKind → (entries : List ℕ) → Bit
 
--- what a piece stands for
+-- a piece as a bit
 abbrev pub bit_of : Piece → Bit
 bit_of (piece.Place at atom) = place at (ask_of atom)
 bit_of piece.Begin = begin

@@ -21,34 +21,34 @@ abbrev pub IsEnded : List Forest → Type 0
 IsEnded [] = ⊥
 IsEnded (trees ∷ outer) = trees ≡ end
 
--- the variable takes what stands first in the innermost level
+-- the variable takes the trees at the front of the innermost level
 abbrev pub TakesFront : Variable → List Forest → Type 0
 TakesFront which [] = ⊥
 TakesFront which (trees ∷ outer) = takes which.fragment trees ≡ true
 
--- what is asked of the levels that are left, the innermost first, is there
+-- the levels, the innermost first, have what is required
 abbrev pub Passes : Ask → List Forest → Type 0
 Passes (ask.take which) levels = TakesFront which levels
 Passes (ask.same its) levels = IsUnitLike its (front levels)
 Passes (ask.enter kind) levels = IsNodeOf kind (front levels)
 Passes ask.leave levels = IsEnded levels
 
--- the levels behind so many trees
+-- the levels after that many trees of the innermost
 abbrev pub passed : ℕ → List Forest → List Forest
 passed n [] = []
 passed n (trees ∷ outer) = after_trees n trees ∷ outer
 
--- the levels in the first tree
+-- the levels inside the first tree
 abbrev pub entered : List Forest → List Forest
 entered [] = []
 entered (trees ∷ outer) = children_of trees ∷ after_tree trees ∷ outer
 
--- the levels outside
+-- the levels outside the innermost
 abbrev pub left : List Forest → List Forest
 left [] = []
 left (trees ∷ outer) = outer
 
--- the levels behind what was asked
+-- the levels after what was required
 abbrev pub onward : Ask → List Forest → List Forest
 onward (ask.take which) levels = passed (reach which.fragment (front levels)) levels
 onward (ask.same its) levels = passed (length its) levels
@@ -61,7 +61,7 @@ OnEdge turn [] P = ⊥
 OnEdge zero (to ∷ others) P = P to
 OnEdge (suc turn) (to ∷ others) P = OnEdge turn others P
 
--- it is the end of a subtree, or of all
+-- it is the end of a subtree, or of the whole pattern
 abbrev pub is_leave : Ask → Bool
 is_leave (ask.take which) = false
 is_leave (ask.same its) = false
@@ -73,17 +73,17 @@ abbrev pub Ends : Option Place → (levels : List Forest) → Type 0
 Ends None levels = ⊥
 Ends (Some place) levels = (is_leave (ask_of place.atom) ≡ true) × (levels ≡ end ∷ [])
 
--- what the place asks is there, and the edge leads to where this holds of the levels behind it
+-- what the place requires is there, and the edge leads to where this holds of the levels after it
 abbrev pub GoesOn : Option Place → (levels : List Forest) → (turn : ℕ) → (ℕ → List Forest → Type 0) → Type 0
 GoesOn None levels turn P = ⊥
 GoesOn (Some place) levels turn P = Passes (ask_of place.atom) levels × OnEdge turn place.edges.items (λ to. P to (onward (ask_of place.atom) levels))
 
--- the path, of the numbers of edges, leads from a place before levels to where this holds of a place and the levels that are left
+-- the path, a list of edge numbers, leads from a place before levels to where this holds of a place and the levels that are left
 abbrev pub Goes : (places : List Place) → (Last : Option Place → List Forest → Type 0) → (at : ℕ) → (levels : List Forest) → (path : List ℕ) → Type 0
 Goes places Last at levels [] = Last (slice_get places at) levels
 Goes places Last at levels (turn ∷ path) = GoesOn (slice_get places at) levels turn (λ to further. Goes places Last to further path)
 
--- it does from one of the places where the pattern starts
+-- the same from one of the places where the pattern starts
 abbrev pub GoesAll : (places : List Place) → (Last : Option Place → List Forest → Type 0) → (starts : List ℕ) → (input : Forest) → (path : List ℕ) → Type 0
 GoesAll places Last starts input [] = ⊥
 GoesAll places Last starts input (turn ∷ path) = OnEdge turn starts (λ to. Goes places Last to (input ∷ []) path)
@@ -92,19 +92,19 @@ GoesAll places Last starts input (turn ∷ path) = OnEdge turn starts (λ to. Go
 abbrev pub Reads : (places : List Place) → (at : ℕ) → (levels : List Forest) → (path : List ℕ) → Type 0
 Reads places = Goes places Ends
 
--- it leads through all of an input
+-- the path leads through all of an input
 abbrev pub ReadsAll : (places : List Place) → (starts : List ℕ) → (input : Forest) → (path : List ℕ) → Type 0
 ReadsAll places = GoesAll places Ends
 
--- how many tokens are left of the levels
+-- how many tokens are left in the levels
 abbrev pub left_in : List Forest → ℕ
 left_in [] = 0
 left_in (trees ∷ outer) = size trees + left_in outer
 
--- so many are left, whatever the place
+-- that many tokens are left, at any place
 abbrev pub AreLeft : (left : ℕ) → Option Place → List Forest → Type 0
 AreLeft left place levels = left ≡ left_in levels
 
--- the path leads from a start to where so many are left
+-- the path leads from a start to where that many tokens are left
 abbrev pub StopsAll : (places : List Place) → (left : ℕ) → (starts : List ℕ) → (input : Forest) → (path : List ℕ) → Type 0
 StopsAll places left = GoesAll places (AreLeft left)

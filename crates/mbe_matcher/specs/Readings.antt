@@ -11,7 +11,7 @@ use Rattle.mbe_pattern.specs.Patterns.{Pattern, nothing, variable, token, subtre
 use Rattle.mbe_pattern.specs.Units.{IsUnitLike, IsNodeOf}
 
 -- how a pattern is read, part by part: the trees that a variable took, how a subtree's inside is read, a round of a repetition with the
--- rounds and parts behind it, or that there is no further round
+-- rounds and parts after it, or that there is no further round
 pub data Reading : Type 0 where
   done : Reading
   took : Forest → Reading → Reading
@@ -19,7 +19,7 @@ pub data Reading : Type 0 where
   round : Reading → Reading → Reading
   over : Reading → Reading
 
--- what a variable that comes first took
+-- the trees that the first part, a variable, took
 abbrev pub trees_taken : Reading → Forest
 trees_taken done = end
 trees_taken (took trees more) = trees
@@ -27,7 +27,7 @@ trees_taken (held inside more) = end
 trees_taken (round this others) = end
 trees_taken (over more) = end
 
--- how the inside of a subtree that comes first is read
+-- how the inside of the first part, a subtree, is read
 abbrev pub inside_of : Reading → Reading
 inside_of done = done
 inside_of (took trees more) = done
@@ -35,7 +35,7 @@ inside_of (held inside more) = inside
 inside_of (round this others) = done
 inside_of (over more) = done
 
--- how what is behind the first part is read
+-- how what follows the first part is read
 abbrev pub more_of : Reading → Reading
 more_of done = done
 more_of (took trees more) = more
@@ -43,13 +43,13 @@ more_of (held inside more) = more
 more_of (round this others) = others
 more_of (over more) = more
 
--- the separator, if there is one, stands before the rest
+-- the separator, if there is one, precedes the rest
 abbrev pub Separates : (separator : List Leaf) → (input rest : Forest) → Type 0
 Separates [] input rest = rest ≡ input
 Separates (it ∷ others) input rest = IsUnitLike (it ∷ others) input × (rest ≡ after_trees (length (it ∷ others)) input)
 
 module _ (op : RepeatKind) (separator : List Leaf) (One : Forest → Reading → Forest → Type 0) (Behind : Forest → Reading → Type 0) where
-  -- behind a round: no other, or a separator and then another round
+  -- after a round: no other, or a separator and then another round
   abbrev pub AreOtherRounds : (input : Forest) → Reading → Type 0
   AreOtherRounds input done = ⊥
   AreOtherRounds input (took trees more) = ⊥
@@ -58,7 +58,7 @@ module _ (op : RepeatKind) (separator : List Leaf) (One : Forest → Reading →
       (start : Forest) × (rest : Forest) × (may_be_more op ≡ true) × Separates separator input start × One start this rest × AreOtherRounds rest others
   AreOtherRounds input (over more) = Behind input more
 
-  -- rounds with separators between them, and what is behind: none only where there may be none
+  -- rounds with separators between them, and what follows; no round only if there may be none
   abbrev pub AreRounds : (input : Forest) → Reading → Type 0
   AreRounds input done = ⊥
   AreRounds input (took trees more) = ⊥
@@ -66,7 +66,7 @@ module _ (op : RepeatKind) (separator : List Leaf) (One : Forest → Reading →
   AreRounds input (round this others) = (rest : Forest) × One input this rest × AreOtherRounds rest others
   AreRounds input (over more) = (may_be_none op ≡ true) × Behind input more
 
--- the pattern takes the trees up to the rest, so read
+-- the pattern takes the trees up to the rest, by this reading
 abbrev pub Takes : Pattern → (input : Forest) → Reading → (rest : Forest) → Type 0
 Takes nothing input reading rest = (reading ≡ done) × (rest ≡ input)
 Takes (variable it others) input reading rest =
@@ -77,11 +77,11 @@ Takes (subtree kind inner others) input reading rest =
 Takes (repetition inner separator op others) input reading rest =
     AreRounds op separator (Takes inner) (λ trees more. Takes others trees more rest) input reading
 
--- the trees are an instance of the pattern, so read
+-- the trees are an instance of the pattern, by this reading
 abbrev pub IsInstance : Pattern → (input : Forest) → Reading → Type 0
 IsInstance pattern input reading = Takes pattern input reading end
 
--- the input is no instance of the pattern, however it is read
+-- the input is no instance of the pattern, by any reading
 abbrev pub IsNoInstance : Pattern → (input : Forest) → Type 0
 IsNoInstance pattern input = (reading : Reading) → IsInstance pattern input reading → ⊥
 

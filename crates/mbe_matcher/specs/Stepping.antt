@@ -1,4 +1,4 @@
--- The steps that are made of pieces, from the last.
+-- The steps that are made of pieces, from the last to the first.
 use Rattle.std.specs.Prelude.{ℕ, List, [], ◌∷◌, length, reverse, map}
 use Rattle.mbe_pattern.specs.declared.pattern.Variable.{Variable}
 use Rattle.mbe_matcher.specs.declared.steps.Binder.{Binder}
@@ -14,13 +14,13 @@ use Rattle.mbe_pattern.specs.Patterns.{may_be_more}
 use Rattle.mbe_matcher.specs.Pieces.{Bit, begin, close, place}
 use Rattle.mbe_matcher.specs.Steps.{with_begin}
 
--- steps that were made, the repetitions whose beginning is still to come, the innermost first, and variables
+-- the steps so far, the repetitions whose beginning is still to come, the innermost first, and the variables
 pub record Taken : Type 0 where
   pub steps : List Step
   pub ends : List End
   pub variables : List Where
 
--- the step of what a place asks
+-- the step of what a place requires
 abbrev pub step_of : Ask → Step
 step_of (ask.take which) = step.Take which.fragment
 step_of (ask.same its) = step.Pass (length its)
@@ -50,16 +50,16 @@ placed_with (ask.same its) taken = with_step (step.Pass (length its)) taken
 placed_with (ask.enter kind) taken = with_step step.Enter taken
 placed_with ask.leave taken = with_step step.Leave taken
 
--- what a variable of a matcher stands for
+-- a variable of a matcher, with its number and its repetitions
 abbrev pub where_of : Binder → Where
 where_of it = record { variable = record { name = it.name; fragment = it.fragment }; number = it.number; nest = it.nest.items }
 
--- the beginning of the innermost repetition that is open
+-- the beginning of the innermost open repetition
 abbrev pub with_beginning : List End → Taken → Taken
 with_beginning [] taken = taken
 with_beginning (it ∷ others) taken = record { steps = with_begin it.ways it.separator it.behind taken.steps; ends = others; variables = taken.variables }
 
--- the end of a repetition, into which so many edges lead, and to another round of which so many
+-- the end of a repetition; `ways` edges lead into it, and `again` edges to another round
 abbrev pub closed_with : (ways separator again : ℕ) → Taken → Taken
 closed_with ways separator again taken =
     record {
@@ -68,23 +68,23 @@ closed_with ways separator again taken =
       variables = taken.variables;
     }
 
--- one piece more, from the last
+-- one more piece; the pieces come from the last to the first
 abbrev pub taken_with : Bit → Taken → Taken
 taken_with (place at asked) taken = placed_with asked taken
 taken_with begin taken = with_beginning taken.ends taken
 taken_with (close at separator kind its) taken =
     closed_with (length its) (length separator) (length (again_from at separator (may_be_more kind) its)) taken
 
--- all of them
+-- all pieces
 abbrev pub taken_of : List Bit → Taken → Taken
 taken_of [] taken = taken
 taken_of (it ∷ others) taken = taken_with it (taken_of others taken)
 
--- none was made
+-- no piece was made
 abbrev pub nothing_taken : Taken
 nothing_taken = record { steps = []; ends = []; variables = [] }
 
--- what was made, of which the last stands last
+-- what was made, in the order of the pattern
 abbrev pub taken_by : Stepped → Taken
 taken_by stepped =
     record { steps = reverse stepped.steps.items; ends = reverse stepped.ends.items; variables = map where_of (reverse stepped.binders.items) }

@@ -7,12 +7,12 @@ use Rattle.mbe_matcher.specs.Linking.{again_from}
 use Rattle.mbe_matcher.specs.Marks.{pass_count}
 use Rattle.mbe_pattern.specs.Patterns.{Pattern, nothing, variable, token, subtree, repetition, may_be_more}
 
--- a separator of so many leaves, which is passed before what is behind
+-- a separator of that many leaves, which is passed before what follows
 abbrev pub with_pass : ℕ → List Step → List Step
 with_pass zero steps = steps
 with_pass (suc n) steps = step.Pass (suc n) ∷ steps
 
--- the beginning of a repetition, into which so many edges lead: its separator, its rounds and its end are passed where it has none
+-- the beginning of a repetition into which that many edges lead; with no round, its separator, its rounds and its end are skipped
 abbrev pub with_begin : (ways separator : ℕ) → (behind : ℕ) → (rounds : List Step) → List Step
 with_begin ways separator behind rounds =
     step.Begin ways (pass_count separator) (length (with_pass separator rounds) - behind) ∷ with_pass separator rounds

@@ -1,4 +1,4 @@
--- Threads: the places at which paths are.
+-- Threads: the places that the paths have reached.
 use Rattle.std.specs.Prelude.{◌≡◌, ◌⊎◌, ◌≤◌, ◌-◌, ◌&&◌, ℕ, zero, suc, Bool, true, false, List, [], ◌∷◌, ◌++◌, map, length, reverse, Option, None, Some, slice_get, if◌then◌else◌, nat_eq, nat_lt}
 use Rattle.tt.specs.Iters.{rest_of}
 use Rattle.mbe_matcher.specs.declared.places.Place.{Place}
@@ -11,34 +11,35 @@ use Rattle.mbe_matcher.specs.Asks as ask
 use Rattle.mbe_matcher.specs.Fragments.{takes, takes_nothing, reach}
 use Rattle.mbe_pattern.specs.Units.{IsUnitLike}
 
--- what a thread stands for: its place, how many trees are passed before it stands there, whether many paths lead there, and one that does
+-- the view of a thread: its place, how many trees are still to be passed before it is there, whether many paths lead
+-- there, and the trace of one that does
 pub record View : Type 0 where
   pub at : ℕ
   pub wait : ℕ
   pub is_many : Bool
   pub trace : List ℕ
 
--- the path up to the turn of that number, where the newest turn stands first
+-- the path up to the turn of that number; the newest turn comes first
 abbrev pub path_in : List Turn → (number : ℕ) → List ℕ
 path_in [] number = []
 path_in (turn ∷ older) number = if nat_eq number (suc (length older)) then path_in older turn.before ++ turn.edge ∷ [] else path_in older number
 
--- the path up to a turn behind those of the log
+-- the path up to a turn after those of the log
 abbrev pub path_to : (log : List Turn) → Turn → List ℕ
 path_to log turn = path_in (reverse log) turn.before ++ turn.edge ∷ []
 
--- the number of the turn before one of that number, or none where the log is not in order
+-- the number of the turn before the turn of that number, or 0 if the log is not in order
 abbrev pub earlier : Turn → (number : ℕ) → ℕ
 earlier turn number = if nat_lt turn.before number then turn.before else 0
 
--- what a thread stands for
+-- the view of a thread
 abbrev pub view_of : (log : List Turn) → Thread → View
 view_of log thread = record { at = thread.at; wait = thread.wait; is_many = thread.is_many; trace = path_to log thread.last }
 
 abbrev pub views_of : (log : List Turn) → List Thread → List View
 views_of log threads = map (view_of log) threads
 
--- what stands before each thread's turn is one of the log
+-- the turn before each thread's last one is in the log
 abbrev pub AreWithin : (log : List Turn) → List Thread → Type 0
 AreWithin log [] = Unit {0}
 AreWithin log (thread ∷ others) = (thread.last.before ≤ length log) × AreWithin log others
@@ -47,7 +48,7 @@ AreWithin log (thread ∷ others) = (thread.last.before ≤ length log) × AreWi
 abbrev pub IsGrown : (old new : List Turn) → Type 0
 IsGrown old new = (more : List Turn) × (new ≡ old ++ more)
 
--- both come to one place at one tree
+-- both come to the same place at the same tree
 abbrev pub meet : View → View → Bool
 meet a b = nat_eq a.at b.at && nat_eq a.wait b.wait
 
@@ -55,7 +56,7 @@ meet a b = nat_eq a.at b.at && nat_eq a.wait b.wait
 abbrev pub doubled : View → View
 doubled view = record view { is_many = true }
 
--- one thread more; one that it meets stands for both
+-- one more thread; if it meets one that is there, that one represents both
 abbrev pub added : View → List View → List View
 added view [] = view ∷ []
 added view (other ∷ others) = if meet other view then doubled other ∷ others else other ∷ added view others
@@ -69,27 +70,27 @@ thread_added thread [] = thread ∷ []
 thread_added thread (other ∷ others) =
     if threads_meet other thread then record other { is_many = true } ∷ others else other ∷ thread_added thread others
 
--- the thread waits for so many trees
+-- the thread waits for that many trees
 abbrev pub delayed : ℕ → View → View
 delayed n view = record view { wait = n }
 
--- the thread behind the edge of that number
+-- the thread after the edge of that number
 abbrev pub turned : View → (turn to : ℕ) → View
 turned view turn to = record { at = to; wait = view.wait; is_many = view.is_many; trace = view.trace ++ turn ∷ [] }
 
--- a thread for each edge, of which the first has that number
+-- a thread for each edge; the first edge has that number
 abbrev pub spread : View → (turn : ℕ) → (edges : List ℕ) → List View → List View
 spread view turn [] views = views
 spread view turn (to ∷ others) views = spread view (suc turn) others (added (turned view turn to) views)
 
--- the same of threads, behind the turn of that number
+-- the same of threads, after the turn of that number
 abbrev pub threads_spread : (wait : ℕ) → Bool → (before : ℕ) → (turn : ℕ) → (edges : List ℕ) → List Thread → List Thread
 threads_spread wait is_many before turn [] threads = threads
 threads_spread wait is_many before turn (to ∷ others) threads =
     threads_spread wait is_many before (suc turn) others
     (thread_added (record { at = to; wait = wait; is_many = is_many; last = record { edge = turn; before = before } }) threads)
 
--- what is asked is there, as the input goes on
+-- the input has what is required, and goes on by this move
 abbrev pub IsMoved : Move → Ask → Type 0
 IsMoved (move.Passes ahead) (ask.take which) = (takes which.fragment (rest_of ahead.trees) ≡ true) × (takes_nothing which.fragment (rest_of ahead.trees) ≡ false)
 IsMoved (move.Passes ahead) (ask.same its) = IsUnitLike its (rest_of ahead.trees)
@@ -104,7 +105,7 @@ IsMoved move.Ends (ask.same its) = ⊥
 IsMoved move.Ends (ask.enter kind) = ⊥
 IsMoved move.Ends ask.leave = Unit {0}
 
--- for how many trees behind the first the thread then waits
+-- for how many trees after the first the thread then waits
 abbrev pub wait_of : Move → Ask → ℕ
 wait_of (move.Passes ahead) (ask.take which) = reach which.fragment (rest_of ahead.trees) - 1
 wait_of (move.Passes ahead) (ask.same its) = length its - 1
@@ -113,7 +114,7 @@ wait_of (move.Passes ahead) ask.leave = 0
 wait_of (move.Enters kind) asked = 0
 wait_of move.Ends asked = 0
 
--- the same, where there is such a place
+-- the same, if there is such a place
 abbrev pub IsMovedAt : Move → Option Place → Type 0
 IsMovedAt by None = ⊥
 IsMovedAt by (Some place) = IsMoved by (ask_of place.atom)
@@ -135,13 +136,13 @@ is_waiting (move.Enters kind) zero = false
 is_waiting (move.Enters kind) (suc n) = true
 is_waiting move.Ends n = false
 
--- what one that waits adds: itself, one tree nearer, where a tree is passed
+-- what a waiting thread adds: itself, one tree nearer, if the move passes a tree
 abbrev pub waited : Move → View → List View → List View
 waited (move.Passes ahead) view old = added (delayed (view.wait - 1) view) old
 waited (move.Enters kind) view old = old
 waited move.Ends view old = old
 
--- what one at its place adds: one for each edge where its place is passed, and else none
+-- what a thread at its place adds: one thread per edge if its place is passed, otherwise none
 abbrev pub StepsOn : List Place → Move → View → (old new : List View) → Type 0
 StepsOn places by view old new =
     (IsMovedAt by (slice_get places view.at) × (new ≡ spread (delayed (wait_at by (slice_get places view.at)) view) 0 (edges_of (slice_get places view.at)) old))
@@ -152,12 +153,12 @@ abbrev pub Steps : List Place → Move → View → (old new : List View) → Ty
 Steps places by view old new =
     ((is_waiting by view.wait ≡ true) × (new ≡ waited by view old)) ⊎ ((is_waiting by view.wait ≡ false) × StepsOn places by view old new)
 
--- what all of them add, one after the other
+-- what all threads add, one after the other
 abbrev pub AllStep : List Place → Move → (views : List View) → (old new : List View) → Type 0
 AllStep places by [] old new = new ≡ old
 AllStep places by (view ∷ views) old new = (middle : List View) × Steps places by view old middle × AllStep places by views middle new
 
--- what one that waits adds, of threads
+-- what a waiting thread adds, of threads
 abbrev pub threads_waited : Move → Thread → List Thread → List Thread
 threads_waited (move.Passes ahead) thread old = thread_added (record thread { wait = thread.wait - 1 }) old
 threads_waited (move.Enters kind) thread old = old

@@ -1,4 +1,4 @@
--- What is told of an input.
+-- The answers about an input.
 use Rattle.std.specs.Prelude.{◌≡◌, [], ◌∷◌, map}
 use Rattle.tt.specs.Forest.{Forest}
 use Rattle.mbe_matcher.specs.declared.binding.Found.{Found}
@@ -14,7 +14,7 @@ use Rattle.mbe_pattern.specs.Patterns.{Pattern}
 use Rattle.mbe_matcher.specs.Readings.{Reading, IsNoInstance, IsReadBy, IsAmbiguous}
 use Rattle.mbe_matcher.specs.Threads.{path_to}
 
--- what was found of an input: no reading, and where it stops; one and no other, with what it binds; or two
+-- what was found in an input is correct: no reading, and where it stops; exactly one, with what it binds; or two
 abbrev pub Tells : Pattern → (input : Forest) → Found → Type 0
 Tells pattern input (found.Nothing at) = IsNoInstance pattern input × StopsAt pattern input at
 Tells pattern input (found.One binding) =
@@ -22,7 +22,7 @@ Tells pattern input (found.One binding) =
     × (binding_by (variables_of pattern 1) (map note_of binding.marks.items) ≡ binding_of pattern reading)
 Tells pattern input found.Many = IsAmbiguous pattern input
 
--- the same of paths: none, that of the one reading, or two
+-- the same of paths: none, the path of the one reading, or two
 abbrev pub TellsPaths : Pattern → (input : Forest) → Paths → Type 0
 TellsPaths pattern input (paths.Nothing at) = IsNoInstance pattern input × StopsAt pattern input at
 TellsPaths pattern input (paths.One log last) =

@@ -10,8 +10,8 @@ use Rattle.mbe_matcher.specs.Marks.{Note, note_of}
 use Rattle.mbe_matcher.specs.Marks as note
 use Rattle.mbe_matcher.specs.Places.{front, passed, entered, left}
 
--- the steps that are ahead, the turns that are left, what is left of the levels of the input, where the rounds of repetitions begin that
--- are open, the innermost first, and whether a round began anew since a tree was passed
+-- the steps ahead, the turns that are left, what is left of the input's levels, where the rounds of the open repetitions begin, the
+-- innermost first, and whether a round began anew since a tree was passed
 pub record Spot : Type 0 where
   pub here : List Step
   pub path : List ℕ
@@ -32,7 +32,7 @@ outside (it ∷ others) = others
 abbrev pub forward : (here : List Step) → (levels : List Forest) → Spot → Spot
 forward here levels spot = record { here = here; path = spot.path; levels = levels; opened = spot.opened; is_back = false }
 
--- into a round of a repetition, or past it
+-- into a round of a repetition, or around it
 abbrev pub begun : (turn ways first size : ℕ) → (rest : List Step) → Spot → Spot
 begun turn ways first size rest spot =
     if nat_lt turn ways
@@ -50,12 +50,12 @@ closed turn ways rest spot =
     then record { here = innermost spot.opened; path = turn ∷ spot.path; levels = spot.levels; opened = spot.opened; is_back = true }
     else record { here = rest; path = (turn - ways) ∷ spot.path; levels = spot.levels; opened = outside spot.opened; is_back = spot.is_back }
 
--- what is noted where a repetition begins
+-- the notes at the beginning of a repetition
 abbrev pub begin_notes : (turn ways size : ℕ) → (rest : List Step) → List Note
 begin_notes turn ways size rest =
     if nat_lt turn ways then note.begun (length (drop size rest)) ∷ [] else note.ended (length (drop size rest)) ∷ []
 
--- and where a round of one ends
+-- the notes at the end of a round
 abbrev pub close_notes : (turn ways : ℕ) → (rest : List Step) → Spot → List Note
 close_notes turn ways rest spot = if is_again turn ways spot then note.begun (length rest) ∷ [] else note.ended (length rest) ∷ []
 
@@ -69,7 +69,7 @@ stepped (step.Leave ∷ rest) turn spot = forward rest (left spot.levels) spot
 stepped (step.Begin ways first size ∷ rest) turn spot = begun turn ways first size rest spot
 stepped (step.Close ways ∷ rest) turn spot = closed turn ways rest spot
 
--- what it notes
+-- the notes of one step
 abbrev pub noted : (here : List Step) → (turn : ℕ) → Spot → List Note
 noted [] turn spot = []
 noted (step.Take which ∷ rest) turn spot = note.taken (length rest) (taken which (front spot.levels)) ∷ []
@@ -79,26 +79,26 @@ noted (step.Leave ∷ rest) turn spot = []
 noted (step.Begin ways first size ∷ rest) turn spot = begin_notes turn ways size rest
 noted (step.Close ways ∷ rest) turn spot = close_notes turn ways rest spot
 
--- the same spot behind its next turn
+-- the same spot after its next turn
 abbrev pub behind_turn : (path : List ℕ) → Spot → Spot
 behind_turn path spot = record { here = spot.here; path = path; levels = spot.levels; opened = spot.opened; is_back = spot.is_back }
 
--- so many steps end the path, and note this
+-- the path ends after that many steps, which note this
 abbrev pub Ends : ℕ → Spot → List Note → Type 0
 Ends zero spot notes = (spot.path ≡ []) × (notes ≡ [])
 Ends (suc n) spot notes =
     (turn : ℕ) × (path : List ℕ) × (more : List Note) × (spot.path ≡ turn ∷ path) × (notes ≡ noted spot.here turn (behind_turn path spot) ++ more)
     × Ends n (stepped spot.here turn (behind_turn path spot)) more
 
--- some steps do
+-- the path ends after some number of steps
 abbrev pub Notes : Spot → List Note → Type 0
 Notes spot notes = (n : ℕ) × Ends n spot notes
 
--- before all steps, and all of the input
+-- before all steps, with all of the input
 abbrev pub started : List Step → (path : List ℕ) → (input : Forest) → Spot
 started steps path input = record { here = steps; path = path; levels = input ∷ []; opened = []; is_back = false }
 
--- where a walk stands
+-- the spot of a walk
 abbrev pub spot_of : Walk → Spot
 spot_of walk =
     record {
@@ -109,7 +109,7 @@ spot_of walk =
       is_back = walk.is_back;
     }
 
--- what it noted
+-- the notes of a walk
 abbrev pub notes_by : Walk → List Note
 notes_by walk = map note_of walk.marks.items
 
@@ -118,6 +118,6 @@ pub record IsWalked (spot : Spot) (notes : List Note) (old next : Walk) : Type 0
   pub spot_is : spot_of next ≡ spot
   pub notes_are : notes_by next ≡ notes_by old ++ notes
 
--- it does one step, by that turn
+-- a walk does one step, by that turn
 abbrev pub walked_by : (turn : ℕ) → (old next : Walk) → Type 0
 walked_by turn old next = IsWalked (stepped old.here.now turn (spot_of old)) (noted old.here.now turn (spot_of old)) old next

@@ -1,4 +1,4 @@
-//! The tree that an input goes on with, decoded once for all threads.
+//! The next tree of an input, decoded once for all threads.
 ghost use Rattle.std.specs.Prelude.{◌≡◌, ◌↔◌, IfOk, IsTrue, MatchOption};
 ghost use Rattle.tt.specs.Iters.{rest_of};
 ghost use Rattle.mbe_matcher.specs.Aheads.{IsAhead, IsLeafAhead, IsNodeAhead, TakesNone, WaitsFor};
@@ -11,7 +11,7 @@ use mbe_pattern::{Fragment, GrammarFragment, is_same_leaf, unit_size};
 use std::alloc::{AllocError, Global};
 use tt::{DelimiterKind, Leaf, Spacing, TtElement, TtIter};
 
-/// The tree that stands first, and where it stands.
+/// The first tree, decoded, and the trees from it on.
 #[derive(Drop)]
 pub(crate) struct Ahead<'i> {
     pub(crate) first: TtElement<'i>,
@@ -19,7 +19,7 @@ pub(crate) struct Ahead<'i> {
 }
 
 impl<'i> Ahead<'i> {
-    /// The kind of the first tree's delimiter, and what it holds, where it is a subtree.
+    /// Returns the kind of the first tree's delimiter and what it holds, if it is a subtree.
     pub(crate) fn inside(&self) -> Option<(DelimiterKind, TtIter<'i>)>
         requires { IsAhead self.now }
         ensures { MatchOption result (IsLeafAhead (rest_of self.now.trees)) (λ found. IsNodeAhead (rest_of self.now.trees) found.0 (rest_of found.1)) }
@@ -32,7 +32,7 @@ impl<'i> Ahead<'i> {
         }
     }
 
-    // Whether the first tree is such a leaf.
+    // Returns whether the first tree is such a leaf.
     fn is_leaf_like(&self, leaf: &Leaf) -> bool
         requires { IsAhead self.now }
         ensures { IsTrue result ↔ IsLeafLike leaf.now (rest_of self.now.trees) }
@@ -43,7 +43,7 @@ impl<'i> Ahead<'i> {
         }
     }
 
-    // How many trees stand as one at the front. Only puncts that do not stand alone are looked at with those behind them.
+    // Returns how many trees the first unit has. Only puncts that are not alone are read together with the trees after them.
     fn unit_size(&self) -> usize
         requires { IsAhead self.now }
         ensures { result ≡ unit_size (rest_of self.now.trees) }
@@ -60,7 +60,7 @@ impl<'i> Ahead<'i> {
         }
     }
 
-    /// Whether a token of just these leaves stands first.
+    /// Returns whether the first token consists of exactly these leaves.
     pub(crate) fn is_unit_like(&self, leaves: &[Leaf]) -> bool
         requires { IsAhead self.now }
         ensures { IsTrue result ↔ IsUnitLike leaves.now (rest_of self.now.trees) }
@@ -74,7 +74,7 @@ impl<'i> Ahead<'i> {
             && (leaves.len() == 1 || are_leaves_like(leaves, self.trees.remaining().iter()))
     }
 
-    // Whether the fragment takes what stands first.
+    // Returns whether the fragment takes the trees at the front.
     fn takes(&self, alloc: Global, fragment: Fragment) -> Result<bool, AllocError>
         requires { IsAhead self.now }
         ensures { IfOk result (λ answer. answer ≡ takes fragment (rest_of self.now.trees)) }
@@ -87,7 +87,7 @@ impl<'i> Ahead<'i> {
         }
     }
 
-    // How many trees it takes.
+    // Returns how many trees the fragment takes.
     fn reach(&self, alloc: Global, fragment: Fragment) -> Result<usize, AllocError>
         requires { IsAhead self.now }
         ensures { IfOk result (λ count. count ≡ reach fragment (rest_of self.now.trees)) }
@@ -99,7 +99,7 @@ impl<'i> Ahead<'i> {
         }
     }
 
-    // The same as `wait_behind` of a fragment of Rust's grammar, which is asked once.
+    // The same as `wait_behind` for a fragment of Rust's grammar, which is read only once.
     fn wait_by_grammar(
         &self,
         alloc: Global,
@@ -114,8 +114,8 @@ impl<'i> Ahead<'i> {
         }
     }
 
-    /// For how many trees behind the first a thread waits that takes what the fragment takes, where that is a tree at least. It is
-    /// refused only where memory is.
+    /// Returns how many trees after the first a thread waits if the fragment takes at least one tree; otherwise
+    /// none. Fails only if memory runs out.
     pub(crate) fn wait_behind(
         &self,
         alloc: Global,

@@ -1,4 +1,4 @@
-//! What stands first among trees: the tokens of a pattern, and what its fragments take.
+//! What comes first among trees: the tokens of a pattern, and what its fragments take.
 ghost use Rattle.std.specs.Prelude.{◌≡◌, ◌↔◌, IfOk, IsTrue};
 ghost use Rattle.tt.specs.Iters.{rest_of};
 ghost use Rattle.tt.specs.Moves.{after_tree};
@@ -12,7 +12,7 @@ use mbe_pattern::{Fragment, GrammarFragment, is_at_word, passes_leaf, unit_size}
 use std::alloc::{AllocError, Global};
 use tt::{DelimiterKind, Leaf, LitKind, TtElement, TtIter};
 
-/// Whether the first trees are such leaves, one by one.
+/// Returns whether the first trees are such leaves, one by one.
 pub(crate) fn are_leaves_like(leaves: &[Leaf], mut trees: TtIter<'_>) -> bool
     ensures { IsTrue result ↔ AreLeavesLike leaves.now (rest_of trees.entry) }
 {
@@ -24,7 +24,7 @@ pub(crate) fn are_leaves_like(leaves: &[Leaf], mut trees: TtIter<'_>) -> bool
     true
 }
 
-// Whether a number stands first.
+// Returns whether the first tree is a number.
 fn is_at_number(mut trees: TtIter<'_>) -> bool
     ensures { result ≡ is_at_number (rest_of trees.entry) }
 {
@@ -37,21 +37,21 @@ fn is_at_number(mut trees: TtIter<'_>) -> bool
     }
 }
 
-// Whether a `-` and a number stand first.
+// Returns whether a `-` and a number come first.
 fn is_at_negative(mut trees: TtIter<'_>) -> bool
     ensures { result ≡ is_at_negative (rest_of trees.entry) }
 {
     trees.expect_char('-').is_ok() && is_at_number(trees)
 }
 
-// Whether a `'` and an ident stand first.
+// Returns whether a `'` and an ident come first.
 fn is_at_lifetime(mut trees: TtIter<'_>) -> bool
     ensures { result ≡ is_at_lifetime (rest_of trees.entry) }
 {
     trees.expect_char('\'').is_ok() && trees.expect_ident_or_underscore().is_ok()
 }
 
-// Whether a subtree in braces stands first.
+// Returns whether the first tree is a subtree in braces.
 fn is_at_block(mut trees: TtIter<'_>) -> bool
     ensures { result ≡ is_at_block (rest_of trees.entry) }
 {
@@ -61,7 +61,7 @@ fn is_at_block(mut trees: TtIter<'_>) -> bool
     }
 }
 
-// Whether they are `in` and what is behind it, or `crate`, `self` or `super` alone.
+// Returns whether the trees are `in` and what follows it, or `crate`, `self` or `super` alone.
 fn is_scope(mut trees: TtIter<'_>) -> bool
     ensures { result ≡ is_scope (rest_of trees.entry) }
 {
@@ -75,7 +75,7 @@ fn is_scope(mut trees: TtIter<'_>) -> bool
     is_root && trees.is_empty()
 }
 
-// Whether parentheses that hold that stand first.
+// Returns whether the first tree is a subtree in parentheses that holds such a scope.
 fn is_at_scope(mut trees: TtIter<'_>) -> bool
     ensures { result ≡ is_at_scope (rest_of trees.entry) }
 {
@@ -87,7 +87,7 @@ fn is_at_scope(mut trees: TtIter<'_>) -> bool
     }
 }
 
-// How many trees a visibility is: `pub` and such parentheses, or `pub`, or none.
+// Returns how many trees a visibility has: 2 for `pub` with such parentheses, 1 for `pub` alone, or 0.
 fn visibility_size(mut trees: TtIter<'_>) -> usize
     ensures { result ≡ visibility_size (rest_of trees.entry) }
 {
@@ -98,7 +98,7 @@ fn visibility_size(mut trees: TtIter<'_>) -> usize
     if is_at_scope(trees) { 2 } else { 1 }
 }
 
-/// How many trees the fragment of Rust's grammar takes, if it takes what stands first. It is refused only where memory is.
+/// Returns how many trees the fragment of Rust's grammar takes from the front, if it takes any there. Fails only if memory runs out.
 pub(crate) fn grammar_reach(
     alloc: Global,
     fragment: GrammarFragment,
@@ -110,7 +110,7 @@ pub(crate) fn grammar_reach(
     reach_by_grammar(alloc, fragment, trees)
 }
 
-/// Whether the fragment takes what stands first. It is refused only where memory is.
+/// Returns whether the fragment takes the trees at the front. Fails only if memory runs out.
 pub(crate) fn takes(
     alloc: Global,
     fragment: Fragment,
@@ -132,7 +132,7 @@ pub(crate) fn takes(
     }
 }
 
-/// Whether it takes nothing of them.
+/// Returns whether the fragment takes none of the trees.
 pub(crate) fn takes_nothing(fragment: Fragment, trees: TtIter<'_>) -> bool
     ensures { result ≡ takes_nothing fragment (rest_of trees.entry) }
 {
@@ -147,14 +147,14 @@ pub(crate) fn takes_nothing(fragment: Fragment, trees: TtIter<'_>) -> bool
     }
 }
 
-// How many trees a literal is.
+// Returns how many trees a literal has.
 fn literal_size(trees: TtIter<'_>) -> usize
     ensures { result ≡ literal_size (rest_of trees.entry) }
 {
     if is_at_negative(trees) { 2 } else { 1 }
 }
 
-/// How many trees it takes. It is refused only where memory is.
+/// Returns how many trees the fragment takes. Fails only if memory runs out.
 pub(crate) fn reach(
     alloc: Global,
     fragment: Fragment,

@@ -1,4 +1,4 @@
-//! What an input binds, where it is an instance of a pattern in one way.
+//! What an input binds if it is an instance of a pattern in one way.
 ghost use Rattle.std.specs.Prelude.{◌≡◌, ◌<◌, ◌++◌, ◌∷◌, [], map, IfOk, OnOk, reverse};
 ghost use Rattle.tt.specs.Iters.{rest_of};
 ghost use Rattle.tt.specs.Views.{trees_of};
@@ -26,25 +26,25 @@ pub struct Binding<'i> {
 /// In how many ways an input is an instance of a pattern.
 #[derive(Drop)]
 pub enum Found<'i> {
-    /// In none: the pattern, read as far as it goes, stops at that flat place, which tells how many tokens stand before it.
+    /// In none. The pattern, read as far as it goes, stops at that flat place: that many tokens precede it.
     Nothing(usize),
-    /// In one and no other, which binds this.
+    /// In exactly one, which binds this.
     One(Binding<'i>),
     /// In two different ones, and maybe more.
     Many,
 }
 
 impl<'i> Binding<'i> {
-    /// What is bound, one thing after the other, in the order of the input.
+    /// Returns what is bound, one mark after the other, in the order of the input.
     pub fn marks(&self) -> &[Mark<'i>]
         ensures { result.now ≡ self.now.marks.items }
     {
         &self.marks
     }
 
-    /// The trees that the variable of that number took, each time.
+    /// Returns the trees that the variable of that number took, each time.
     ///
-    /// Time is in proportion to the length of the input. It is refused only where memory is.
+    /// Time is linear in the length of the input. Fails only if memory runs out.
     pub fn trees(&self, alloc: Global, number: usize) -> Result<Vec<TokenTreesView<'i>>, AllocError>
         ensures { IfOk result (λ trees. map trees_of trees.items ≡ taken_by number (map note_of self.now.marks.items)) }
     {
@@ -55,10 +55,10 @@ impl<'i> Binding<'i> {
         Ok(trees)
     }
 
-    /// How many rounds the repetition of that number had up to the end of each time, so how many rounds all times before had too: the
-    /// rounds of one time are those from the end before it on.
+    /// Returns, for each time that the repetition of that number ended, how many rounds it had up to that end.
     ///
-    /// Time is in proportion to the length of the input. It is refused only where memory is.
+    /// The counts include the rounds of all earlier times: the rounds of one time are those from the previous end on. Time is linear in the
+    /// length of the input. Fails only if memory runs out.
     pub fn ends(&self, alloc: Global, number: usize) -> Result<Vec<usize>, AllocError>
         ensures { IfOk result (λ ends. ends.items ≡ sums 0 (counts_by number 0 (map note_of self.now.marks.items))) }
     {
@@ -71,7 +71,7 @@ impl<'i> Binding<'i> {
     }
 }
 
-// Adds the trees of a mark that tells what the variable of that number took.
+// Adds the trees of the mark if it says what the variable of that number took.
 fn add_taken<'i>(
     mark: &Mark<'i>,
     number: usize,
@@ -85,7 +85,7 @@ fn add_taken<'i>(
     }
 }
 
-// Counts a round of the repetition of that number, or adds how many were counted where it has no further round: how many are then.
+// Counts a round of the repetition of that number, or adds the count so far if the repetition has no further round. Returns the new count.
 fn count_on(
     mark: &Mark<'_>,
     number: usize,
@@ -106,14 +106,14 @@ fn count_on(
     }
 }
 
-// The turn before one of that number, or none where the log is not in order.
+// Returns the number of the turn before the turn of that number, or 0 if the log is not in order.
 fn earlier(turn: Turn, number: usize) -> usize
     ensures { result ≡ earlier turn number }
 {
     if turn.before < number { turn.before } else { 0 }
 }
 
-// The path up to a turn, the last turn first.
+// Returns the path up to a turn, the last turn first.
 fn path_back(alloc: Global, log: &[Turn], last: Turn) -> Result<Vec<usize>, AllocError>
     ensures { IfOk result (λ path. reverse path.items ≡ path_to log.now last) }
 {
@@ -130,7 +130,7 @@ fn path_back(alloc: Global, log: &[Turn], last: Turn) -> Result<Vec<usize>, Allo
     Ok(path)
 }
 
-/// What is found of an input, by the paths that lead through it and the steps of the pattern.
+/// Returns what is found in an input, from the paths that lead through it and the steps of the pattern.
 pub(crate) fn found_by<'i>(
     alloc: Global,
     steps: &[Step],

@@ -1,4 +1,4 @@
-//! A pattern is cut into pieces, part by part.
+//! Cuts a pattern into pieces, part by part.
 ghost use Rattle.std.specs.Prelude.{◌≡◌, ◌≤◌, [], None, Some, IfOk, map};
 ghost use Rattle.mbe_matcher.specs.Asks.{ask_of};
 ghost use Rattle.tt.specs.Iters.{rest_of};
@@ -13,7 +13,7 @@ use mbe_pattern::{Part, RepeatKind, Tail, next_part};
 use std::alloc::{AllocError, Global};
 use tt::{DelimiterKind, Leaf, TtIter};
 
-// A part that has to be there stands at that place.
+// Notes that a part at that place is required. While the level is open, it may begin at that place.
 fn mark<'p>(level: Level<'p>, at: usize) -> Result<Level<'p>, AllocError>
     ensures { IfOk result (λ next. level_left next ≡ marked at (level_left level.entry)) }
 {
@@ -34,7 +34,7 @@ fn mark<'p>(level: Level<'p>, at: usize) -> Result<Level<'p>, AllocError>
     })
 }
 
-// A level of which nothing was read.
+// Returns a level that is not read yet.
 fn fresh<'p>(alloc: Global, rest: TtIter<'p>, closing: Option<Tail>) -> Level<'p>
     ensures { level_left result ≡ fresh_level (pattern_of (rest_of rest.entry)) closing }
 {
@@ -46,7 +46,7 @@ fn fresh<'p>(alloc: Global, rest: TtIter<'p>, closing: Option<Tail>) -> Level<'p
     }
 }
 
-// A place, and a level behind it.
+// Adds a place, and the level after it.
 fn add_place<'p>(
     cutting: Cutting<'p>,
     atom: Atom,
@@ -69,7 +69,7 @@ fn add_place<'p>(
     })
 }
 
-// One level more, in which nothing was read.
+// Adds an inner level that is not read yet.
 fn enter<'p>(
     alloc: Global,
     cutting: Cutting<'p>,
@@ -91,7 +91,7 @@ fn enter<'p>(
     })
 }
 
-// The beginning of a repetition, and what stands round it.
+// Adds the beginning of a repetition, and puts the level around it back.
 fn begin<'p>(cutting: Cutting<'p>, level: Level<'p>) -> Result<Cutting<'p>, AllocError>
     ensures { IfOk result (λ next. IsStepped (opened cutting.entry.count (level_left level.entry) (levels_left cutting.entry.levels.items)) cutting.entry next) }
 {
@@ -109,7 +109,7 @@ fn begin<'p>(cutting: Cutting<'p>, level: Level<'p>) -> Result<Cutting<'p>, Allo
     })
 }
 
-// The end of a subtree, or of all.
+// Adds the end of a subtree, or of the whole pattern.
 fn leave<'p>(cutting: Cutting<'p>) -> Result<Cutting<'p>, AllocError>
     ensures { IfOk result (λ next. IsStepped (ended cutting.entry.count None [] (levels_left cutting.entry.levels.items)) cutting.entry next) }
 {
@@ -126,7 +126,7 @@ fn leave<'p>(cutting: Cutting<'p>) -> Result<Cutting<'p>, AllocError>
     })
 }
 
-// The level round a repetition that is closed.
+// Returns the level around a repetition that is closed.
 fn closed_in<'p>(next: Level<'p>, tail: &Tail, rounds: &[usize]) -> Result<Level<'p>, AllocError>
     ensures { IfOk result (λ level. level_left level ≡ closed_in tail.now rounds.now (level_left next.entry)) }
 {
@@ -151,7 +151,7 @@ fn closed_in<'p>(next: Level<'p>, tail: &Tail, rounds: &[usize]) -> Result<Level
     })
 }
 
-// How many places a separator has.
+// Returns how many places a separator has.
 fn separator_count(separator: &[Leaf]) -> usize
     ensures count { result ≡ separator_count separator.now }
     ensures few { result ≤ 1 }
@@ -162,7 +162,7 @@ fn separator_count(separator: &[Leaf]) -> usize
     }
 }
 
-// The end of a repetition, and the level round it.
+// Adds the end of a repetition, and updates the level around it.
 fn close<'p>(
     cutting: Cutting<'p>,
     tail: Tail,
@@ -193,7 +193,7 @@ fn close<'p>(
     })
 }
 
-// The end of a level.
+// Adds the end of a level.
 fn end_level<'p>(cutting: Cutting<'p>, level: Level<'p>) -> Result<Cutting<'p>, AllocError>
     ensures { IfOk result (λ next. IsStepped (stepped Part.End cutting.entry.count (level_left level.entry) (levels_left cutting.entry.levels.items)) cutting.entry next) }
 {
@@ -208,7 +208,7 @@ fn end_level<'p>(cutting: Cutting<'p>, level: Level<'p>) -> Result<Cutting<'p>, 
     }
 }
 
-// A subtree: its place, and a level more.
+// Adds the place of a subtree, and a level for its inside.
 fn enter_subtree<'p>(
     alloc: Global,
     cutting: Cutting<'p>,
@@ -222,7 +222,7 @@ fn enter_subtree<'p>(
     enter(alloc, placed, inner, None)
 }
 
-// A repetition: its beginning, and a level more.
+// Adds the beginning of a repetition, and a level for its inside.
 fn enter_repetition<'p>(
     alloc: Global,
     cutting: Cutting<'p>,
@@ -236,7 +236,7 @@ fn enter_repetition<'p>(
     enter(alloc, begun, inner, Some(tail))
 }
 
-// The part that was read of a level.
+// Adds the part that was read from a level.
 fn take_part<'p>(
     alloc: Global,
     cutting: Cutting<'p>,
@@ -254,7 +254,7 @@ fn take_part<'p>(
     }
 }
 
-/// The pieces of the pattern that the trees spell.
+/// Returns the pieces of the pattern that the trees spell.
 pub(crate) fn cut(alloc: Global, pattern: TtIter<'_>) -> Result<Vec<Piece>, AllocError>
     ensures { IfOk result (λ pieces. map bit_of pieces.items ≡ all_bits (pattern_of (rest_of pattern.entry))) }
 {

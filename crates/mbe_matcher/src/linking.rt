@@ -1,4 +1,4 @@
-//! Places of pieces: from the last, each place is given the places that may come behind it.
+//! Makes places of pieces. It starts at the last and gives each place the places that may follow it.
 ghost use Rattle.std.specs.Prelude.{◌≡◌, IfOk, map};
 ghost use Rattle.mbe_matcher.specs.Linking.{made_with, made_of, nothing_made, made_by, again_from};
 ghost use Rattle.mbe_matcher.specs.Pieces.{bit_of, place, begin, close};
@@ -10,7 +10,7 @@ use crate::places::{Atom, Place};
 use mbe_pattern::{RepeatKind, Tail};
 use std::alloc::{AllocError, Global};
 
-/// A repetition whose beginning is still to come: where a round may begin, its kind, and what comes behind it.
+/// A repetition whose beginning is still to come: where a round may begin, its kind, and what follows it.
 #[derive(Drop)]
 pub(crate) struct Frame {
     entries: Vec<usize>,
@@ -18,7 +18,7 @@ pub(crate) struct Frame {
     over: Vec<usize>,
 }
 
-/// The places so far, the last first, where what is before them may go on, and the repetitions that are open.
+/// The places so far, the last first, where anything before them may continue, and the open repetitions.
 #[derive(Drop)]
 pub(crate) struct Linked {
     pub(crate) places: Vec<Place>,
@@ -26,7 +26,7 @@ pub(crate) struct Linked {
     frames: Vec<Frame>,
 }
 
-// Where a round may be followed by another.
+// Returns where another round may follow a round.
 fn again(alloc: Global, at: usize, tail: &Tail, entries: &[usize]) -> Result<Vec<usize>, AllocError>
     ensures { IfOk result (λ edges. edges.items ≡ again_from at tail.now.separator.items (may_be_more tail.now.kind) entries.now) }
 {
@@ -45,7 +45,7 @@ fn again(alloc: Global, at: usize, tail: &Tail, entries: &[usize]) -> Result<Vec
 }
 
 impl Linked {
-    // One piece more, from the last.
+    // Adds one piece; the pieces come from the last to the first.
     fn add(self, alloc: Global, piece: Piece) -> Result<Linked, AllocError>
         ensures { IfOk result (λ linked. made_by linked ≡ made_with (bit_of piece) (made_by self)) }
     {
@@ -56,7 +56,7 @@ impl Linked {
         }
     }
 
-    // A place, whose edges lead to where what is behind it may go on.
+    // Adds a place. Its edges lead to where what follows it may begin.
     fn add_place(self, alloc: Global, at: usize, atom: Atom) -> Result<Linked, AllocError>
         ensures { IfOk result (λ linked. made_by linked ≡ made_with (place at (ask_of atom)) (made_by self)) }
     {
@@ -75,7 +75,7 @@ impl Linked {
         })
     }
 
-    // The beginning of a repetition.
+    // Adds the beginning of a repetition.
     fn begin(self) -> Result<Linked, AllocError>
         ensures { IfOk result (λ linked. made_by linked ≡ made_with begin (made_by self)) }
     {
@@ -107,7 +107,7 @@ impl Linked {
         }
     }
 
-    // The end of a repetition: its separator has a place, if there is one.
+    // Adds the end of a repetition. Its separator has a place, if there is one.
     fn close(
         self,
         alloc: Global,
@@ -146,7 +146,7 @@ impl Linked {
     }
 }
 
-/// The places that are made of pieces, the first first, and where they may begin.
+/// Returns the places that the pieces make, the last first, and where the pattern may begin.
 pub(crate) fn link(alloc: Global, mut pieces: Vec<Piece>) -> Result<Linked, AllocError>
     ensures { IfOk result (λ linked. made_by linked ≡ made_of (map bit_of pieces.items) nothing_made) }
 {

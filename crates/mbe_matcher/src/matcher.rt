@@ -1,4 +1,4 @@
-//! The matcher of a pattern, by which any number of inputs is read.
+//! The matcher of a pattern. It reads any number of inputs.
 ghost use Rattle.std.specs.Prelude.{◌≡◌, None, IfOk, IfErr};
 ghost use Rattle.tt.specs.Iters.{rest_of};
 ghost use Rattle.mbe_matcher.specs.Told.{Tells};
@@ -27,11 +27,13 @@ pub struct Matcher {
 }
 
 impl Matcher {
-    /// The matcher of the pattern that the trees spell: `$name:fragment` is a variable, `$( .. )` with a separator, if there is one,
-    /// and `*`, `+` or `?` a repetition, and all else stands for itself, `$crate` too.
+    /// Returns the matcher of the pattern that the trees spell.
     ///
-    /// Time and memory are in proportion to the pattern, and to how many places may come behind each of its parts. It is refused
-    /// with the first fault in reading order, where the pattern has one, and where memory is.
+    /// `$name:fragment` is a variable. `$( .. )`, with a separator if there is one, and `*`, `+` or `?` is a repetition. Everything
+    /// else is matched literally, `$crate` too.
+    ///
+    /// Time and memory are linear in the pattern and in the number of places that may follow each of its parts. Returns the first fault in
+    /// reading order if the pattern has one; fails also if memory runs out.
     pub fn new(alloc: Global, pattern: TtIter<'_>) -> Result<Matcher, PatternError>
         ensures ok { IfOk result (IsMatcherOf (pattern_of (rest_of pattern.entry))) }
         ensures sound { IfOk result (λ _. pattern_fault (rest_of pattern.entry) ≡ None) }
@@ -60,19 +62,19 @@ impl Matcher {
         })
     }
 
-    /// The variables of the pattern, in reading order.
+    /// Returns the variables of the pattern, in reading order.
     pub fn binders(&self) -> &[Binder]
         ensures { result.now ≡ self.now.binders.items }
     {
         &self.binders
     }
 
-    /// In how many ways the input is an instance of the pattern: in none, with the flat place where it stops, in one and no other,
-    /// with what it binds, or in two and maybe more.
+    /// Returns in how many ways the input is an instance of the pattern: in none, with the flat place where it stops; in exactly one, with
+    /// what it binds; or in two and maybe more.
     ///
-    /// Time is in proportion to the length of the input times the number of edges that are taken at a tree, and memory to how many
-    /// places are passed. A fragment of Rust's grammar is asked at each tree before which a thread wants it, and looks ahead as far as it
-    /// reaches. It is refused only where memory is.
+    /// Time is linear in the length of the input times the number of edges that are taken at a tree. Memory is linear in the number of
+    /// places that are passed. A fragment of Rust's grammar is read at each tree before which a thread needs it, and looks ahead as far as
+    /// it reaches. Fails only if memory runs out.
     pub fn read<'i>(&self, alloc: Global, input: TtIter<'i>) -> Result<Found<'i>, AllocError>
         ensures { IfOk result (λ found. (pattern : Pattern) → IsMatcherOf pattern self.now → Tells pattern (rest_of input.entry) found) }
     {

@@ -5,8 +5,8 @@ use crate::places::Atom;
 use mbe_pattern::Tail;
 use tt::TtIter;
 
-/// A place of that number, or the beginning or the end of a repetition: the number of its separator, its tail, and where a round
-/// may begin.
+/// A place of that number, or the beginning or the end of a repetition. The end has the number of its separator,
+/// its tail, and where a round may begin.
 #[derive(Drop)]
 pub(crate) enum Piece {
     Place(usize, Atom),
@@ -14,8 +14,8 @@ pub(crate) enum Piece {
     Close(usize, Tail, Vec<usize>),
 }
 
-/// What is left of a subtree or a repetition, the tail of a repetition, where it may begin, and whether no part of it was there so
-/// far that has to be.
+/// What is left of a subtree or a repetition. It has the tail of a repetition, where it may begin, and whether no
+/// required part of it was read so far.
 #[derive(Drop)]
 pub(crate) struct Level<'p> {
     pub(crate) rest: TtIter<'p>,
@@ -24,7 +24,7 @@ pub(crate) struct Level<'p> {
     pub(crate) is_open: bool,
 }
 
-/// The pieces so far, the number of the next place, and what is left, the innermost last.
+/// The pieces so far, the number of the next place, and the levels that are left, the innermost last.
 #[derive(Drop)]
 pub(crate) struct Cutting<'p> {
     pub(crate) pieces: Vec<Piece>,

@@ -1,21 +1,21 @@
-//! A pattern as places: what each asks of the trees, and the places that may come next.
+//! A pattern as places: what each requires of the trees, and the places that may come next.
 use mbe_pattern::Variable;
 use tt::{DelimiterKind, Leaf};
 
-/// What a place asks of what is left of an input.
+/// What a place requires of the rest of an input.
 #[derive(Drop)]
 pub(crate) enum Atom {
-    /// What stands first is taken by the variable.
+    /// The variable takes the trees at the front.
     Take(Variable),
-    /// A token of these leaves stands first, spans and spacing put aside.
+    /// The first token has these leaves; spans and spacing do not count.
     Same(Vec<Leaf>),
-    /// The first tree is a subtree of this kind, and is entered.
+    /// The first tree is a subtree of this kind; the path enters it.
     Enter(DelimiterKind),
-    /// The subtree is at its end, and is left.
+    /// The subtree is at its end; the path leaves it.
     Leave,
 }
 
-/// A place, and the numbers of the places that may come behind it.
+/// A place, and the numbers of the places that may follow it.
 #[derive(Drop)]
 pub(crate) struct Place {
     pub(crate) atom: Atom,

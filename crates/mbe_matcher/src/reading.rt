@@ -1,4 +1,4 @@
-//! Reading an input: which paths lead through all of it.
+//! Reads an input: which paths lead through all of it.
 ghost use Rattle.std.specs.Prelude.{◌≡◌, ◌-◌, [], ℕ, OnOk, IfOk, MatchOption, reverse, slice_get};
 ghost use Rattle.tt.specs.Forest.{size};
 ghost use Rattle.tt.specs.Iters.{rest_of};
@@ -16,8 +16,8 @@ use crate::threads::{Move, Thread, Turn, spread_to, step_all};
 use std::alloc::{AllocError, Global};
 use tt::TtIter;
 
-/// What is left of a subtree of the input that was entered, how many tokens of the input stand before its end, and the threads
-/// before what is left.
+/// What is left of an input's subtree that was entered. It has how many tokens of the input precede its end,
+/// and the threads before what is left.
 #[derive(Drop)]
 pub(crate) struct Level<'i> {
     rest: TtIter<'i>,
@@ -28,15 +28,15 @@ pub(crate) struct Level<'i> {
 /// How many paths lead through an input.
 #[derive(Drop)]
 pub(crate) enum Paths {
-    /// None. Those that come farthest stop at that flat place.
+    /// None. The paths that come farthest stop at that flat place.
     Nothing(usize),
-    /// One and no other: the turns of all paths that were tried, and the last turn of the one.
+    /// Exactly one: the turns of all paths that were tried, and the last turn of the one.
     One(Vec<Turn>, Turn),
     /// Two different ones, and maybe more.
     Many,
 }
 
-// These trees with no thread before them, before whose end so many tokens stand.
+// Returns these trees as a level with no threads. That many tokens precede its end.
 fn level_of<'i>(alloc: Global, rest: TtIter<'i>, until: usize) -> Level<'i>
     ensures { (rest_of result.rest ≡ rest_of rest.entry) × (result.until ≡ until) × (result.threads.items ≡ []) }
 {
@@ -47,7 +47,7 @@ fn level_of<'i>(alloc: Global, rest: TtIter<'i>, until: usize) -> Level<'i>
     }
 }
 
-// The level, to which the threads move so.
+// Adds to the level the threads that the given threads become by that move.
 fn moved<'i>(
     alloc: Global,
     places: &[Place],
@@ -77,7 +77,7 @@ fn moved<'i>(
     })
 }
 
-// The level, where its threads go on from places that ask for nothing.
+// Returns the level after its threads went on from places that require nothing.
 fn settle_level<'i>(
     alloc: Global,
     places: &[Place],
@@ -103,7 +103,7 @@ fn settle_level<'i>(
     })
 }
 
-// Goes on behind the first tree, and in it, where it is a subtree that some threads enter.
+// Goes on after the first tree, and into it if it is a subtree that some threads enter.
 fn pass<'i>(
     alloc: Global,
     places: &[Place],
@@ -141,7 +141,7 @@ fn pass<'i>(
     Ok(levels.push(inside)?)
 }
 
-// Goes on by one tree, or out of a level that is at its end. At the end of the outermost one its threads are left.
+// Goes on by one tree, or out of a level that is at its end. At the end of the outermost level, returns its threads.
 fn advance<'i>(
     alloc: Global,
     places: &[Place],
@@ -171,7 +171,7 @@ fn advance<'i>(
     }
 }
 
-// Whether it is the end of a subtree, or of all.
+// Returns whether the thread's place is the end of a subtree, or of the whole pattern.
 fn is_leave(places: &[Place], thread: &Thread) -> bool
     ensures { result ≡ is_leave_at (slice_get places.now thread.now.at) }
 {
@@ -184,7 +184,7 @@ fn is_leave(places: &[Place], thread: &Thread) -> bool
     }
 }
 
-// One thread more at the end: two, or one that stands for many, are many.
+// Adds one thread to the choice at the end: two threads, or one that represents many, are many.
 fn with_thread(choice: Choice, thread: &Thread) -> Choice
     ensures { result ≡ with_thread choice thread.now }
 {
@@ -200,7 +200,7 @@ fn with_thread(choice: Choice, thread: &Thread) -> Choice
     }
 }
 
-// What the threads at the end come to.
+// Returns the choice that the threads at the end make.
 fn chosen(places: &[Place], threads: &[Thread]) -> Choice
     ensures { result ≡ choice_of places.now Choice.Nothing threads.now }
 {
@@ -213,7 +213,7 @@ fn chosen(places: &[Place], threads: &[Thread]) -> Choice
     choice
 }
 
-/// What the threads at the end come to.
+/// The choice that the threads at the end make.
 #[derive(Clone, Copy)]
 pub(crate) enum Choice {
     Nothing,
@@ -221,7 +221,7 @@ pub(crate) enum Choice {
     Many,
 }
 
-// What is found where the choice is made in that log, and threads came up to that flat place.
+// Returns what is found if the choice is made in that log, and threads came up to that flat place.
 fn find_by(choice: Choice, log: Vec<Turn>, at: usize) -> Paths
     ensures { result ≡ found_of choice log at }
 {
@@ -232,7 +232,7 @@ fn find_by(choice: Choice, log: Vec<Turn>, at: usize) -> Paths
     }
 }
 
-// The flat place before what is left of the level, where a thread stands there, or else the one so far.
+// Returns the flat place before what is left of the level, if a thread is there; otherwise the farthest one so far.
 fn reached(level: &Level<'_>, so_far: usize) -> usize
     ensures { result ≡ reached (rest_of level.now.rest) (level.now.until - size (rest_of level.now.rest)) so_far level.now.threads.items }
 {
@@ -245,10 +245,10 @@ fn reached(level: &Level<'_>, so_far: usize) -> usize
     so_far
 }
 
-/// Which paths lead through all of the input, of those that begin at the places with these numbers.
+/// Returns which paths lead through all of the input, among those that begin at the places with these numbers.
 ///
-/// Time is in proportion to the length of the input times the number of edges that are taken at a tree, and memory to how many
-/// places are passed. It is refused only where memory is.
+/// Time is linear in the length of the input times the number of edges that are taken at a tree. Memory is linear in the number of places
+/// that are passed. Fails only if memory runs out.
 pub(crate) fn read_all(
     alloc: Global,
     places: &[Place],

@@ -1,4 +1,4 @@
-//! Threads at places that ask for nothing go on, before a tree is passed.
+//! Moves threads on from places that require nothing, before a tree is passed.
 ghost use Rattle.std.specs.Prelude.{◌≡◌, ◌⊎◌, ◌≤◌, ℕ, List, true, false, OnOk, IfOk, MatchOption, length, slice_get};
 ghost use Rattle.tt.specs.Iters.{rest_of};
 ghost use Rattle.mbe_matcher.specs.Settling.{is_here, asks_nothing_at, goes_at_once, AreSettled, settled_one, settled_all, settled, IsSettledBy};
@@ -11,7 +11,7 @@ use crate::threads::{Thread, Turn, add, spread_to};
 use std::alloc::{AllocError, Global};
 use tt::TtIter;
 
-// The edges of a place at which a thread goes on at once, where it waits for so many of these trees.
+// Returns the edges of the place, if a thread that waits for that many of these trees goes on from it at once.
 fn edges_at_once<'p>(
     places: &'p [Place],
     trees: &TtIter<'_>,
@@ -36,7 +36,7 @@ fn edges_at_once<'p>(
     }
 }
 
-// Whether none of the threads goes on at once.
+// Returns whether no thread goes on at once.
 fn are_settled(places: &[Place], trees: &TtIter<'_>, threads: &[Thread]) -> bool
     ensures { result ≡ true → (log : List OneTurn) → AreSettled places.now (rest_of trees.now) (views_of log threads.now) }
 {
@@ -48,7 +48,7 @@ fn are_settled(places: &[Place], trees: &TtIter<'_>, threads: &[Thread]) -> bool
     true
 }
 
-// Adds what a thread comes to: one behind each edge of its place where it goes on at once, and else itself.
+// Adds what a thread becomes: one thread per edge of its place if it goes on at once, otherwise the thread itself.
 fn settle_one(
     places: &[Place],
     trees: &TtIter<'_>,
@@ -71,7 +71,7 @@ fn settle_one(
     }
 }
 
-// Adds what each of the threads comes to.
+// Adds what each of the threads becomes.
 fn settle_all(
     places: &[Place],
     trees: &TtIter<'_>,
@@ -91,7 +91,7 @@ fn settle_all(
     Ok(())
 }
 
-// The threads, where they went on some times, until none does so at once, or as often as there are places.
+// Moves the threads on until no thread goes on at once, or as many times as there are places.
 fn settle_some(
     alloc: Global,
     places: &[Place],
@@ -116,9 +116,9 @@ fn settle_some(
     Ok(current)
 }
 
-/// The threads before these trees, of which none is at a place that asks for nothing of them: from such places they go on.
+/// Moves threads on until none of them is at a place that requires nothing of these trees.
 ///
-/// Where the places are those of a pattern, a path passes fewer than twice as many places at once.
+/// In a pattern's places, a path passes fewer than twice as many places at once.
 pub(crate) fn settle(
     alloc: Global,
     places: &[Place],

@@ -16,22 +16,22 @@ use tt::Symbol;
 /// A step of a walk through a pattern.
 #[derive(Clone, Copy)]
 pub(crate) enum Step {
-    /// The fragment takes what stands first.
+    /// The fragment takes the trees at the front.
     Take(Fragment),
-    /// So many trees of a token are passed.
+    /// Passes that many trees, those of a token.
     Pass(usize),
-    /// A subtree is entered.
+    /// Enters a subtree.
     Enter,
-    /// A subtree, or all, is at its end.
+    /// The end of a subtree, or of the whole pattern.
     Leave,
-    /// A repetition: how many edges lead into it, how many steps a first round passes, and how many the repetition is.
+    /// The beginning of a repetition: how many edges lead into it, how many steps a first round skips,
+    /// and how many steps the repetition has.
     Begin(usize, usize, usize),
-    /// The end of a round: how many edges lead to another.
+    /// The end of a round: how many edges lead to another round.
     Close(usize),
 }
 
-/// A repetition whose beginning is still to come: how many edges lead into it, the length of its separator, and how many steps
-/// stand behind it.
+/// A repetition whose beginning is still to come: how many edges lead into it, the length of its separator, and how many steps follow it.
 #[derive(Clone, Copy)]
 pub(crate) struct End {
     ways: usize,
@@ -39,8 +39,8 @@ pub(crate) struct End {
     behind: usize,
 }
 
-/// A variable of a pattern: its name, if it has one, what it takes, its number, and those of the repetitions that it stands in, the
-/// outermost first.
+/// A variable of a pattern: its name, if it has one, its fragment, its number, and the numbers of the
+/// repetitions around it, the outermost first.
 #[derive(Drop)]
 pub struct Binder {
     pub name: Option<Symbol>,
@@ -49,7 +49,7 @@ pub struct Binder {
     pub nest: Vec<usize>,
 }
 
-/// The steps and the variables so far, the last first, and the repetitions that are open.
+/// The steps and the variables so far, the last first, and the open repetitions.
 #[derive(Drop)]
 pub(crate) struct Stepped {
     pub(crate) steps: Vec<Step>,
@@ -57,7 +57,7 @@ pub(crate) struct Stepped {
     pub(crate) binders: Vec<Binder>,
 }
 
-// The step of a place.
+// Returns the step of a place.
 fn step_of(atom: &Atom) -> Step
     ensures { result ≡ step_of (ask_of atom.now) }
 {
@@ -69,7 +69,7 @@ fn step_of(atom: &Atom) -> Step
     }
 }
 
-// How many edges lead to another round.
+// Returns how many edges lead to another round.
 fn again_count(tail: &Tail, entries: &[usize], at: usize) -> usize
     ensures { result ≡ length (again_from at tail.now.separator.items (may_be_more tail.now.kind) entries.now) }
 {
@@ -85,14 +85,14 @@ fn again_count(tail: &Tail, entries: &[usize], at: usize) -> usize
     }
 }
 
-// How many steps a separator of so many leaves is.
+// Returns how many steps a separator of that many leaves has.
 fn pass_count(separator: usize) -> usize
     ensures { result ≡ pass_count separator }
 {
     if separator > 0 { 1 } else { 0 }
 }
 
-// A name once more.
+// Returns a copy of the name.
 fn name_again(name: &Option<Symbol>) -> Result<Option<Symbol>, AllocError>
     ensures { IfOk result (λ again. again ≡ name.now) }
 {
@@ -102,7 +102,7 @@ fn name_again(name: &Option<Symbol>) -> Result<Option<Symbol>, AllocError>
     }
 }
 
-// The numbers of the repetitions that are open, the outermost first.
+// Returns the numbers of the open repetitions, the outermost first.
 fn nest_of(alloc: Global, ends: &[End]) -> Result<Vec<usize>, AllocError>
     ensures { IfOk result (λ nest. nest.items ≡ map number_of ends.now) }
 {
@@ -114,7 +114,7 @@ fn nest_of(alloc: Global, ends: &[End]) -> Result<Vec<usize>, AllocError>
 }
 
 impl Stepped {
-    // A variable, before its step.
+    // Adds a variable, before its step.
     fn bind(&mut self, alloc: Global, variable: &Variable) -> Result<(), AllocError>
         ensures { OnOk result (taken_by self.new ≡ bound_with variable.now (taken_by self.old)) }
     {
@@ -128,7 +128,7 @@ impl Stepped {
         )
     }
 
-    // A place.
+    // Adds the step of a place.
     fn place(&mut self, alloc: Global, atom: &Atom) -> Result<(), AllocError>
         ensures { OnOk result (taken_by self.new ≡ placed_with (ask_of atom.now) (taken_by self.old)) }
     {
@@ -138,7 +138,7 @@ impl Stepped {
         Ok(self.steps.push(step_of(atom))?)
     }
 
-    // The beginning of the innermost repetition that is open.
+    // Adds the beginning of the innermost open repetition.
     fn begin(&mut self) -> Result<(), AllocError>
         ensures { OnOk result (taken_by self.new ≡ with_beginning (taken_by self.old).ends (taken_by self.old)) }
     {
@@ -155,7 +155,7 @@ impl Stepped {
         )
     }
 
-    // The end of a repetition.
+    // Adds the end of a repetition.
     fn close(&mut self, ways: usize, separator: usize, again: usize) -> Result<(), AllocError>
         ensures { OnOk result (taken_by self.new ≡ closed_with ways separator again (taken_by self.old)) }
     {
@@ -167,7 +167,7 @@ impl Stepped {
         Ok(self.steps.push(Step::Close(again))?)
     }
 
-    // One piece more, from the last.
+    // Adds one piece; the pieces come from the last to the first.
     fn add(&mut self, alloc: Global, piece: &Piece) -> Result<(), AllocError>
         ensures { OnOk result (taken_by self.new ≡ taken_with (bit_of piece.now) (taken_by self.old)) }
     {
@@ -182,7 +182,7 @@ impl Stepped {
     }
 }
 
-/// The steps and the variables that are made of pieces, the last first.
+/// Returns the steps and the variables that the pieces make, the last first.
 pub(crate) fn step_by_step(alloc: Global, pieces: &[Piece]) -> Result<Stepped, AllocError>
     ensures { IfOk result (λ stepped. taken_by stepped ≡ taken_of (map bit_of pieces.now) nothing_taken) }
 {

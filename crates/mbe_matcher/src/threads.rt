@@ -1,4 +1,4 @@
-//! Threads: the places at which the paths through an input are.
+//! Threads: the places that the paths through an input have reached.
 ghost use Rattle.std.specs.Prelude.{◌≡◌, ◌≤◌, IfOk, OnOk, length, MatchOption};
 ghost use Rattle.mbe_matcher.specs.Aheads.{IsAheadIn};
 ghost use Rattle.mbe_matcher.specs.Asks.{ask_of};
@@ -9,15 +9,15 @@ use crate::places::{Atom, Place};
 use std::alloc::{AllocError, Global};
 use tt::DelimiterKind;
 
-/// A turn of a path: the number of the edge that it takes, and that of the turn before it. Turns are numbered from 1, and 0 is
-/// none.
+/// A turn of a path: the number of the edge that it takes, and the number of the turn before it. Turns are numbered from 1; 0 means none.
 #[derive(Clone, Copy)]
 pub(crate) struct Turn {
     pub(crate) edge: usize,
     pub(crate) before: usize,
 }
 
-/// The place of a path, how many trees are passed before it stands there, whether other paths lead there too, and its last turn.
+/// The place of a path, and how many trees are still to be passed before it is there. Also whether other
+/// paths lead there too, and its last turn.
 #[derive(Clone, Copy)]
 pub(crate) struct Thread {
     pub(crate) at: usize,
@@ -29,15 +29,15 @@ pub(crate) struct Thread {
 /// How an input goes on.
 #[derive(Drop)]
 pub(crate) enum Move<'i> {
-    /// The first tree is passed.
+    /// The input passes the first tree.
     Passes(Ahead<'i>),
-    /// A subtree of that kind is entered.
+    /// The input enters a subtree of that kind.
     Enters(DelimiterKind),
     /// The subtree is at its end.
     Ends,
 }
 
-// Where what the atom asks is there: for how many trees behind the first a thread then waits.
+// Returns how many trees after the first a thread waits, if the input has what the atom requires.
 fn moved(alloc: Global, by: &Move<'_>, atom: &Atom) -> Result<Option<usize>, AllocError>
     requires { IsAheadIn by.now }
     ensures { IfOk result (λ found. MatchOption found (IsMoved by.now (ask_of atom.now) → ⊥) (λ wait. IsMoved by.now (ask_of atom.now) × (wait ≡ wait_of by.now (ask_of atom.now)))) }
@@ -57,14 +57,14 @@ fn moved(alloc: Global, by: &Move<'_>, atom: &Atom) -> Result<Option<usize>, All
     }
 }
 
-// Whether both come to one place at one tree.
+// Returns whether both threads come to the same place at the same tree.
 fn meet(thread: Thread, other: Thread) -> bool
     ensures { result ≡ threads_meet thread other }
 {
     thread.at == other.at && thread.wait == other.wait
 }
 
-/// Adds a thread; one that it meets stands for both.
+/// Adds a thread. If it meets one that is there, that one represents both.
 pub(crate) fn add(threads: &mut Vec<Thread>, thread: Thread) -> Result<(), AllocError>
     ensures { OnOk result (threads.new.items ≡ thread_added thread threads.old.items) }
 {
@@ -82,7 +82,7 @@ pub(crate) fn add(threads: &mut Vec<Thread>, thread: Thread) -> Result<(), Alloc
     Ok(())
 }
 
-// Adds a thread behind each of the edges, behind the turn of that number.
+// Adds a thread for each of the edges, after the turn of that number.
 pub(crate) fn spread_to(
     edges: &[usize],
     wait: usize,
@@ -105,7 +105,7 @@ pub(crate) fn spread_to(
     Ok(())
 }
 
-// Adds what comes of a thread that is at its place, as the input goes on.
+// Adds what a thread at its place becomes when the input goes on.
 fn step_on(
     alloc: Global,
     places: &[Place],
@@ -131,7 +131,7 @@ fn step_on(
     spread_to(&place.edges, wait, thread.is_many, log.len(), next)
 }
 
-// Whether the thread is not at its place yet. At the end of a subtree none waits.
+// Returns whether the thread is not at its place yet. At the end of a subtree none waits.
 fn is_waiting(by: &Move<'_>, wait: usize) -> bool
     ensures { result ≡ is_waiting by.now wait }
 {
@@ -141,7 +141,7 @@ fn is_waiting(by: &Move<'_>, wait: usize) -> bool
     }
 }
 
-// Adds a thread that waits, one tree nearer, where a tree is passed.
+// Adds a waiting thread, one tree nearer, if the move passes a tree.
 fn step_nearer(thread: Thread, by: &Move<'_>, next: &mut Vec<Thread>) -> Result<(), AllocError>
     ensures { OnOk result (next.new.items ≡ threads_waited by.now thread next.old.items) }
 {
@@ -157,7 +157,7 @@ fn step_nearer(thread: Thread, by: &Move<'_>, next: &mut Vec<Thread>) -> Result<
     }
 }
 
-// Adds what comes of a thread, as the input goes on.
+// Adds what a thread becomes when the input goes on.
 fn step_one(
     alloc: Global,
     places: &[Place],
@@ -180,7 +180,7 @@ fn step_one(
     }
 }
 
-// Adds what comes of each of the threads, as the input goes on.
+// Adds what each of the threads becomes when the input goes on.
 pub(crate) fn step_all(
     alloc: Global,
     places: &[Place],

@@ -1,4 +1,4 @@
-//! A walk along the one path through an input notes what it binds.
+//! Walks along the one path through an input and notes what it binds.
 ghost use Rattle.std.specs.Prelude.{◌≡◌, ◌∷◌, [], List, IfOk, OnOk, drop, length, map, reverse};
 ghost use Rattle.tt.specs.Gluing.{after_trees};
 ghost use Rattle.tt.specs.Iters.{rest_of};
@@ -17,8 +17,8 @@ use mbe_pattern::{Fragment, pass, take};
 use std::alloc::{AllocError, Global};
 use tt::{TokenTreesView, TtElement, TtIter};
 
-/// What an input binds, one thing after the other. The parts of a pattern are numbered: a part has as its number how many steps of
-/// the pattern stand behind it.
+/// What an input binds, one mark after the other. Variables and repetitions are numbered: the number of a part is how
+/// many steps of the pattern follow it.
 #[derive(Clone, Copy)]
 pub enum Mark<'i> {
     /// The variable of that number took these trees.
@@ -29,8 +29,8 @@ pub enum Mark<'i> {
     Over(usize),
 }
 
-/// The steps that are ahead, the turns that are left, the next last, what is left of the levels of the input, where the rounds of
-/// repetitions begin that are open, whether a round began anew since a tree was passed, and what was noted.
+/// The steps ahead, the turns that are left (the next last), and what is left of the input's levels. Also where the rounds of the open
+/// repetitions begin, whether a round began anew since a tree was passed, and the marks so far.
 #[derive(Drop)]
 pub(crate) struct Walk<'s, 'i> {
     here: &'s [Step],
@@ -41,7 +41,7 @@ pub(crate) struct Walk<'s, 'i> {
     marks: Vec<Mark<'i>>,
 }
 
-// What the fragment takes of the innermost level.
+// Returns what the fragment takes from the innermost level.
 fn take_of<'i>(
     alloc: Global,
     levels: &mut Vec<TtIter<'i>>,
@@ -59,7 +59,7 @@ fn take_of<'i>(
     Ok(view)
 }
 
-// Passes so many trees of the innermost level.
+// Passes that many trees of the innermost level.
 fn pass_of(levels: &mut Vec<TtIter<'_>>, count: usize) -> Result<(), AllocError>
     ensures { OnOk result (map rest_of (reverse levels.new.items) ≡ passed count (map rest_of (reverse levels.old.items))) }
 {
@@ -70,7 +70,7 @@ fn pass_of(levels: &mut Vec<TtIter<'_>>, count: usize) -> Result<(), AllocError>
     Ok(levels.push(trees)?)
 }
 
-// What the next tree holds, which is passed; nothing where it is no subtree.
+// Passes the next tree and returns what it holds; nothing if it is no subtree.
 fn children<'i>(trees: &mut TtIter<'i>) -> TtIter<'i>
     ensures held { rest_of result ≡ children_of (rest_of trees.old) }
     ensures rest { rest_of trees.new ≡ after_tree (rest_of trees.old) }
@@ -93,7 +93,7 @@ fn enter_of(levels: &mut Vec<TtIter<'_>>) -> Result<(), AllocError>
     Ok(levels.push(children)?)
 }
 
-// What is left behind so many steps.
+// Returns the steps after the first `count`.
 fn behind(steps: &[Step], count: usize) -> &[Step]
     ensures { result.now ≡ drop count steps.now }
 {
@@ -102,7 +102,7 @@ fn behind(steps: &[Step], count: usize) -> &[Step]
 }
 
 impl<'s, 'i> Walk<'s, 'i> {
-    // A variable takes trees.
+    // Lets a variable take trees.
     fn take(
         self,
         alloc: Global,
@@ -130,7 +130,7 @@ impl<'s, 'i> Walk<'s, 'i> {
         })
     }
 
-    // A token is passed.
+    // Passes a token.
     fn pass(self, rest: &'s [Step], count: usize) -> Result<Walk<'s, 'i>, AllocError>
         ensures { IfOk result (λ next. IsWalked (forward rest.now (passed count (spot_of self.entry).levels) (spot_of self.entry)) [] self.entry next) }
     {
@@ -152,7 +152,7 @@ impl<'s, 'i> Walk<'s, 'i> {
         })
     }
 
-    // A subtree is entered.
+    // Enters a subtree.
     fn enter(self, rest: &'s [Step]) -> Result<Walk<'s, 'i>, AllocError>
         ensures { IfOk result (λ next. IsWalked (forward rest.now (entered (spot_of self.entry).levels) (spot_of self.entry)) [] self.entry next) }
     {
@@ -174,7 +174,7 @@ impl<'s, 'i> Walk<'s, 'i> {
         })
     }
 
-    // A subtree is left.
+    // Leaves a subtree.
     fn leave(self, rest: &'s [Step]) -> Walk<'s, 'i>
         ensures { IsWalked (forward rest.now (left (spot_of self.entry).levels) (spot_of self.entry)) [] self.entry result }
     {
@@ -196,7 +196,7 @@ impl<'s, 'i> Walk<'s, 'i> {
         }
     }
 
-    // Into a round of a repetition, or past it.
+    // Goes into a round of a repetition, or skips the repetition.
     fn begin(
         mut self,
         rest: &'s [Step],
@@ -221,7 +221,7 @@ impl<'s, 'i> Walk<'s, 'i> {
         Ok(self)
     }
 
-    // Back to a round of a repetition, or out of it.
+    // Goes back to a round of a repetition, or out of it.
     fn close(self, rest: &'s [Step], turn: usize, ways: usize) -> Result<Walk<'s, 'i>, AllocError>
         ensures { IfOk result (λ next. IsWalked (closed turn ways rest.now (spot_of self.entry)) (close_notes turn ways rest.now (spot_of self.entry)) self.entry next) }
     {
@@ -259,7 +259,7 @@ impl<'s, 'i> Walk<'s, 'i> {
         })
     }
 
-    // One step, by a turn.
+    // Does one step, by a turn.
     fn advance(self, alloc: Global, turn: usize) -> Result<Walk<'s, 'i>, AllocError>
         ensures { IfOk result (λ next. walked_by turn self.entry next) }
     {
@@ -277,7 +277,7 @@ impl<'s, 'i> Walk<'s, 'i> {
     }
 }
 
-/// What the input binds, along a path of which the last turn stands first.
+/// Returns what the input binds, along a path whose last turn comes first.
 pub(crate) fn marks_along<'i>(
     alloc: Global,
     steps: &[Step],

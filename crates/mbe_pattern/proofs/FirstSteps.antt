@@ -15,7 +15,7 @@ use Rattle.mbe_pattern.specs.Units.{unit_from, first_unit}
 use Rattle.mbe_pattern.proofs.Passing.{after_end}
 
 module _ (until : ℕ) where
-  -- Behind so many trees the pattern is that of what is left.
+  -- After that many trees, the pattern is that of the trees that are left.
   pub placed_passed : (n : ℕ) (trees : Forest) → placed_behind until n trees ≡ placed_until until (after_trees n trees)
   placed_passed zero trees = refl
   placed_passed (suc n) end = sym (ap (placed_until until) (after_end n))

@@ -1,4 +1,4 @@
--- What stands first, from what was read.
+-- What the first tree is, from what was read.
 use Rattle.std.proofs.Common.{◌≡◌, Some, None, refl, ap, ap₂, sym}
 use Rattle.tt.specs.Forest.{Forest, end, leaf, node}
 use Rattle.tt.specs.Iters.{rest_of, IsFirstElement}
@@ -15,13 +15,13 @@ none_first end p = refl
 none_first (leaf it rest) p = absurd p
 none_first (node delimiter children rest) p = absurd p
 
--- A leaf stands first.
+-- The first tree is a leaf.
 pub leaf_before : (trees : Forest) (it : Leaf) → IsFirstElement trees (Some (element.Leaf it)) → trees ≡ leaf it (after_tree trees)
 leaf_before end it p = absurd p
 leaf_before (leaf other rest) it p = ap (λ l. leaf l rest) (sym p)
 leaf_before (node delimiter children rest) it p = absurd p
 
--- A subtree stands first.
+-- The first tree is a subtree.
 pub node_before : (trees : Forest) (header : Subtree) (below : TtIter) → IsFirstElement trees (Some (element.Subtree header below))
     → trees ≡ node header.delimiter (rest_of below) (after_tree trees)
 node_before end header below p = absurd p

@@ -1,4 +1,4 @@
--- How many puncts stand as one.
+-- How many puncts form one token.
 use Rattle.std.proofs.Common.{◌≡◌, false, List, length, Some, ap, sym, ◌∙◌, cond, arith}
 use Rattle.std.proofs.lemmas.Bool.Decides.{nat_tests}
 use Rattle.std.specs.Prelude.{◌==◌}
@@ -9,7 +9,7 @@ use Rattle.tt.specs.Types.Leaf.TheVariants as leaf_of
 use Rattle.tt.specs.Types.Punct.{Punct}
 use Rattle.mbe_pattern.specs.Units.{quote, is_at_ident, unit_size}
 
--- A punct that is no `'` stands with those that are glued to it.
+-- A punct other than `'` forms a token with the puncts that are glued to it.
 pub glued_size : (trees : Forest) (punct : Punct) (puncts : List Punct) → Some punct ≡ first_leaf_as as_punct trees → (punct.char ≡ quote → ⊥) → Some puncts ≡ glued trees
     → length puncts ≡ unit_size trees
 glued_size end punct puncts first other is = absurd (cc first)

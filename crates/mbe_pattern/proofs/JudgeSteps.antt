@@ -36,14 +36,14 @@ and_more : (a b c : Bool) → ((a && b) && c) ≡ (a && (b && c))
 and_more true b c = refl
 and_more false b c = refl
 
--- the fault at the end of all, where the innermost level is at its end
+-- the final fault, if the innermost level is at its end
 abbrev pub fault_outside : (names : List (List ℕ)) → (fault : Option PatternError) → (closing : Option Opened) → (is_empty : Bool) → (outer : List LevelLeft) → Option PatternError
 fault_outside names fault closing is_empty [] = fault_at_end closing is_empty fault
 fault_outside names fault closing is_empty (next ∷ outer) =
     fault_outside (names_behind names next.rest) (or_else (fault_at_end closing is_empty fault) (fault_behind names next.rest)) next.closing
     (is_open_behind closing is_empty next.is_open && may_be_empty (plain next.rest)) outer
 
--- and where that is left
+-- the final fault, given the levels that are left
 abbrev pub fault_left_in : (names : List (List ℕ)) → (fault : Option PatternError) → List LevelLeft → Option PatternError
 fault_left_in names fault [] = fault
 fault_left_in names fault (level ∷ outer) =
@@ -61,7 +61,7 @@ parts (token its others) = suc (parts others)
 parts (subtree kind inner others) = suc (parts inner + parts others)
 parts (repetition at inner separator op others) = suc (parts inner + parts others)
 
--- how much is to be read of levels
+-- how much of the levels is still to be read
 abbrev pub work_of : List LevelLeft → ℕ
 work_of [] = 0
 work_of (level ∷ outer) = suc (2 * parts level.rest + work_of outer)
@@ -70,7 +70,7 @@ work_of (level ∷ outer) = suc (2 * parts level.rest + work_of outer)
 pub levels_last : (its : List Level) (it : Level) → levels_left (its ++ it ∷ []) ≡ level_left it ∷ levels_left its
 levels_last its it = ap (map level_left) (reverse-append its (it ∷ []))
 
--- What a repetition holds is judged behind the repetition itself.
+-- The inside of a repetition is judged after the repetition itself.
 held_fault : (fault before held behind : Option PatternError) (at : ℕ) (kind : RepeatKind) (e : Bool)
     → or_else (fault_at_end (Some (opened_with at kind (or_else fault before))) e (or_else (or_else fault before) held)) behind
     ≡ or_else fault (or_else before (or_else (empty_fault at e) (or_else held behind)))
@@ -82,7 +82,7 @@ module _ (names : List (List ℕ)) (fault : Option PatternError) (outer : List L
   abbrev before : State
   before = record { names = names; fault = fault; levels = outer }
 
-  -- The same fault is left, where the rest is.
+  -- the final fault, given what is left of the level
   abbrev left : Placed → Option PatternError
   left rest = fault_left (with_level (level_of rest closing is_open) before)
 
@@ -91,7 +91,7 @@ module _ (names : List (List ℕ)) (fault : Option PatternError) (outer : List L
   end_step [] = refl
   end_step (next ∷ outer) = refl
 
-  -- A part is judged, and what is left behind it, as it was before.
+  -- After a part is judged, the final fault is the same as before.
   pub judged_step : (found : First) → IsFirst whole found others → fault_left (stepped found (level_of others closing is_open) before) ≡ left whole
   judged_step first.End is =
       end_step outer ∙ ap₂ (λ f e. fault_outside names f closing e outer) (sym (or_else_none fault)) (sym (and_true is_open)) ∙ ap left (sym is)
@@ -122,7 +122,7 @@ module _ (names : List (List ℕ)) (fault : Option PatternError) (outer : List L
   less_end [] = refl
   less_end (next ∷ outer) = refl
 
-  -- Less is to be read behind a part.
+  -- Less is left to read after a part.
   pub less_step : (found : First) → IsFirst whole found others
       → work_of (stepped found (level_of others closing is_open) before).levels < work_of (level_of whole closing is_open ∷ outer)
   less_step first.End is = omega (arith, less_end outer)
@@ -132,7 +132,7 @@ module _ (names : List (List ℕ)) (fault : Option PatternError) (outer : List L
   less_step (first.Subtree kind inner until) is = omega (arith, ap parts is)
   less_step (first.Repetition at inner until tail) is = omega (arith, ap parts is)
 
--- The first fault is why trees are refused.
+-- The first fault is why the trees are no pattern.
 pub is_error : (trees : Forest) (fault : PatternError) → pattern_fault trees ≡ Some fault → IsPatternError trees fault
 is_error trees error.Memory is = tt
 is_error trees (error.BeginsNothing at) is = is

@@ -21,7 +21,7 @@ use Rattle.mbe_pattern.specs.Spelling as spelling
 use Rattle.mbe_pattern.specs.Units.{quote, is_at_ident, unit_from, front_leaves, first_unit}
 use Rattle.mbe_pattern.proofs.Passing.{after_end}
 
--- Behind so many trees the pattern is that of what is left.
+-- After that many trees, the pattern is that of the trees that are left.
 pub behind_passed : (n : ℕ) (trees : Forest) → pattern_behind n trees ≡ pattern_of (after_trees n trees)
 behind_passed zero trees = refl
 behind_passed (suc n) end = sym (ap pattern_of (after_end n))
@@ -76,7 +76,7 @@ token_first it rest behind other left =
     (pattern.token (first_unit (leaf it rest)) (pattern_behind (unit_from it rest - 1) rest))) other
     ∙ ap (pattern.token (first_unit (leaf it rest))) (behind_passed (unit_from it rest - 1) rest ∙ ap pattern_of (sym left))
 
--- there are so many leaves at the front
+-- there are that many leaves at the front
 abbrev Fits : ℕ → Forest → Type 0
 Fits n trees = length (front_leaves n trees) ≡ n
 
@@ -88,7 +88,7 @@ fits_length : (b : Bool) (xs ys : List Punct) (trees : Forest) → Fits (length 
 fits_length true xs ys trees one other = one
 fits_length false xs ys trees one other = other
 
--- Puncts that stand as one are leaves at the front.
+-- Glued puncts are leaves at the front.
 glued_fits : (p : Punct) (it : Leaf) (rest : Forest) → Fits (length (glued_from p rest)) (leaf it rest)
 glued_fits p it end = fits_length (is_alone p.spacing) (p ∷ []) (p ∷ []) (leaf it end) refl refl
 glued_fits p it (leaf (leaf_of.Literal x) rest) = fits_length (is_alone p.spacing) (p ∷ []) (p ∷ []) (leaf it (leaf (leaf_of.Literal x) rest)) refl refl
@@ -126,7 +126,7 @@ unit_length (leaf_of.Punct it) rest =
     fits_either (it.char == quote) (cond (is_at_ident rest) 2 1) (length (glued_from it rest)) (leaf (leaf_of.Punct it) rest)
     (lifetime_fits (leaf_of.Punct it) rest) (glued_fits it (leaf_of.Punct it) rest)
 
--- What is less is less than any part's whole.
+-- Whatever part was found, less is left.
 pub are_less : (found : Part) (left whole : ℕ) → left < whole → AreLess found left whole
 are_less part.End left whole lt = tt
 are_less (part.Variable it) left whole lt = lt

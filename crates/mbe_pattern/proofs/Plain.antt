@@ -1,4 +1,4 @@
--- Without places a pattern is the one that its trees spell; and one in which nothing is wrong has no repetition that may be empty.
+-- Without places, a pattern is the one that its trees spell. A pattern without faults has no repetition that may be empty.
 use Rattle.std.proofs.Common.{◌≡◌, ◌-◌, ℕ, zero, suc, Bool, true, false, List, [], Option, None, Some, refl, ap, ap₂, subst, ◌∙◌, cond}
 use Rattle.tt.specs.Forest.{Forest, end, leaf, node, size}
 use Rattle.tt.specs.Types.Leaf.{Leaf}
@@ -47,7 +47,7 @@ plain_behind until zero (node delimiter children rest) = ap₂ (pattern.subtree 
 plain_behind until (suc n) (leaf it rest) = plain_behind until n rest
 plain_behind until (suc n) (node delimiter children rest) = plain_behind until n rest
 
--- Where neither is wrong, none is.
+-- If `or_else` gives no fault, neither is one.
 none_left : (a b : Option PatternError) → or_else a b ≡ None → a ≡ None
 none_left None b is = refl
 none_left (Some it) b is = absurd (cc is)
@@ -81,6 +81,6 @@ sound_full names (repetition at inner separator op others) is =
       sound_full (names_behind names inner) others (none_right here more both),
     )
 
--- Where nothing is wrong, what each repetition holds takes a tree at least.
+-- If there is no fault, what each repetition holds takes at least one tree.
 pub sound_pattern : (trees : Forest) → pattern_fault trees ≡ None → IsFull (pattern_of trees)
 sound_pattern trees is = subst IsFull (plain_behind (size trees) zero trees) (sound_full [] (placed_of trees) is)

@@ -15,7 +15,7 @@ use Rattle.mbe_pattern.specs.Patterns.{Pattern, nothing, variable, token, subtre
 use Rattle.mbe_pattern.specs.Spelling.{pattern_of}
 use Rattle.mbe_pattern.specs.Units.{unit_size, IsUnitLike}
 
--- small trees: an ident, puncts that stand alone or joint, before others
+-- small trees before others: an ident, and puncts with spacing `Alone` or `Joint`
 abbrev pub word : List ℕ → Forest → Forest
 word text rest = leaf (ident text) rest
 
@@ -45,7 +45,7 @@ var name kind rest = alone 36 (word name (alone 58 (word kind rest)))
 abbrev pub rounds : Forest → Forest → Forest
 rounds inside rest = alone 36 (join (subtree Parenthesis inside) rest)
 
--- Tokens of several puncts, and lifetimes, are one; so is what stands alone.
+-- Tokens of several puncts, and lifetimes, are one unit; so is a single tree.
 arrow_is_one : unit_size (arrow end) ≡ 2
 arrow_is_one = refl
 
@@ -113,7 +113,7 @@ no_operator = refl
 arrow_spells : pattern_of (arrow (comma end)) ≡ token (punct 61 Joint ∷ punct 62 Alone ∷ []) (token (punct 44 Alone ∷ []) nothing)
 arrow_spells = refl
 
--- What may be empty.
+-- Whether it may be empty.
 listed_empty : may_be_empty (pattern_of listed) ≡ true
 listed_empty = refl
 
@@ -130,7 +130,7 @@ y = codes "y"
 abbrev tts : List ℕ
 tts = codes "tt"
 
--- Nothing is wrong with the list; `$crate` is no fault, and two variables may be written `_`.
+-- The list has no fault; `$crate` is no fault, and two variables may be written as `_`.
 listed_sound : pattern_fault listed ≡ None
 listed_sound = refl
 
@@ -186,7 +186,7 @@ needless_separator = refl
 separator_sound : pattern_fault (rounds (comma end) (joint 44 (alone 42 end))) ≡ None
 separator_sound = refl
 
--- `$()*`; `$($(,)*)+` and `$($(,)+)+`; and `$($(,)* $x:foo)*`, in which what is wrong stands for itself.
+-- `$()*`; `$($(,)*)+` and `$($(,)+)+`; and `$($(,)* $x:foo)*`, in which the faulty `$` is a literal token.
 nothing_repeated : pattern_fault (rounds end (alone 42 end)) ≡ Some (error.EmptyRepetition 0)
 nothing_repeated = refl
 
@@ -199,7 +199,7 @@ full_within = refl
 wrong_within : pattern_fault (rounds (rounds (comma end) (alone 42 (var x (codes "foo") end))) (alone 42 end)) ≡ Some (error.UnknownFragment 6)
 wrong_within = refl
 
--- The first counts: a repetition before what it holds, and that before what is behind.
+-- The first fault counts: a repetition comes before what it holds, and that before what follows.
 outer_first : pattern_fault (rounds (rounds end (alone 42 end)) (alone 42 (alone 36 end))) ≡ Some (error.EmptyRepetition 0)
 outer_first = refl
 

@@ -9,7 +9,7 @@ use Rattle.mbe_pattern.specs.declared.pattern.RepeatKind.{RepeatKind}
 use Rattle.mbe_pattern.specs.Patterns.{may_be_more, may_be_empty}
 use Rattle.mbe_pattern.specs.Placed.{Placed, nothing, variable, wrong, token, subtree, repetition, plain, placed_of}
 
--- the one, or else the other
+-- the first, or otherwise the other
 abbrev pub or_else : Option PatternError → Option PatternError → Option PatternError
 or_else None other = other
 or_else (Some it) other = Some it
@@ -18,12 +18,12 @@ or_else (Some it) other = Some it
 abbrev pub is_given : List ℕ → List (List ℕ) → Bool
 is_given name names = list_any (bytes_eq name) names
 
--- the names that were given, each once, with that of one variable more, if it has one
+-- the names so far, each once, with the name of one more variable, if it has one
 abbrev pub names_with : Option (List ℕ) → List (List ℕ) → List (List ℕ)
 names_with None names = names
 names_with (Some name) names = if is_given name names then names else names ++ name ∷ []
 
--- those with the names of a pattern's variables
+-- those names, with the names of a pattern's variables
 abbrev pub names_behind : List (List ℕ) → Placed → List (List ℕ)
 names_behind names nothing = names
 names_behind names (variable at it others) = names_behind (names_with it.name names) others
@@ -32,21 +32,21 @@ names_behind names (token its others) = names_behind names others
 names_behind names (subtree kind inner others) = names_behind (names_behind names inner) others
 names_behind names (repetition at inner separator op others) = names_behind (names_behind names inner) others
 
--- the name of the variable at that place was given before
+-- an earlier variable has the name of the variable at that place
 abbrev pub name_fault : (at : ℕ) → Option (List ℕ) → List (List ℕ) → Option PatternError
 name_fault at None names = None
 name_fault at (Some name) names = if is_given name names then Some (error.NameTwice at) else None
 
--- the repetition at that place has a separator, and never two rounds
+-- the repetition at that place has a separator, but never two rounds
 abbrev pub separator_fault : (at : ℕ) → List Leaf → RepeatKind → Option PatternError
 separator_fault at [] op = None
 separator_fault at (it ∷ others) op = if may_be_more op then None else Some (error.NeedlessSeparator at)
 
--- what it holds may take no tree
+-- what the repetition holds may take no tree
 abbrev pub empty_fault : (at : ℕ) → (is_empty : Bool) → Option PatternError
 empty_fault at is_empty = if is_empty then Some (error.EmptyRepetition at) else None
 
--- the first fault in reading order, where variables before have these names
+-- the first fault in reading order, if earlier variables have these names
 abbrev pub fault_behind : List (List ℕ) → Placed → Option PatternError
 fault_behind names nothing = None
 fault_behind names (variable at it others) = or_else (name_fault at it.name names) (fault_behind (names_with it.name names) others)
@@ -61,7 +61,7 @@ fault_behind names (repetition at inner separator op others) =
 abbrev pub pattern_fault : Forest → Option PatternError
 pattern_fault trees = fault_behind [] (placed_of trees)
 
--- why trees are refused as a pattern: memory is, or that is their first fault
+-- why the trees are no pattern: memory ran out, or this is their first fault
 abbrev pub IsPatternError : Forest → PatternError → Type 0
 IsPatternError trees error.Memory = Unit {0}
 IsPatternError trees (error.BeginsNothing at) = pattern_fault trees ≡ Some (error.BeginsNothing at)

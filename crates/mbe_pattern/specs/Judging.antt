@@ -15,7 +15,7 @@ use Rattle.mbe_pattern.specs.Patterns.{may_take_none, may_be_none}
 use Rattle.mbe_pattern.specs.Placed.{Placed, placed_until}
 use Rattle.mbe_pattern.specs.Placed as placed
 
--- the pattern begins with what was read, and the others are behind it
+-- the pattern begins with the part that was read, and the others follow it
 abbrev pub IsFirst : Placed → First → (others : Placed) → Type 0
 IsFirst whole first.End others = whole ≡ placed.nothing
 IsFirst whole (first.Variable at it) others = whole ≡ placed.variable at it others
@@ -38,7 +38,7 @@ level_left level = record { rest = placed_until level.until (rest_of level.rest)
 abbrev pub levels_left : List Level → List LevelLeft
 levels_left levels = map level_left (reverse levels)
 
--- the names that were given, the first fault so far, and what is left
+-- the names so far, the first fault so far, and the levels that are left
 pub record State : Type 0 where
   pub names : List (List ℕ)
   pub fault : Option PatternError
@@ -47,29 +47,29 @@ pub record State : Type 0 where
 abbrev pub state_of : Judged → State
 state_of judged = record { names = judged.names.keys; fault = judged.fault; levels = levels_left judged.levels.items }
 
--- the fault at the end of a level: a repetition that may take no tree is one, where nothing was wrong when it began
+-- the fault at the end of a level: the repetition, if it may take no tree and no fault was found before it began
 abbrev pub fault_at_end : Option Opened → (is_empty : Bool) → Option PatternError → Option PatternError
 fault_at_end None is_empty fault = fault
 fault_at_end (Some it) is_empty fault = if it.is_sound then or_else (empty_fault it.at is_empty) fault else fault
 
--- whether all of the level round it may take no tree then
+-- whether all of the level around it may then take no tree
 abbrev pub is_open_behind : Option Opened → (is_empty : Bool) → (is_open : Bool) → Bool
 is_open_behind None is_empty is_open = is_open
 is_open_behind (Some it) is_empty is_open = is_open && (may_be_none it.kind || is_empty)
 
--- a level of that, and one in which a part has to be there
+-- a level of this, and the level after a required part
 abbrev pub level_of : Placed → Option Opened → (is_open : Bool) → LevelLeft
 level_of rest closing is_open = record { rest = rest; closing = closing; is_open = is_open }
 
 abbrev pub full : LevelLeft → LevelLeft
 full level = level_of level.rest level.closing false
 
--- the levels round one that is at its end
+-- the levels around one that is at its end
 abbrev pub levels_behind : Option Opened → (is_empty : Bool) → List LevelLeft → List LevelLeft
 levels_behind closing is_empty [] = []
 levels_behind closing is_empty (next ∷ outer) = level_of next.rest next.closing (is_open_behind closing is_empty next.is_open) ∷ outer
 
--- one in which a variable of that fragment has to be there
+-- the level after a variable of that fragment
 abbrev pub taken : Fragment → LevelLeft → LevelLeft
 taken which level = level_of level.rest level.closing (level.is_open && may_take_none which)
 
@@ -82,24 +82,24 @@ ended level state =
 abbrev pub with_level : LevelLeft → State → State
 with_level level state = record { names = state.names; fault = state.fault; levels = level ∷ state.levels }
 
--- a fault more, if it is one, which counts where none was found before
+-- one more fault, if there is one; it counts if none was found before
 abbrev pub with_fault : Option PatternError → State → State
 with_fault fault state = record { names = state.names; fault = or_else state.fault fault; levels = state.levels }
 
--- a name more, if it is one
+-- one more name, if there is one
 abbrev pub with_name : (at : ℕ) → Option (List ℕ) → State → State
 with_name at name state =
     record { names = names_with name state.names; fault = or_else state.fault (name_fault at name state.names); levels = state.levels }
 
--- a repetition that begins, where that was wrong before
+-- a repetition that begins, given the fault before it
 abbrev pub opened_with : (at : ℕ) → RepeatKind → (fault : Option PatternError) → Opened
 opened_with at kind fault = record { at = at; kind = kind; is_sound = not (is_some fault) }
 
--- what a repetition holds, and the level round it
+-- what a repetition holds, and the level around it
 abbrev pub begun : (at : ℕ) → RepeatKind → (held : Placed) → LevelLeft → State → State
 begun at kind held level state = with_level (level_of held (Some (opened_with at kind state.fault)) true) (with_level level state)
 
--- what is judged of a part, behind which that is left of its level
+-- the state after a part of a level, given what is left of the level
 abbrev pub stepped : First → LevelLeft → State → State
 stepped first.End level state = ended level state
 stepped (first.Variable at it) level state = with_level (taken it.fragment level) (with_name at it.name state)

@@ -8,8 +8,8 @@ use Rattle.mbe_pattern.specs.declared.pattern.RepeatKind.{RepeatKind}
 use Rattle.mbe_pattern.specs.declared.pattern.RepeatKind.TheVariants as repeat
 use Rattle.mbe_pattern.specs.declared.pattern.Variable.{Variable}
 
--- a pattern: variables, tokens that stand for themselves, subtrees of a kind, and repetitions of a pattern, whose rounds have a token
--- between them as a separator, or nothing
+-- a pattern: variables, tokens that are matched literally, subtrees of a kind, and repetitions of a pattern; between the rounds of a
+-- repetition is a token as separator, or nothing
 pub data Pattern : Type 0 where
   nothing : Pattern
   variable : Variable → Pattern → Pattern
@@ -55,7 +55,7 @@ may_be_empty (token its others) = false
 may_be_empty (subtree kind inner others) = false
 may_be_empty (repetition inner separator op others) = (may_be_none op || may_be_empty inner) && may_be_empty others
 
--- what each repetition holds takes a tree at least
+-- what each repetition holds takes at least one tree
 abbrev pub IsFull : Pattern → Type 0
 IsFull nothing = Unit {0}
 IsFull (variable it others) = IsFull others

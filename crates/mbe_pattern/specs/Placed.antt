@@ -25,7 +25,7 @@ pub data Placed : Type 0 where
   subtree : DelimiterKind → Placed → Placed → Placed
   repetition : (at : ℕ) → Placed → (separator : List Leaf) → RepeatKind → Placed → Placed
 
--- the pattern without places; a `$` that begins nothing stands for itself
+-- the pattern without places; a `$` that begins nothing is a literal token
 abbrev pub plain : Placed → Pattern
 plain nothing = pattern.nothing
 plain (variable at it others) = pattern.variable it (plain others)
@@ -43,8 +43,8 @@ inner_part (token its others) = nothing
 inner_part (subtree kind inner others) = inner
 inner_part (repetition at inner separator op others) = inner
 
--- what is wrong with a `$` at that place that begins nothing: a name, a colon and an ident are there, which names no fragment, or else it
--- begins nothing
+-- what is wrong with a `$` at that place that begins nothing: a name, a colon and an ident follow that names no
+-- fragment; otherwise it begins nothing
 abbrev pub fault_from : (at : ℕ) → (name : Option Ident) → (colon : Bool) → (fragment : Option Ident) → PatternError
 fault_from at None colon fragment = error.BeginsNothing at
 fault_from at (Some it) false fragment = error.BeginsNothing at
@@ -64,7 +64,8 @@ part_of at it (sign.repetition tail) siblings held others = repetition at held t
 part_of at it sign.crate_root siblings held others = token (it ∷ []) others
 part_of at it sign.nothing siblings held others = wrong (fault_in at siblings) it others
 
--- the pattern that trees spell behind so many of them, which belong to a part before; behind the last of all is that flat place
+-- the pattern that trees spell after the first `passed` of them, which belong to an earlier part; `until`
+-- is the flat place after the last tree
 abbrev pub placed_behind : (until : ℕ) → (passed : ℕ) → Forest → Placed
 placed_behind until passed end = nothing
 placed_behind until zero (leaf it rest) =
@@ -75,7 +76,7 @@ placed_behind until zero (node delimiter children rest) = subtree delimiter.kind
 placed_behind until (suc passed) (leaf it rest) = placed_behind until passed rest
 placed_behind until (suc passed) (node delimiter children rest) = placed_behind until passed rest
 
--- the pattern that trees spell which end before that flat place
+-- the pattern that trees spell if they end before that flat place
 abbrev pub placed_until : (until : ℕ) → Forest → Placed
 placed_until until trees = placed_behind until zero trees
 

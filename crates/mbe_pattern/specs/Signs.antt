@@ -1,4 +1,4 @@
--- What was read of a pattern, as its definitions have it.
+-- What was read of a pattern, in the terms of its definitions.
 use Rattle.std.specs.Prelude.{◌≡◌, ◌<◌, ℕ}
 use Rattle.tt.specs.Forest.{size}
 use Rattle.tt.specs.Iters.{rest_of}
@@ -23,7 +23,7 @@ sign_of (sign.Repetition tail) = spelling.repetition (tail_of tail)
 sign_of sign.CrateRoot = spelling.crate_root
 sign_of sign.Nothing = spelling.nothing
 
--- the pattern begins with the part, and the others are behind it
+-- the pattern begins with the part, and the others follow it
 abbrev pub IsPart : Pattern → Part → (others : Pattern) → Type 0
 IsPart whole part.End others = whole ≡ pattern.nothing
 IsPart whole (part.Variable it) others = whole ≡ pattern.variable it others
@@ -39,7 +39,7 @@ held_size (part.Token leaves) = 0
 held_size (part.Subtree kind inner) = size (rest_of inner)
 held_size (part.Repetition inner tail) = size (rest_of inner)
 
--- less is left, where there is a part
+-- if there is a part, less is left
 abbrev pub AreLess : Part → (left whole : ℕ) → Type 0
 AreLess part.End left whole = Unit {0}
 AreLess (part.Variable it) left whole = left < whole

@@ -69,18 +69,18 @@ variable_from (Some it) false kind = None
 variable_from (Some it) true None = None
 variable_from (Some it) true (Some kind) = Some (record { name = name_of it; fragment = kind })
 
--- the variable whose `$` stands before these siblings
+-- the variable whose `$` precedes these siblings
 abbrev pub variable_in : Forest → Option Variable
 variable_in siblings =
     variable_from (first_leaf_as as_ident_or_underscore siblings) (is_at_punct (codes ":") (after_tree siblings)) (fragment_in (after_tree (after_tree siblings)))
 
--- the kind of repetition that a character tells
+-- the kind of repetition that a character spells
 abbrev pub repeat_kind_of : ℕ → Option RepeatKind
 repeat_kind_of char =
     if char == 42 then Some repeat.ZeroOrMore
     else (if char == 43 then Some repeat.OneOrMore else (if char == 63 then Some repeat.ZeroOrOne else None))
 
--- the kind that a token tells, where it is one punct
+-- the kind that a token spells, if it is one punct
 abbrev pub as_repeat_kind : List Leaf → Option RepeatKind
 as_repeat_kind [] = None
 as_repeat_kind (leaf_of.Literal it ∷ others) = None
@@ -88,7 +88,7 @@ as_repeat_kind (leaf_of.Ident it ∷ others) = None
 as_repeat_kind (leaf_of.Punct it ∷ []) = repeat_kind_of it.char
 as_repeat_kind (leaf_of.Punct it ∷ second ∷ others) = None
 
--- what stands behind what a repetition holds: a separator or none, and its kind
+-- what follows the inside of a repetition: a separator or none, and its kind
 pub record Tail : Type 0 where
   pub separator : List Leaf
   pub kind : RepeatKind
@@ -103,16 +103,16 @@ abbrev pub is_separator : List Leaf → Bool
 is_separator [] = false
 is_separator (it ∷ others) = not (is_dollar it)
 
--- a kind that stands first, or else a separator and a kind
+-- a kind that comes first; otherwise a separator and a kind
 abbrev pub tail_from : Option RepeatKind → (token : List Leaf) → (siblings : Forest) → Option Tail
 tail_from (Some it) token siblings = Some (record { separator = []; kind = it })
 tail_from None token siblings = if is_separator token then tail_with token (as_repeat_kind (first_unit (after_trees (length token) siblings))) else None
 
--- the tail that stands first, if one does
+-- the tail at the front, if there is one
 abbrev pub tail_in : Forest → Option Tail
 tail_in siblings = tail_from (as_repeat_kind (first_unit siblings)) (first_unit siblings) siblings
 
--- how many trees it is
+-- how many trees a tail has
 abbrev pub tail_length : Tail → ℕ
 tail_length it = suc (length it.separator)
 
@@ -124,13 +124,13 @@ is_parenthesis delimited.Bracket = false
 is_parenthesis delimited.Invisible = false
 is_parenthesis delimited.InvisibleOpaque = false
 
--- parentheses and a tail, if they stand first
+-- the tail after parentheses, if both come first
 abbrev pub repetition_in : Forest → Option Tail
 repetition_in end = None
 repetition_in (leaf it rest) = None
 repetition_in (node delimiter children rest) = if is_parenthesis delimiter.kind then tail_in rest else None
 
--- the plain ident `crate` stands first
+-- the first tree is the plain ident `crate`
 abbrev pub is_crate : IdentIsRaw → List ℕ → Bool
 is_crate No text = bytes_eq text (codes "crate")
 is_crate Yes text = false
@@ -149,7 +149,7 @@ pub data Sign : Type 0 where
   crate_root : Sign
   nothing : Sign
 
--- a repetition, and else `$crate`, and else a variable, and else nothing
+-- a repetition; otherwise `$crate`; otherwise a variable; otherwise nothing
 abbrev pub sign_from : Option Tail → (crate_there : Bool) → Option Variable → Sign
 sign_from (Some tail) crate_there found = repetition tail
 sign_from None true found = crate_root
@@ -160,21 +160,21 @@ sign_from None false None = nothing
 abbrev pub sign_in : Forest → Sign
 sign_in siblings = sign_from (repetition_in siblings) (is_crate_in siblings) (variable_in siblings)
 
--- how many trees belong to it: a name, a colon and a fragment, or parentheses and a tail
+-- how many trees belong to the sign: a name, a colon and a fragment, or parentheses and a tail
 abbrev pub sign_length : Sign → ℕ
 sign_length (variable it) = 3
 sign_length (repetition tail) = suc (tail_length tail)
 sign_length crate_root = 0
 sign_length nothing = 0
 
--- the part that a `$` begins, before what is behind; where it begins nothing it stands for itself
+-- the part that a `$` begins, before what follows; if it begins nothing, it is a literal token
 abbrev pub part_of : Leaf → Sign → (held others : Pattern) → Pattern
 part_of it (variable found) held others = pattern.variable found others
 part_of it (repetition tail) held others = pattern.repetition held tail.separator tail.kind others
 part_of it crate_root held others = pattern.token (it ∷ []) others
 part_of it nothing held others = pattern.token (it ∷ []) others
 
--- the pattern that trees spell behind so many of them, which belong to a part before
+-- the pattern that trees spell after that many of them, which belong to an earlier part
 abbrev pub pattern_behind : ℕ → Forest → Pattern
 pattern_behind passed end = pattern.nothing
 pattern_behind zero (leaf it rest) =

@@ -1,4 +1,4 @@
--- Which leaves at the front of trees stand as one token, and when they are those of a pattern.
+-- Which leaves at the front of trees form one token, and when they are those of a pattern.
 use Rattle.std.specs.Prelude.{◌≡◌, ◌==◌, ℕ, zero, suc, Bool, true, false, List, [], ◌∷◌, length, bytes_eq, Option, None, Some, is_some, if◌then◌else◌}
 use Rattle.tt.specs.Expectations.{first_leaf_as, as_punct, as_ident_or_underscore, is_punct_of}
 use Rattle.tt.specs.Forest.{Forest, end, leaf, node}
@@ -17,15 +17,15 @@ use Rattle.tt.specs.Types.Leaf.TheVariants as leaf_of
 abbrev pub quote : ℕ
 quote = 39
 
--- an ident stands first
+-- the first tree is an ident
 abbrev pub is_at_ident : Forest → Bool
 is_at_ident trees = is_some (first_leaf_as as_ident_or_underscore trees)
 
--- a punct of that character stands first
+-- the first tree is a punct of that character
 abbrev pub is_at_punct : (chars : List ℕ) → Forest → Bool
 is_at_punct chars trees = is_punct_of chars (first_leaf_as as_punct trees)
 
--- the ident of that text is first, and is not raw
+-- the first tree is the ident of that text, and is not raw
 abbrev pub is_word : (text : List ℕ) → IdentIsRaw → List ℕ → Bool
 is_word text No its = bytes_eq its text
 is_word text Yes its = false
@@ -37,37 +37,37 @@ is_word_from text (Some it) = is_word text it.is_raw it.sym
 abbrev pub is_at_word : (text : List ℕ) → Forest → Bool
 is_at_word text trees = is_word_from text (first_leaf_as as_ident_or_underscore trees)
 
--- how many leaves stand as one with a leaf, before these siblings: puncts that are glued, a `'` and its ident, or it alone
+-- how many leaves a leaf forms a token with, before these siblings: glued puncts, a `'` and its ident, or the leaf alone
 abbrev pub unit_from : Leaf → (behind : Forest) → ℕ
 unit_from (leaf_of.Literal it) behind = 1
 unit_from (leaf_of.Punct it) behind = if it.char == quote then (if is_at_ident behind then 2 else 1) else length (glued_from it behind)
 unit_from (leaf_of.Ident it) behind = 1
 
--- how many trees stand as one at the front: those of a token, or a subtree
+-- how many trees the first unit has: those of a token, or one subtree
 abbrev pub unit_size : Forest → ℕ
 unit_size end = 1
 unit_size (leaf it rest) = unit_from it rest
 unit_size (node delimiter children rest) = 1
 
--- so many leaves at the front, if there are as many
+-- the first leaves at the front, at most that many; a subtree or the end stops them
 abbrev pub front_leaves : ℕ → Forest → List Leaf
 front_leaves zero trees = []
 front_leaves (suc n) end = []
 front_leaves (suc n) (leaf it rest) = it ∷ front_leaves n rest
 front_leaves (suc n) (node delimiter children rest) = []
 
--- so many trees at the front, if there are as many
+-- that many trees at the front, or fewer if the end comes before
 abbrev pub front_trees : ℕ → Forest → Forest
 front_trees zero trees = end
 front_trees (suc n) end = end
 front_trees (suc n) (leaf it rest) = leaf it (front_trees n rest)
 front_trees (suc n) (node delimiter children rest) = node delimiter children (front_trees n rest)
 
--- the leaves of the first token; none where there is no leaf
+-- the leaves of the first token; none if no leaf comes first
 abbrev pub first_unit : Forest → List Leaf
 first_unit trees = front_leaves (unit_size trees) trees
 
--- the leaves are the same, spans and spacing put aside
+-- the leaves are the same; spans and spacing do not count
 abbrev pub IsSameLeaf : Leaf → Leaf → Type 0
 IsSameLeaf (leaf_of.Literal a) (leaf_of.Literal b) = (kind_of a ≡ kind_of b) × (text_of a ≡ text_of b) × (suffix_of a ≡ suffix_of b)
 IsSameLeaf (leaf_of.Literal a) (leaf_of.Punct b) = ⊥
@@ -90,7 +90,7 @@ abbrev pub AreLeavesLike : List Leaf → Forest → Type 0
 AreLeavesLike [] trees = Unit {0}
 AreLeavesLike (it ∷ others) trees = IsLeafLike it trees × AreLeavesLike others (after_tree trees)
 
--- the first token has just these leaves
+-- the first token has exactly these leaves
 abbrev pub IsUnitLike : List Leaf → Forest → Type 0
 IsUnitLike its trees = (unit_size trees ≡ length its) × AreLeavesLike its trees
 

@@ -4,26 +4,25 @@ ghost use Rattle.std.specs.Prelude.{◌≡◌};
 use std::alloc::{AllocError, AllocFailed};
 use thiserror::Error;
 
-/// Why trees are no pattern. A number is the flat place of a `$`: how many tokens stand before it, at any depth.
+/// Why trees are no pattern. A number is the flat place of a `$`: how many tokens precede it, at any depth.
 #[derive(Debug, Clone, Copy, PartialEq, Eq, Error)]
 pub enum PatternError {
-    /// The `$` begins nothing: what stands behind it is neither a name, `:` and an ident, nor parentheses with `*`, `+` or `?`, nor
-    /// `crate`.
+    /// The `$` begins nothing. What follows it is neither a name, `:` and an ident, parentheses with `*`, `+` or `?`, or `crate`.
     #[error("the `$` begins nothing")]
     BeginsNothing(usize),
     /// No fragment has the name that the variable gives.
     #[error("there is no such fragment")]
     UnknownFragment(usize),
-    /// The name was given to a variable before, raw or not.
+    /// An earlier variable has the name, raw or not.
     #[error("the name is given twice")]
     NameTwice(usize),
-    /// The repetition has a separator, and never two rounds.
+    /// The repetition has a separator, but never two rounds.
     #[error("there are never two rounds to separate")]
     NeedlessSeparator(usize),
-    /// The repetition holds parts that may all take no tree, so it would have no end.
+    /// The parts in the repetition may all take no tree, so the repetition would have no end.
     #[error("a repetition may take no tree")]
     EmptyRepetition(usize),
-    /// Memory was refused.
+    /// Memory ran out.
     #[error("out of memory")]
     Memory,
 }

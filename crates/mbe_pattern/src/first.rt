@@ -1,4 +1,4 @@
-//! A pattern's trees, part by part, with the places of what a `$` begins.
+//! Reads a pattern's trees, part by part, with the places of what a `$` begins.
 ghost use Rattle.std.specs.Prelude.{◌≡◌, ◌-◌, true, IfOk};
 ghost use Rattle.tt.specs.Forest.{leaf, size};
 ghost use Rattle.tt.specs.Iters.{rest_of};
@@ -14,11 +14,11 @@ use crate::units::unit_size;
 use std::alloc::{AllocError, Global};
 use tt::{DelimiterKind, Leaf, TtElement, TtIter};
 
-/// The part of a pattern that comes first. A variable and a repetition have the flat place of their `$`, and what a subtree or a
-/// repetition holds has the one behind its last token.
+/// The first part of a pattern. A variable and a repetition have the flat place of their `$`. The inside of a subtree or a repetition has
+/// the flat place after its last token.
 #[derive(Drop)]
 pub(crate) enum First<'p> {
-    /// There is none.
+    /// There is no part.
     End,
     Variable(usize, Variable),
     /// A `$` that begins nothing, and what is wrong with it.
@@ -28,7 +28,7 @@ pub(crate) enum First<'p> {
     Repetition(usize, TtIter<'p>, usize, Tail),
 }
 
-// What is wrong with a `$` at that place that begins nothing, behind which the siblings stand.
+// Returns what is wrong with a `$` at that place that begins nothing; the siblings follow it.
 fn fault_in(at: usize, mut siblings: TtIter<'_>) -> PatternError
     ensures { result ≡ fault_in at (rest_of siblings.entry) }
 {
@@ -41,14 +41,14 @@ fn fault_in(at: usize, mut siblings: TtIter<'_>) -> PatternError
     }
 }
 
-// The flat place before these trees, where behind the last of them is that one.
+// Returns the flat place before these trees, given the place after the last of them.
 fn place_before(until: usize, trees: &TtIter<'_>) -> usize
     ensures { result ≡ until - size (rest_of trees.now) }
 {
     until.saturating_sub(trees.remaining().len())
 }
 
-// The part that a `$` begins, behind which the siblings stand, which end before that flat place.
+// Reads the part that a `$` begins. The siblings follow the `$` and end before that flat place.
 fn signed_first<'p>(
     alloc: Global,
     until: usize,
@@ -81,7 +81,7 @@ fn signed_first<'p>(
     }
 }
 
-/// The first part of the pattern that these trees spell, which end before that flat place. It is passed.
+/// Reads and passes the first part of the pattern that these trees spell. They end before that flat place.
 pub(crate) fn next_first<'p>(
     alloc: Global,
     until: usize,

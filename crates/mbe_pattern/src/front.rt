@@ -8,7 +8,7 @@ ghost use Rattle.mbe_pattern.specs.Units.{front_trees};
 
 use tt::{TokenTreesView, TtIter};
 
-/// Passes so many trees, or all if there are fewer.
+/// Passes that many trees, or all if there are fewer.
 pub fn pass(trees: &mut TtIter<'_>, count: usize)
     ensures rest { rest_of trees.new ≡ after_trees count (rest_of trees.old) }
     ensures less { size (rest_of trees.new) ≤ size (rest_of trees.old) }
@@ -18,7 +18,7 @@ pub fn pass(trees: &mut TtIter<'_>, count: usize)
     }
 }
 
-/// Passes so many trees and returns them.
+/// Passes that many trees and returns them.
 pub fn take<'i>(trees: &mut TtIter<'i>, count: usize) -> TokenTreesView<'i>
     ensures taken { trees_of result ≡ front_trees count (rest_of trees.old) }
     ensures rest { rest_of trees.new ≡ after_trees count (rest_of trees.old) }

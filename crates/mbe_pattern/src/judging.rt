@@ -1,4 +1,4 @@
-//! What is wrong with a pattern, part by part.
+//! Finds what is wrong with a pattern, part by part.
 ghost use Rattle.std.specs.Prelude.{◌≡◌, true, None, OnOk, IfOk, IfErr, not, is_some};
 ghost use Rattle.tt.specs.Iters.{rest_of};
 ghost use Rattle.mbe_pattern.specs.Faults.{or_else, names_with, name_fault, separator_fault, empty_fault, pattern_fault, IsPatternError};
@@ -14,7 +14,7 @@ use indexmap::IndexSet;
 use std::alloc::{AllocError, Global};
 use tt::{Symbol, TtIter};
 
-/// A repetition that is open: the flat place of its `$`, its kind, and whether nothing was wrong when it began.
+/// An open repetition: the flat place of its `$`, its kind, and whether no fault was found before it began.
 #[derive(Clone, Copy)]
 pub(crate) struct Opened {
     at: usize,
@@ -22,7 +22,8 @@ pub(crate) struct Opened {
     is_sound: bool,
 }
 
-/// What is left of a subtree or a repetition, the flat place behind it, the repetition, and whether all of it so far may take no tree.
+/// What is left of a subtree or a repetition. It has the flat place after it, the repetition, and
+/// whether all of it so far may take no tree.
 #[derive(Drop)]
 pub(crate) struct Level<'p> {
     rest: TtIter<'p>,
@@ -31,7 +32,7 @@ pub(crate) struct Level<'p> {
     is_open: bool,
 }
 
-/// The names that were given, the first fault so far, and what is left, the innermost last.
+/// The names so far, the first fault so far, and the levels that are left, the innermost last.
 #[derive(Drop)]
 pub(crate) struct Judged<'p> {
     names: IndexSet<Symbol>,
@@ -39,7 +40,7 @@ pub(crate) struct Judged<'p> {
     levels: Vec<Level<'p>>,
 }
 
-// The one, or else the other.
+// Returns the first fault, or otherwise the other.
 fn or_else(first: Option<PatternError>, other: Option<PatternError>) -> Option<PatternError>
     ensures { result ≡ or_else first other }
 {
@@ -49,7 +50,7 @@ fn or_else(first: Option<PatternError>, other: Option<PatternError>) -> Option<P
     }
 }
 
-// The repetition at that place has a separator, and never two rounds.
+// Returns the fault if the repetition at that place has a separator but never two rounds.
 fn separator_fault(at: usize, tail: &Tail) -> Option<PatternError>
     ensures { result ≡ separator_fault at tail.now.separator.items tail.now.kind }
 {
@@ -62,7 +63,7 @@ fn separator_fault(at: usize, tail: &Tail) -> Option<PatternError>
     }
 }
 
-// The name of the variable at that place was given before. It is one of those that were given now.
+// Returns the fault if an earlier variable has the name of the variable at that place. Adds the name to the names.
 fn name_fault(
     at: usize,
     name: Option<Symbol>,
@@ -81,7 +82,7 @@ fn name_fault(
     }
 }
 
-// Whether a variable of that fragment may take no tree.
+// Returns whether a variable of that fragment may take no tree.
 fn may_take_none(fragment: Fragment) -> bool
     ensures { result ≡ may_take_none fragment }
 {
@@ -96,7 +97,7 @@ fn may_take_none(fragment: Fragment) -> bool
     }
 }
 
-// The fault at the end of a level, all of which may take no tree, or not.
+// Returns the fault at the end of a level, given whether all of the level may take no tree.
 fn fault_at_end(
     closing: Option<Opened>,
     is_empty: bool,
@@ -112,7 +113,7 @@ fn fault_at_end(
     }
 }
 
-// Whether all of the level round it may take no tree then.
+// Returns whether all of the level around it may then take no tree.
 fn is_open_behind(closing: Option<Opened>, is_empty: bool, is_open: bool) -> bool
     ensures { result ≡ is_open_behind closing is_empty is_open }
 {
@@ -129,7 +130,7 @@ fn is_open_behind(closing: Option<Opened>, is_empty: bool, is_open: bool) -> boo
 }
 
 impl<'p> Judged<'p> {
-    // A level in which a part has to be there.
+    // Puts back a level after a required part.
     fn stay(&mut self, level: Level<'p>) -> Result<(), AllocError>
         ensures { OnOk result (state_of self.new ≡ with_level (full (level_left level.entry)) (state_of self.old)) }
     {
@@ -149,7 +150,7 @@ impl<'p> Judged<'p> {
         )
     }
 
-    // A level in which a variable of that fragment has to be there.
+    // Puts back a level after a variable of that fragment.
     fn take_variable(&mut self, level: Level<'p>, fragment: Fragment) -> Result<(), AllocError>
         ensures { OnOk result (state_of self.new ≡ with_level (taken fragment (level_left level.entry)) (state_of self.old)) }
     {
@@ -169,7 +170,7 @@ impl<'p> Judged<'p> {
         )
     }
 
-    // A level of which nothing was read.
+    // Adds a level that is not read yet.
     fn enter(
         &mut self,
         rest: TtIter<'p>,
@@ -188,7 +189,7 @@ impl<'p> Judged<'p> {
         )
     }
 
-    // The end of a level.
+    // Ends a level.
     fn end(&mut self, level: Level<'p>) -> Result<(), AllocError>
         ensures { OnOk result (state_of self.new ≡ ended (level_left level.entry) (state_of self.old)) }
     {
@@ -217,14 +218,14 @@ impl<'p> Judged<'p> {
         )
     }
 
-    // A fault more, if it is one.
+    // Adds a fault, if there is one.
     fn note(&mut self, fault: Option<PatternError>)
         ensures { state_of self.new ≡ with_fault fault (state_of self.old) }
     {
         self.fault = or_else(self.fault, fault);
     }
 
-    // A variable of that name, if it has one.
+    // Adds a variable's name, if it has one.
     fn name(&mut self, at: usize, name: Option<Symbol>) -> Result<(), AllocError>
         ensures { OnOk result (state_of self.new ≡ with_name at name (state_of self.old)) }
     {
@@ -233,7 +234,7 @@ impl<'p> Judged<'p> {
         Ok(())
     }
 
-    // A repetition, and the level round it.
+    // Begins a repetition, and puts back the level around it.
     fn begin(
         &mut self,
         at: usize,
@@ -253,7 +254,7 @@ impl<'p> Judged<'p> {
         self.enter(inner, until, Some(opened))
     }
 
-    // What was read of a level.
+    // Takes what was read from a level.
     fn take(&mut self, level: Level<'p>, first: First<'p>) -> Result<(), AllocError>
         ensures { OnOk result (state_of self.new ≡ stepped first.entry (level_left level.entry) (state_of self.old)) }
     {
@@ -280,7 +281,7 @@ impl<'p> Judged<'p> {
     }
 }
 
-// The first fault of the pattern that the trees spell, if it has one.
+// Returns the first fault of the pattern that the trees spell, if it has one.
 fn first_fault(alloc: Global, trees: TtIter<'_>) -> Result<Option<PatternError>, AllocError>
     ensures { IfOk result (λ fault. fault ≡ pattern_fault (rest_of trees.entry)) }
 {
@@ -299,11 +300,12 @@ fn first_fault(alloc: Global, trees: TtIter<'_>) -> Result<Option<PatternError>,
     Ok(judged.fault)
 }
 
-/// Whether the trees spell a pattern in which nothing is wrong. Each name is given once, each `$` begins something whose fragment is
-/// supported, no repetition may take no tree, and none has a separator where there are never two rounds.
+/// Checks that the trees spell a pattern without faults.
 ///
-/// Time and memory are in proportion to the number of tokens. It is refused with the first fault in reading order, and where
-/// memory is.
+/// Each name is given once. Each `$` begins something whose fragment is supported. The parts of a repetition may not all take no tree, and
+/// a repetition that never has two rounds has no separator.
+///
+/// Time and memory are linear in the number of tokens. Returns the first fault in reading order; fails also if memory runs out.
 pub fn judge(alloc: Global, trees: TtIter<'_>) -> Result<(), PatternError>
     ensures ok { OnOk result (pattern_fault (rest_of trees.entry) ≡ None) }
     ensures err { IfErr result (IsPatternError (rest_of trees.entry)) }

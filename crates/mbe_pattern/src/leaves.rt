@@ -1,4 +1,4 @@
-//! Leaves that are the same, spans and spacing put aside.
+//! Compares leaves; spans and spacing do not count.
 ghost use Rattle.std.specs.Prelude.{◌≡◌, ◌↔◌, IsTrue};
 ghost use Rattle.tt.specs.Iters.{rest_of};
 ghost use Rattle.tt.specs.Moves.{after_tree};
@@ -6,7 +6,7 @@ ghost use Rattle.mbe_pattern.specs.Units.{IsSameLeaf, IsLeafLike};
 
 use tt::{Leaf, TtIter};
 
-/// Whether the leaves are the same, spans and spacing put aside.
+/// Returns whether the leaves are the same; spans and spacing do not count.
 pub fn is_same_leaf(leaf: &Leaf, other: &Leaf) -> bool
     ensures { IsTrue result ↔ IsSameLeaf leaf.now other.now }
 {

@@ -1,8 +1,8 @@
 //! How trees spell the pattern of a macro, and what is wrong with a pattern.
 //!
 //! `next_part` reads the first part of a pattern: a variable, a repetition, a subtree or a token. `judge` goes once through all parts with
-//! a list of the open subtrees and repetitions, keeps the names it met and the first fault so far, and returns that fault with the
-//! flat place of its `$`. A repetition that may take no tree is a fault of its beginning, which `judge` knows at its end.
+//! a list of the open subtrees and repetitions. It keeps the names it met and the first fault so far, and returns that fault with the flat
+//! place of its `$`. A repetition that may take no tree is a fault of its beginning, which `judge` knows at its end.
 //!
 //! Other crates use the calls on the front of trees here: `pass`, `take`, `unit_size`, `is_at_word`, `is_at_punct`.
 #![tactic(auto)]

@@ -1,4 +1,4 @@
-//! A pattern's trees, part by part.
+//! Reads a pattern's trees, part by part.
 ghost use Rattle.std.specs.Prelude.{◌≡◌, ◌≤◌, ◌+◌, ◌∷◌, [], true, IfOk};
 ghost use Rattle.tt.specs.Forest.{leaf, size};
 ghost use Rattle.tt.specs.Iters.{rest_of};
@@ -11,10 +11,10 @@ use crate::signs::{Sign, Tail, first_unit, is_dollar, sign_in};
 use std::alloc::{AllocError, Global};
 use tt::{DelimiterKind, Leaf, TtElement, TtIter};
 
-/// The part of a pattern that comes first.
+/// The first part of a pattern.
 #[derive(Drop)]
 pub enum Part<'p> {
-    /// There is none.
+    /// There is no part.
     End,
     /// A variable: `$name:fragment`.
     Variable(Variable),
@@ -22,11 +22,11 @@ pub enum Part<'p> {
     Token(Vec<Leaf>),
     /// A subtree of that kind, and what it holds.
     Subtree(DelimiterKind, TtIter<'p>),
-    /// What a repetition holds, and what stands behind that.
+    /// What a repetition holds, and what follows that.
     Repetition(TtIter<'p>, Tail),
 }
 
-// A token of one leaf.
+// Returns a token of one leaf.
 fn one_leaf(alloc: Global, leaf: Leaf) -> Result<Vec<Leaf>, AllocError>
     ensures { IfOk result (λ leaves. leaves.items ≡ leaf ∷ []) }
 {
@@ -35,7 +35,7 @@ fn one_leaf(alloc: Global, leaf: Leaf) -> Result<Vec<Leaf>, AllocError>
     Ok(leaves)
 }
 
-// The part that a `$` begins, behind which the siblings stand.
+// Reads the part that a `$` begins; the siblings follow the `$`.
 fn signed_part<'p>(
     alloc: Global,
     dollar: Leaf,
@@ -62,7 +62,7 @@ fn signed_part<'p>(
     }
 }
 
-/// The first part of the pattern that these trees spell, which is passed. It is refused only where memory is.
+/// Reads and passes the first part of the pattern that these trees spell. Fails only if memory runs out.
 pub fn next_part<'p>(alloc: Global, trees: &mut TtIter<'p>) -> Result<Part<'p>, AllocError>
     ensures part { IfOk result (λ part. IsPart (pattern_of (rest_of trees.old)) part (pattern_of (rest_of trees.new))) }
     ensures less { IfOk result (λ part. AreLess part (held_size part + size (rest_of trees.new)) (size (rest_of trees.old))) }

@@ -6,7 +6,7 @@ use tt::Symbol;
 pub enum Fragment {
     /// An ident other than `_`.
     Ident,
-    /// A literal, a truth value, or a number behind `-`.
+    /// A literal, a truth value, or a number after `-`.
     Literal,
     /// A `'` and its ident.
     Lifetime,
@@ -20,7 +20,7 @@ pub enum Fragment {
     Grammar(GrammarFragment),
 }
 
-/// A variable of a pattern. One that is written `_` has no name.
+/// A variable of a pattern. A variable written as `_` has no name.
 #[derive(Drop)]
 pub struct Variable {
     pub name: Option<Symbol>,

@@ -1,4 +1,4 @@
-//! What a `$` of a pattern begins, as it is read from what stands behind it.
+//! What a `$` of a pattern begins, read from what follows it.
 ghost use Rattle.std.specs.Prelude.{◌≡◌, ◌≤◌, IfOk, option_map};
 ghost use Rattle.tt.specs.Forest.{size};
 ghost use Rattle.tt.specs.Gluing.{after_trees};
@@ -13,7 +13,7 @@ use crate::units::unit_size;
 use std::alloc::{AllocError, Global};
 use tt::{DelimiterKind, Ident, IdentIsRaw, Leaf, Symbol, TtElement, TtIter};
 
-/// What stands behind what a repetition holds: a separator or none, and its kind.
+/// What follows the inside of a repetition: a separator or none, and its kind.
 #[derive(Drop)]
 pub struct Tail {
     pub separator: Vec<Leaf>,
@@ -30,7 +30,7 @@ pub(crate) enum Sign {
     Nothing,
 }
 
-/// Whether the leaf is the punct `$`.
+/// Returns whether the leaf is the punct `$`.
 pub fn is_dollar(leaf: &Leaf) -> bool
     ensures { result ≡ is_dollar leaf.now }
 {
@@ -40,7 +40,7 @@ pub fn is_dollar(leaf: &Leaf) -> bool
     }
 }
 
-// So many leaves at the front, if there are as many.
+// Returns the first `count` leaves, or fewer if a subtree or the end comes before.
 fn front_leaves(alloc: Global, count: usize, mut trees: TtIter<'_>) -> Result<Vec<Leaf>, AllocError>
     ensures { IfOk result (λ leaves. leaves.items ≡ front_leaves count (rest_of trees.entry)) }
 {
@@ -54,7 +54,7 @@ fn front_leaves(alloc: Global, count: usize, mut trees: TtIter<'_>) -> Result<Ve
     Ok(leaves)
 }
 
-/// The leaves of the first token; none where there is no leaf.
+/// Returns the leaves of the first token; none if no leaf comes first.
 pub(crate) fn first_unit(alloc: Global, trees: TtIter<'_>) -> Result<Vec<Leaf>, AllocError>
     ensures { IfOk result (λ leaves. leaves.items ≡ first_unit (rest_of trees.entry)) }
 {
@@ -63,7 +63,7 @@ pub(crate) fn first_unit(alloc: Global, trees: TtIter<'_>) -> Result<Vec<Leaf>, 
 }
 
 impl GrammarFragment {
-    // The fragment of Rust's grammar that has that name.
+    // Returns the fragment of Rust's grammar that has that name.
     fn named(name: &Symbol) -> Option<GrammarFragment>
         ensures { result ≡ grammar_named name.now }
     {
@@ -83,7 +83,7 @@ impl GrammarFragment {
 }
 
 impl Fragment {
-    // The fragment of that name.
+    // Returns the fragment of that name.
     fn named(name: &Symbol) -> Option<Fragment>
         ensures { result ≡ fragment_named name.now }
     {
@@ -99,7 +99,7 @@ impl Fragment {
     }
 }
 
-// The name that an ident gives: `_` gives none.
+// Returns the name that an ident gives; `_` gives none.
 fn name_of(ident: Ident) -> Option<Symbol>
     ensures { result ≡ name_of ident }
 {
@@ -110,7 +110,7 @@ fn name_of(ident: Ident) -> Option<Symbol>
     }
 }
 
-// The variable whose `$` stands before these siblings.
+// Returns the variable whose `$` precedes these siblings.
 fn variable_in(mut siblings: TtIter<'_>) -> Option<Variable>
     ensures { result ≡ variable_in (rest_of siblings.entry) }
 {
@@ -123,7 +123,7 @@ fn variable_in(mut siblings: TtIter<'_>) -> Option<Variable>
     })
 }
 
-// The kind of repetition that a token tells, where it is one punct.
+// Returns the kind of repetition that a token spells, if it is one punct.
 fn as_repeat_kind(leaves: &[Leaf]) -> Option<RepeatKind>
     ensures { result ≡ as_repeat_kind leaves.now }
 {
@@ -141,7 +141,7 @@ fn as_repeat_kind(leaves: &[Leaf]) -> Option<RepeatKind>
     }
 }
 
-// Whether a token separates: it is not `$`, and is there.
+// Returns whether a token separates: it is there, and is not `$`.
 fn is_separator(leaves: &[Leaf]) -> bool
     ensures { result ≡ is_separator leaves.now }
 {
@@ -151,7 +151,7 @@ fn is_separator(leaves: &[Leaf]) -> bool
     }
 }
 
-// The tail that stands first, if one does.
+// Returns the tail at the front, if there is one.
 fn tail_in(alloc: Global, mut siblings: TtIter<'_>) -> Result<Option<Tail>, AllocError>
     ensures { IfOk result (λ tail. option_map tail_of tail ≡ tail_in (rest_of siblings.entry)) }
 {
@@ -176,7 +176,7 @@ fn tail_in(alloc: Global, mut siblings: TtIter<'_>) -> Result<Option<Tail>, Allo
     }
 }
 
-/// Parentheses and a tail, if they stand first. It is refused only where memory is.
+/// Returns the tail after parentheses, if both come first. Fails only if memory runs out.
 pub fn repetition_in(alloc: Global, mut siblings: TtIter<'_>) -> Result<Option<Tail>, AllocError>
     ensures { IfOk result (λ tail. option_map tail_of tail ≡ repetition_in (rest_of siblings.entry)) }
 {
@@ -192,7 +192,7 @@ pub fn repetition_in(alloc: Global, mut siblings: TtIter<'_>) -> Result<Option<T
     }
 }
 
-/// Whether the plain ident `crate` stands first.
+/// Returns whether the first tree is the plain ident `crate`.
 pub fn is_crate_in(mut siblings: TtIter<'_>) -> bool
     ensures { result ≡ is_crate_in (rest_of siblings.entry) }
 {
@@ -205,7 +205,7 @@ pub fn is_crate_in(mut siblings: TtIter<'_>) -> bool
     }
 }
 
-/// What a `$` before these siblings begins.
+/// Returns what a `$` before these siblings begins.
 pub(crate) fn sign_in(alloc: Global, siblings: TtIter<'_>) -> Result<Sign, AllocError>
     ensures { IfOk result (λ sign. sign_of sign ≡ sign_in (rest_of siblings.entry)) }
 {

@@ -1,11 +1,11 @@
-//! Which trees stand as one token.
+//! Which trees form one token.
 ghost use Rattle.std.specs.Prelude.{◌≡◌, ◌∷◌, []};
 ghost use Rattle.tt.specs.Iters.{rest_of};
 ghost use Rattle.mbe_pattern.specs.Units.{is_at_ident, is_at_punct, is_at_word, unit_from, unit_size};
 
 use tt::{IdentIsRaw, TtIter};
 
-/// How many trees stand as one at the front: those of a token, or a subtree.
+/// Returns how many trees the first unit has: those of a token, or one subtree.
 pub fn unit_size(mut trees: TtIter<'_>) -> usize
     ensures { result ≡ unit_size (rest_of trees.entry) }
 {
@@ -26,7 +26,7 @@ pub fn unit_size(mut trees: TtIter<'_>) -> usize
     }
 }
 
-/// Whether the ident of that text is first, and is not raw.
+/// Returns whether the first tree is the ident of that text, and is not raw.
 pub fn is_at_word(mut trees: TtIter<'_>, text: &str) -> bool
     ensures { result ≡ is_at_word text.now (rest_of trees.entry) }
 {
@@ -39,7 +39,7 @@ pub fn is_at_word(mut trees: TtIter<'_>, text: &str) -> bool
     }
 }
 
-/// Whether a punct of that character is first.
+/// Returns whether the first tree is a punct of that character.
 pub fn is_at_punct(mut trees: TtIter<'_>, char: char) -> bool
     ensures { result ≡ is_at_punct (char ∷ []) (rest_of trees.entry) }
 {

@@ -29,13 +29,13 @@ none_left end p = refl
 none_left (leaf it rest) p = absurd (cc p)
 none_left (node delimiter children rest) p = absurd (cc p)
 
--- A leaf stands first.
+-- The first tree is a leaf.
 pub leaf_before : (trees : Forest) (it : Leaf) → IsFirstElement trees (Some (element.Leaf it)) → trees ≡ leaf it (after_tree trees)
 leaf_before end it p = absurd p
 leaf_before (leaf other rest) it p = ap (λ l. leaf l rest) (sym p)
 leaf_before (node delimiter children rest) it p = absurd p
 
--- A subtree stands first.
+-- The first tree is a subtree.
 pub node_before : (trees : Forest) (header : Subtree) (below : TtIter) → IsFirstElement trees (Some (element.Subtree header below))
     → trees ≡ node header.delimiter (rest_of below) (after_tree trees)
 node_before end header below p = absurd p
@@ -52,7 +52,7 @@ module _ (old new : Pair) (before after : List Forest) where
         same,
       )
 
-  -- The pattern alone is.
+  -- Only the pattern is at its end.
   pub goes_on : IsFirstElement (rest_of old.pattern) None → is_end (rest_of old.input) ≡ false → Advances old before progress.Differs new after
   goes_on none more m =
       let over = none_first (rest_of old.pattern) none in
@@ -101,7 +101,7 @@ module _ (old new : Pair) (before after : List Forest) where
       stands : pattern_of (rest_of old.pattern) ≡ token it (pattern_of (after_tree (rest_of old.pattern)))
       stands = ap pattern_of begins ∙ token_first it (after_tree (rest_of old.pattern)) at
 
-      -- The leaf is there.
+      -- The input has the leaf.
       pub token_passes : IsLeafLike it (rest_of old.input) → rest_of new.pattern ≡ after_tree (rest_of old.pattern) → rest_of new.input ≡ after_tree (rest_of old.input)
           → after ≡ before → Advances old before progress.Passes new after
       token_passes like behind rest same = (
@@ -113,7 +113,7 @@ module _ (old new : Pair) (before after : List Forest) where
         omega (arith, ap size begins, ap size behind),
       )
 
-      -- It is not.
+      -- The input does not have it.
       pub token_differs : (IsLeafLike it (rest_of old.input) → ⊥) → Advances old before progress.Differs new after
       token_differs other m = other (subst (λ p. Matches p (rest_of old.input)) stands m).0
 
@@ -144,7 +144,7 @@ module _ (old new : Pair) (before after : List Forest) where
           omega (arith, ap size opens, ap (λ p. size (rest_of p)) is_inside, ap size behind),
         )
 
-    -- No subtree is there.
+    -- The input has no subtree there.
     pub node_missed : is_at_node (rest_of old.input) ≡ false → Advances old before progress.Differs new after
     node_missed none m =
         let like : IsNodeOf header.delimiter.kind (rest_of old.input) = (subst (λ f. Matches (pattern_of f) (rest_of old.input)) opens m).0 in
@@ -155,7 +155,7 @@ module _ (old new : Pair) (before after : List Forest) where
         at (leaf it rest) none like = like
         at (node delimiter children rest) none like = cc none
 
-    -- One of another kind is.
+    -- The input has a subtree of another kind.
     pub kind_differs : (other : Subtree) (held : TtIter) → IsFirstElement (rest_of old.input) (Some (element.Subtree other held))
         → (other.delimiter.kind ≡ header.delimiter.kind → ⊥) → Advances old before progress.Differs new after
     kind_differs other held found differs m =

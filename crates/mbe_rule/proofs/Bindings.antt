@@ -1,4 +1,4 @@
--- An instance has one binding: the names of the pattern beside the trees that stand there.
+-- An instance has one binding: the names of the pattern, paired with the trees in their places.
 use Rattle.std.proofs.Common.{◌≡◌, ◌+◌, suc, Bool, true, false, cond, List, [], ◌∷◌, ◌++◌, Option, None, Some, length, map, refl, ap, ap₂, sym, ◌∙◌, arith, length-append}
 use Rattle.std.proofs.lemmas.List.{map-append}
 use Rattle.std.specs.List.{zip}
@@ -20,7 +20,7 @@ names (variable it others) = it.name ∷ names others
 names (token it others) = names others
 names (subtree kind inner others) = names inner ++ names others
 
--- As many trees are bound as there are names.
+-- There are as many bound trees as names.
 pub as_many : (p : Pattern) (input : Forest) → length (names p) ≡ length (trees_bound p input)
 as_many nothing input = refl
 as_many (variable it others) input = ap suc (as_many others (after_tree input))
@@ -30,7 +30,7 @@ as_many (subtree kind inner others) input =
     ∙ ap₂ (λ m n. m + n) (as_many inner (children_of input)) (as_many others (after_tree input))
     ∙ sym (length-append (trees_bound inner (children_of input)) (trees_bound others (after_tree input)))
 
--- Two lists beside two others of the same lengths.
+-- Two lists paired with two others of the same lengths.
 zip-append : (ks ls : List Name) (xs ys : List Forest) → length ks ≡ length xs → zip (ks ++ ls) (xs ++ ys) ≡ zip ks xs ++ zip ls ys
 zip-append [] ls [] ys e = refl
 zip-append [] ls (x ∷ xs) ys e = absurd (omega (arith, e))
@@ -41,7 +41,7 @@ zip-append (k ∷ ks) ls (x ∷ xs) ys e = ap (λ z. (k, x) ∷ z) (zip-append k
 abbrev pub binding_of : Pattern → (input : Forest) → Binding
 binding_of p input = zip (names p) (trees_bound p input)
 
--- What is bound in the subtree, and behind it.
+-- What is bound in the subtree, and after it.
 binding_parts : (inner others : Pattern) (input : Forest)
     → zip (names inner ++ names others) (trees_bound inner (children_of input) ++ trees_bound others (after_tree input))
     ≡ binding_of inner (children_of input) ++ binding_of others (after_tree input)
@@ -82,7 +82,7 @@ names_of-append [] ys = refl
 names_of-append (None ∷ xs) ys = names_of-append xs ys
 names_of-append (Some it ∷ xs) ys = ap (λ n. it.name ∷ n) (names_of-append xs ys)
 
--- the names behind the parts of a variable
+-- the names after the parts of a variable
 names_behind : (siblings : Forest) → IsSpelled siblings → names (other_parts (other_parts (other_parts (pattern_of siblings)))) ≡ names (pattern_of siblings)
 names_behind siblings is =
     ap (λ p. names (other_parts (other_parts (other_parts p)))) is.first.part
@@ -90,7 +90,7 @@ names_behind siblings is =
     ∙ ap (λ p. names (other_parts p)) is.third.part
     ∙ sym (ap names is.first.part ∙ ap names is.second.part ∙ ap names is.third.part)
 
--- The names of a leaf's part, where those behind it are known.
+-- The names of a leaf's part, if those after it are known.
 names_of_leaf : (it : Leaf) (rest : Forest) → names_in rest ≡ names (pattern_of rest) → names_in (leaf it rest) ≡ names (pattern_of (leaf it rest))
 names_of_leaf it rest same = by (is_dollar it)
   where
@@ -104,7 +104,7 @@ names_of_leaf it rest same = by (is_dollar it)
     by true = behind (variable_in rest) refl
     by false = same
 
--- The names found behind each `$` are those of the pattern.
+-- The names found after each `$` are those of the pattern.
 pub names_found : (trees : Forest) → names_in trees ≡ names (pattern_of trees)
 names_found end = refl
 names_found (leaf it rest) = names_of_leaf it rest (names_found rest)

@@ -1,4 +1,4 @@
--- What one tree more does to a walk from `$` to `$`.
+-- What one more tree does to a walk from `$` to `$`.
 use Rattle.std.proofs.Common.{◌≡◌, ◌+◌, ℕ, Bool, true, false, List, [], ◌∷◌, ◌++◌, None, Some, if◌then◌else◌, refl, ap, sym, ◌∙◌, append_assoc}
 use Rattle.tt.specs.Forest.{Forest, end, leaf, node, size}
 use Rattle.tt.specs.Iters.{rest_of, IsFirstElement}
@@ -24,7 +24,7 @@ behind_ended level outer none = by (rest_of level) none
     by (leaf it rest) p = absurd p
     by (node delimiter children rest) p = absurd p
 
--- A leaf is passed; `$` is found.
+-- A leaf is passed; a `$` is found.
 pub behind_leaf : (level next : TtIter) (outer : List TtIter) (found : Leaf)
     → IsFirstElement (rest_of level) (Some (element.Leaf found)) → rest_of next ≡ after_tree (rest_of level)
     → behind_in (level ∷ outer) ≡ (if is_dollar found then rest_of next ∷ behind_in (next ∷ outer) else behind_in (next ∷ outer))

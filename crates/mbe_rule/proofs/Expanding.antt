@@ -21,7 +21,7 @@ module _ (pattern input : Forest) (names : List Name) (taken : List Forest) (nam
   is_binding : zip names taken ≡ binding_of (pattern_of pattern) input
   is_binding = ap₂ (λ n t. zip n t) (named ∙ names_found pattern) bound
 
-  -- The input is bound so, and in no other way.
+  -- The input has this binding and no other.
   pub bound_by : IsBoundBy pattern input (zip names taken)
   bound_by =
       subst (IsBoundBy pattern input) (sym is_binding)

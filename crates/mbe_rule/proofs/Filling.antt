@@ -1,4 +1,4 @@
--- What becomes of a template that is partly placed.
+-- What a partly written template becomes.
 use Rattle.std.proofs.Common.{◌≡◌, ◌+◌, ◌≤◌, ℕ, List, [], ◌∷◌, Some, None, refl, ap, ap₂, sym, ◌∙◌, arith}
 use Rattle.tt.specs.Building.{Stack, lowest, above, append, close_innermost, tokens_held}
 use Rattle.tt.specs.Forest.{Forest, end, leaf, node, join, size}
@@ -13,7 +13,7 @@ use Rattle.tt_base.proofs.Appending.{append-end, append-join, held-append, held-
 use Rattle.mbe_rule.specs.declared.transcribing.Level.{Level}
 use Rattle.mbe_rule.specs.Instances.{Binding, filled}
 
--- the levels of a builder when all that is left of the template's is placed and closed, the innermost first
+-- the builder's levels after everything that is left of the template is placed and closed, the innermost first
 abbrev pub finished : Binding → List Level → Stack → Stack
 finished binding [] stack = stack
 finished binding (level ∷ outer) stack =
@@ -67,7 +67,7 @@ finished_subtree binding level next below outer stack subtree children first res
         ap₂ (λ d f. finished binding outer (close_innermost level.close (append (node d (filled binding f) (filled binding others)) stack))) (sym p.0) (sym p.2)
         ∙ ap (λ s. finished binding outer (close_innermost level.close s)) (append-join (node subtree.delimiter (filled binding (rest_of children)) end) (filled binding others) stack)
 
--- Not fewer are held in the end.
+-- No fewer tokens are held at the end.
 pub held_less : (binding : Binding) (levels : List Level) (stack : Stack) → tokens_held stack ≤ tokens_held (finished binding levels stack)
 held_less binding [] stack = omega arith
 held_less binding (level ∷ outer) stack =

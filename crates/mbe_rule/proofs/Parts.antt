@@ -1,4 +1,4 @@
--- Siblings that stand for themselves, and those of a variable or of a use.
+-- Literal siblings, and those of a variable or of a use.
 use Rattle.std.proofs.Common.{◌≡◌, ◌≤◌, ◌==◌, if◌then◌else◌, ℕ, Bool, true, false, [], ◌∷◌, Option, None, Some, refl, ap, ◌∙◌, arith}
 use Rattle.std.proofs.lemmas.Bool.Decides.{nat_tests}
 use Rattle.std.specs.List.{list_any}
@@ -13,14 +13,14 @@ use Rattle.mbe_rule.specs.declared.variable.Variable.{Variable}
 use Rattle.mbe_rule.specs.Instances.{token, variable, other_parts, begin_part, pattern_of, Binding, bound_to, place_leaf, filled}
 use Rattle.mbe_rule.specs.Variables.{is_dollar, as_fragment, name_in, is_colon_in, variable_from, variable_in, variable_at, use_at, behind_dollars}
 
--- the first sibling is a leaf that stands for itself
+-- the first sibling is a literal leaf
 pub record IsPlain (siblings : Forest) : Type 0 where
   pub it : Leaf
   pub part : pattern_of siblings ≡ token it (pattern_of (after_tree siblings))
   pub kept : (binding : Binding) → filled binding siblings ≡ leaf it (filled binding (after_tree siblings))
   pub passed : behind_dollars siblings ≡ behind_dollars (after_tree siblings)
 
--- Any leaf but `$` does.
+-- Any leaf other than `$` is literal.
 plain_leaf : (it : Leaf) (rest : Forest) → is_dollar it ≡ false → IsPlain (leaf it rest)
 plain_leaf it rest other =
     record {
@@ -30,7 +30,7 @@ plain_leaf it rest other =
       passed = rw other refl;
     }
 
--- A name does.
+-- A name is literal.
 pub plain_name : (siblings : Forest) (name : Name) → name_in siblings ≡ Some name → IsPlain siblings
 plain_name end name e = absurd (cc e)
 plain_name (leaf (leaf_of.Literal it) rest) name e = absurd (cc e)
@@ -42,7 +42,7 @@ plain_name (node delimiter children rest) name e = absurd (cc e)
 colon_no_dollar : (c : ℕ) → list_any (λ x. c == x) (58 ∷ []) ≡ true → (c == 36) ≡ false
 colon_no_dollar c e = grind (arith, nat_tests)
 
--- A colon does.
+-- A colon is literal.
 pub plain_colon : (siblings : Forest) → is_colon_in siblings ≡ true → IsPlain siblings
 plain_colon end e = absurd (cc e)
 plain_colon (leaf (leaf_of.Literal it) rest) e = absurd (cc e)
@@ -50,7 +50,7 @@ plain_colon (leaf (leaf_of.Punct it) rest) e = plain_leaf (leaf_of.Punct it) res
 plain_colon (leaf (leaf_of.Ident it) rest) e = absurd (cc e)
 plain_colon (node delimiter children rest) e = absurd (cc e)
 
--- A fragment does.
+-- A fragment is literal.
 pub plain_fragment : (siblings : Forest) (kind : Fragment) → first_leaf_as as_fragment siblings ≡ Some kind → IsPlain siblings
 plain_fragment end kind e = absurd (cc e)
 plain_fragment (leaf (leaf_of.Literal it) rest) kind e = absurd (cc e)
@@ -71,7 +71,7 @@ made_of (Some name) false kind it e = absurd (cc e)
 made_of (Some name) true None it e = absurd (cc e)
 made_of (Some name) true (Some kind) it e = record { named = cc; parted = refl; takes = cc }
 
--- the three siblings of a variable behind its `$` stand for themselves
+-- the three siblings of a variable after its `$` are literal
 pub record IsSpelled (siblings : Forest) : Type 0 where
   pub first : IsPlain siblings
   pub second : IsPlain (after_tree siblings)
@@ -86,7 +86,7 @@ spelled siblings it e =
       third = plain_fragment (after_tree (after_tree siblings)) it.fragment made.takes;
     }
 
--- The parts behind a variable are those of the siblings behind its four.
+-- The parts after a variable are those of the siblings after its four.
 pub parts_behind : (siblings : Forest) → IsSpelled siblings
     → other_parts (other_parts (other_parts (pattern_of siblings))) ≡ pattern_of (after_tree (after_tree (after_tree siblings)))
 parts_behind siblings is =
@@ -100,13 +100,13 @@ variable_of it siblings found e = by (is_dollar it) e
     by true p = p
     by false p = absurd (cc p)
 
--- A variable, and the parts behind it.
+-- A variable, and the parts after it.
 pub variable_first : (it : Leaf) (siblings : Forest) (found : Variable) → variable_at it siblings ≡ Some found
     → pattern_of (leaf it siblings) ≡ variable found (pattern_of (after_tree (after_tree (after_tree siblings))))
 variable_first it siblings found e =
     ap (λ o. begin_part it o (pattern_of siblings)) e ∙ ap (variable found) (parts_behind siblings (spelled siblings found (variable_of it siblings found e)))
 
--- A leaf that begins none stands for itself.
+-- A leaf that begins no variable is literal.
 pub token_first : (it : Leaf) (siblings : Forest) → variable_at it siblings ≡ None → pattern_of (leaf it siblings) ≡ token it (pattern_of siblings)
 token_first it siblings e = ap (λ o. begin_part it o (pattern_of siblings)) e
 
@@ -118,7 +118,7 @@ name_used it siblings name e = by (is_dollar it) e
     by true p = p
     by false p = absurd (cc p)
 
--- A use gives way, with its name.
+-- A use is replaced, with its name.
 pub use_first : (binding : Binding) (it : Leaf) (siblings : Forest) (name : Name) → use_at it siblings ≡ Some name
     → filled binding (leaf it siblings) ≡ join (bound_to name binding) (filled binding (after_tree siblings))
 use_first binding it siblings name e =
@@ -130,7 +130,7 @@ pub leaf_first : (binding : Binding) (it : Leaf) (siblings : Forest) → use_at 
     → filled binding (leaf it siblings) ≡ join (leaf it end) (filled binding siblings)
 leaf_first binding it siblings e = ap (λ o. place_leaf binding it o (filled binding siblings)) e
 
--- What is left behind the first tree is no larger.
+-- What is left after the first tree is no larger.
 pub after_smaller : (trees : Forest) → size (after_tree trees) ≤ size trees
 after_smaller end = omega arith
 after_smaller (leaf it rest) = omega arith

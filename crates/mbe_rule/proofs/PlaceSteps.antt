@@ -1,4 +1,4 @@
--- What one step of transcribing leaves to be placed, and why it is refused.
+-- What one step of transcribing leaves to be placed, and which errors it gives.
 use Rattle.std.proofs.Common.{◌≡◌, ◌+◌, ◌*◌, ◌<◌, ◌≤◌, ℕ, List, [], ◌∷◌, ◌++◌, Some, None, length, reverse, ap, ap₂, sym, subst, ◌∙◌, arith, length-append}
 use Rattle.std.proofs.lemmas.List.{reverse-append}
 use Rattle.tt.specs.Building.{BuilderState, lowest, opened, closed, tokens_held, IsOpen, IsGrowthFault}
@@ -48,7 +48,7 @@ module _ (binding : Binding) (levels olds : List Level) (level : Level) (old : B
         ∙ sym (finished_placed binding level next (reverse levels) old.stack placed.trees (ap (filled binding) begins ∙ placed.whole) close)
         ∙ left
 
-    -- It is not.
+    -- The leaf is not placed.
     pub leaf_fault : (root : Root) (fault : TtFault) → root.children ≡ trees → IsPlaceFault binding it siblings old fault → IsTreeFault root fault
     leaf_fault root fault same is =
         growth_refuses root (size is.trees) old fault
@@ -66,7 +66,7 @@ module _ (binding : Binding) (levels olds : List Level) (level : Level) (old : B
         ∙ sym (finished_subtree binding level next below (reverse levels) old.stack header children first rest close held round)
         ∙ left
 
-    -- It is not.
+    -- No subtree is opened.
     pub open_fault : (root : Root) (fault : TtFault) → root.children ≡ trees → IsGrowthFault 1 old fault → IsTreeFault root fault
     open_fault root fault same refused =
         growth_refuses root 1 old fault
@@ -78,7 +78,7 @@ abbrev pub work_left : List Level → ℕ
 work_left levels = 2 * tokens_left (reverse levels) + length levels
 
 module _ (levels olds news : List Level) (level next : Level) (was : olds ≡ levels ++ level ∷ []) where
-  -- Less is left behind a leaf.
+  -- Less is left after a leaf.
   pub leaf_smaller : (it : Leaf) (siblings : Forest) → news ≡ levels ++ next ∷ [] → IsFirstElement (rest_of level.rest) (Some (element.Leaf it))
       → siblings ≡ after_tree (rest_of level.rest) → size (rest_of next.rest) ≤ size siblings → work_left news < work_left olds
   leaf_smaller it siblings is first behind smaller =
@@ -92,7 +92,7 @@ module _ (levels olds news : List Level) (level next : Level) (was : olds ≡ le
         smaller,
       )
 
-  -- And in a subtree.
+  -- Less is left in a subtree.
   pub subtree_smaller : (header : Subtree) (children : TtIter) (below : Level) → news ≡ (levels ++ next ∷ []) ++ below ∷ []
       → IsFirstElement (rest_of level.rest) (Some (element.Subtree header children)) → rest_of next.rest ≡ after_tree (rest_of level.rest) → below.rest ≡ children
       → work_left news < work_left olds

@@ -25,11 +25,11 @@ use Rattle.tt_base.proofs.Appending.{held-append, held-close}
 use Rattle.mbe_rule.proofs.Filling.{finished, held_less}
 use Rattle.mbe_rule.proofs.Parts.{use_first, leaf_first, after_smaller}
 
--- Want of memory refuses any tree.
+-- Running out of memory is a fault of any tree.
 pub memory_refuses : (root : Root) (fault : TtFault) → fault ≡ Memory → IsTreeFault root fault
 memory_refuses root fault e = subst (IsTreeFault root) (sym e) tt
 
--- Tokens that are no more than those of a tree are refused for its sake.
+-- Too many tokens are a fault of a tree that has at least as many.
 pub growth_refuses : (root : Root) (more : ℕ) (s : BuilderState) (fault : TtFault) → tokens_held s.stack + more ≤ size root.children
     → IsGrowthFault more s fault → IsTreeFault root fault
 growth_refuses root more s fault within (inl (e, room)) = memory_refuses root fault e
@@ -49,7 +49,7 @@ places_use binding it siblings rest name old new trees used behind bound grown =
       smaller = omega (arith, ap size behind, after_smaller siblings);
     }
 
--- Another leaf is.
+-- Another leaf is placed.
 pub places_leaf : (binding : Binding) (it : Leaf) (siblings rest : Forest) (old new : BuilderState)
     → use_at it siblings ≡ None → rest ≡ siblings → new ≡ pushed it old
     → Places binding it siblings old rest new
@@ -61,7 +61,7 @@ places_leaf binding it siblings rest old new plain same grown =
       smaller = omega (arith, ap size same);
     }
 
--- A use is not.
+-- A use is not placed.
 pub use_refused : (binding : Binding) (it : Leaf) (siblings : Forest) (name : Name) (old : BuilderState) (trees : Forest) (fault : TtFault)
     → use_at it siblings ≡ Some name → trees ≡ bound_to name binding → IsGrowthFault (size trees) old fault → IsPlaceFault binding it siblings old fault
 use_refused binding it siblings name old trees fault used bound refused =
@@ -72,13 +72,13 @@ use_refused binding it siblings name old trees fault used bound refused =
       refused = refused;
     }
 
--- Another leaf is not.
+-- Another leaf is not placed.
 pub leaf_refused : (binding : Binding) (it : Leaf) (siblings : Forest) (old : BuilderState) (fault : TtFault)
     → use_at it siblings ≡ None → IsGrowthFault 1 old fault → IsPlaceFault binding it siblings old fault
 leaf_refused binding it siblings old fault plain refused =
     record { trees = leaf it end; rest = siblings; whole = leaf_first binding it siblings plain; refused = refused }
 
--- Or it may not be.
+-- Or a use may not be placed.
 pub use_refused_if : {A : Type 0} (binding : Binding) (it : Leaf) (siblings : Forest) (name : Name) (old : BuilderState) (trees : Forest) (result : Result A TtFault)
     → use_at it siblings ≡ Some name → trees ≡ bound_to name binding → IfErr result (IsGrowthFault (size trees) old)
     → IfErr result (IsPlaceFault binding it siblings old)
@@ -87,7 +87,7 @@ use_refused_if binding it siblings name old trees (Err fault) used bound refused
 
 module _ (binding : Binding) (level : Level) (outer : List Level) (stack : Stack) (trees : Forest)
     (whole : finished binding (level ∷ outer) stack ≡ lowest trees) where
-  -- All that is left of the level is among the trees.
+  -- Everything that is left of the level is among the trees.
   held_within : tokens_held stack + size (filled binding (rest_of level.rest)) ≤ size trees
   held_within =
       omega (
@@ -102,21 +102,21 @@ module _ (binding : Binding) (level : Level) (outer : List Level) (stack : Stack
   pub placed_within : (placed rest : Forest) → filled binding (rest_of level.rest) ≡ join placed (filled binding rest) → tokens_held stack + size placed ≤ size trees
   placed_within placed rest first = omega (arith, held_within, ap size first, size-join placed (filled binding rest))
 
-  -- And the header of a subtree that is opened.
+  -- So is the header of a subtree that is opened.
   pub opened_within : (header : Subtree) (below : TtIter) → IsFirstElement (rest_of level.rest) (Some (element.Subtree header below)) → tokens_held stack + 1 ≤ size trees
   opened_within header below first =
       omega (arith, held_within, ap (λ f. size (filled binding f)) (node_before (rest_of level.rest) header below first))
 
--- Where no subtree is open there is nothing to close.
+-- If no subtree is open, there is nothing to close.
 pub none_closed : (span : Span) (stack : Stack) → (IsAbove stack → ⊥) → close_innermost span stack ≡ stack
 none_closed span (lowest trees) none = refl
 none_closed span (above outer kind open_span trees) none = absurd (none tt)
 
--- Where all is placed no subtree is open.
+-- If everything is placed, no subtree is open.
 pub none_open : (s : BuilderState) (trees : Forest) → s.stack ≡ lowest trees → IsOpen s → ⊥
 none_open s trees e is = subst IsAbove e is
 
--- The tree is then the template filled.
+-- The tree is then the filled template.
 pub built_expansion : (binding : Binding) (template : Root) (s : BuilderState) → s.top ≡ template.delimiter → s.stack ≡ lowest (filled binding template.children)
     → built s ≡ expansion template binding
 built_expansion binding template s top whole = λ i. record { delimiter = top i; children = bottom (whole i) }

@@ -40,7 +40,7 @@ ident_taken = ([], refl, refl, (refl, refl))
 ident_placed : filled ((plain (codes "x"), one (codes "b")) ∷ []) (subtree Bracket (used (codes "x") end)) ≡ subtree Bracket (one (codes "b"))
 ident_placed = refl
 
--- Neither `_`, nor two idents, nor nothing is an instance of it.
+-- `_`, two idents and nothing are no instances of it.
 no_underscore : (b : Binding) → IsInstance (pattern_of (var (codes "x") (codes "ident") end)) (one (codes "_")) b → ⊥
 no_underscore b (more, taken, bound, rest) = cc taken
 
@@ -50,7 +50,7 @@ no_second b (more, taken, bound, rest) = cc rest.0
 none_left : (b : Binding) → IsInstance (pattern_of (var (codes "x") (codes "ident") end)) end b → ⊥
 none_left b (more, taken, bound, rest) = cc taken
 
--- A subtree is taken whole, and can stand twice.
+-- A subtree is taken whole, and can be used twice.
 tree_taken : IsInstance (pattern_of (var (codes "t") (codes "tt") end)) (subtree Parenthesis (one (codes "a"))) ((plain (codes "t"), subtree Parenthesis (one (codes "a"))) ∷ [])
 tree_taken = ([], refl, refl, (refl, refl))
 
@@ -73,14 +73,14 @@ in_brackets b (held, more, like, bound, below, rest) = cc like
 no_raw : (b : Binding) → IsInstance (pattern_of (one (codes "x"))) (leaf (raw (codes "x")) end) b → ⊥
 no_raw b (like, rest) = cc like.1
 
--- A punct agrees by its character, whatever its spacing; an opaque subtree is no invisible one.
+-- A punct agrees by its character, with any spacing; an opaque subtree is no invisible one.
 spaced : IsInstance (pattern_of (leaf (punct 61 Joint) end)) (leaf (punct 61 Alone) end) []
 spaced = (refl, (refl, refl))
 
 no_opaque : (b : Binding) → IsInstance (pattern_of (subtree Invisible end)) (subtree InvisibleOpaque end) b → ⊥
 no_opaque b (held, more, like, bound, below, rest) = cc like
 
--- Each use takes the tree of its own name, and what is used is gone with its name.
+-- Each use takes the tree of its own name, and a use disappears with its name.
 each_its_own : filled ((plain (codes "x"), one (codes "a")) ∷ (plain (codes "y"), one (codes "b")) ∷ []) (used (codes "y") (used (codes "x") (one (codes "c"))))
     ≡ join (one (codes "b")) (join (one (codes "a")) (one (codes "c")))
 each_its_own = refl
@@ -107,10 +107,10 @@ unknown_raw = refl
 no_underscore_name : rule_fault (var (codes "_") (codes "tt") end) end ≡ Some BadPattern
 no_underscore_name = refl
 
--- The first fault in reading order: what a subtree holds comes before what is behind it.
+-- The first fault in reading order: what a subtree holds comes before what follows it.
 inner_first : rule_fault (node (delimiter Brace (span 0 1) (span 1 1)) (var (codes "x") (codes "tt") (var (codes "x") (codes "tt") end)) (leaf (punct 36 Alone) end)) end ≡ Some DuplicateName
 inner_first = refl
 
--- A fragment in a subtree is none.
+-- A fragment in a subtree does not count.
 apart : rule_fault (used (codes "x") (leaf (punct 58 Alone) (subtree Parenthesis (one (codes "tt"))))) end ≡ Some BadPattern
 apart = refl

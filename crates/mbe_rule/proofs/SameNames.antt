@@ -1,4 +1,4 @@
--- `==` of names tells whether they are one, and what lists of names make of it.
+-- `==` of names is sameness, and what follows for lists of names.
 use Rattle.std.proofs.Common.{◌≡◌, ◌+◌, ◌<◌, ◌≤◌, ◌&&◌, ℕ, zero, suc, Bool, true, false, cond, not, List, [], ◌∷◌, None, Some, length, get_or, map, bytes_eq, nat_lt, slice_get, option_map, refl, ap, sym, ◌∙◌, arith}
 use Rattle.std.proofs.lemmas.Bool.Decides.{nat_tests}
 use Rattle.std.specs.Prelude.{position}
@@ -12,7 +12,7 @@ use Rattle.mbe_rule.specs.contracts.variable.NamePartialEq.TheImpl as name_impl
 use Rattle.mbe_rule.specs.Instances.{bound_to}
 use Rattle.mbe_rule.specs.Variables.{same_name, same_rawness}
 
--- So for rawness.
+-- The same for rawness.
 raw_eq : (a b : IdentIsRaw) → (raw_impl.ghosts).eq a b ≡ same_rawness a b
 raw_eq No No = refl
 raw_eq No Yes = refl
@@ -36,7 +36,7 @@ bound_missed name (n ∷ names) (t ∷ trees) past = by (same_name name n) past 
     by true h rest = absurd (omega (arith, h))
     by false h rest = rest (omega (arith, h))
 
--- A name is bound to the tree of its number.
+-- A name is bound to the tree of its index.
 pub bound_found : (name : Name) (names : List Name) (trees : List Forest) → position_or_len (same_name name) names < length names
     → bound_to name (zip names trees) ≡ get_or trees (position_or_len (same_name name) names) end
 bound_found name [] trees among = absurd (omega (arith, among))
@@ -51,7 +51,7 @@ bound_found name (n ∷ names) (t ∷ trees) among = by (same_name name n) among
         let next : suc (position_or_len (same_name name) names) ≡ 1 + position_or_len (same_name name) names = omega arith in
         rest (omega (arith, h)) ∙ ap (λ i. get_or (t ∷ trees) i end) next
 
--- The place of a name among names, where it is there.
+-- The index of a name among names, if it is there.
 index_of : (test : Name → Bool) (names : List Name) (i : ℕ) → position test names ≡ Some i → (position_or_len test names ≡ i) × (position_or_len test names < length names)
 index_of test names i e = by (nat_lt (position_or_len test names) (length names)) refl e
   where
@@ -60,7 +60,7 @@ index_of test names i e = by (nat_lt (position_or_len test names) (length names)
     by true lt same = (cc, grind (arith, nat_tests))
     by false lt same = absurd (cc same)
 
--- Or it is not.
+-- If it is not there.
 index_none : (test : Name → Bool) (names : List Name) → position test names ≡ None → length names ≤ position_or_len test names
 index_none test names e = by (nat_lt (position_or_len test names) (length names)) refl e
   where
@@ -69,7 +69,7 @@ index_none test names e = by (nat_lt (position_or_len test names) (length names)
     by true lt same = absurd (cc same)
     by false lt same = grind (arith, nat_tests)
 
--- What stands at a place.
+-- The item at an index.
 get_some : (trees : List Forest) (i : ℕ) (tree : Forest) → slice_get trees i ≡ Some tree → get_or trees i end ≡ tree
 get_some [] i tree e = absurd (cc e)
 get_some (t ∷ trees) zero tree e = cc
@@ -86,7 +86,7 @@ module _ (name : Name) (names : List Name) (trees : List Forest) where
   not_bound e = bound_missed name names trees (index_none (same_name name) names (ap (λ eq. position (eq name) names) (sym name_eq) ∙ e))
 
   module _ (i : ℕ) (at : position ((name_impl.ghosts).eq name) names ≡ Some i) where
-    -- the place, by sameness
+    -- the index, by sameness
     place : (position_or_len (same_name name) names ≡ i) × (position_or_len (same_name name) names < length names)
     place = index_of (same_name name) names i (ap (λ eq. position (eq name) names) (sym name_eq) ∙ at)
 
@@ -97,7 +97,7 @@ module _ (name : Name) (names : List Name) (trees : List Forest) where
     pub bound_past : slice_get trees i ≡ None → bound_to name (zip names trees) ≡ end
     bound_past e = bound_found name names trees place.1 ∙ ap (λ k. get_or trees k end) place.0 ∙ get_none trees i e
 
--- What stands at a place of mapped items.
+-- The item at an index of mapped items.
 pub slice_get-map : {X Y : Type 0} (f : X → Y) (xs : List X) (i : ℕ) → slice_get (map f xs) i ≡ option_map f (slice_get xs i)
 slice_get-map f [] i = refl
 slice_get-map f (x ∷ xs) zero = refl

@@ -6,11 +6,11 @@ use Rattle.tt.specs.Types.TtIter.{TtIter}
 use Rattle.mbe_rule.specs.declared.dollars.Dollars.{Dollars}
 use Rattle.mbe_rule.specs.Variables.{behind_dollars}
 
--- the siblings behind each `$` of levels, the innermost of which comes first
+-- the siblings after each `$` of the levels; the innermost level comes first
 abbrev pub behind_in : List TtIter → List Forest
 behind_in [] = []
 behind_in (level ∷ outer) = behind_dollars (rest_of level) ++ behind_in outer
 
--- the siblings behind each `$` that is still to come
+-- the siblings after each `$` that is still to come
 abbrev pub dollars_left : Dollars → List Forest
 dollars_left dollars = behind_in (reverse dollars.levels.items)

@@ -16,14 +16,14 @@ number_of DuplicateName = 3
 number_of UnknownName = 4
 number_of Memory = 5
 
--- the first fault of what stands at each `$` of a pattern, behind variables of these names
+-- the first fault of what follows each `$` of a pattern, after variables of these names
 abbrev pub fault_of_variables : (before : List Name) → List (Option Variable) → Option RuleFault
 fault_of_variables before [] = None
 fault_of_variables before (None ∷ others) = Some BadPattern
 fault_of_variables before (Some it ∷ others) =
     if list_any (same_name it.name) before then Some DuplicateName else fault_of_variables (before ++ it.name ∷ []) others
 
--- the first fault of what stands at each `$` of a template, where the variables have these names
+-- the first fault of what follows each `$` of a template, if the variables have these names
 abbrev pub fault_of_uses : (names : List Name) → List (Option Name) → Option RuleFault
 fault_of_uses names [] = None
 fault_of_uses names (None ∷ others) = Some BadTemplate
@@ -33,11 +33,11 @@ fault_of_uses names (Some it ∷ others) = if list_any (same_name it) names then
 abbrev pub pattern_fault : Forest → Option RuleFault
 pattern_fault pattern = fault_of_variables [] (map variable_in (behind_dollars pattern))
 
--- the first fault of a template, where the variables have these names
+-- the first fault of a template, if the variables have these names
 abbrev pub template_fault : (names : List Name) → Forest → Option RuleFault
 template_fault names template = fault_of_uses names (map name_in (behind_dollars template))
 
--- the one, or else the other
+-- the first, or otherwise the other
 abbrev pub or_else : Option RuleFault → Option RuleFault → Option RuleFault
 or_else None other = other
 or_else (Some fault) other = Some fault

@@ -1,4 +1,4 @@
--- When trees are an instance of a pattern, what is then bound to its names, and what becomes of a template.
+-- When trees are an instance of a pattern, what is then bound to its names, and what a template becomes.
 use Rattle.std.specs.Prelude.{◌≡◌, Bool, true, not, List, [], ◌∷◌, ◌++◌, Option, None, Some, is_some, if◌then◌else◌}
 use Rattle.tt.specs.Expectations.{first_leaf_as, as_literal, as_ident_or_underscore, unless_underscore}
 use Rattle.tt.specs.Forest.{Forest, Root, end, leaf, node, join}
@@ -14,7 +14,7 @@ use Rattle.mbe_rule.specs.declared.variable.Fragment.TheVariants as fragment
 use Rattle.mbe_rule.specs.declared.variable.Variable.{Variable}
 use Rattle.mbe_rule.specs.Variables.{same_name, variable_at, use_at}
 
--- a pattern: variables, leaves that stand for themselves, and subtrees of a kind
+-- a pattern: variables, leaves that are matched literally, and subtrees of a kind
 pub data Pattern : Type 0 where
   nothing : Pattern
   variable : Variable → Pattern → Pattern
@@ -28,7 +28,7 @@ other_parts (variable it others) = others
 other_parts (token it others) = others
 other_parts (subtree kind inner others) = others
 
--- a variable stands in the place of its `$`, its name, its colon and its fragment; any other leaf is a part of its own
+-- a variable replaces its `$`, its name, its colon and its fragment; any other leaf is a part of its own
 abbrev pub begin_part : Leaf → Option Variable → (behind : Pattern) → Pattern
 begin_part it None behind = token it behind
 begin_part it (Some found) behind = variable found (other_parts (other_parts (other_parts behind)))
@@ -49,7 +49,7 @@ takes fragment.Tt trees = not (is_end trees)
 abbrev pub Binding : Type 0
 Binding = List (Name × Forest)
 
--- the trees are an instance of the pattern, in which this is bound to its names, in reading order
+-- the trees are an instance of the pattern, which binds this to its names, in reading order
 abbrev pub IsInstance : Pattern → (input : Forest) → Binding → Type 0
 IsInstance nothing input binding = (input ≡ end) × (binding ≡ [])
 IsInstance (variable it others) input binding =
@@ -64,7 +64,7 @@ abbrev pub bound_to : Name → Binding → Forest
 bound_to name [] = end
 bound_to name (it ∷ others) = if same_name name it.0 then it.1 else bound_to name others
 
--- a use gives way to the tree that is bound to its name, with that name; any other leaf stays
+-- a use, with its name, is replaced by the tree that is bound to the name; any other leaf stays
 abbrev pub place_leaf : Binding → Leaf → Option Name → (behind : Forest) → Forest
 place_leaf binding it None behind = leaf it behind
 place_leaf binding it (Some name) behind = join (bound_to name binding) (after_tree behind)

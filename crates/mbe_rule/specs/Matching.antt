@@ -10,14 +10,14 @@ use Rattle.mbe_rule.specs.declared.matching.Progress.TheVariants as progress
 use Rattle.mbe_rule.specs.Instances.{Pattern, nothing, variable, token, subtree, pattern_of, takes}
 use Rattle.mbe_pattern.specs.Units.{IsLeafLike, IsNodeOf}
 
--- the trees agree with the pattern, whatever is bound
+-- the trees agree with the pattern, for any binding
 abbrev pub Matches : Pattern → (input : Forest) → Type 0
 Matches nothing input = input ≡ end
 Matches (variable it others) input = (takes it.fragment input ≡ true) × Matches others (after_tree input)
 Matches (token it others) input = IsLeafLike it input × Matches others (after_tree input)
 Matches (subtree kind inner others) input = IsNodeOf kind input × Matches inner (children_of input) × Matches others (after_tree input)
 
--- the trees that stand where the variables do, in reading order
+-- the trees in the places of the variables, in reading order
 abbrev pub trees_bound : Pattern → (input : Forest) → List Forest
 trees_bound nothing input = []
 trees_bound (variable it others) input = first_tree input ∷ trees_bound others (after_tree input)
@@ -36,7 +36,7 @@ pair_trees pair = trees_bound (pattern_of (rest_of pair.pattern)) (rest_of pair.
 abbrev pub pair_size : Pair → ℕ
 pair_size pair = size (rest_of pair.pattern)
 
--- what one step finds, where these trees were taken before it, and those behind it
+-- the result of one step, given the trees taken before it and after it
 abbrev pub Advances : Pair → (before : List Forest) → Progress → Pair → (after : List Forest) → Type 0
 Advances old before progress.Ends new after = PairMatches old × (pair_trees old ≡ []) × (after ≡ before)
 Advances old before progress.Passes new after =

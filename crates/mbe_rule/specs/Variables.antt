@@ -24,7 +24,7 @@ same_rawness No Yes = false
 same_rawness Yes No = false
 same_rawness Yes Yes = true
 
--- one name
+-- both names are the same
 abbrev pub same_name : Name → Name → Bool
 same_name a b = bytes_eq a.text b.text && same_rawness a.is_raw b.is_raw
 
@@ -44,7 +44,7 @@ fragment_named text =
     if bytes_eq text (codes "ident") then Some fragment.Ident
     else (if bytes_eq text (codes "literal") then Some fragment.Literal else (if bytes_eq text (codes "tt") then Some fragment.Tt else None))
 
--- the fragment that a text names: where it is raw, none
+-- the fragment that a text names; none if it is raw
 abbrev pub fragment_by : IdentIsRaw → List ℕ → Option Fragment
 fragment_by No text = fragment_named text
 fragment_by Yes text = None
@@ -59,11 +59,11 @@ as_fragment (leaf_of.Literal it) = None
 as_fragment (leaf_of.Punct it) = None
 as_fragment (leaf_of.Ident it) = fragment_of it
 
--- the name that stands first: an ident other than `_`
+-- the name at the front: an ident other than `_`
 abbrev pub name_in : Forest → Option Name
 name_in siblings = option_map name_of (unless_underscore (first_leaf_as as_ident_or_underscore siblings))
 
--- the punct `:` stands first
+-- the first tree is the punct `:`
 abbrev pub is_colon_in : Forest → Bool
 is_colon_in siblings = is_punct_of (codes ":") (first_leaf_as as_punct siblings)
 
@@ -74,7 +74,7 @@ variable_from (Some name) false kind = None
 variable_from (Some name) true None = None
 variable_from (Some name) true (Some kind) = Some (record { name = name; fragment = kind })
 
--- the variable whose `$` stands before these siblings
+-- the variable whose `$` precedes these siblings
 abbrev pub variable_in : Forest → Option Variable
 variable_in siblings =
     variable_from (name_in siblings) (is_colon_in (after_tree siblings)) (first_leaf_as as_fragment (after_tree (after_tree siblings)))
@@ -83,11 +83,11 @@ variable_in siblings =
 abbrev pub variable_at : Leaf → Forest → Option Variable
 variable_at it siblings = if is_dollar it then variable_in siblings else None
 
--- the name that is used by a leaf before these siblings
+-- the name that a leaf before these siblings uses
 abbrev pub use_at : Leaf → Forest → Option Name
 use_at it siblings = if is_dollar it then name_in siblings else None
 
--- the siblings behind each `$`, in reading order
+-- the siblings after each `$`, in reading order
 abbrev pub behind_dollars : Forest → List Forest
 behind_dollars end = []
 behind_dollars (leaf it rest) = if is_dollar it then rest ∷ behind_dollars rest else behind_dollars rest

@@ -1,4 +1,4 @@
-//! A walk through trees from `$` to `$`.
+//! Walks through trees from `$` to `$`.
 ghost use Rattle.std.specs.Prelude.{◌≡◌, ◌∷◌, [], IfOk, MatchOption};
 ghost use Rattle.tt.specs.Iters.{rest_of};
 ghost use Rattle.mbe_rule.specs.Variables.{behind_dollars};
@@ -8,7 +8,7 @@ use crate::variable::is_dollar;
 use std::alloc::{AllocError, Global};
 use tt::{TtElement, TtIter};
 
-/// A walk through trees in reading order that stops behind each `$`.
+/// A walk through trees in reading order that stops after each `$`.
 #[derive(Drop)]
 pub(crate) struct Dollars<'a> {
     // What is left of each list of siblings that was entered, the innermost last.
@@ -16,7 +16,7 @@ pub(crate) struct Dollars<'a> {
 }
 
 impl<'a> Dollars<'a> {
-    /// A walk that is still before the trees.
+    /// Returns a walk that is still before the trees.
     pub(crate) fn new(alloc: Global, trees: TtIter<'a>) -> Result<Dollars<'a>, AllocError>
         ensures { IfOk result (λ dollars. dollars_left dollars ≡ behind_dollars (rest_of trees.entry)) }
     {
@@ -25,7 +25,7 @@ impl<'a> Dollars<'a> {
         Ok(Dollars { levels })
     }
 
-    /// The siblings behind the next `$`, if there is one.
+    /// Returns the siblings after the next `$`, if there is one.
     pub(crate) fn next(&mut self) -> Result<Option<TtIter<'a>>, AllocError>
         ensures { IfOk result (λ found. MatchOption found (dollars_left self.old ≡ []) (λ behind. dollars_left self.old ≡ rest_of behind ∷ dollars_left self.new)) }
     {

@@ -7,19 +7,19 @@ use thiserror::Error;
 /// Why there is no rule of a pattern and a template. The pattern is judged before the template, each in reading order.
 #[derive(Debug, Clone, Copy, PartialEq, Eq, Error)]
 pub enum RuleFault {
-    /// A `$` of the pattern stands before no name, `:` and fragment.
+    /// A `$` of the pattern precedes no name, `:` and fragment.
     #[error("bad pattern")]
     BadPattern = 1,
-    /// A `$` of the template stands before no name.
+    /// A `$` of the template precedes no name.
     #[error("bad template")]
     BadTemplate = 2,
-    /// A variable has the name of one before it.
+    /// A variable has the name of an earlier one.
     #[error("duplicate name")]
     DuplicateName = 3,
     /// A use has the name of no variable.
     #[error("unknown name")]
     UnknownName = 4,
-    /// Memory was refused.
+    /// Memory ran out.
     #[error("out of memory")]
     Memory = 5,
 }
@@ -27,7 +27,7 @@ pub enum RuleFault {
 impl RuleFault {
     ghost use Rattle.mbe_rule.specs.Faults.{number_of};
 
-    /// The fault's number: 1 to 5, in the order in which the faults are listed.
+    /// Returns the fault's number: 1 to 5, in the order in which the faults are listed.
     pub fn number(&self) -> u8
         ensures { result ≡ number_of self.now }
     {

@@ -1,4 +1,4 @@
-//! Matching: a pattern's siblings beside those of an input.
+//! Matches a pattern's siblings with those of an input, side by side.
 ghost use Rattle.std.specs.Prelude.{◌≡◌, ◌↔◌, IsTrue, IfOk, MatchOption, map, Some, true, false};
 ghost use Rattle.tt.specs.Iters.{rest_of, PassesOne};
 ghost use Rattle.tt.specs.Moves.{after_tree};
@@ -12,7 +12,7 @@ use mbe_pattern::passes_leaf;
 use std::alloc::{AllocError, Global};
 use tt::{Leaf, TokenTreesView, TtElement, TtIter};
 
-/// What is left of a pattern's siblings, and of an input's that have to agree with them.
+/// What is left of a pattern's siblings, and of an input's siblings that must agree with them.
 #[derive(Drop)]
 pub(crate) struct Pair<'p, 'i> {
     pattern: TtIter<'p>,
@@ -22,17 +22,17 @@ pub(crate) struct Pair<'p, 'i> {
 /// What the next sibling of a pattern finds in an input.
 #[derive(Drop)]
 pub(crate) enum Progress<'p, 'i> {
-    /// There is none, and no tree of the input is left either.
+    /// There is no sibling, and no tree of the input is left either.
     Ends,
-    /// It agrees, and is passed with what it takes.
+    /// The sibling agrees, and is passed with what it takes.
     Passes,
-    /// Both are subtrees of one kind: what they hold has to agree.
+    /// Both are subtrees of one kind: what they hold must agree.
     Enters(Pair<'p, 'i>),
     /// The input is no instance.
     Differs,
 }
 
-// Whether the fragment takes the first of these trees.
+// Returns whether the fragment takes the first of these trees.
 fn is_taken(fragment: Fragment, mut input: TtIter<'_>) -> bool
     ensures { result ≡ takes fragment (rest_of input.entry) }
 {
@@ -43,7 +43,7 @@ fn is_taken(fragment: Fragment, mut input: TtIter<'_>) -> bool
     }
 }
 
-// The next tree, where the fragment takes it.
+// Takes and returns the next tree, if the fragment takes it.
 fn take<'i>(fragment: Fragment, input: &mut TtIter<'i>) -> Option<TokenTreesView<'i>>
     ensures tree { MatchOption result (takes fragment (rest_of input.old) ≡ false) (λ view. (takes fragment (rest_of input.old) ≡ true) × (trees_of view ≡ first_tree (rest_of input.old)) × (rest_of input.new ≡ after_tree (rest_of input.old))) }
 {
@@ -54,7 +54,7 @@ fn take<'i>(fragment: Fragment, input: &mut TtIter<'i>) -> Option<TokenTreesView
     }
 }
 
-// Passes the next sibling of the pattern with what it takes of the input.
+// Passes the next sibling of the pattern with what it takes from the input.
 fn advance<'p, 'i>(
     pair: &mut Pair<'p, 'i>,
     taken: &mut Vec<TokenTreesView<'i>>,
@@ -98,7 +98,7 @@ fn advance<'p, 'i>(
     }
 }
 
-/// The trees that the pattern's variables take, in reading order, where the input is an instance of the pattern.
+/// Returns the trees that the pattern's variables take, in reading order, if the input is an instance of the pattern.
 pub(crate) fn trees_taken<'i>(
     alloc: Global,
     pattern: TtIter<'_>,

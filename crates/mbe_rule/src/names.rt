@@ -1,4 +1,4 @@
-//! A pattern and a template judged at each `$`, in reading order.
+//! Judges a pattern and a template at each `$`, in reading order.
 ghost use Rattle.std.specs.Prelude.{◌≡◌, ◌⊎◌, None, Some, IfOk, IfErr, OnOk};
 ghost use Rattle.tt.specs.Views.{trees_of};
 ghost use Rattle.mbe_rule.specs.declared.fault.RuleFault.TheVariants.{Memory as NoMemory};
@@ -12,7 +12,7 @@ use indexmap::IndexSet;
 use std::alloc::Global;
 use tt::TokenTreesView;
 
-/// The names of the pattern's variables, in reading order, or its first fault.
+/// Returns the names of the pattern's variables, in reading order, or the pattern's first fault.
 pub(crate) fn pattern_names(
     alloc: Global,
     pattern: TokenTreesView<'_>,
@@ -34,7 +34,7 @@ pub(crate) fn pattern_names(
     Ok(names)
 }
 
-/// Finds the template's first fault, where the variables have these names.
+/// Finds the template's first fault, if the variables have these names.
 pub(crate) fn check_template(
     alloc: Global,
     template: TokenTreesView<'_>,

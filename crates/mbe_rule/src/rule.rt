@@ -30,10 +30,10 @@ impl<'a> Rule<'a> {
     ghost use Rattle.mbe_rule.specs.Expansions.{IsNoInstance, IsExpansion, IsExpandFault};
     ghost use Rattle.mbe_rule.specs.RuleOf.{pattern_of_rule, template_of_rule};
 
-    /// The rule of a pattern, which is what the one subtree holds, and a template, which is what the other does.
+    /// Returns the rule of a pattern and a template. The pattern is what the first subtree holds, the template what the second holds.
     ///
-    /// Else its first fault: the pattern is judged before the template, each in reading order. `RuleFault::Memory` where
-    /// memory was refused.
+    /// Otherwise returns the first fault: the pattern is judged before the template, each in reading order. Returns
+    /// `RuleFault::Memory` if memory runs out.
     pub fn new(
         alloc: Global,
         pattern: SubtreeView<'a>,
@@ -53,10 +53,10 @@ impl<'a> Rule<'a> {
         })
     }
 
-    /// What the rule makes of the input: the template under its own delimiter, each use of a variable replaced by the tree
-    /// that the variable took. `None` where the input is no instance of the pattern.
+    /// Returns what the rule makes of the input: the template under its own delimiter, each use of a variable replaced by the tree that the
+    /// variable took. Returns `None` if the input is no instance of the pattern.
     ///
-    /// A fault is `Memory` where memory was refused, or 7 to 10 (`TtFault::number`) where the result is past that limit.
+    /// The fault is `Memory` if memory runs out, or one of 7 to 10 (`TtFault::number`) if the result exceeds that limit.
     pub fn expand(
         &self,
         alloc: Global,

@@ -1,4 +1,4 @@
-//! Transcribing: a template is written anew, each use replaced by the tree that its variable took.
+//! Writes a template anew; each use is replaced by the tree that its variable took.
 ghost use Rattle.std.specs.Prelude.{◌≡◌, zip, map, slice_get, IfOk, IfErr, OnOk};
 ghost use Rattle.tt.specs.Building.{lowest};
 ghost use Rattle.tt.specs.Forest.{end};
@@ -18,21 +18,21 @@ use tt::{
     TtIter,
 };
 
-/// What is left of a subtree of a template that was entered, and the span that closes it.
+/// What is left of a template's subtree that was entered, and the span that closes it.
 #[derive(Drop)]
 pub(crate) struct Level<'t> {
     rest: TtIter<'t>,
     close: Span,
 }
 
-// The tree at that place among those taken.
+// Returns the tree at that index among those taken.
 fn tree_at<'i>(taken: &[TokenTreesView<'i>], index: usize) -> Option<TokenTreesView<'i>>
     ensures { result ≡ slice_get taken.now index }
 {
     taken.get(index).copied()
 }
 
-// The tree that is bound to a name: its variable's number is that of the tree it took.
+// Returns the tree that is bound to a name. The name and the tree that its variable took have the same index.
 fn bound<'i>(
     names: &IndexSet<Name>,
     taken: &[TokenTreesView<'i>],
@@ -49,7 +49,7 @@ fn bound<'i>(
     tree
 }
 
-// Appends the leaf, or, where it begins a use, what is bound to the name behind it.
+// Appends the leaf; if it begins a use, appends what is bound to the name after it.
 fn place(
     builder: &mut TopSubtreeBuilder,
     leaf: Leaf,
@@ -66,7 +66,7 @@ fn place(
     }
 }
 
-// Places all that the template holds in a builder that holds nothing yet.
+// Writes everything that the template holds to a builder that holds nothing yet.
 fn fill(
     alloc: Global,
     builder: &mut TopSubtreeBuilder,
@@ -106,8 +106,8 @@ fn fill(
     Ok(())
 }
 
-/// The template, written where the variables have these names and took these trees. A fault is `Memory`, or tells which
-/// limit the result is past.
+/// Returns the template, written for variables with these names that took these trees. The fault is `Memory`,
+/// or the limit that the result exceeds.
 pub(crate) fn transcribed(
     alloc: Global,
     template: SubtreeView<'_>,

@@ -1,4 +1,4 @@
-//! Variables of a pattern and uses in a template, as they are read from siblings.
+//! Reads variables of a pattern and uses in a template from siblings.
 ghost use Rattle.std.specs.Prelude.{◌≡◌, IfSome, IsNone};
 ghost use Rattle.tt.specs.Iters.{rest_of};
 ghost use Rattle.tt.specs.Moves.{after_tree};
@@ -28,7 +28,7 @@ pub(crate) struct Variable {
     pub(crate) fragment: Fragment,
 }
 
-/// Whether the leaf is the punct `$`.
+/// Returns whether the leaf is the punct `$`.
 pub(crate) fn is_dollar(leaf: &Leaf) -> bool
     ensures { result ≡ is_dollar_leaf leaf.now }
 {
@@ -39,7 +39,7 @@ pub(crate) fn is_dollar(leaf: &Leaf) -> bool
 }
 
 impl Name {
-    // The name that an ident spells.
+    // Returns the name that an ident spells.
     fn of(ident: Ident) -> Name
         ensures { result ≡ name_of ident }
     {
@@ -51,7 +51,7 @@ impl Name {
 }
 
 impl Fragment {
-    // The fragment that an ident names, if it names one.
+    // Returns the fragment that an ident names, if it names one.
     fn named(ident: &Ident) -> Option<Fragment>
         ensures { result ≡ fragment_of ident.now }
     {
@@ -64,7 +64,7 @@ impl Fragment {
     }
 }
 
-/// The name that stands first, if one does.
+/// Returns the name at the front, if there is one. Passes the first tree.
 pub(crate) fn name_in(siblings: &mut TtIter<'_>) -> Option<Name>
     ensures value { result ≡ name_in (rest_of siblings.old) }
     ensures rest { rest_of siblings.new ≡ after_tree (rest_of siblings.old) }
@@ -73,7 +73,7 @@ pub(crate) fn name_in(siblings: &mut TtIter<'_>) -> Option<Name>
     Some(Name::of(ident))
 }
 
-/// The variable whose name, colon and fragment stand first, if they do. It is then passed.
+/// Returns and passes the variable whose name, colon and fragment come first, if they do.
 pub(crate) fn variable_in(siblings: &mut TtIter<'_>) -> Option<Variable>
     ensures value { result ≡ variable_in (rest_of siblings.old) }
     ensures rest { IfSome result (λ _. rest_of siblings.new ≡ after_tree (after_tree (after_tree (rest_of siblings.old)))) }
@@ -85,7 +85,7 @@ pub(crate) fn variable_in(siblings: &mut TtIter<'_>) -> Option<Variable>
     Some(Variable { name, fragment })
 }
 
-/// The variable that begins with the leaf, behind which the siblings stand, if one does. It is then passed.
+/// Returns and passes the variable that begins with the leaf, if there is one; the siblings follow the leaf.
 pub(crate) fn variable_at(leaf: &Leaf, siblings: &mut TtIter<'_>) -> Option<Variable>
     ensures value { result ≡ variable_there leaf.now (rest_of siblings.old) }
     ensures some { IfSome result (λ _. rest_of siblings.new ≡ after_tree (after_tree (after_tree (rest_of siblings.old)))) }
@@ -100,7 +100,7 @@ pub(crate) fn variable_at(leaf: &Leaf, siblings: &mut TtIter<'_>) -> Option<Vari
     Some(variable)
 }
 
-/// The name that is used by the leaf, behind which the siblings stand, if one is. It is then passed.
+/// Returns and passes the name that the leaf uses, if it uses one; the siblings follow the leaf.
 pub(crate) fn use_at(leaf: &Leaf, siblings: &mut TtIter<'_>) -> Option<Name>
     ensures value { result ≡ use_there leaf.now (rest_of siblings.old) }
     ensures some { IfSome result (λ _. rest_of siblings.new ≡ after_tree (rest_of siblings.old)) }

@@ -1,4 +1,4 @@
--- Leaves of which the last is alone.
+-- Leaves whose last one is alone.
 use Rattle.std.proofs.Common.{◌≡◌, List, [], ◌∷◌, ◌++◌, refl, ap}
 use Rattle.tt.specs.Building.{leaf_alone}
 use Rattle.tt.specs.Types.Leaf.{Leaf}

@@ -18,7 +18,7 @@ parts (token it others) = suc (parts others)
 parts (subtree delimiter inner others) = suc (parts inner + parts others)
 parts (repetition at inner separator kind others) = suc (parts inner + parts others)
 
--- how much is to be read of levels
+-- how much of the levels is still to be read
 abbrev pub work_of : List LevelLeft → ℕ
 work_of [] = 0
 work_of (level ∷ outer) = suc (2 * parts level.rest + work_of outer)
@@ -28,7 +28,7 @@ pub levels_last : (variables : List Where) (its : List Level) (it : Level) → l
 levels_last variables its it = ap (map (level_left variables)) (reverse-append its (it ∷ []))
 
 module _ (variables : List Where) (whole others : Template) (closing : Option Tail) (outer : List LevelLeft) where
-  -- A part, and what is left behind it, are what was left before.
+  -- A part, and what is left after it, are what was left before.
   pub left_step : (found : First) → IsFirst variables whole found others
       → (stepped variables found (level_of others closing) outer).bit ∷ bits_left (stepped variables found (level_of others closing) outer).levels
       ≡ bits_left (level_of whole closing ∷ outer)
@@ -38,7 +38,7 @@ module _ (variables : List Where) (whole others : Template) (closing : Option Ta
   left_step (first.Subtree delimiter inner until) is = ap (λ t. bits_of t (end_bit closing ∷ bits_left outer)) (sym is)
   left_step (first.Repetition at inner until tail) is = ap (λ t. bits_of t (end_bit closing ∷ bits_left outer)) (sym is)
 
-  -- Less is to be read behind it.
+  -- Less is left to read after it.
   pub less_step : (found : First) → IsFirst variables whole found others
       → work_of (stepped variables found (level_of others closing) outer).levels < work_of (level_of whole closing ∷ outer)
   less_step first.End is = omega arith
@@ -47,7 +47,7 @@ module _ (variables : List Where) (whole others : Template) (closing : Option Ta
   less_step (first.Subtree delimiter inner until) is = omega (arith, ap parts is)
   less_step (first.Repetition at inner until tail) is = omega (arith, ap parts is)
 
-  -- So it stays the whole.
+  -- So the whole stays the same.
   pub whole_step : (bits all : List Bit) (found : First) → IsFirst variables whole found others → bits ++ bits_left (level_of whole closing ∷ outer) ≡ all
       → (bits ++ (stepped variables found (level_of others closing) outer).bit ∷ []) ++ bits_left (stepped variables found (level_of others closing) outer).levels ≡ all
   whole_step bits all found is before =

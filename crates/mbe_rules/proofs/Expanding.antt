@@ -16,7 +16,7 @@ use Rattle.mbe_rules.specs.ArmFaults.{IsFaultAt}
 use Rattle.mbe_rules.specs.ArmSpelling.{IsReadSoFar}
 use Rattle.mbe_rules.proofs.Reading.{arm_sound, left_behind}
 
--- The arm at a place, and what it is made of.
+-- The arm at an index, and what it is made of.
 pub made_at : (arms : List Arm) (its : List rust.Arm) (n : ℕ) (it : rust.Arm) → AreMade arms its → slice_get its n ≡ Some it
     → (arm : Arm) × IsMade arm it × (drop n arms ≡ arm ∷ drop (suc n) arms)
 made_at [] [] zero it are is = absurd (cc is)
@@ -26,7 +26,7 @@ made_at (arm ∷ arms) [] n it are is = absurd are
 made_at (arm ∷ arms) (other ∷ its) zero it are is = (arm, subst (IsMade arm) (cc is) (are.0), refl)
 made_at (arm ∷ arms) (other ∷ its) (suc n) it are is = made_at arms its n it (are.1) is
 
--- None is left behind the last.
+-- No arm is left after the last.
 pub none_made : (arms : List Arm) (its : List rust.Arm) (n : ℕ) → AreMade arms its → slice_get its n ≡ None → drop n arms ≡ []
 none_made [] [] zero are is = refl
 none_made [] [] (suc n) are is = refl
@@ -35,7 +35,7 @@ none_made (arm ∷ arms) [] n are is = absurd are
 none_made (arm ∷ arms) (other ∷ its) zero are is = absurd (cc is)
 none_made (arm ∷ arms) (other ∷ its) (suc n) are is = none_made arms its n (are.1) is
 
--- An arm more.
+-- One more arm.
 pub made_more : (arms : List Arm) (its : List rust.Arm) (arm : Arm) (it : rust.Arm) → AreMade arms its → IsMade arm it → AreMade (arms ++ arm ∷ []) (its ++ it ∷ [])
 made_more [] [] arm it are is = (is, tt)
 made_more [] (other ∷ its) arm it are is = absurd are
@@ -60,7 +60,7 @@ module _ (all trees : Forest) (so_far : List Arm) (read : IsReadSoFar true all s
   read_last : is_end others ≡ true → IsReadSoFar false all (so_far ++ arm ∷ []) others
   read_last none = read (arm ∷ []) (rest, is, last_is none)
 
-  -- Another is.
+  -- Another arm is read.
   read_more : is_end others ≡ false → IsReadSoFar true all (so_far ++ arm ∷ []) others
   read_more some [] spelled = absurd spelled
   read_more some (next ∷ more) spelled = subst (Spell all) (sym (append_assoc so_far (arm ∷ []) (next ∷ more))) (read (arm ∷ next ∷ more) (by behind))
@@ -77,19 +77,19 @@ module _ (all trees : Forest) (so_far : List Arm) (read : IsReadSoFar true all s
   read_next false none = read_last none
 
 module _ (arms : List Arm) (its : List rust.Arm) (n : ℕ) (it : rust.Arm) (are : AreMade arms its) (there : slice_get its n ≡ Some it) (input : Forest) (far : ℕ) where
-  -- The arm at a place answers that there are two readings.
+  -- The arm at this index answers that there are two readings.
   pub ambiguous_here : ((arm : Arm) → IsMade arm it → IsAnswer arm input answer.Ambiguous) → IsExpansion (drop n arms) n far input (expansion.Ambiguous n)
   ambiguous_here says =
       let (arm, is, split) = made_at arms its n it are there in
       subst (λ l. IsExpansion l n far input (expansion.Ambiguous n)) (sym split) (inr (refl, says arm is))
 
-  -- It answers with a tree.
+  -- The arm answers with a tree.
   pub tree_here : (tree : Root) → ((arm : Arm) → IsMade arm it → IsAnswer arm input (answer.Tree tree)) → IsExpansion (drop n arms) n far input (expansion.Tree tree)
   tree_here tree says =
       let (arm, is, split) = made_at arms its n it are there in
       subst (λ l. IsExpansion l n far input (expansion.Tree tree)) (sym split) (inr (says arm is))
 
-  -- It is refused.
+  -- The arm gives an error.
   pub refused_here : (fault : FillError) → ((arm : Arm) → IsMade arm it → IsRefusal arm input fault)
       → IsExpandError (drop n arms) n input (record { arm = n; fault = fault })
   refused_here fault says =
@@ -97,7 +97,7 @@ module _ (arms : List Arm) (its : List rust.Arm) (n : ℕ) (it : rust.Arm) (are 
       subst (λ l. IsExpandError l n input (record { arm = n; fault = fault })) (sym split) (inr (refl, says arm is))
 
   module _ (next at : ℕ) (more : next ≡ suc n) (says : (arm : Arm) → IsMade arm it → IsAnswer arm input (answer.NoMatch at)) where
-    -- It does not answer: those behind it do.
+    -- The arm does not match; the arms after it answer.
     pub no_match_here : (result : Expansion) → IsExpansion (drop next arms) next (max far at) input result → IsExpansion (drop n arms) n far input result
     no_match_here result behind =
         let (arm, is, split) = made_at arms its n it are there in
@@ -108,7 +108,7 @@ module _ (arms : List Arm) (its : List rust.Arm) (n : ℕ) (it : rust.Arm) (are 
         let (arm, is, split) = made_at arms its n it are there in
         subst (λ l. IsExpandError l n input error) (sym split) (inl ((says arm is).0, subst (λ m. IsExpandError (drop m arms) m input error) more behind))
 
--- What is wrong with an arm that is left is wrong with it among those from the one before.
+-- A fault of an arm that is left is its fault also when counted from the arm before.
 pub fault_behind : (until : ℕ) (trees : Forest) (arm : Arm) (rest others : Forest) → IsArm trees arm rest → IsBehind rest others → is_end others ≡ false
     → (n : ℕ) (fault : ArmFault) → IsFaultAt until others n fault → IsFaultAt until trees (suc n) fault
 fault_behind until trees arm rest others is behind more n fault wrong =

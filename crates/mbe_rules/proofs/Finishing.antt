@@ -23,20 +23,20 @@ use Rattle.mbe_rules.specs.Writing.{Closing, last, Level, end_of, Written, writt
 use Rattle.mbe_rules.proofs.Going.{level_of}
 use Rattle.mbe_rules.proofs.Wholeness.{parts_are}
 
--- what is written where all is filled
+-- what is written if everything is filled
 abbrev pub written_of : Filled → Written
 written_of it = record { stack = lowest it.trees; fault = it.fault }
 
--- Where no round is begun, all is bound as it is.
+-- If no round is under way, everything is bound as it is.
 nothing_begun : (binding : Binding) → binding ≡ map (in_round (bound_in [])) binding
 nothing_begun [] = refl
 nothing_begun (it ∷ others) = ap (λ l. it ∷ l) (nothing_begun others)
 
--- the one level that is left at first
+-- the one level at the beginning
 abbrev pub first_level : List Part → Binding → Level
 first_level parts binding = level_of (whole_of parts) binding last
 
--- At first it stands in that.
+-- At the beginning the filling is in that level.
 pub starts : (parts : List Part) (binding : Binding) (it : Filling) (delimiter : Delimiter) → are_whole parts ≡ true → it.builder ≡ empty_builder delimiter
     → it.rounds.items ≡ [] → it.closes.items ≡ [] → IsAt (map bit_of parts) binding (first_level parts binding ∷ []) it (map bit_of parts)
 starts parts binding it delimiter whole builder rounds closes =
@@ -52,7 +52,7 @@ pub starts_whole : (parts : List Part) (binding : Binding) (it : Filling) (delim
     → finished (first_level parts binding ∷ []) (written_by it) ≡ written_of (filled (whole_of parts) binding)
 starts_whole parts binding it delimiter builder = ap (λ b. finished (first_level parts binding ∷ []) (record { stack = b.stack; fault = None })) builder
 
--- At last no level is left.
+-- At the end no level is left.
 none_left : (template : Template) (closing : Closing) (behind : List Bit) → [] ≡ bits_of template (end_of closing ∷ behind) → ⊥
 none_left nothing closing behind is = cc is
 none_left (use_of at variable others) closing behind is = cc is
@@ -64,7 +64,7 @@ pub ends : (bits : List Bit) (whole : Binding) (levels : List Level) (rounds : L
 ends bits whole [] rounds closes stand = refl
 ends bits whole (level ∷ outer) rounds closes (behind, is, bound, more) = absurd (none_left level.rest level.closing behind is)
 
--- So all is written.
+-- So everything is written.
 pub ends_whole : (it : Filling) (levels : List Level) (all : Filled) → levels ≡ [] → finished levels (written_by it) ≡ written_of all → written_by it ≡ written_of all
 ends_whole it levels all none is = sym (ap (λ l. finished l (written_by it)) none) ∙ is
 
@@ -75,7 +75,7 @@ not_open it all is above = subst IsAbove (ap (λ w. w.stack) is) above
 pub built_is : (it : Filling) (all : Filled) (delimiter : Delimiter) → written_by it ≡ written_of all → it.builder.top ≡ delimiter → built it.builder ≡ under delimiter all.trees
 built_is it all delimiter is top = ap₂ (λ d w. under d (bottom w.stack)) top is
 
--- Each limit is told of all that there is.
+-- Each limit is one of the whole filled template.
 pub told_all : (it : Filled) (fault : TtFault) → None ≡ it.fault → IsToldOf it fault
 told_all it limit.Memory none = tt
 told_all it limit.TooManyTokens none = tt
@@ -89,7 +89,7 @@ told_all it limit.TooManySymbols none = sym none
 told_all it limit.TooManyBytes none = sym none
 told_all it limit.PointsSpent none = sym none
 
--- What stops it is what is wrong.
+-- The error that stops the filling is the right one.
 pub stop_told : (delimiter : Delimiter) (it : Filled) (error : FillError) → IsStop (written_of it) error → IsFillError delimiter it error
 stop_told delimiter it (refusal.LengthsDiffer at) stop = stop
 stop_told delimiter it (refusal.NoRound at) stop = stop

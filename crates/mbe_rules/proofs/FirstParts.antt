@@ -21,14 +21,14 @@ no_repetition true found tail is = cc is
 no_repetition false None tail is = cc is
 no_repetition false (Some it) tail is = cc is
 
--- So one stands first.
+-- So the first tree is a subtree.
 pub node_there : (variables : List Where) (trees : Forest) (tail : Tail) → mark_in variables trees ≡ spelling.repetition tail → is_at_node trees ≡ false → ⊥
 node_there variables end tail is none = no_repetition (is_crate_in end) (variable_in variables end) tail is
 node_there variables (leaf it rest) tail is none = no_repetition (is_crate_in (leaf it rest)) (variable_in variables (leaf it rest)) tail is
 node_there variables (node delimiter children rest) tail is none = cc none
 
 module _ (variables : List Where) (until : ℕ) where
-  -- Behind so many trees the template is that of what is left.
+  -- After that many trees, the template is that of the trees that are left.
   pub behind_passed : (n : ℕ) (trees : Forest) → template_behind variables until n trees ≡ template_until variables until (after_trees n trees)
   behind_passed zero trees = refl
   behind_passed (suc n) end = sym (ap (template_until variables until) (after_end n))

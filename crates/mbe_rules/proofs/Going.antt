@@ -20,7 +20,7 @@ use Rattle.mbe_rules.proofs.Writes.{sound, write_both}
 abbrev pub level_of : Template → Binding → Closing → Level
 level_of rest binding closing = record { rest = rest; binding = binding; closing = closing }
 
--- it goes on to other levels, where that was done to what was written
+-- the filling goes on to other levels, with this change to what was written
 pub record Next (bits : List Bit) (whole : Binding) (levels : List Level) (rounds : List Round) (closes : List Span) (left : List Bit) (change : Stack → Stack) : Type 0 where
   pub news : List Level
   pub stand : AreLevels bits whole news rounds closes left
@@ -30,11 +30,11 @@ pub record Next (bits : List Bit) (whole : Binding) (levels : List Level) (round
 module _ (bits : List Bit) (whole : Binding) (outer : List Level) (rounds : List Round) (closes : List Span) (binding : Binding) (closing : Closing) (behind left : List Bit)
     (bound : binding ≡ bound_here whole rounds)
     (ends : IsEnd bits whole (λ more others. AreLevels bits whole outer more others behind) closing rounds closes behind) where
-  -- what is left of the level then
+  -- what is then left of the level
   stand_on : (others : Template) → left ≡ bits_of others (end_of closing ∷ behind) → AreLevels bits whole (level_of others binding closing ∷ outer) rounds closes left
   stand_on others is = (behind, is, bound, ends)
 
-  -- A use, where it comes first.
+  -- A use comes first.
   use_next : (at variable : ℕ) (rest : Template) → uses at variable ∷ left ≡ bits_of rest (end_of closing ∷ behind)
       → Next bits whole (level_of rest binding closing ∷ outer) rounds closes left (append (trees_placed (slice_get (bound_here whole rounds) variable)))
   use_next at variable nothing is = absurd (by closing is)
@@ -59,7 +59,7 @@ module _ (bits : List Bit) (whole : Binding) (outer : List Level) (rounds : List
   use_next at variable (subtree delimiter inner others) is = absurd (cc is)
   use_next at variable (repetition there inner separator kind others) is = absurd (cc is)
 
-  -- A token.
+  -- A token comes first.
   token_next : (it : Leaf) (rest : Template) → same it ∷ left ≡ bits_of rest (end_of closing ∷ behind)
       → Next bits whole (level_of rest binding closing ∷ outer) rounds closes left (append (leaf it end))
   token_next it nothing is = absurd (by closing is)
@@ -113,7 +113,7 @@ module _ (bits : List Bit) (whole : Binding) (outer : List Level) (rounds : List
       held = cc is
   enter_next delimiter (repetition there inner separator kind others) is = absurd (cc is)
 
--- what is said of the levels, where that part comes first
+-- what holds of the levels if that part comes first
 module _ (bits : List Bit) (whole : Binding) (rounds : List Round) (closes : List Span) (left : List Bit) where
   pub goes_use : (at variable : ℕ) (levels : List Level) → AreLevels bits whole levels rounds closes (uses at variable ∷ left)
       → Next bits whole levels rounds closes left (append (trees_placed (slice_get (bound_here whole rounds) variable)))

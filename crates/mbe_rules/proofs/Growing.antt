@@ -1,4 +1,4 @@
--- What is written grows, or is refused.
+-- What is written grows, or an error is returned.
 use Rattle.std.proofs.Common.{◌≡◌, ◌+◌, ◌<◌, ℕ, suc, List, [], ◌∷◌, ◌++◌, length, take, get_or, inl, inr, Ok, Err, Result, refl, ap, sym, subst, ◌∙◌, arith}
 use Rattle.std.specs.Prelude.{OnOk, IfOk, IfErr}
 use Rattle.std.proofs.lemmas.List.{take_more, length-take-le}
@@ -14,7 +14,7 @@ use Rattle.mbe_rules.specs.Placing.{enclosed_between}
 use Rattle.mbe_rules.specs.Standing.{Grows, IsWant}
 use Rattle.tt_base.proofs.Appending.{append-end, append-join, held-append}
 
--- Trees for which there is room are written.
+-- Trees that there is room for are written.
 pub grows_by : (more : Forest) (old new : Filling) → new.builder ≡ extended more old.builder → HasRoom (size more) old.builder → new.rounds ≡ old.rounds
     → new.closes ≡ old.closes → Grows more old new
 grows_by more old new builder room rounds closes =
@@ -26,7 +26,7 @@ grows_by more old new builder room rounds closes =
       closes = closes;
     }
 
--- Or they are refused.
+-- Or an error is returned.
 pub growth_wants : (more : ℕ) (old : Filling) (fault : TtFault) → IsGrowthFault more old.builder fault → IsWant more old fault
 growth_wants more old fault (inl (e, room)) = inl e
 growth_wants more old fault (inr (e, many)) = inr (e, many)
@@ -54,7 +54,7 @@ pub size_leaves : (xs : List Leaf) → size (leaves xs) ≡ length xs
 size_leaves [] = refl
 size_leaves (it ∷ xs) = ap suc (size_leaves xs)
 
--- One leaf more.
+-- One more leaf.
 pub grows_more : (its : List Leaf) (n : ℕ) (it : Leaf) (old between new : Filling) → n < length its → it ≡ get_or its n it → Grows (leaves (take n its)) old between
     → Grows (leaf it end) between new → Grows (leaves (take (n + 1) its)) old new
 grows_more its n it old between new within is first then =
@@ -79,12 +79,12 @@ wants_more its n old between fault within first (inr (e, many)) =
       ),
     )
 
--- Where no subtree is open there is nothing to close.
+-- If no subtree is open, there is nothing to close.
 pub none_closed : (span : Span) (stack : Stack) → (IsAbove stack → ⊥) → close_innermost span stack ≡ stack
 none_closed span (lowest trees) none = refl
 none_closed span (above outer kind open_span trees) none = absurd (none tt)
 
--- What holds of an answer, from what does.
+-- From a property of a result to one that follows.
 pub on_ok : {A E P Q : Type 0} (result : Result A E) → (P → Q) → OnOk result P → OnOk result Q
 on_ok (Ok x) then p = then p
 on_ok (Err e) then p = tt
@@ -101,7 +101,7 @@ pub ok_so : {A E : Type 0} {P Q : A → Type 0} (result : Result A E) → ((x : 
 ok_so (Ok x) then p = then x p
 ok_so (Err e) then p = tt
 
--- A token that stands alone is one token still.
+-- Making the last token alone does not change the number of tokens.
 pub size-alone : (trees : Forest) → size (alone trees) ≡ size trees
 size-alone end = refl
 size-alone (leaf it end) = refl
@@ -112,14 +112,14 @@ size-alone (node delimiter children (leaf next rest)) = omega (arith, size-alone
 size-alone (node delimiter children (node next inner rest)) = omega (arith, size-alone (node next inner rest))
 
 module _ (old : Filling) (trees : Forest) (first last : Span) where
-  -- an opaque subtree of these
+  -- an opaque subtree of these trees
   abbrev held : Forest
   held = enclosed_between first last trees
 
   abbrev within : BuilderState
   within = extended trees (opened InvisibleOpaque first old.builder)
 
-  -- Trees that are written between where a subtree opens and closes are written in it.
+  -- Trees written between the opening and the closing of a subtree are inside it.
   pub grows_held : (new : Filling) → new.builder ≡ closed last within → HasRoom 1 old.builder → HasRoom (size trees) (opened InvisibleOpaque first old.builder)
       → new.rounds ≡ old.rounds → new.closes ≡ old.closes → Grows held old new
   grows_held new builder room inside rounds closes =
@@ -132,7 +132,7 @@ module _ (old : Filling) (trees : Forest) (first last : Span) where
         closes = closes;
       }
 
-  -- It is refused where it is opened, or what it holds is.
+  -- The error comes from opening the subtree, or from what it holds.
   pub opening_wants : (fault : TtFault) → IsGrowthFault 1 old.builder fault → IsWant (size held) old fault
   opening_wants fault (inl (e, room)) = inl e
   opening_wants fault (inr (e, many)) = inr (e, omega (arith, many))

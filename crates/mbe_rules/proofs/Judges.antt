@@ -1,4 +1,4 @@
--- Judged by its parts from the last, a template has its first fault.
+-- Judged by its parts from the last to the first, a template has its first fault.
 use Rattle.std.proofs.Common.{◌≡◌, ℕ, suc, List, [], ◌∷◌, length, Option, None, Some, refl, ap, ap₂, sym, ◌∙◌, arith}
 use Rattle.mbe_matcher.specs.Grouping.{Where}
 use Rattle.mbe_rules.specs.declared.error.TemplateError.{TemplateError}
@@ -42,12 +42,12 @@ or_else_none (Some it) = refl
 abbrev judged : Option TemplateError → List ℕ → Judged
 judged fault depths = record { fault = fault; depths = depths }
 
--- a template more, from the last
+-- one more template, from the last part to the first
 abbrev judged_on : List Where → Template → Judged → Judged
 judged_on variables template it =
     judged (or_else (fault_at variables (length it.depths) template) it.fault) (raised (deepest variables template) it.depths)
 
--- Two faults, one behind the other.
+-- Two faults, one after the other.
 both : (f : ℕ → Option TemplateError) (a b : ℕ) (g : Option TemplateError) (it : Judged)
     → judged (or_else (f (length (raised b it.depths))) (or_else g it.fault)) (raised a (raised b it.depths))
     ≡ judged (or_else (or_else (f (length it.depths)) g) it.fault) (raised (greater a b) it.depths)
@@ -86,11 +86,11 @@ module _ (variables : List Where) where
       ∙ ap (λ f. judged f (raised (greater d (deepest variables others)) it.depths))
       (ap (λ g. or_else g it.fault) (sym (or_else_more (round_fault at (length it.depths) d) (fault_at variables (suc (length it.depths)) inner) (fault_at variables (length it.depths) others))))
 
-  -- Those of a whole template.
+  -- The parts of a whole template.
   pub judged_whole : (template : Template) → (judged_of variables (all_bits template)).fault ≡ template_fault variables template
   judged_whole template = ap (λ j. j.fault) (judged_parts template (leave ∷ [])) ∙ or_else_none (template_fault variables template)
 
-  -- That is why it is refused.
+  -- So that is the error.
   pub is_error : (template : Template) (fault : TemplateError) → template_fault variables template ≡ Some fault → IsTemplateError variables template fault
   is_error template error.Memory is = tt
   is_error template (error.StillRepeats at) is = is

@@ -1,4 +1,4 @@
--- How much is left to do, told by where the filling of a template stands.
+-- How much is left to do, given where the filling of a template is.
 use Rattle.std.proofs.Common.{◌≡◌, ◌+◌, ◌-◌, ℕ, suc, List, [], ◌∷◌, drop, map, Option, Some, None, refl, ap, ap₂, sym, ◌∙◌, arith}
 use Rattle.tt.specs.Types.Leaf.{Leaf}
 use Rattle.tt.specs.Types.Span.{Span}
@@ -14,7 +14,7 @@ use Rattle.mbe_rules.specs.Working.{work, work_in_rounds, work_behind, work_of}
 use Rattle.mbe_rules.specs.Writing.{Closing, last, shut, again, Level, end_of}
 use Rattle.mbe_rules.proofs.Wholeness.{read_parts}
 
--- what was read, if all was
+-- the levels that were read, if all parts were
 abbrev pub reads_in : Option (List Read) → List Read
 reads_in None = []
 reads_in (Some levels) = levels
@@ -27,12 +27,12 @@ first_read (level ∷ outer) = level.template
 abbrev body_in : List Bit → Template
 body_in bits = first_read (reads_in (read_all bits))
 
--- how much is left of rounds behind one
+-- how much is left of the rounds after this one
 abbrev work_behind_round : List Bit → Binding → Round → Binding → ℕ
 work_behind_round bits whole it outside =
     work_in_rounds (work (body_in (drop it.body bits))) (it.last - it.done) (map (in_round (later (suc it.done))) outside)
 
--- how much is left behind the end of a level
+-- how much is left after the end of a level
 abbrev work_outside : List Bit → Binding → (ending : Bit) → (Outer : List Round → ℕ) → List Round → ℕ
 work_outside bits whole leave Outer rounds = Outer rounds
 work_outside bits whole (close separator kind) Outer [] = 0
@@ -42,7 +42,7 @@ work_outside bits whole (same it) Outer rounds = 0
 work_outside bits whole (enter delimiter) Outer rounds = 0
 work_outside bits whole (begin at) Outer rounds = 0
 
--- how much is left of levels that were read, with the rounds that are begun
+-- how much is left of levels that were read, with the rounds under way
 abbrev pub work_at : List Bit → Binding → List Read → List Round → ℕ
 work_at bits whole [] rounds = 0
 work_at bits whole (level ∷ outer) rounds =
@@ -81,7 +81,7 @@ module _ (bits : List Bit) (whole : Binding) where
       ap body_in is
       ∙ ap (λ o. first_read (reads_in o)) (read_parts body (close separator kind) behind levels (ap (put_if (close separator kind)) all))
 
-  -- So much is left of them.
+  -- How much work is left of them.
   work_told : (levels : List Level) (rounds : List Round) (closes : List Span) (left : List Bit) → AreLevels bits whole levels rounds closes left
       → work_of levels ≡ work_at bits whole (reads_of levels) rounds
   work_told [] rounds closes left stand = refl

@@ -1,4 +1,4 @@
--- The first at which a test passes, of values that were made of others.
+-- The first value that passes a test, in a list and in its image under a map.
 use Rattle.std.proofs.Common.{◌≡◌, ◌+◌, Bool, List, [], ◌∷◌, map, Some, None, refl, ap, ap₂, nat_lt, cond}
 use Rattle.std.proofs.lemmas.List.{length-map}
 use Rattle.std.specs.List.{position, prefix_len}

@@ -10,7 +10,7 @@ use Rattle.mbe_matcher.specs.Marks.{Note}
 use Rattle.mbe_rules.specs.Filling.{round_count}
 use Rattle.mbe_rules.specs.Rounds.{round_at, bound_in, rounds, seen_of, time_seen, nested, lesser, first_at, count_at}
 
--- which round is the first of that time, where so many were before all
+-- the number of the first round of that time, if that many came before all
 abbrev first_from : (so_far : ℕ) → (ends : List ℕ) → (time : ℕ) → ℕ
 first_from so_far ends zero = so_far
 first_from so_far ends (suc before) = get_or ends before 0
@@ -27,7 +27,7 @@ first_next so_far ends (suc before) = refl
 abbrev between : (from to : ℕ) → List Bound → List Bound
 between from to all = take (to - from) (drop from all)
 
--- A time of a repetition has the rounds between its first and its end.
+-- A time of a repetition has the rounds between its first one and its end.
 grouped_from : (all : List Bound) (counts : List ℕ) (so_far : ℕ) (time : ℕ)
     → get_or (grouped counts (drop so_far all)) time none
     ≡ listed (between (first_from so_far (sums so_far counts) time) (get_or (sums so_far counts) time 0) all)
@@ -53,7 +53,7 @@ length_taken zero its = omega arith
 length_taken (suc n) [] = omega arith
 length_taken (suc n) (it ∷ its) = omega (arith, length_taken n its)
 
--- So many they are.
+-- How many they are.
 between_length : (ends : List ℕ) (time : ℕ) (all : List Bound)
     → length (between (first_at ends time) (get_or ends time 0) all) ≡ count_at ends time (length all)
 between_length ends time all =
@@ -63,7 +63,7 @@ between_length ends time all =
       length-drop (first_at ends time) all,
     )
 
--- A list of rounds is seen as their number, and has the one of each number.
+-- A list of rounds is seen as its length, and has the round of each number.
 listed_count : (its : List Bound) → round_count (listed its) ≡ length its
 listed_count [] = refl
 listed_count (it ∷ its) = ap suc (listed_count its)
@@ -78,7 +78,7 @@ round_listed zero (it ∷ its) = refl
 round_listed (suc n) [] = round_listed n []
 round_listed (suc n) (it ∷ its) = round_listed n its
 
--- Where there is no round there is none in it; trees are in each.
+-- An empty list has nothing in any round; trees are the same in each.
 none_stays : (numbers : List ℕ) → bound_in numbers none ≡ none
 none_stays [] = refl
 none_stays (n ∷ inner) = ap (bound_in inner) (round_listed n [] ∙ get_or_past [] n none (omega arith)) ∙ none_stays inner
@@ -96,11 +96,11 @@ module _ (all : List Bound) (counts : List ℕ) (time : ℕ) where
   abbrev here : List Bound
   here = between (first_at (sums 0 counts) time) (get_or (sums 0 counts) time 0) all
 
-  -- Where no round is begun, so many rounds are seen.
+  -- If no round of it is under way, that many rounds are seen.
   pub seen_rounds : seen_of (get_or (grouped counts all) time none) ≡ rounds (count_at (sums 0 counts) time (length all))
   seen_rounds = ap seen_of (grouped_at all counts time) ∙ seen_listed here ∙ ap rounds (between_length (sums 0 counts) time all)
 
-  -- In a round that there is, what is bound is found behind those before.
+  -- In an existing round, what is bound comes after the earlier rounds.
   pub in_one : (n : ℕ) (inner : List ℕ) → n < count_at (sums 0 counts) time (length all)
       → bound_in (n ∷ inner) (get_or (grouped counts all) time none) ≡ bound_in inner (get_or all (first_at (sums 0 counts) time + n) none)
   in_one n inner within =
@@ -111,7 +111,7 @@ module _ (all : List Bound) (counts : List ℕ) (time : ℕ) where
       ∙ get_or-take (get_or (sums 0 counts) time 0 - first_at (sums 0 counts) time) (drop (first_at (sums 0 counts) time) all) n none few
       ∙ get_or-drop (first_at (sums 0 counts) time) all n none)
 
-  -- In one that there is not, there is no round.
+  -- In a round that does not exist, there is no round.
   pub in_none : (n : ℕ) (inner : List ℕ) → count_at (sums 0 counts) time (length all) ≤ n
       → seen_of (bound_in (n ∷ inner) (get_or (grouped counts all) time none)) ≡ rounds 0
   in_none n inner past =
@@ -120,7 +120,7 @@ module _ (all : List Bound) (counts : List ℕ) (time : ℕ) where
       ∙ ap (λ b. seen_of (bound_in inner b)) (round_listed n here ∙ get_or_past here n none many)
       ∙ ap seen_of (none_stays inner)
 
--- Where no repetition is left, the trees of that time are seen.
+-- If no repetition is left, the trees of that time are seen.
 pub seen_trees_at : (numbers : List ℕ) (its : List Forest) (time : ℕ) → seen_of (bound_in numbers (get_or (map one its) time none)) ≡ time_seen (slice_get its time)
 seen_trees_at numbers [] time = ap (λ b. seen_of (bound_in numbers b)) (get_or_past [] time none (omega arith)) ∙ ap seen_of (none_stays numbers) ∙ sym (ap time_seen (slice_get_none time))
   where
@@ -130,18 +130,18 @@ seen_trees_at numbers [] time = ap (λ b. seen_of (bound_in numbers b)) (get_or_
 seen_trees_at numbers (it ∷ its) zero = ap seen_of (one_stays numbers it)
 seen_trees_at numbers (it ∷ its) (suc time) = seen_trees_at numbers its time
 
--- The first of all.
+-- The first bound of all.
 pub first_is : (its : List Bound) → first_bound its ≡ get_or its 0 none
 first_is [] = refl
 first_is (it ∷ others) = refl
 
--- What notes bind to a variable is what these flat lists do.
+-- What notes bind to a variable is what these flat lists represent.
 pub bounds_nested : (nest : List ℕ) (number : ℕ) (notes : List Note)
     → bounds_by nest number notes ≡ nested (map (λ r. counts_by r 0 notes) nest) (taken_by number notes)
 bounds_nested [] number notes = refl
 bounds_nested (outer ∷ nest) number notes = ap (grouped (counts_by outer 0 notes)) (bounds_nested nest number notes)
 
--- One thing is done to each, and then another.
+-- One function after another is their composition.
 pub twice : {A B C : Type 0} (f : A → B) (g : B → C) (its : List A) → map g (map f its) ≡ map (λ it. g (f it)) its
 twice f g [] = refl
 twice f g (it ∷ its) = ap (λ l. g (f it) ∷ l) (twice f g its)

@@ -1,4 +1,4 @@
--- An arm, as it is read of trees.
+-- Reads an arm from trees.
 use Rattle.std.proofs.Common.{◌≡◌, ◌<◌, ◌≤◌, ℕ, true, false, List, None, Some, inl, inr, refl, ap, ap₂, sym, ◌∙◌, arith, cond}
 use Rattle.std.specs.Prelude.{option_map}
 use Rattle.tt.specs.Expectations.{is_at_node}
@@ -26,20 +26,20 @@ use Rattle.mbe_rules.specs.Arms.{Arm, variables, IsArm, IsBehind}
 use Rattle.mbe_rules.specs.Arrows.{is_arrow_in, is_semicolon_in}
 use Rattle.mbe_rules.specs.ArmFaults.{of_pattern, of_template, or_else, place, template_fault_in, arrow_fault, semicolon_fault, behind_arm, body_fault, arm_fault, IsArmFault}
 
--- A subtree that stands first, and what is behind it.
+-- A first subtree, and what follows it.
 pub node_first : (trees : Forest) (header : Subtree) (below : TtIter) → IsFirstSubtree trees header below → trees ≡ node header.delimiter (rest_of below) (after_tree trees)
 node_first end header below p = absurd p
 node_first (leaf it rest) header below p = absurd p
 node_first (node delimiter children rest) header below p = ap₂ (λ d f. node d f rest) (sym p.0) (sym p.2)
 
--- There is none.
+-- There is no subtree.
 pub no_pattern : (until : ℕ) (trees : Forest) → is_at_node trees ≡ false → body_fault until trees ≡ Some (fault.NoPattern (place until trees))
 no_pattern until end is = refl
 no_pattern until (leaf it rest) is = refl
 no_pattern until (node delimiter children rest) is = absurd (cc is)
 
 module _ (until : ℕ) (trees : Forest) (outer : Delimiter) (held between : Forest) (begins : trees ≡ node outer held between) where
-  -- what is wrong, by what it begins with
+  -- what is wrong, depending on how it begins
   body_is : body_fault until trees ≡ or_else (option_map of_pattern (pattern_fault held)) (arrow_fault until (variables (pattern_of held)) between)
   body_is = ap (body_fault until) begins
 
@@ -56,7 +56,7 @@ module _ (until : ℕ) (trees : Forest) (outer : Delimiter) (held between : Fore
     behind_is : body_fault until trees ≡ arrow_fault until (variables (pattern_of held)) between
     behind_is = body_is ∙ ap (λ f. or_else (option_map of_pattern f) (arrow_fault until (variables (pattern_of held)) between)) sound
 
-    -- No `=>` stands behind it.
+    -- No `=>` follows it.
     pub no_arrow : is_arrow_in between ≡ false → body_fault until trees ≡ Some (fault.NoArrow (place until between))
     no_arrow none =
         behind_is
@@ -68,7 +68,7 @@ module _ (until : ℕ) (trees : Forest) (outer : Delimiter) (held between : Fore
           behind_is
           ∙ ap (λ b. cond b (template_fault_in until (variables (pattern_of held)) (after_trees 2 between)) (Some (fault.NoArrow (place until between)))) arrow
 
-      -- No subtree stands behind that.
+      -- No subtree follows that.
       pub no_template : (behind : Forest) → behind ≡ after_trees 2 between → is_at_node behind ≡ false → body_fault until trees ≡ Some (fault.NoTemplate (place until behind))
       no_template behind is none = template_is ∙ ap (template_fault_in until (variables (pattern_of held))) (sym is) ∙ by behind none
         where
@@ -89,14 +89,14 @@ module _ (until : ℕ) (trees : Forest) (outer : Delimiter) (held between : Fore
             template_is ∙ ap (template_fault_in until (variables (pattern_of held))) ends
             ∙ ap (λ v. option_map of_template (template_fault v (template_of v body))) (sym same) ∙ ap (option_map of_template) is
 
-        -- Nothing is wrong up to its end.
+        -- There is no fault up to its end.
         pub body_sound : template_fault (variables (pattern_of held)) (template_of (variables (pattern_of held)) body) ≡ None → body_fault until trees ≡ None
         body_sound is = template_is ∙ ap (template_fault_in until (variables (pattern_of held))) ends ∙ ap (option_map of_template) is
 
         pub behind_told : behind_arm trees ≡ rest
         behind_told = ap behind_arm begins ∙ ap after_tree ends
 
--- What is wrong up to the end of the template is wrong with the arm.
+-- A fault up to the end of the template is a fault of the arm.
 pub body_wrong : (until : ℕ) (trees : Forest) (error : ArmFault) → IsArmFault (body_fault until trees) error → IsArmFault (arm_fault until trees) error
 body_wrong until trees fault.Memory is = tt
 body_wrong until trees (fault.NoPattern at) is = ap (λ f. or_else f (semicolon_fault until (behind_arm trees))) is
@@ -119,7 +119,7 @@ module _ (until : ℕ) (trees : Forest) (arm : Arm) (rest : Forest) (is : IsArm 
   arm_is : arm_fault until trees ≡ semicolon_fault until rest
   arm_is = ap₂ (λ f r. or_else f (semicolon_fault until r)) arm_body arm_behind
 
-  -- No `;` stands behind it, and it is not the last.
+  -- No `;` follows it, and it is not the last.
   pub no_semicolon : is_end rest ≡ false → is_semicolon_in rest ≡ false → arm_fault until trees ≡ Some (fault.NoSemicolon (place until rest))
   no_semicolon more none =
       arm_is
@@ -139,7 +139,7 @@ module _ (until : ℕ) (trees : Forest) (arm : Arm) (rest : Forest) (is : IsArm 
             semicolon (leaf it more) there = ap (λ b. cond b None (Some (fault.NoSemicolon (place until (leaf it more))))) there
             semicolon (node delimiter children more) there = absurd (cc there)
 
-    -- What is left behind it.
+    -- What is left after it.
     pub left_behind : is_end others ≡ false → (is_semicolon_in rest ≡ true) × (after_tree (behind_arm trees) ≡ others)
     left_behind more = by behind
       where
@@ -156,7 +156,7 @@ after_less end = omega arith
 after_less (leaf it rest) = omega arith
 after_less (node delimiter children rest) = omega arith
 
--- Fewer are left behind an arm.
+-- Fewer are left after an arm.
 pub arm_less : (trees : Forest) (arm : Arm) (rest others : Forest) → IsArm trees arm rest → IsBehind rest others → size others < size trees
 arm_less trees arm rest others is behind =
     omega (

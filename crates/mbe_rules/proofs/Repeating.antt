@@ -1,4 +1,4 @@
--- How a template that is partly filled goes on where a subtree ends, and where repetitions begin and end.
+-- How a partly filled template goes on at the end of a subtree, and at the beginning and the end of a repetition.
 use Rattle.std.proofs.Common.{◌≡◌, ◌<◌, ◌≤◌, ℕ, zero, suc, List, [], ◌∷◌, map, drop, Some, Result, Ok, Err, refl, ap, ap₂, sym, subst, ◌∙◌, arith}
 use Rattle.tt.specs.Building.{Stack, append, close_innermost, tokens_held}
 use Rattle.tt.specs.Forest.{end}
@@ -22,11 +22,11 @@ use Rattle.mbe_rules.proofs.Scans.{scanned_uses, scanned_kind, scanned_behind, r
 use Rattle.tt_base.proofs.Appending.{held-append}
 use Rattle.mbe_rules.proofs.Writes.{sound, faulty, write_nothing, write_both, fault_stays, held_stays}
 
--- how often the repetition is filled whose parts these are
+-- how often the repetition with these parts is filled
 abbrev pub asked : (at : ℕ) → Binding → List Bit → Result ℕ FillFault
 asked at here bits = rounds_by at (kind_before 0 bits) (counted_all (counts_of here (uses_before 0 bits)) Unknown)
 
--- It is told by its template.
+-- Its template determines the number.
 asked_is : (at : ℕ) (here : Binding) (inner : Template) (separator : List Leaf) (kind : RepeatKind) (behind : List Bit)
     → asked at here (bits_of inner (close separator kind ∷ behind)) ≡ rounds_of at kind (counts_of here (used_in inner))
 asked_is at here inner separator kind behind =
@@ -35,7 +35,7 @@ asked_is at here inner separator kind behind =
 
 module _ (bits : List Bit) (whole : Binding) (left : List Bit) where
   module _ (outer : List Level) (binding : Binding) (behind : List Bit) where
-    -- The end of all, or of a subtree.
+    -- The end of the template, or of a subtree.
     end_all : (closing : Closing) (rounds : List Round) (rest : Template) → leave ∷ left ≡ bits_of rest (end_of closing ∷ behind)
         → IsEnd bits whole (λ more others. AreLevels bits whole outer more others behind) closing rounds [] behind
         → Next bits whole (level_of rest binding closing ∷ outer) rounds [] left (λ stack. stack)
@@ -140,7 +140,7 @@ module _ (bits : List Bit) (whole : Binding) (left : List Bit) where
           less = omega (arith, ap (λ r. work_in_rounds (work inner) (told r) binding) (told_as (Ok (suc n)) is));
         }
 
-    -- It is not told how often it is filled.
+    -- The number of rounds is a fault.
     begin_fault : (fault : FillFault) (stack : Stack) → asked at (bound_here whole rounds) left ≡ Err fault
         → ((finished (level_of (repetition at inner separator kind others) binding closing ∷ outer) (sound stack)).fault ≡ Some fault)
         × (tokens_held (finished (level_of (repetition at inner separator kind others) binding closing ∷ outer) (sound stack)).stack ≡ tokens_held stack)
@@ -258,7 +258,7 @@ record Repeats (rest : Template) (closing : Closing) (behind : List Bit) (at : �
   pub is : rest ≡ repetition at inner separator kind others
   pub held : left ≡ bits_of inner (close separator kind ∷ bits_of others (end_of closing ∷ behind))
 
--- Where it begins, it does.
+-- If the parts begin a repetition, a repetition comes first.
 repeats : (rest : Template) (closing : Closing) (behind : List Bit) (at : ℕ) (left : List Bit) → begin at ∷ left ≡ bits_of rest (end_of closing ∷ behind)
     → Repeats rest closing behind at left
 repeats nothing last behind at left is = absurd (cc is)
@@ -274,7 +274,7 @@ repeats (repetition there inner separator kind others) closing behind at left is
     same_at = cc is
 
 module _ (bits : List Bit) (whole : Binding) (rounds : List Round) (left : List Bit) where
-  -- All is at its end, or a subtree.
+  -- The template is at its end, or a subtree is.
   pub goes_leave_all : (levels : List Level) → AreLevels bits whole levels rounds [] (leave ∷ left) → Next bits whole levels rounds [] left (λ stack. stack)
   goes_leave_all [] stand = absurd (cc stand.2)
   goes_leave_all (level ∷ outer) (behind, is, bound, ends) = end_all bits whole left outer level.binding behind level.closing rounds level.rest is ends
@@ -305,7 +305,7 @@ module _ (bits : List Bit) (whole : Binding) (rounds : List Round) (left : List 
         subst (λ t. Next bits whole (level_of t level.binding level.closing ∷ outer) (record { body = body; done = 0; last = n } ∷ rounds) closes left (λ stack. stack)) (sym it.is)
         (begin_some bits whole left outer rounds closes level.binding level.closing behind bound ends at it.inner it.separator it.kind it.others it.held n body told here)
 
-    -- Or its fault is that of all.
+    -- Or its fault is the fault of the whole.
     pub goes_nowhere : (fault : FillFault) (stack : Stack) (levels : List Level) → AreLevels bits whole levels rounds closes (begin at ∷ left)
         → asked at (bound_here whole rounds) left ≡ Err fault
         → ((finished levels (sound stack)).fault ≡ Some fault) × (tokens_held (finished levels (sound stack)).stack ≡ tokens_held stack)
@@ -331,7 +331,7 @@ module _ (bits : List Bit) (whole : Binding) (left : List Bit) (closes : List Sp
   goes_again (level ∷ outer) (behind, is, bound, ends) within =
       close_again bits whole left outer level.binding behind closes separator kind it more level.closing level.rest is ends within
 
--- No repetition ends where no round is begun.
+-- No repetition ends if no round is under way.
 pub round_there : (bits : List Bit) (whole : Binding) (left : List Bit) (closes : List Span) (separator : List Leaf) (kind : RepeatKind) (levels : List Level)
     → AreLevels bits whole levels [] closes (close separator kind ∷ left) → ⊥
 round_there bits whole left closes separator kind [] stand = cc stand.2

@@ -8,7 +8,7 @@ use Rattle.mbe_rules.specs.Filling.{first_of, others_of, in_round}
 use Rattle.mbe_rules.specs.Rounds.{round_at, bound_in, binding_in, dones}
 use Rattle.mbe_rules.specs.Standing.{later, bound_here}
 
--- One way of narrowing, and then another, where that is the one in all.
+-- Narrowing one way and then another, if that is the same as a third way.
 in_rounds : (f g h : Bound → Bound) → ((bound : Bound) → f (g bound) ≡ h bound) → (binding : Binding) → map (in_round f) (map (in_round g) binding) ≡ map (in_round h) binding
 in_rounds f g h same [] = refl
 in_rounds f g h same (it ∷ others) = ap₂ (λ b l. record { variable = it.variable; bound = b } ∷ l) (same it.bound) (in_rounds f g h same others)
@@ -27,7 +27,7 @@ in_more : (numbers : List ℕ) (n : ℕ) (bound : Bound) → round_at n (bound_i
 in_more [] n bound = refl
 in_more (m ∷ numbers) n bound = in_more numbers n (round_at m bound)
 
--- So that is bound in it.
+-- So this is bound in it.
 pub bound_inside : (whole : Binding) (it : Round) (rounds : List Round) → map (in_round (round_at it.done)) (bound_here whole rounds) ≡ bound_here whole (it ∷ rounds)
 bound_inside whole it rounds =
     in_rounds (round_at it.done) (bound_in (dones (reverse rounds))) (bound_in (dones (reverse rounds) ++ it.done ∷ [])) (in_more (dones (reverse rounds)) it.done) whole

@@ -22,7 +22,7 @@ use Rattle.mbe_rules.specs.Parts.{all_bits, uses, same, begin, close, leave}
 use Rattle.mbe_rules.specs.Spelling.{template_of}
 use Rattle.mbe_rules.specs.Templates.{Template, nothing, use_of, token, subtree as held_by, repetition}
 
--- small trees: an ident, puncts that stand alone or joint, before others
+-- small trees before others: an ident, and puncts with spacing `Alone` or `Joint`
 abbrev word : List ℕ → Forest → Forest
 word text rest = leaf (ident text) rest
 
@@ -110,7 +110,7 @@ list_parts = refl
 abbrev fault_of : Forest → Option TemplateError
 fault_of trees = template_fault variables (template_of variables trees)
 
--- `$x` may stand in any repetitions in which another repeats; `$y` in none repeats still, and so does `$z` in one.
+-- `$x` may be used in any repetitions in which another variable repeats; `$y` still repeats in none, and so does `$z` in one.
 fine : fault_of (rounds (alone 36 (word x (alone 36 (word y end)))) (alone 42 end)) ≡ None
 fine = refl
 
@@ -120,7 +120,7 @@ repeats_still = refl
 inner_repeats_still : fault_of (rounds (alone 36 (word z end)) (alone 42 end)) ≡ Some (error.StillRepeats 2)
 inner_repeats_still = refl
 
--- `$($x)*` and `$( )*` have nothing that repeats, and in `$($($y)*)*` the inner one has not.
+-- `$($x)*` and `$( )*` use nothing that repeats, and neither does the inner repetition of `$($($y)*)*`.
 nothing_repeats : fault_of (rounds (alone 36 (word x end)) (alone 42 end)) ≡ Some (error.NothingRepeats 0)
 nothing_repeats = refl
 
@@ -130,21 +130,21 @@ empty_repeats = refl
 inner_nothing : fault_of (rounds (rounds (alone 36 (word y end)) (alone 42 end)) (alone 42 end)) ≡ Some (error.NothingRepeats 2)
 inner_nothing = refl
 
--- The first counts: a repetition before what it holds, and what it holds before what is behind.
+-- The first fault counts: a repetition comes before what it holds, and that before what follows.
 outer_first : fault_of (rounds (rounds end (alone 42 end)) (alone 42 (alone 36 (word y end)))) ≡ Some (error.NothingRepeats 0)
 outer_first = refl
 
 inner_first : fault_of (rounds (alone 36 (word z end)) (alone 42 (alone 36 (word y end)))) ≡ Some (error.StillRepeats 2)
 inner_first = refl
 
--- What stands before it is counted at any depth, with brackets and tails.
+-- The tokens before it are counted at any depth, with brackets and tails.
 behind_subtree : fault_of (join (subtree Parenthesis (word x end)) (word x (alone 36 (word y end)))) ≡ Some (error.StillRepeats 3)
 behind_subtree = refl
 
 behind_repetition : fault_of (rounds (alone 36 (word y end)) (alone 44 (alone 42 (alone 36 (word y end))))) ≡ Some (error.StillRepeats 6)
 behind_repetition = refl
 
--- what is bound: `a` to `$x`, trees to `$y` in two rounds, and to `$z` in two rounds, of which the second has none inside
+-- what is bound: `a` to `$x`, trees to `$y` in two rounds, and to `$z` in two rounds, where the second holds no inner round
 abbrev a_tree : Forest
 a_tree = word (codes "a") end
 
@@ -159,7 +159,7 @@ binding =
     record { variable = nameless; bound = one b_tree } ∷ bind x (one a_tree) ∷ bind y (first (one a_tree) (first (one b_tree) none))
     ∷ bind z (first (first (one a_tree) none) (first none none)) ∷ []
 
--- what becomes of trees
+-- what trees become
 abbrev becomes : Binding → Forest → Filled
 becomes bound trees = filled (template_of variables trees) bound
 
@@ -174,12 +174,12 @@ outer_filled : becomes binding (rounds (alone 36 (word x (alone 36 (word y end))
     ≡ all_filled (word (codes "a") (word (codes "a") (word (codes "a") (word (codes "b") end))))
 outer_filled = refl
 
--- `$($y $($z)*)*`: `$y` is there in each round, and `$z` in the first.
+-- `$($y $($z)*)*`: `$y` is written in each round, and `$z` in the first.
 nested_filled : becomes binding (rounds (alone 36 (word y (rounds (alone 36 (word z end)) (alone 42 end)))) (alone 42 end))
     ≡ all_filled (word (codes "a") (word (codes "a") (word (codes "b") end)))
 nested_filled = refl
 
--- Where `+` wants a round there must be one; and `$y` and `$z` must have as many.
+-- `+` requires a round; and `$y` and `$z` must have the same number of rounds.
 abbrev empty : Binding
 empty = record { variable = nameless; bound = one b_tree } ∷ bind x (one a_tree) ∷ bind y none ∷ bind z (first none none) ∷ []
 
@@ -192,7 +192,8 @@ none_there = refl
 lengths_apart : becomes empty (rounds (alone 36 (word y (rounds (alone 36 (word z end)) (alone 42 end)))) (alone 42 end)) ≡ record { trees = end; fault = Some (lengths_differ 0) }
 lengths_apart = refl
 
--- Before a `$` no punct stands as one with what comes behind, and neither does the last one of a separator or of what is bound; others do.
+-- A punct before a `$` does not form one token with what follows, and neither does the last punct of a
+-- separator or of what is bound; other puncts do.
 abbrev joint : ℕ → Forest → Forest
 joint char rest = leaf (punct char Joint) rest
 
@@ -209,12 +210,12 @@ joint_separator = refl
 joint_bound : filled (use_of 0 0 (token (punct 61 Alone) nothing)) (bind x (one (joint 61 (joint 62 end))) ∷ []) ≡ all_filled (joint 61 (alone 62 (alone 61 end)))
 joint_bound = refl
 
--- What a fragment of Rust's grammar took: an expression of more than one token stands as one opaque subtree, which has the spans of its
--- ends. One of a single token stands as it is, and so does a path.
+-- What a fragment of Rust's grammar took: an expression of more than one token becomes one opaque subtree with the spans of its ends. A
+-- single token is written as it is, and so is a path.
 abbrev bound_as : GrammarFragment → Forest → Binding
 bound_as which trees = record { variable = record { name = Some x; fragment = fragment.Grammar which }; bound = one trees } ∷ []
 
--- `a + b`, where `a` and `b` have these spans
+-- `a + b`, with these spans of `a` and `b`
 abbrev sum : Forest
 sum = leaf (leaf_of.Ident (record { sym = codes "a"; span = span 0 1; is_raw = Yes })) (alone 43 (leaf (leaf_of.Ident (record { sym = codes "b"; span = span 4 5; is_raw = Yes })) end))
 

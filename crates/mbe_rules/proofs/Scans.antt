@@ -1,4 +1,4 @@
--- What is seen of a repetition's parts is what its template says.
+-- What a scan of a repetition's parts finds is what its template says.
 use Rattle.std.proofs.Common.{◌≡◌, ℕ, suc, Bool, true, false, List, [], ◌∷◌, ◌++◌, Option, Some, None, Err, refl, ap, sym, ◌∙◌, cond, append_assoc}
 use Rattle.std.proofs.lemmas.List.{append-nil}
 use Rattle.std.specs.Prelude.{nat_eq, slice_get}
@@ -45,7 +45,7 @@ behind_parts n (repetition at inner separator kind others) behind =
     behind_parts (suc n) inner (close separator kind ∷ bits_of others behind) ∙ behind_parts n others behind
 
 module _ (inner : Template) (separator : List Leaf) (kind : RepeatKind) (behind : List Bit) where
-  -- So these are a repetition's: its uses, its kind, and what is behind it.
+  -- So these are the repetition's: its uses, its kind, and what follows it.
   pub scanned_uses : uses_before 0 (bits_of inner (close separator kind ∷ behind)) ≡ used_in inner
   scanned_uses = uses_of_parts 0 inner (close separator kind ∷ behind) ∙ append-nil (used_in inner)
 
@@ -55,7 +55,7 @@ module _ (inner : Template) (separator : List Leaf) (kind : RepeatKind) (behind 
   pub scanned_behind : behind_close 0 (bits_of inner (close separator kind ∷ behind)) ≡ behind
   scanned_behind = behind_parts 0 inner (close separator kind ∷ behind)
 
--- Some, and then others.
+-- Some numbers, and then others.
 pub counted_both : (xs ys : List ℕ) (count : Count) → counted_all (xs ++ ys) count ≡ counted_all ys (counted_all xs count)
 counted_both [] ys count = refl
 counted_both (n ∷ xs) ys count = counted_both xs ys (counted_with n count)
@@ -73,7 +73,7 @@ same_stays n (m ∷ its) = by (nat_eq m n) (same_stays n its)
     by true all = all
     by false all = differ_stays its
 
--- How often a repetition is filled, by the numbers of rounds as they are counted.
+-- How often a repetition is filled, from the counted numbers of rounds.
 pub rounds_counted : (at : ℕ) (kind : RepeatKind) (its : List ℕ) → rounds_of at kind its ≡ rounds_by at kind (counted_all its Unknown)
 rounds_counted at kind [] = refl
 rounds_counted at kind (n ∷ its) = by (are_all n its) ∙ sym (ap (rounds_by at kind) (same_stays n its))
@@ -101,7 +101,7 @@ pub seen_trees : (it : Option Named) → trees_seen (seen_at it) ≡ trees_used 
 seen_trees None = refl
 seen_trees (Some it) = bound_trees it.bound
 
--- A use more is counted.
+-- One more use is counted.
 pub counted_use : (binding : Binding) (variable : ℕ) (others : List ℕ) (count : Count)
     → counted_all (counts_of binding others) (counted_all (count_of (slice_get binding variable)) count) ≡ counted_all (counts_of binding (variable ∷ others)) count
 counted_use binding variable others count = sym (counted_both (count_of (slice_get binding variable)) (counts_of binding others) count)

@@ -1,4 +1,4 @@
--- What is bound in rounds that are one in the other, seen repetition by repetition.
+-- What is bound in nested rounds, seen repetition by repetition.
 use Rattle.std.proofs.Common.{◌≡◌, ◌+◌, ◌<◌, ◌≤◌, ℕ, zero, suc, List, [], ◌∷◌, ◌++◌, map, length, drop, get_or, Some, None, refl, ap, ap₂, sym, subst, ◌∙◌, arith}
 use Rattle.std.proofs.lemmas.List.{length-map}
 use Rattle.std.proofs.lemmas.Option.{slice_get-map}
@@ -15,7 +15,7 @@ use Rattle.mbe_rules.specs.Rounds.{bound_in, binding_in, dones, rounds, seen_of,
 use Rattle.mbe_rules.proofs.Nesting.{seen_rounds, in_one, in_none, seen_trees_at, first_is}
 
 module _ {A B : Type 0} (f : A → B) where
-  -- What stands at a place of values that were made of others.
+  -- The value at an index of a mapped list.
   pub made_at : (its : List A) (n : ℕ) (x : B) → slice_get (map f its) n ≡ Some x → (y : A) × (x ≡ f y) × (drop n its ≡ y ∷ drop (suc n) its)
   made_at [] zero x is = absurd (cc is)
   made_at [] (suc n) x is = absurd (cc is)
@@ -48,7 +48,7 @@ length_grouped : (counts : List ℕ) (its : List Bound) → length (grouped coun
 length_grouped [] its = refl
 length_grouped (n ∷ counts) its = ap suc (length_grouped counts (drop n its))
 
--- So often what stands in so many repetitions is there.
+-- How many times a repetition at that depth occurred.
 times_told : (counts : List (List ℕ)) (its : List Forest) (n : ℕ) → times_in (slice_get (map (sums 0) counts) n) (length its) ≡ length (nested (drop n counts) its)
 times_told [] its zero = sym (length-map its one)
 times_told [] its (suc n) = sym (length-map its one)
@@ -60,7 +60,7 @@ module _ (self : Taken) (bound : Bound) (taken : IsTaken bound self) (begun : Li
   abbrev its : List Forest
   its = map trees_of self.trees.items
 
-  -- what is bound in the rounds that are passed stands there
+  -- what is bound in the rounds that are passed is at that index
   abbrev pub Here : (depth time : ℕ) → Type 0
   Here depth time = bound_in (dones begun) bound ≡ bound_in (drop depth (dones begun)) (get_or (nested (drop depth taken.counts) its) time none)
 
@@ -74,7 +74,7 @@ module _ (self : Taken) (bound : Bound) (taken : IsTaken bound self) (begun : Li
     counts_here : (c : List ℕ) × (ends ≡ sums 0 c) × (drop depth taken.counts ≡ c ∷ drop (suc depth) taken.counts)
     counts_here = made_at (sums 0) taken.counts depth ends (ap (λ l. slice_get l depth) (sym taken.ends) ∙ some)
 
-    -- what stands in it
+    -- what is in it
     abbrev below : List Bound
     below = nested (drop (suc depth) taken.counts) its
 
@@ -84,7 +84,7 @@ module _ (self : Taken) (bound : Bound) (taken : IsTaken bound self) (begun : Li
     count_is : count ≡ count_at (sums 0 (counts_here.0)) time (length below)
     count_is = counted ∙ ap₂ (λ e n. count_at e time n) (counts_here.1) (ap (λ n. times_at n self) more ∙ times_are (suc depth))
 
-    -- No round of it is begun.
+    -- No round of it is under way.
     pub not_begun : slice_get begun depth ≡ None → rounds count ≡ seen_of (bound_in (dones begun) bound)
     not_begun none_there =
         ap rounds count_is ∙ sym (seen_rounds below (counts_here.0) time)
@@ -101,7 +101,7 @@ module _ (self : Taken) (bound : Bound) (taken : IsTaken bound self) (begun : Li
           sym (in_none below (counts_here.0) time it.done (drop (suc depth) (dones begun)) (omega (arith, past, count_is)))
           ∙ sym (ap seen_of (here_in (it.done ∷ drop (suc depth) (dones begun)) from_here))
 
-      -- There is.
+      -- There is such a round.
       pub such : it.done < count → Here next (first_at ends time + it.done)
       such within =
           here_in (it.done ∷ drop (suc depth) (dones begun)) from_here
@@ -118,11 +118,11 @@ module _ (self : Taken) (bound : Bound) (taken : IsTaken bound self) (begun : Li
       (sym (none_made (sums 0) taken.counts depth (ap (λ l. slice_get l depth) (sym taken.ends) ∙ none_left)))
       ∙ sym (ap seen_of here)
 
--- At first nothing is passed.
+-- At the beginning nothing is passed.
 pub first_here : (self : Taken) (bound : Bound) (taken : IsTaken bound self) (begun : List Round) → Here self bound taken begun 0 0
 first_here self bound taken begun = ap (bound_in (dones begun)) (taken.is ∙ first_is (nested taken.counts (map trees_of self.trees.items)))
 
--- A variable more.
+-- One more variable.
 pub taken_more : (binding : Binding) (its : List Taken) (named : Named) (it : Taken) → AreTaken binding its → IsTakenBy named it
     → AreTaken (binding ++ named ∷ []) (its ++ it ∷ [])
 taken_more [] [] named it are is = (is, tt)
@@ -148,7 +148,7 @@ none_at (named ∷ binding) [] number are is = absurd are
 none_at (named ∷ binding) (other ∷ its) zero are is = absurd (cc is)
 none_at (named ∷ binding) (other ∷ its) (suc number) are is = none_at binding its number (are.1) is
 
--- In a round a variable has its fragment still.
+-- In a round, a variable still has its fragment.
 pub fragment_here : (numbers : List ℕ) (binding : Binding) (number : ℕ) → fragment_of (slice_get (binding_in numbers binding) number) ≡ fragment_of (slice_get binding number)
 fragment_here numbers binding number =
     ap fragment_of (slice_get-map (in_round (bound_in numbers)) binding number) ∙ by (slice_get binding number)

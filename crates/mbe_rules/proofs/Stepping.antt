@@ -1,4 +1,4 @@
--- Where each part of a template leads, and why it is refused.
+-- Where each part of a template leads, and which errors it gives.
 use Rattle.std.proofs.Common.{◌≡◌, ◌+◌, ◌<◌, ◌≤◌, ℕ, suc, List, [], ◌∷◌, ◌++◌, drop, reverse, Some, Ok, Err, inl, inr, refl, ap, sym, subst, ◌∙◌, arith}
 use Rattle.std.proofs.lemmas.List.{reverse-append}
 use Rattle.std.specs.Prelude.{slice_get}
@@ -26,7 +26,7 @@ use Rattle.tt_base.proofs.Appending.{held-append, held-close}
 use Rattle.mbe_rules.proofs.Writes.{sound, held_less}
 
 module _ (bits : List Bit) (whole : Binding) (levels : List Level) (left : List Bit) where
-  -- It goes on so.
+  -- The filling goes on like this.
   goes_on : (old new : Filling) (rounds : List Round) (closes : List Span) (change : Stack → Stack) → Next bits whole levels rounds closes left change
       → reverse new.rounds.items ≡ rounds → reverse new.closes.items ≡ closes → new.builder.stack ≡ change old.builder.stack
       → tokens_held new.builder.stack ≤ most_tokens → new.builder.top ≡ old.builder.top → Goes bits whole levels old new left
@@ -43,7 +43,7 @@ module _ (bits : List Bit) (whole : Binding) (levels : List Level) (left : List 
         top = top;
       }
 
-  -- Or so many tokens more are refused.
+  -- Or that many more tokens give an error.
   want_stops : (old : Filling) (rounds : List Round) (closes : List Span) (behind : List Bit) (change : Stack → Stack) (more : ℕ) (fault : TtFault)
       → Next bits whole levels rounds closes behind change → tokens_held (change old.builder.stack) ≡ tokens_held old.builder.stack + more → IsWant more old fault
       → IsStop (finished levels (written_by old)) (error.Tree fault)
@@ -59,7 +59,7 @@ module _ (bits : List Bit) (whole : Binding) (levels : List Level) (left : List 
       subst (λ f. IsStop (finished levels (written_by old)) (error.Tree f)) (sym e) past
 
   module _ (old : Filling) where
-    -- the rounds and the subtrees that are open
+    -- the rounds under way, and the open subtrees
     abbrev pub rounds : List Round
     rounds = reverse old.rounds.items
 
@@ -106,7 +106,7 @@ module _ (bits : List Bit) (whole : Binding) (levels : List Level) (left : List 
         want_stops old rounds (delimiter.close ∷ closes) left (λ stack. above stack delimiter.kind delimiter.open_span end) 1 fault
         (goes_enter bits whole rounds closes left delimiter levels is.stand) (omega arith) want
 
-    -- A subtree ends, or all.
+    -- A subtree ends, or the template does.
     pub leave_steps : (new : Filling) → IsAt bits whole levels old (leave ∷ left) → Leaves old new → Goes bits whole levels old new left
     leave_steps new is leaves = by closes refl leaves
       where
@@ -134,7 +134,7 @@ module _ (bits : List Bit) (whole : Binding) (levels : List Level) (left : List 
           top = ap (λ f. f.builder.top) unchanged;
         }
 
-    -- It has some.
+    -- It has some rounds.
     pub begin_steps : (new : Filling) (at n body : ℕ) → IsAt bits whole levels old (begin at ∷ left) → asked at (bound_here whole rounds) left ≡ Ok (suc n)
         → drop body bits ≡ left → new.builder ≡ old.builder → new.closes ≡ old.closes
         → new.rounds.items ≡ old.rounds.items ++ record { body = body; done = 0; last = n } ∷ []
@@ -145,7 +145,7 @@ module _ (bits : List Bit) (whole : Binding) (levels : List Level) (left : List 
         (ap reverse same_rounds ∙ reverse-append old.rounds.items (it ∷ [])) (ap (λ r. reverse r.items) same_closes) (ap (λ b. b.stack) builder)
         (omega (arith, ap (λ b. tokens_held b.stack) builder, is.few)) (ap (λ b. b.top) builder)
 
-    -- It is not told how many.
+    -- The number of rounds is a fault.
     pub begin_stops : (at : ℕ) (fault : FillFault) → IsAt bits whole levels old (begin at ∷ left) → asked at (bound_here whole rounds) left ≡ Err fault
         → IsStop (finished levels (written_by old)) (round_error fault)
     begin_stops at fault is told =
@@ -165,7 +165,7 @@ module _ (bits : List Bit) (whole : Binding) (levels : List Level) (left : List 
   stand : AreLevels bits whole levels (it ∷ reverse before) (reverse old.closes.items) (close separator kind ∷ left)
   stand = subst (λ l. AreLevels bits whole levels l (reverse old.closes.items) (close separator kind ∷ left)) (ap reverse was ∙ reverse-append before (it ∷ [])) is.stand
 
-  -- It is the last one.
+  -- It is the last round.
   pub last_steps : (new : Filling) → it.last ≤ it.done → new.builder ≡ old.builder → new.closes ≡ old.closes → new.rounds.items ≡ before
       → Goes bits whole levels old new left
   last_steps new past builder same_closes same_rounds =
@@ -174,7 +174,7 @@ module _ (bits : List Bit) (whole : Binding) (levels : List Level) (left : List 
       (ap reverse same_rounds) (ap (λ r. reverse r.items) same_closes) (ap (λ b. b.stack) builder)
       (omega (arith, ap (λ b. tokens_held b.stack) builder, is.few)) (ap (λ b. b.top) builder)
 
-  -- There is another.
+  -- There is another round.
   pub again_steps : (new : Filling) → it.done < it.last → new.builder.stack ≡ append (leaves separator) old.builder.stack → new.builder.top ≡ old.builder.top
       → (tokens_held old.builder.stack ≤ most_tokens → tokens_held new.builder.stack ≤ most_tokens) → new.closes ≡ old.closes
       → new.rounds.items ≡ before ++ record { body = it.body; done = suc it.done; last = it.last } ∷ []
@@ -185,7 +185,7 @@ module _ (bits : List Bit) (whole : Binding) (levels : List Level) (left : List 
       (goes_again bits whole left (reverse old.closes.items) separator kind it (reverse before) levels stand within)
       (ap reverse same_rounds ∙ reverse-append before (next ∷ [])) (ap (λ r. reverse r.items) same_closes) stack (few is.few) top
 
-  -- The separator is refused.
+  -- The separator gives an error.
   pub again_stops : (fault : TtFault) → it.done < it.last → IsWant (size (leaves separator)) old fault → IsStop (finished levels (written_by old)) (error.Tree fault)
   again_stops fault within want =
       want_stops bits whole levels left old (record { body = it.body; done = suc it.done; last = it.last } ∷ reverse before) (reverse old.closes.items) (drop it.body bits)

@@ -1,4 +1,4 @@
--- A template's parts tell it.
+-- A template's parts determine it.
 use Rattle.std.proofs.Common.{◌≡◌, ℕ, true, List, [], ◌∷◌, map, Option, None, Some, refl, ap, sym, ◌∙◌}
 use Rattle.std.specs.Prelude.{is_some, unwrap_or}
 use Rattle.tt.specs.Types.Delimiter.{Delimiter}
@@ -21,7 +21,7 @@ read_parts (repetition at inner separator kind others) ending behind levels is =
     (read_parts inner (close separator kind) (bits_of others (ending ∷ behind)) (read others ending ∷ levels)
     (ap (put_if (close separator kind)) (read_parts others ending behind levels is)))
 
--- So it is told by its parts.
+-- So its parts determine it.
 pub whole_is : (parts : List Part) (template : Template) → map bit_of parts ≡ all_bits template → whole_in (read_all (map bit_of parts)) ≡ Some template
 whole_is parts template is = ap (λ l. whole_in (read_all l)) is ∙ ap whole_in (read_parts template leave [] [] refl)
 
@@ -101,7 +101,7 @@ all_put (it ∷ others) levels is = by (read_all others) (all_put others) is
     by None all is = absurd (cc is)
     by (Some before) all is = ap (λ l. it ∷ l) (all before refl) ∙ one_put it before levels is
 
--- So the parts are those of the template that they tell.
+-- So the parts are those of the template that they determine.
 pub parts_are : (parts : List Part) → are_whole parts ≡ true → map bit_of parts ≡ all_bits (whole_of parts)
 parts_are parts is = by (read_all (map bit_of parts)) (all_put (map bit_of parts)) is
   where

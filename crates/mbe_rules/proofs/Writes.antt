@@ -1,4 +1,4 @@
--- What is written in the end of what is left of a template.
+-- What is finally written of the rest of a template.
 use Rattle.std.proofs.Common.{◌≡◌, ◌+◌, ◌≤◌, List, [], ◌∷◌, Some, None, Option, refl, ap, sym, ◌∙◌, arith}
 use Rattle.tt.specs.Building.{Stack, lowest, above, append, close_innermost, tokens_held}
 use Rattle.tt.specs.Forest.{Forest, end, node, join, size}
@@ -36,7 +36,7 @@ write_both a b it = by it.fault a.fault it.stack
     by None (Some f) stack = refl
     by None None stack = ap (λ s. record { stack = s; fault = b.fault }) (append-join a.trees b.trees stack)
 
--- Not fewer are held.
+-- No fewer tokens are held.
 held-write : (it : Filled) (before : Written) → tokens_held before.stack ≤ tokens_held (write it before).stack
 held-write it before = by before.fault before.stack
   where
@@ -55,7 +55,7 @@ held_less (level ∷ outer) it =
     let next = write (filled level.rest level.binding) it in
     omega (arith, held-write (filled level.rest level.binding) it, held-behind level.closing next, held_less outer (behind_end level.closing next))
 
--- Behind a fault nothing more is written.
+-- After a fault nothing more is written.
 behind_fault : (closing : Closing) (stack : Stack) (fault : FillFault) → (behind_end closing (faulty stack fault)).fault ≡ Some fault
 behind_fault last stack fault = refl
 behind_fault (shut span) stack fault = refl

@@ -19,62 +19,62 @@ use Rattle.mbe_rules.specs.declared.rules_error.RulesError.{RulesError}
 use Rattle.mbe_rules.specs.Arms.{variables}
 use Rattle.mbe_rules.specs.Arrows.{is_arrow_in, is_semicolon_in}
 
--- a pattern's fault, of its arm
+-- a pattern's fault, as a fault of its arm
 abbrev pub of_pattern : PatternError → ArmFault
 of_pattern pattern.Memory = fault.Memory
 of_pattern other = fault.Pattern other
 
--- a template's
+-- a template's fault, as a fault of its arm
 abbrev pub of_template : TemplateError → ArmFault
 of_template template.Memory = fault.Memory
 of_template other = fault.Template other
 
--- the one, or else the other
+-- the first, or otherwise the other
 abbrev pub or_else : Option ArmFault → Option ArmFault → Option ArmFault
 or_else None other = other
 or_else (Some it) other = Some it
 
--- the flat place before these trees, where behind the last of them is that one
+-- the flat place before these trees, given the place after the last of them
 abbrev pub place : (until : ℕ) → Forest → ℕ
 place until trees = until - size trees
 
--- what is wrong where a template should stand
+-- what is wrong in the place of a template
 abbrev pub template_fault_in : (until : ℕ) → List Where → Forest → Option ArmFault
 template_fault_in until variables end = Some (fault.NoTemplate (place until end))
 template_fault_in until variables (leaf it rest) = Some (fault.NoTemplate (place until (leaf it rest)))
 template_fault_in until variables (node delimiter children rest) = option_map of_template (template_fault variables (template_of variables children))
 
--- what is wrong behind a pattern
+-- what is wrong after a pattern
 abbrev pub arrow_fault : (until : ℕ) → List Where → Forest → Option ArmFault
 arrow_fault until variables between =
     if is_arrow_in between then template_fault_in until variables (after_trees 2 between) else Some (fault.NoArrow (place until between))
 
--- what is wrong behind an arm
+-- what is wrong after an arm
 abbrev pub semicolon_fault : (until : ℕ) → Forest → Option ArmFault
 semicolon_fault until rest =
     if is_end rest then None else (if is_semicolon_in rest then None else Some (fault.NoSemicolon (place until rest)))
 
--- what stands behind the arm with which the trees begin
+-- what follows the arm that the trees begin with
 abbrev pub behind_arm : Forest → Forest
 behind_arm trees = after_tree (after_trees 2 (after_tree trees))
 
--- what is wrong with the arm with which the trees should begin, up to the end of its template
+-- what is wrong with the arm that the trees should begin with, up to the end of its template
 abbrev pub body_fault : (until : ℕ) → Forest → Option ArmFault
 body_fault until end = Some (fault.NoPattern (place until end))
 body_fault until (leaf it rest) = Some (fault.NoPattern (place until (leaf it rest)))
 body_fault until (node delimiter children between) =
     or_else (option_map of_pattern (pattern_fault children)) (arrow_fault until (variables (pattern_of children)) between)
 
--- its first fault, in reading order
+-- the arm's first fault, in reading order
 abbrev pub arm_fault : (until : ℕ) → Forest → Option ArmFault
 arm_fault until trees = or_else (body_fault until trees) (semicolon_fault until (behind_arm trees))
 
--- that is wrong with the arm: memory is refused, or that is its first fault
+-- the arm has this fault: memory ran out, or it is the first fault
 abbrev pub IsArmFault : Option ArmFault → ArmFault → Type 0
 IsArmFault first fault.Memory = Unit {0}
 IsArmFault first other = first ≡ Some other
 
--- the arms before are sound, and that is wrong with the one of that number
+-- the earlier arms are sound, and the arm of that number has this fault
 abbrev pub IsFaultAt : (until : ℕ) → Forest → (arm : ℕ) → ArmFault → Type 0
 IsFaultAt until trees zero other = IsArmFault (arm_fault until trees) other
 IsFaultAt until trees (suc arm) other =

@@ -1,4 +1,4 @@
--- What an arm is, and how trees spell some.
+-- What an arm is, and how trees spell several arms.
 use Rattle.std.specs.Prelude.{◌≡◌, ◌⊎◌, true, List, [], ◌∷◌, None}
 use Rattle.tt.specs.Forest.{Forest, end, node}
 use Rattle.tt.specs.Gluing.{after_trees}
@@ -23,8 +23,7 @@ pub record Arm : Type 0 where
 abbrev pub variables : Pattern → List Where
 variables pattern = variables_of pattern 1
 
--- the trees begin with an arm in which nothing is wrong, behind which the rest stands: a subtree that holds its pattern, `=>`, and a
--- subtree that holds its template
+-- the trees begin with a sound arm: a subtree that holds its pattern, `=>`, and a subtree that holds its template; the rest follows it
 pub record IsArm (trees : Forest) (arm : Arm) (rest : Forest) : Type 0 where
   pub outer : Delimiter
   pub pattern : Forest
@@ -38,15 +37,15 @@ pub record IsArm (trees : Forest) (arm : Arm) (rest : Forest) : Type 0 where
   pub sound_pattern : pattern_fault pattern ≡ None
   pub sound_template : template_fault (variables arm.pattern) arm.template ≡ None
 
--- behind an arm nothing is left, or `;` with other trees behind it
+-- after an arm comes the end, or `;` and other trees
 abbrev pub IsBehind : (rest others : Forest) → Type 0
 IsBehind rest others = ((rest ≡ end) × (others ≡ end)) ⊎ ((is_semicolon_in rest ≡ true) × (others ≡ after_tree rest))
 
--- nothing is left, or `;` alone
+-- nothing is left, or only `;`
 abbrev pub IsLast : Forest → Type 0
 IsLast rest = (rest ≡ end) ⊎ ((is_semicolon_in rest ≡ true) × (after_tree rest ≡ end))
 
--- the trees spell these arms, with `;` between them, and maybe behind the last
+-- the trees spell these arms, with `;` between them, and optionally after the last
 abbrev pub Spell : Forest → List Arm → Type 0
 Spell trees [] = ⊥
 Spell trees (arm ∷ []) = (rest : Forest) × IsArm trees arm rest × IsLast rest

@@ -1,4 +1,4 @@
--- How often a repetition is filled, as its parts are gone through.
+-- How often a repetition is filled, counted part by part.
 use Rattle.std.specs.Prelude.{ℕ, zero, suc, List, [], ◌∷◌, Result, Ok, Err, nat_eq, if◌then◌else◌}
 use Rattle.mbe_pattern.specs.declared.pattern.RepeatKind.{RepeatKind}
 use Rattle.mbe_pattern.specs.declared.pattern.RepeatKind.TheVariants.{ZeroOrMore}
@@ -10,18 +10,18 @@ use Rattle.mbe_rules.specs.Filling.{FillFault, lengths_differ, no_round, enough}
 use Rattle.mbe_rules.specs.Parts.{Bit, uses, same, enter, leave, begin, close}
 use Rattle.mbe_rules.specs.Rounds.{Seen, trees, rounds}
 
--- a variable more, which has so many rounds
+-- one more variable, which has that many rounds
 abbrev pub counted_with : ℕ → Count → Count
 counted_with n Unknown = Same n
 counted_with n (Same m) = if nat_eq n m then Same m else Differ
 counted_with n Differ = Differ
 
--- some more, the first of them first
+-- several more variables, in order
 abbrev pub counted_all : List ℕ → Count → Count
 counted_all [] count = count
 counted_all (n ∷ others) count = counted_all others (counted_with n count)
 
--- the number of rounds that are seen, or none
+-- the number of rounds that is seen, or none
 abbrev pub counts_seen : Seen → List ℕ
 counts_seen (trees its) = []
 counts_seen (rounds n) = n ∷ []
@@ -32,12 +32,12 @@ rounds_by at kind Unknown = Ok 0
 rounds_by at kind (Same n) = enough at kind n
 rounds_by at kind Differ = Err (lengths_differ at)
 
--- how the fault is told
+-- the error for a fault
 abbrev pub round_error : FillFault → FillError
 round_error (lengths_differ at) = LengthsDiffer at
 round_error (no_round at) = NoRound at
 
--- the variables that are used before the end of the repetition inside of which so many are open
+-- the variables used before the end of the repetition, if that many inner repetitions are open
 abbrev pub uses_before : (open_count : ℕ) → List Bit → List ℕ
 uses_before n [] = []
 uses_before n (uses at variable ∷ others) = variable ∷ uses_before n others
@@ -59,7 +59,7 @@ kind_before n (begin at ∷ others) = kind_before (suc n) others
 kind_before zero (close separator kind ∷ others) = kind
 kind_before (suc n) (close separator kind ∷ others) = kind_before n others
 
--- the parts behind it
+-- the parts after it
 abbrev pub behind_close : (open_count : ℕ) → List Bit → List Bit
 behind_close n [] = []
 behind_close n (uses at variable ∷ others) = behind_close n others

@@ -30,24 +30,24 @@ AreMade [] (it ∷ others) = ⊥
 AreMade (arm ∷ more) [] = ⊥
 AreMade (arm ∷ more) (it ∷ others) = IsMade arm it × AreMade more others
 
--- what the arm writes where an input is read so
+-- what the arm writes for such a reading of an input
 abbrev pub written : Arm → Reading → Filled
 written arm reading = filled arm.template (binding_of arm.pattern reading)
 
--- what the arm makes of an input: nothing, where it is no instance of the pattern, which stops there; it is said where there are two readings;
+-- what the arm makes of an input: no match, if it is no instance of the pattern, which stops there; ambiguous, if there are two readings;
 -- or the template, filled with what the one reading binds
 abbrev pub IsAnswer : Arm → (input : Forest) → Answer → Type 0
 IsAnswer arm input (answer.NoMatch at) = IsNoInstance arm.pattern input × StopsAt arm.pattern input at
 IsAnswer arm input answer.Ambiguous = IsAmbiguous arm.pattern input
 IsAnswer arm input (answer.Tree tree) = (reading : Reading) × IsReadBy arm.pattern input reading × IsFilled arm.delimiter (written arm reading) tree
 
--- why it makes nothing of it: memory is refused, or the template is not filled with what the one reading binds
+-- why the arm makes nothing of it: memory ran out, or the template cannot be filled with what the one reading binds
 abbrev pub IsRefusal : Arm → (input : Forest) → FillError → Type 0
 IsRefusal arm input (Tree Memory) = Unit {0}
 IsRefusal arm input error = (reading : Reading) × IsReadBy arm.pattern input reading × IsFillError arm.delimiter (written arm reading) error
 
--- the answer of the first arm of whose pattern the input is an instance, where the first of these has that number, and the arms before them
--- came up to a flat place; where there is no such arm, the farthest place is told
+-- the answer of the first arm that matches the input; the first of these arms has that number, and earlier arms came up to a flat
+-- place; if no arm matches, the farthest place
 abbrev pub IsExpansion : List Arm → (number farthest : ℕ) → (input : Forest) → Expansion → Type 0
 IsExpansion [] number farthest input (expansion.NoMatch at) = at ≡ farthest
 IsExpansion [] number farthest input (expansion.Ambiguous arm) = ⊥
@@ -60,7 +60,7 @@ IsExpansion (arm ∷ others) number farthest input result =
     IsOf (expansion.Ambiguous which) = (which ≡ number) × IsAnswer arm input answer.Ambiguous
     IsOf (expansion.Tree tree) = IsAnswer arm input (answer.Tree tree)
 
--- why that arm has none
+-- why that arm gives an error
 abbrev pub IsExpandError : List Arm → (number : ℕ) → (input : Forest) → ExpandError → Type 0
 IsExpandError [] number input error = ⊥
 IsExpandError (arm ∷ others) number input error =

@@ -1,4 +1,4 @@
--- What becomes of a template under a binding.
+-- What a template becomes under a binding.
 use Rattle.std.specs.Prelude.{ℕ, zero, suc, Bool, true, false, List, [], ◌∷◌, ◌++◌, map, Option, None, Some, Result, Ok, Err, nat_eq, slice_get, if◌then◌else◌}
 use Rattle.tt.specs.Forest.{Forest, end, leaf, node, join}
 use Rattle.tt.specs.Siblings.{leaves}
@@ -10,8 +10,8 @@ use Rattle.mbe_matcher.specs.Bindings.{Bound, one, none, first, Named, Binding}
 use Rattle.mbe_rules.specs.Placing.{placed}
 use Rattle.mbe_rules.specs.Templates.{Template, nothing, use_of, token, subtree, repetition}
 
--- why a template cannot be filled, at the flat place of a repetition's `$`: one of its variables has more rounds than another, or none is
--- where one has to be
+-- why a template cannot be filled, at the flat place of a repetition's `$`: one of its variables has more rounds than another, or
+-- there is no round but one is required
 pub data FillFault : Type 0 where
   lengths_differ : (at : ℕ) → FillFault
   no_round : (at : ℕ) → FillFault
@@ -21,7 +21,7 @@ pub record Filled : Type 0 where
   pub trees : Forest
   pub fault : Option FillFault
 
--- the variables that it uses, at any depth
+-- the variables that the template uses, at any depth
 abbrev pub used_in : Template → List ℕ
 used_in nothing = []
 used_in (use_of at variable others) = variable ∷ used_in others
@@ -35,7 +35,7 @@ round_count (one trees) = 0
 round_count none = 0
 round_count (first it others) = suc (round_count others)
 
--- the numbers of rounds of those variables that have rounds, or none
+-- the numbers of rounds of those of the variables that have rounds
 abbrev pub count_in : Bound → List ℕ
 count_in (one trees) = []
 count_in none = 0 ∷ []
@@ -49,12 +49,12 @@ abbrev pub counts_of : Binding → List ℕ → List ℕ
 counts_of binding [] = []
 counts_of binding (variable ∷ others) = count_of (slice_get binding variable) ++ counts_of binding others
 
--- all are that number
+-- all numbers are that number
 abbrev pub are_all : ℕ → List ℕ → Bool
 are_all n [] = true
 are_all n (m ∷ others) = if nat_eq m n then are_all n others else false
 
--- that many rounds, unless none is where one has to be
+-- that many rounds, unless there is none and one is required
 abbrev pub enough : (at : ℕ) → RepeatKind → ℕ → Result ℕ FillFault
 enough at repeat.ZeroOrMore n = Ok n
 enough at repeat.ZeroOrOne n = Ok n
@@ -66,7 +66,7 @@ abbrev pub rounds_of : (at : ℕ) → RepeatKind → List ℕ → Result ℕ Fil
 rounds_of at kind [] = Ok 0
 rounds_of at kind (n ∷ others) = if are_all n others then enough at kind n else Err (lengths_differ at)
 
--- what is bound in the first round, and in the others; what is bound outside is in each of them
+-- what is bound in the first round, and in the others; what is bound outside a repetition is bound in each round
 abbrev pub first_of : Bound → Bound
 first_of (one trees) = one trees
 first_of none = none
@@ -95,7 +95,7 @@ abbrev pub fragment_of : Option Named → Option Fragment
 fragment_of None = None
 fragment_of (Some it) = Some it.variable.fragment
 
--- those that stand in its place
+-- the trees that replace a use
 abbrev pub trees_placed : Option Named → Forest
 trees_placed it = placed (fragment_of it) (trees_used it)
 
@@ -103,7 +103,7 @@ trees_placed it = placed (fragment_of it) (trees_used it)
 abbrev pub all_filled : Forest → Filled
 all_filled trees = record { trees = trees; fault = None }
 
--- the one, and then the other if the one has no fault
+-- the first, and then the other if the first has no fault
 abbrev pub then_if : (fault : Option FillFault) → Forest → Filled → Filled
 then_if None trees others = record { trees = join trees others.trees; fault = others.fault }
 then_if (Some fault) trees others = record { trees = trees; fault = Some fault }
@@ -111,24 +111,24 @@ then_if (Some fault) trees others = record { trees = trees; fault = Some fault }
 abbrev pub and_then : Filled → Filled → Filled
 and_then it others = then_if it.fault it.trees others
 
--- so many rounds, each with a separator before it
+-- that many rounds, each with a separator before it
 abbrev pub more_rounds : (fill : Binding → Filled) → (separator : Forest) → ℕ → Binding → Filled
 more_rounds fill separator zero binding = all_filled end
 more_rounds fill separator (suc n) binding =
     and_then (all_filled separator) (and_then (fill (map (in_round first_of) binding)) (more_rounds fill separator n (map (in_round others_of) binding)))
 
--- so many rounds, with separators between them
+-- that many rounds, with separators between them
 abbrev pub filled_rounds : (fill : Binding → Filled) → (separator : Forest) → ℕ → Binding → Filled
 filled_rounds fill separator zero binding = all_filled end
 filled_rounds fill separator (suc n) binding =
     and_then (fill (map (in_round first_of) binding)) (more_rounds fill separator n (map (in_round others_of) binding))
 
--- the rounds, if it is told how many there are
+-- the rounds, if their number is known
 abbrev pub filled_if : (fill : Binding → Filled) → (separator : Forest) → Result ℕ FillFault → Binding → Filled
 filled_if fill separator (Err fault) binding = record { trees = end; fault = Some fault }
 filled_if fill separator (Ok n) binding = filled_rounds fill separator n binding
 
--- a subtree round what was filled
+-- a subtree around what was filled
 abbrev pub in_subtree : Delimiter → Filled → Filled
 in_subtree delimiter it = record { trees = node delimiter it.trees end; fault = it.fault }
 

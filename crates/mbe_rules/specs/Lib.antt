@@ -4,7 +4,7 @@ pub mod Arrows
 pub mod Expansions
 pub mod ArmFaults
 pub mod ArmSpelling
--- What a template is, how trees spell it, what is wrong with it, and what becomes of it.
+-- What a template is, how trees spell it, what is wrong with it, and what it becomes.
 pub mod Counting
 pub mod Faults
 pub mod Filling

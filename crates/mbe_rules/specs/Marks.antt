@@ -1,4 +1,4 @@
--- What was read of a template, as its definitions have it.
+-- What was read of a template, in the terms of its definitions.
 use Rattle.mbe_pattern.specs.Signs.{tail_of}
 use Rattle.mbe_rules.specs.declared.first.Mark.{Mark}
 use Rattle.mbe_rules.specs.declared.first.Mark.TheVariants as mark

@@ -7,7 +7,7 @@ use Rattle.mbe_rules.specs.declared.parts.Part.{Part}
 use Rattle.mbe_rules.specs.declared.parts.Part.TheVariants as part
 use Rattle.mbe_rules.specs.Templates.{Template, nothing, use_of, token, subtree, repetition}
 
--- a use of a variable, a token, and where subtrees and repetitions begin and end
+-- a use of a variable, a token, and the beginnings and ends of subtrees and repetitions
 pub data Bit : Type 0 where
   uses : (at variable : ℕ) → Bit
   same : Leaf → Bit
@@ -16,7 +16,7 @@ pub data Bit : Type 0 where
   begin : (at : ℕ) → Bit
   close : (separator : List Leaf) → RepeatKind → Bit
 
--- what a part stands for
+-- a part as a bit
 abbrev pub bit_of : Part → Bit
 bit_of (part.Use at variable) = uses at variable
 bit_of (part.Token it) = same it
@@ -33,6 +33,6 @@ bits_of (token it others) behind = same it ∷ bits_of others behind
 bits_of (subtree delimiter inner others) behind = enter delimiter ∷ bits_of inner (leave ∷ bits_of others behind)
 bits_of (repetition at inner separator kind others) behind = begin at ∷ bits_of inner (close separator kind ∷ bits_of others behind)
 
--- those of a whole template
+-- the parts of a whole template
 abbrev pub all_bits : Template → List Bit
 all_bits template = bits_of template (leave ∷ [])

@@ -1,4 +1,4 @@
--- What stands in the place of a use: an expression, a type or a pattern of more than one token stands as one subtree there.
+-- What replaces a use. An expression, a type or a pattern of more than one token becomes one subtree.
 use Rattle.std.specs.Prelude.{◌&&◌, not, Bool, true, false, Option, None, Some, option_map, if◌then◌else◌}
 use Rattle.tt.specs.Building.{alone}
 use Rattle.tt.specs.Forest.{Forest, end, node}
@@ -15,7 +15,7 @@ use Rattle.mbe_pattern.specs.declared.pattern.GrammarFragment.{GrammarFragment}
 use Rattle.mbe_pattern.specs.declared.pattern.GrammarFragment.TheVariants as grammar
 use Rattle.mbe_pattern.specs.Units.{unit_size}
 
--- an expression, a type or a pattern, whose parts belong closer together than to what they stand beside
+-- an expression, a type or a pattern; its parts belong more closely together than to what surrounds it
 abbrev pub is_one_piece : GrammarFragment → Bool
 is_one_piece grammar.Expr = true
 is_one_piece grammar.Expr2021 = true
@@ -27,7 +27,7 @@ is_one_piece grammar.Stmt = false
 is_one_piece grammar.Item = false
 is_one_piece grammar.Meta = false
 
--- the fragment takes such a one
+-- the fragment takes an expression, a type or a pattern
 abbrev pub is_bound_as_one : Fragment → Bool
 is_bound_as_one fragment.Ident = false
 is_bound_as_one fragment.Literal = false
@@ -41,7 +41,7 @@ is_bound_as_one (fragment.Grammar which) = is_one_piece which
 abbrev pub is_more : Forest → Bool
 is_more trees = not (is_end (after_trees (unit_size trees) trees))
 
--- what the fragment took is enclosed; where there is no fragment nothing was taken
+-- what the fragment took is enclosed; without a fragment nothing was taken
 abbrev pub is_enclosed : Option Fragment → Forest → Bool
 is_enclosed None trees = false
 is_enclosed (Some which) trees = is_bound_as_one which && is_more trees
@@ -56,10 +56,10 @@ enclosed_if None last trees = trees
 enclosed_if (Some first) None trees = trees
 enclosed_if (Some first) (Some last) trees = enclosed_between first last trees
 
--- the trees in an opaque subtree, which has the spans of their first token and their last
+-- the trees in an opaque subtree with the spans of their first and last token
 abbrev pub enclosed : Forest → Forest
 enclosed trees = enclosed_if (option_map first_span (first_token trees)) (last_span trees) (alone trees)
 
--- what stands in the place of what the fragment took: its last token does not stand as one with what comes behind
+-- what replaces a use of what the fragment took; its last token does not form one token with what follows
 abbrev pub placed : Option Fragment → Forest → Forest
 placed which trees = if is_enclosed which trees then enclosed trees else alone trees

@@ -1,4 +1,4 @@
--- When trees are a template, and which it is.
+-- When trees are a template, and which one.
 use Rattle.std.specs.Prelude.{◌≡◌, ◌≤◌, List, map, None, Some}
 use Rattle.tt.specs.Forest.{Root, size}
 use Rattle.tt.specs.Stored.{most_tokens}
@@ -17,12 +17,12 @@ use Rattle.mbe_rules.specs.Filling.{Filled, lengths_differ, no_round}
 use Rattle.mbe_rules.specs.Parts.{bit_of, all_bits}
 use Rattle.mbe_rules.specs.Templates.{Template}
 
--- the parts are those of the template, in which nothing is wrong
+-- the parts are those of the template, which has no fault
 pub record IsTemplate (variables : List Where) (template : Template) (it : rust.Template) : Type 0 where
   pub parts : map bit_of it.parts.items ≡ all_bits template
   pub sound : template_fault variables template ≡ None
 
--- why it is refused: memory is, or that is its first fault
+-- why the trees are no template: memory ran out, or this is their first fault
 abbrev pub IsTemplateError : List Where → Template → TemplateError → Type 0
 IsTemplateError variables template error.Memory = Unit {0}
 IsTemplateError variables template (error.StillRepeats at) = template_fault variables template ≡ Some (error.StillRepeats at)
@@ -33,13 +33,13 @@ pub record IsFilled (delimiter : Delimiter) (it : Filled) (tree : Root) : Type 0
   pub sound : it.fault ≡ None
   pub is : tree ≡ under delimiter it.trees
 
--- a limit is told of all that there is to fill, but for that of tokens
+-- a limit other than that of tokens is reported only if the whole template was filled; memory may run out at any time
 abbrev pub IsToldOf : Filled → TtFault → Type 0
 IsToldOf it limit.Memory = Unit {0}
 IsToldOf it limit.TooManyTokens = Unit {0}
 IsToldOf it other = it.fault ≡ None
 
--- why there is no such tree: that is the first fault, or what was filled up to it is past a limit, or memory is refused
+-- why there is no such tree: the first fault, or what was filled up to it exceeds a limit, or memory ran out
 abbrev pub IsFillError : Delimiter → Filled → FillError → Type 0
 IsFillError delimiter it (refusal.LengthsDiffer at) = (it.fault ≡ Some (lengths_differ at)) × (size it.trees ≤ most_tokens)
 IsFillError delimiter it (refusal.NoRound at) = (it.fault ≡ Some (no_round at)) × (size it.trees ≤ most_tokens)

@@ -1,4 +1,4 @@
--- What is bound in a round, and how it is seen of flat lists of what variables took.
+-- What is bound in a round, and how flat lists of what variables took show it.
 use Rattle.std.specs.Prelude.{◌≡◌, ◌-◌, ℕ, zero, suc, List, [], ◌∷◌, map, length, get_or, slice_get, Option, None, Some}
 use Rattle.tt.specs.Forest.{Forest, end}
 use Rattle.tt.specs.Views.{trees_of}
@@ -11,12 +11,12 @@ use Rattle.mbe_rules.specs.declared.taken.Seen.TheVariants as variant
 use Rattle.mbe_rules.specs.declared.taken.Taken.{Taken}
 use Rattle.mbe_rules.specs.Filling.{first_of, others_of, in_round, round_count}
 
--- what is bound in the round before which so many are done
+-- what is bound in the round of that number, from 0
 abbrev pub round_at : ℕ → Bound → Bound
 round_at zero bound = first_of bound
 round_at (suc n) bound = round_at n (others_of bound)
 
--- what is bound in rounds that are one in the other, the outermost first
+-- what is bound in nested rounds, the outermost first
 abbrev pub bound_in : List ℕ → Bound → Bound
 bound_in [] bound = bound
 bound_in (n ∷ inner) bound = bound_in inner (round_at n bound)
@@ -24,11 +24,11 @@ bound_in (n ∷ inner) bound = bound_in inner (round_at n bound)
 abbrev pub binding_in : List ℕ → Binding → Binding
 binding_in numbers binding = map (in_round (bound_in numbers)) binding
 
--- how many are done of each
+-- how many rounds are done of each
 abbrev pub dones : List Round → List ℕ
 dones rounds = map (λ it. it.done) rounds
 
--- what is seen of what is bound: trees, or how many rounds
+-- what is seen of a bound: trees, or how many rounds
 pub data Seen : Type 0 where
   trees : Forest → Seen
   rounds : ℕ → Seen
@@ -38,48 +38,48 @@ seen_of (one its) = trees its
 seen_of none = rounds 0
 seen_of (first it others) = rounds (suc (round_count others))
 
--- what was seen
+-- a seen value, in the terms of the contracts
 abbrev pub seen_as : rust.Seen → Seen
 seen_as (variant.Trees view) = trees (trees_of view)
 seen_as (variant.Rounds count) = rounds count
 
--- what trees are bound, in repetitions one in the other, the outermost first, whose rounds are so many, each time
+-- the bounds of trees in nested repetitions, the outermost first, given how many rounds each had, each time
 abbrev pub nested : List (List ℕ) → List Forest → List Bound
 nested [] its = map one its
 nested (counts ∷ inner) its = grouped counts (nested inner its)
 
--- the flat lists are of what is bound
+-- the flat lists represent this bound
 pub record IsTaken (bound : Bound) (it : Taken) : Type 0 where
   pub counts : List (List ℕ)
   pub ends : map (λ its. its.items) it.ends.items ≡ map (sums 0) counts
   pub is : bound ≡ first_bound (nested counts (map trees_of it.trees.items))
 
--- they are of what is bound to the variable, and it is its fragment
+-- the flat lists represent what is bound to the variable, and the fragment is the variable's
 pub record IsTakenBy (named : Named) (it : Taken) : Type 0 where
   pub fragment : named.variable.fragment ≡ it.fragment
   pub bound : IsTaken named.bound it
 
--- so are those of all variables
+-- the same for all variables
 abbrev pub AreTaken : Binding → List Taken → Type 0
 AreTaken [] [] = Unit {0}
 AreTaken [] (it ∷ others) = ⊥
 AreTaken (named ∷ more) [] = ⊥
 AreTaken (named ∷ more) (it ∷ others) = IsTakenBy named it × AreTaken more others
 
--- the lesser: the one, less by how much it is more than the other
+-- the lesser of two numbers: `a`, minus by how much it exceeds `b`
 abbrev pub lesser : ℕ → ℕ → ℕ
 lesser a b = a - (a - b)
 
--- which round is the first of that time, where the rounds of each time end there
+-- the number of the first round of that time, given where the rounds of each time end
 abbrev pub first_at : (ends : List ℕ) → (time : ℕ) → ℕ
 first_at ends zero = 0
 first_at ends (suc before) = get_or ends before 0
 
--- how many rounds that time has, where there are so many in all
+-- how many rounds that time has, given how many rounds there are in all
 abbrev pub count_at : (ends : List ℕ) → (time all : ℕ) → ℕ
 count_at ends time all = lesser (get_or ends time 0) all - first_at ends time
 
--- how often what stands in so many of the repetitions is there
+-- how many times a repetition with such ends occurred; all, if there is none
 abbrev pub times_in : Option (List ℕ) → (all : ℕ) → ℕ
 times_in None all = all
 times_in (Some ends) all = length ends
@@ -92,7 +92,7 @@ abbrev pub time_seen : Option Forest → Seen
 time_seen None = rounds 0
 time_seen (Some its) = trees its
 
--- what is seen of a variable; no trees where there is none
+-- what is seen of a variable; no trees if there is none
 abbrev pub seen_at : Option Named → Seen
 seen_at None = trees end
 seen_at (Some it) = seen_of it.bound

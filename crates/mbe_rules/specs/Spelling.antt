@@ -12,11 +12,11 @@ use Rattle.mbe_pattern.specs.Spelling.{Tail, tail_length, repetition_in, is_crat
 use Rattle.mbe_rules.specs.Templates.{Template, inner_part}
 use Rattle.mbe_rules.specs.Templates as template
 
--- it is the variable of that name
+-- this is the variable of that name
 abbrev pub has_name : List ℕ → Where → Bool
 has_name text it = is_name text it.variable.name
 
--- the place of the first variable that an ident names, raw or not
+-- the index of the first variable that an ident names, raw or not
 abbrev pub variable_from : List Where → Option Ident → Option ℕ
 variable_from variables None = None
 variable_from variables (Some it) = position (has_name it.sym) variables
@@ -30,7 +30,7 @@ pub data Mark : Type 0 where
   repetition : Tail → Mark
   nothing : Mark
 
--- a repetition, and else a use of a variable, if it is not `$crate`, and else nothing
+-- a repetition; otherwise a use of a variable, unless it is `$crate`; otherwise nothing
 abbrev pub mark_from : Option Tail → (crate_there : Bool) → Option ℕ → Mark
 mark_from (Some tail) crate_there found = repetition tail
 mark_from None true found = nothing
@@ -41,35 +41,36 @@ mark_from None false None = nothing
 abbrev pub mark_in : List Where → Forest → Mark
 mark_in variables siblings = mark_from (repetition_in siblings) (is_crate_in siblings) (variable_in variables siblings)
 
--- how many trees belong to it: a name, or parentheses and a tail
+-- how many trees belong to the mark: a name, or parentheses and a tail
 abbrev pub mark_length : Mark → ℕ
 mark_length (use_of variable) = 1
 mark_length (repetition tail) = suc (tail_length tail)
 mark_length nothing = 0
 
--- leaves of which the last does not stand as one with what comes behind
+-- the leaves; the last does not form one token with what follows
 abbrev pub last_alone : List Leaf → List Leaf
 last_alone [] = []
 last_alone (it ∷ []) = leaf_alone it ∷ []
 last_alone (it ∷ next ∷ others) = it ∷ last_alone (next ∷ others)
 
--- a `$` stands first
+-- the first tree is a `$`
 abbrev pub is_dollar_in : Forest → Bool
 is_dollar_in end = false
 is_dollar_in (leaf it rest) = is_dollar it
 is_dollar_in (node delimiter children rest) = false
 
--- a leaf before trees: before a `$`, in whose place other trees may come, it does not stand as one with what comes behind
+-- a leaf before trees; before a `$`, which other trees may replace, it does not form one token with what follows
 abbrev pub seamed : Leaf → Forest → Leaf
 seamed it rest = if is_dollar_in rest then leaf_alone it else it
 
--- the part that a `$` at that flat place begins, before what is behind; where it begins nothing it stands for itself
+-- the part that a `$` at that flat place begins, before what follows; if it begins nothing, it is a literal token
 abbrev pub part_of : (at : ℕ) → Leaf → Mark → (held others : Template) → Template
 part_of at it (use_of variable) held others = template.use_of at variable others
 part_of at it (repetition tail) held others = template.repetition at held (last_alone tail.separator) tail.kind others
 part_of at it nothing held others = template.token it others
 
--- the template that trees spell behind so many of them, which belong to a part before; behind the last of all is that flat place
+-- the template that trees spell after the first `passed` of them, which belong to an earlier part; `until`
+-- is the flat place after the last tree
 abbrev pub template_behind : List Where → (until : ℕ) → (passed : ℕ) → Forest → Template
 template_behind variables until passed end = template.nothing
 template_behind variables until zero (leaf it rest) =
@@ -82,7 +83,7 @@ template_behind variables until zero (node delimiter children rest) =
 template_behind variables until (suc passed) (leaf it rest) = template_behind variables until passed rest
 template_behind variables until (suc passed) (node delimiter children rest) = template_behind variables until passed rest
 
--- the template that trees spell which end before that flat place
+-- the template that trees spell if they end before that flat place
 abbrev pub template_until : List Where → (until : ℕ) → Forest → Template
 template_until variables until trees = template_behind variables until zero trees
 

@@ -1,4 +1,4 @@
--- Where the filling of a template stands, and how it goes on.
+-- Where the filling of a template is, and how it goes on.
 use Rattle.std.specs.Prelude.{◌≡◌, ◌+◌, ◌<◌, ◌≤◌, ◌⊎◌, ℕ, zero, suc, List, [], ◌∷◌, ◌++◌, map, drop, reverse, Some}
 use Rattle.tt.specs.Building.{tokens_held, append, close_innermost, opened, HasRoom}
 use Rattle.tt.specs.Forest.{Forest}
@@ -28,17 +28,17 @@ abbrev pub later : ℕ → Bound → Bound
 later zero bound = bound
 later (suc n) bound = later n (others_of bound)
 
--- so many rounds are left behind one of a repetition, whose rounds begin with that part, where that is bound round it
+-- `left` rounds follow the current round of a repetition, whose body begins with that part; `outside` is bound around it
 pub record IsRound (bits behind : List Bit) (body : Template) (separator : List Leaf) (kind : RepeatKind) (left : ℕ) (others outside : Binding) (it : Round) : Type 0 where
   pub begins : drop it.body bits ≡ bits_of body (close separator kind ∷ behind)
   pub count : it.done + left ≡ it.last
   pub bound : others ≡ map (in_round (later (suc it.done))) outside
 
--- what is bound in the rounds that are begun, the innermost first
+-- what is bound in the rounds under way, the innermost first
 abbrev pub bound_here : Binding → List Round → Binding
 bound_here whole rounds = binding_in (dones (reverse rounds)) whole
 
--- the end of a level is where the parts are behind it, the rounds that are begun, and the subtrees that are open say
+-- the end of a level agrees with the parts after it, the rounds under way, and the open subtrees
 abbrev pub IsEnd : List Bit → Binding → (Outer : List Round → List Span → Type 0) → Closing → List Round → List Span → (behind : List Bit) → Type 0
 IsEnd bits whole Outer last rounds closes behind = (closes ≡ []) × Outer rounds closes
 IsEnd bits whole Outer (shut span) rounds closes behind = (others : List Span) × (closes ≡ span ∷ others) × Outer rounds others
@@ -46,19 +46,19 @@ IsEnd bits whole Outer (again body separator kind left others) rounds closes beh
     (it : Round) × (more : List Round) × (rounds ≡ it ∷ more) × IsRound bits behind body separator kind left others (bound_here whole more) it
     × Outer more closes
 
--- so all levels stand, the innermost first, where those parts are left
+-- all levels, the innermost first, agree with the parts that are left
 abbrev pub AreLevels : List Bit → Binding → List Level → List Round → List Span → (left : List Bit) → Type 0
 AreLevels bits whole [] rounds closes left = (rounds ≡ []) × (closes ≡ []) × (left ≡ [])
 AreLevels bits whole (level ∷ outer) rounds closes left =
     (behind : List Bit) × (left ≡ bits_of level.rest (end_of level.closing ∷ behind)) × (level.binding ≡ bound_here whole rounds)
     × IsEnd bits whole (λ more others. AreLevels bits whole outer more others behind) level.closing rounds closes behind
 
--- the filling stands before these parts, in those levels
+-- the filling is before these parts, in those levels
 pub record IsAt (bits : List Bit) (whole : Binding) (levels : List Level) (it : Filling) (left : List Bit) : Type 0 where
   pub stand : AreLevels bits whole levels (reverse it.rounds.items) (reverse it.closes.items) left
   pub few : tokens_held it.builder.stack ≤ most_tokens
 
--- it goes on to where these parts are left: what is filled in the end stays, and less is to be done
+-- the filling goes on to before these parts: the final result stays the same, and less is left to do
 pub record Goes (bits : List Bit) (whole : Binding) (levels : List Level) (old new : Filling) (left : List Bit) : Type 0 where
   pub news : List Level
   pub stands : IsAt bits whole news new left
@@ -74,7 +74,7 @@ pub record Grows (more : Forest) (old new : Filling) : Type 0 where
   pub rounds : new.rounds ≡ old.rounds
   pub closes : new.closes ≡ old.closes
 
--- so many tokens are refused: memory is wanting, or they are too many
+-- that many tokens cannot be written: memory ran out, or they are too many
 abbrev pub IsWant : ℕ → Filling → TtFault → Type 0
 IsWant more old fault = (fault ≡ limit.Memory) ⊎ ((fault ≡ limit.TooManyTokens) × (most_tokens < tokens_held old.builder.stack + more))
 
@@ -94,7 +94,7 @@ AreClosed (span ∷ others) old new =
 abbrev pub Leaves : (old new : Filling) → Type 0
 Leaves old new = AreClosed (reverse old.closes.items) old new
 
--- what is written in the end has that fault, or is too much, or memory is wanting
+-- the final result has that fault, or is too large, or memory ran out
 abbrev pub IsStop : Written → FillError → Type 0
 IsStop it (error.LengthsDiffer at) = (it.fault ≡ Some (lengths_differ at)) × (tokens_held it.stack ≤ most_tokens)
 IsStop it (error.NoRound at) = (it.fault ≡ Some (no_round at)) × (tokens_held it.stack ≤ most_tokens)
@@ -102,17 +102,17 @@ IsStop it (error.Tree limit.Memory) = Unit {0}
 IsStop it (error.Tree limit.TooManyTokens) = most_tokens < tokens_held it.stack
 IsStop it (error.Tree other) = ⊥
 
--- the parts from one on
+-- the parts from that index on
 abbrev pub bits_from : List Part → ℕ → List Bit
 bits_from parts n = map bit_of (drop n parts)
 
--- wherever it stands before this part, behind which that one stands, it goes on to the next
+-- from any state before this part, which the part `behind` follows, the filling goes on to the next part
 abbrev pub StepsTo : List Part → List Taken → Bit → (behind : ℕ) → (old new : Filling) → (next : ℕ) → Type 0
 StepsTo parts taken it behind old new next =
     (whole : Binding) → (levels : List Level) → AreTaken whole taken → IsAt (map bit_of parts) whole levels old (it ∷ bits_from parts behind)
     → Goes (map bit_of parts) whole levels old new (bits_from parts next)
 
--- wherever it does, what is written in the end is refused so
+-- from any such state, filling ends with this error
 abbrev pub StopsAt : List Part → List Taken → Bit → (behind : ℕ) → (old : Filling) → FillError → Type 0
 StopsAt parts taken it behind old error =
     (whole : Binding) → (levels : List Level) → AreTaken whole taken → IsAt (map bit_of parts) whole levels old (it ∷ bits_from parts behind)

@@ -12,7 +12,7 @@ use Rattle.mbe_rules.specs.Spelling.{template_until}
 use Rattle.mbe_rules.specs.Templates.{Template}
 use Rattle.mbe_rules.specs.Templates as template
 
--- the template begins with what was read, and the others are behind it
+-- the template begins with the part that was read, and the others follow it
 abbrev pub IsFirst : List Where → Template → First → (others : Template) → Type 0
 IsFirst variables whole first.End others = whole ≡ template.nothing
 IsFirst variables whole (first.Use at variable) others = whole ≡ template.use_of at variable others
@@ -43,7 +43,7 @@ abbrev pub bits_left : List LevelLeft → List Bit
 bits_left [] = []
 bits_left (level ∷ outer) = bits_of level.rest (end_bit level.closing ∷ bits_left outer)
 
--- one part more, and the levels that are left then
+-- one more part, and the levels that are then left
 pub record Step : Type 0 where
   pub bit : Bit
   pub levels : List LevelLeft
@@ -52,7 +52,7 @@ pub record Step : Type 0 where
 abbrev pub level_of : Template → Option Tail → LevelLeft
 level_of rest closing = record { rest = rest; closing = closing }
 
--- what was read of a level, behind which that is left
+-- the part that was read from a level, given what is left of the level
 abbrev pub stepped : List Where → First → LevelLeft → (outer : List LevelLeft) → Step
 stepped variables first.End level outer = record { bit = end_bit level.closing; levels = outer }
 stepped variables (first.Use at variable) level outer = record { bit = uses at variable; levels = level ∷ outer }
@@ -62,7 +62,7 @@ stepped variables (first.Subtree delimiter inner until) level outer =
 stepped variables (first.Repetition at inner until tail) level outer =
     record { bit = begin at; levels = level_of (template_until variables until (rest_of inner)) (Some tail) ∷ level ∷ outer }
 
--- the step is made
+-- `next` is `old` after the step
 pub record IsStepped (variables : List Where) (step : Step) (old next : Cutting) : Type 0 where
   pub bits : map bit_of next.parts.items ≡ map bit_of old.parts.items ++ step.bit ∷ []
   pub levels : levels_left variables next.levels.items ≡ step.levels

@@ -5,8 +5,8 @@ use Rattle.tt.specs.Types.Leaf.{Leaf}
 use Rattle.mbe_pattern.specs.declared.pattern.RepeatKind.{RepeatKind}
 use Rattle.mbe_matcher.specs.Grouping.{Where}
 
--- a template: uses of a pattern's variables, each by its place among them, tokens, subtrees, and repetitions of a template, whose rounds
--- have a token between them as a separator, or nothing; a use and a repetition have the flat place of their `$`
+-- a template: uses of a pattern's variables, each by its index among them, tokens, subtrees, and repetitions of a template; between the
+-- rounds of a repetition is a token as separator, or nothing; a use and a repetition have the flat place of their `$`
 pub data Template : Type 0 where
   nothing : Template
   use_of : (at variable : ℕ) → Template → Template
@@ -22,7 +22,7 @@ inner_part (token it others) = nothing
 inner_part (subtree delimiter inner others) = inner
 inner_part (repetition at inner separator kind others) = inner
 
--- in how many repetitions of its pattern a variable stands
+-- how many repetitions of its pattern enclose a variable
 abbrev pub depth_in : Option Where → ℕ
 depth_in None = zero
 depth_in (Some it) = length it.nest
@@ -30,11 +30,11 @@ depth_in (Some it) = length it.nest
 abbrev pub depth_of : List Where → (variable : ℕ) → ℕ
 depth_of variables variable = depth_in (slice_get variables variable)
 
--- the greater: the one, and by how much the other is more
+-- the greater of two numbers: `a`, plus by how much `b` exceeds it
 abbrev pub greater : ℕ → ℕ → ℕ
 greater a b = a + (b - a)
 
--- in how many repetitions those variables stand that the template uses, at most
+-- the greatest number of repetitions around a variable that the template uses
 abbrev pub deepest : List Where → Template → ℕ
 deepest variables nothing = zero
 deepest variables (use_of at variable others) = greater (depth_of variables variable) (deepest variables others)

@@ -1,4 +1,4 @@
--- Which lists of parts are those of a template, read from the last of them.
+-- Which lists of parts are those of a template, read from the last to the first.
 use Rattle.std.specs.Prelude.{ℕ, Bool, List, [], ◌∷◌, map, Option, None, Some, is_some, unwrap_or}
 use Rattle.mbe_rules.specs.declared.parts.Part.{Part}
 use Rattle.mbe_rules.specs.Parts.{Bit, uses, same, enter, leave, begin, close, bit_of}
@@ -17,7 +17,7 @@ abbrev pub put_first : (Template → Template) → List Read → Option (List Re
 put_first part [] = None
 put_first part (level ∷ outer) = Some (read (part level.template) level.ending ∷ outer)
 
--- the beginning of the innermost level: of a subtree, or of a repetition, as its end is
+-- the beginning of the innermost level: a subtree or a repetition, depending on its end
 abbrev pub put_subtree : (Template → Template → Template) → (inner : Template) → (ending : Bit) → List Read → Option (List Read)
 put_subtree part inner (uses at variable) outer = None
 put_subtree part inner (same it) outer = None
@@ -34,7 +34,7 @@ put_repetition at inner leave outer = None
 put_repetition at inner (begin there) outer = None
 put_repetition at inner (close separator kind) outer = put_first (repetition at inner separator kind) outer
 
--- a part more
+-- one more part
 abbrev pub put : Bit → List Read → Option (List Read)
 put (uses at variable) levels = put_first (use_of at variable) levels
 put (same it) levels = put_first (token it) levels
@@ -45,7 +45,7 @@ put (begin at) [] = None
 put (begin at) (level ∷ outer) = put_repetition at level.template level.ending outer
 put (close separator kind) levels = Some (read nothing (close separator kind) ∷ levels)
 
--- if all behind it were read
+-- the same if all parts after it were read
 abbrev pub put_if : Bit → Option (List Read) → Option (List Read)
 put_if it None = None
 put_if it (Some levels) = put it levels
@@ -54,7 +54,7 @@ abbrev pub read_all : List Bit → Option (List Read)
 read_all [] = Some []
 read_all (it ∷ others) = put_if it (read_all others)
 
--- the one level that was read, which ends as all does
+-- the one level that was read, if it ends as a whole template does
 abbrev pub whole_if : Template → (ending : Bit) → (outer : List Read) → Option Template
 whole_if template leave [] = Some template
 whole_if template leave (level ∷ outer) = None
@@ -73,6 +73,6 @@ whole_in (Some (level ∷ outer)) = whole_if level.template level.ending outer
 abbrev pub are_whole : List Part → Bool
 are_whole parts = is_some (whole_in (read_all (map bit_of parts)))
 
--- which it is
+-- the template of the parts
 abbrev pub whole_of : List Part → Template
 whole_of parts = unwrap_or (whole_in (read_all (map bit_of parts))) nothing

@@ -1,11 +1,11 @@
--- How much is left to do where a template is filled.
+-- How much work is left while a template is filled.
 use Rattle.std.specs.Prelude.{◌+◌, ℕ, zero, suc, List, [], ◌∷◌, map, Result, Ok, Err}
 use Rattle.mbe_matcher.specs.Bindings.{Binding}
 use Rattle.mbe_rules.specs.Filling.{FillFault, in_round, first_of, others_of, rounds_of, counts_of, used_in}
 use Rattle.mbe_rules.specs.Templates.{Template, nothing, use_of, token, subtree, repetition}
 use Rattle.mbe_rules.specs.Writing.{Closing, last, shut, again, Level}
 
--- how many rounds are told
+-- how many rounds, if the number is known
 abbrev pub told : Result ℕ FillFault → ℕ
 told (Ok n) = n
 told (Err fault) = 0
@@ -15,7 +15,7 @@ abbrev pub work_in_rounds : (work : Binding → ℕ) → ℕ → Binding → ℕ
 work_in_rounds work zero binding = 0
 work_in_rounds work (suc n) binding = suc (work (map (in_round first_of) binding)) + work_in_rounds work n (map (in_round others_of) binding)
 
--- how many parts are passed where the template is filled
+-- how many parts are passed when the template is filled
 abbrev pub work : Template → Binding → ℕ
 work nothing binding = 0
 work (use_of at variable others) binding = suc (work others binding)

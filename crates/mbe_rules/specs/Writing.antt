@@ -11,7 +11,7 @@ use Rattle.mbe_rules.specs.Filling.{FillFault, Filled, filled, more_rounds}
 use Rattle.mbe_rules.specs.Parts.{Bit, leave, close}
 use Rattle.mbe_rules.specs.Templates.{Template}
 
--- what is behind the end of a level: nothing, more of what a subtree stands in, or so many rounds more, and then what is behind them
+-- what follows the end of a level: nothing, the rest of what encloses a subtree, or that many more rounds and then what follows them
 pub data Closing : Type 0 where
   last : Closing
   shut : Span → Closing
@@ -37,7 +37,7 @@ pub record Written : Type 0 where
 abbrev pub written_by : Filling → Written
 written_by filling = record { stack = filling.builder.stack; fault = None }
 
--- more is written, if there was no fault
+-- more is written if there was no fault
 abbrev pub write_if : Option FillFault → Filled → Stack → Written
 write_if None it stack = record { stack = append it.trees stack; fault = it.fault }
 write_if (Some fault) it stack = record { stack = stack; fault = Some fault }
@@ -45,13 +45,13 @@ write_if (Some fault) it stack = record { stack = stack; fault = Some fault }
 abbrev pub write : Filled → Written → Written
 write it before = write_if before.fault it before.stack
 
--- behind the end of a level: a subtree is closed, or the rounds that are left are written
+-- after the end of a level, a subtree is closed, or the rounds that are left are written
 abbrev pub behind_end : Closing → Written → Written
 behind_end last it = it
 behind_end (shut span) it = record { stack = close_innermost span it.stack; fault = it.fault }
 behind_end (again body separator kind left others) it = write (more_rounds (filled body) (leaves separator) left others) it
 
--- all that is left is written, the innermost level first
+-- everything that is left is written, the innermost level first
 abbrev pub finished : List Level → Written → Written
 finished [] it = it
 finished (level ∷ outer) it = finished outer (behind_end level.closing (write (filled level.rest level.binding) it))

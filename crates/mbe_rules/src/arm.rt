@@ -23,17 +23,17 @@ pub(crate) struct Arm {
     pub(crate) delimiter: Delimiter,
 }
 
-/// What an arm makes of an input.
+/// The answer of an arm to an input.
 #[derive(Drop)]
 pub(crate) enum Answer {
-    /// The input is no instance of its pattern, which stops at that flat place.
+    /// The input is no instance of the arm's pattern, which stops at that flat place.
     NoMatch(usize),
-    /// It is one by different readings.
+    /// The input is an instance by different readings.
     Ambiguous,
     Tree(TopSubtree),
 }
 
-// The flat place before these trees, where behind the last of them is that one.
+// Returns the flat place before these trees, given the place after the last of them.
 fn place(until: usize, trees: &TtIter<'_>) -> usize
     ensures { result ≡ place until (rest_of trees.now) }
 {
@@ -41,7 +41,7 @@ fn place(until: usize, trees: &TtIter<'_>) -> usize
 }
 
 impl Arm {
-    // The arm with which the trees begin, which is passed.
+    // Reads and passes the arm that the trees begin with.
     fn read(alloc: Global, until: usize, trees: &mut TtIter<'_>) -> Result<Arm, ArmFault>
         ensures ok { IfOk result (λ it. (arm : ArmOf) × IsArm (rest_of trees.old) arm (rest_of trees.new) × IsMade arm it) }
         ensures err { IfErr result (IsArmFault (body_fault until (rest_of trees.old))) }
@@ -67,7 +67,7 @@ impl Arm {
         })
     }
 
-    /// The arm with which the trees begin, and `;` behind it, if it stands there. Both are passed.
+    /// Reads and passes the arm that the trees begin with, and a `;` after it, if there is one.
     pub(crate) fn next_in(
         alloc: Global,
         until: usize,
@@ -87,7 +87,7 @@ impl Arm {
         Err(ArmFault::NoSemicolon(place(until, trees)))
     }
 
-    /// What it makes of an input.
+    /// Returns what the arm makes of an input.
     pub(crate) fn expand(&self, alloc: Global, input: TtIter<'_>) -> Result<Answer, FillError>
         ensures ok { IfOk result (λ answer. (arm : ArmOf) → IsMade arm self.now → IsAnswer arm (rest_of input.entry) answer) }
         ensures err { IfErr result (λ error. (arm : ArmOf) → IsMade arm self.now → IsRefusal arm (rest_of input.entry) error) }

@@ -12,7 +12,7 @@ use crate::parts::Part;
 use crate::taken::{Round, Seen, Taken, seen_in};
 use mbe_pattern::RepeatKind;
 
-/// How many rounds some variables have: none of them has rounds, all have so many, or some have more than others.
+/// How many rounds some variables have: none of them has rounds, all have the same number, or the numbers differ.
 #[derive(Clone, Copy)]
 pub(crate) enum Count {
     Unknown,
@@ -20,7 +20,7 @@ pub(crate) enum Count {
     Differ,
 }
 
-/// What was seen of a repetition: the rounds of its variables, its kind, and the index of the part behind it.
+/// What a scan finds of a repetition: the rounds of its variables, its kind, and the index of the part after it.
 #[derive(Clone, Copy)]
 pub(crate) struct Scanned {
     pub(crate) count: Count,
@@ -29,7 +29,7 @@ pub(crate) struct Scanned {
 }
 
 impl Count {
-    // A variable more, of which that is seen.
+    // Counts one more variable, of which this is seen.
     fn with(self, seen: Seen<'_>) -> Count
         ensures { result ≡ counted_all (counts_seen (seen_as seen.entry)) self }
     {
@@ -42,7 +42,7 @@ impl Count {
     }
 }
 
-/// What is seen of a repetition in whose first round that part stands, where those rounds are round it.
+/// Scans a repetition whose body begins with that part. The given rounds are around it.
 pub(crate) fn scan(parts: &[Part], taken: &[Taken<'_>], rounds: &[Round], body: usize) -> Scanned
     ensures count { (binding : Binding) → AreTaken binding taken.now → result.count ≡ counted_all (counts_of (binding_in (dones rounds.now) binding) (uses_before 0 (map bit_of (drop body parts.now)))) Unknown }
     ensures kind { result.kind ≡ kind_before 0 (map bit_of (drop body parts.now)) }
@@ -76,7 +76,7 @@ pub(crate) fn scan(parts: &[Part], taken: &[Taken<'_>], rounds: &[Round], body: 
     }
 }
 
-/// How often the repetition is filled whose `$` stands at that flat place.
+/// Returns how often the repetition whose `$` is at that flat place is filled.
 pub(crate) fn rounds_by(at: usize, kind: RepeatKind, count: Count) -> Result<usize, FillError>
     ensures ok { IfOk result (λ n. rounds_by at kind count ≡ Ok n) }
     ensures err { IfErr result (λ error. (fault : FillFault) × (rounds_by at kind count ≡ Err fault) × (error ≡ round_error fault)) }

@@ -1,4 +1,4 @@
-//! A template's trees are cut into parts.
+//! Cuts a template's trees into parts.
 ghost use Rattle.std.specs.Prelude.{◌≡◌, ◌++◌, ◌∷◌, [], List, map, IfOk, OnOk};
 ghost use Rattle.tt.specs.Iters.{rest_of};
 ghost use Rattle.mbe_matcher.specs.Grouping.{Where};
@@ -14,7 +14,7 @@ use mbe_pattern::Tail;
 use std::alloc::{AllocError, Global};
 use tt::TtIter;
 
-/// What is left of a subtree or a repetition, the flat place behind it, and the tail of a repetition.
+/// What is left of a subtree or a repetition, the flat place after it, and the tail of a repetition.
 #[derive(Drop)]
 pub(crate) struct Level<'t> {
     pub(crate) rest: TtIter<'t>,
@@ -22,14 +22,14 @@ pub(crate) struct Level<'t> {
     pub(crate) closing: Option<Tail>,
 }
 
-/// The parts so far, and what is left, the innermost last.
+/// The parts so far, and the levels that are left, the innermost last.
 #[derive(Drop)]
 pub(crate) struct Cutting<'t> {
     pub(crate) parts: Vec<Part>,
     pub(crate) levels: Vec<Level<'t>>,
 }
 
-// The end of a level.
+// Returns the part that ends a level.
 fn end_of(closing: Option<Tail>) -> Part
     ensures { bit_of result ≡ end_bit closing }
 {
@@ -40,7 +40,7 @@ fn end_of(closing: Option<Tail>) -> Part
 }
 
 impl<'t> Cutting<'t> {
-    // A part, and a level behind it.
+    // Adds a part, and puts back the level after it.
     fn add(&mut self, part: Part, level: Level<'t>) -> Result<(), AllocError>
         ensures parts { OnOk result (self.new.parts.items ≡ self.old.parts.items ++ part ∷ []) }
         ensures levels { OnOk result (self.new.levels.items ≡ self.old.levels.items ++ level.entry ∷ []) }
@@ -49,7 +49,7 @@ impl<'t> Cutting<'t> {
         Ok(self.levels.push(level)?)
     }
 
-    // The beginning of a subtree or a repetition, and what stands in it.
+    // Adds the beginning of a subtree or a repetition, and a level for its inside.
     fn enter(&mut self, part: Part, level: Level<'t>, inner: Level<'t>) -> Result<(), AllocError>
         ensures parts { OnOk result (self.new.parts.items ≡ self.old.parts.items ++ part ∷ []) }
         ensures levels { OnOk result (self.new.levels.items ≡ (self.old.levels.items ++ level.entry ∷ []) ++ inner.entry ∷ []) }
@@ -58,7 +58,7 @@ impl<'t> Cutting<'t> {
         Ok(self.levels.push(inner)?)
     }
 
-    // What was read of a level.
+    // Takes what was read from a level.
     fn take(&mut self, level: Level<'t>, first: First<'t>) -> Result<(), AllocError>
         ensures { OnOk result ((variables : List Where) → IsStepped variables (stepped variables first.entry (level_left variables level.entry) (levels_left variables self.old.levels.items)) self.old self.new) }
     {
@@ -86,7 +86,7 @@ impl<'t> Cutting<'t> {
     }
 }
 
-/// The parts of the template that the trees spell.
+/// Returns the parts of the template that the trees spell.
 pub(crate) fn cut(
     alloc: Global,
     binders: &[Binder],

@@ -13,10 +13,10 @@ pub enum FillError {
     /// A variable of a repetition has more rounds than another. The number is the flat place of the repetition's `$`.
     #[error("variables of the repetition have different numbers of rounds")]
     LengthsDiffer(usize),
-    /// A repetition that wants a round has none. The number is the flat place of its `$`.
+    /// A repetition that requires a round has none. The number is the flat place of its `$`.
     #[error("the repetition has no round")]
     NoRound(usize),
-    /// What is filled is no tree: it is past a limit, or memory was refused.
+    /// The filled template is no tree: it exceeds a limit, or memory ran out.
     #[error("{0}")]
     Tree(TtFault),
 }

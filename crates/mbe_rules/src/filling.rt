@@ -1,4 +1,4 @@
-//! A template is filled, part by part.
+//! Fills a template, part by part.
 ghost use Rattle.std.specs.Prelude.{◌≡◌, true, List, map, slice_get, reverse, IfOk, IfErr, OnOk};
 ghost use Rattle.tt.specs.Forest.{end, leaf as leaf_of, size};
 ghost use Rattle.tt.specs.Building.{alone};
@@ -31,7 +31,7 @@ use tt::{
     Delimiter, DelimiterKind, Leaf, Span, TokenTreesView, TopSubtree, TopSubtreeBuilder, TtFault,
 };
 
-/// What was filled, the rounds that are begun, and the close spans of the subtrees that are open, the innermost last.
+/// The trees written so far, the rounds under way, and the close spans of the open subtrees, the innermost last.
 #[derive(Drop)]
 pub(crate) struct Filling {
     pub(crate) builder: TopSubtreeBuilder,
@@ -39,7 +39,7 @@ pub(crate) struct Filling {
     pub(crate) closes: Vec<Span>,
 }
 
-// The trees that are bound to the variable of that index.
+// Returns the trees that are bound to the variable of that index.
 fn trees_of<'i>(taken: &[Taken<'i>], number: usize, rounds: &[Round]) -> TokenTreesView<'i>
     ensures { (binding : Bindings) → AreTaken binding taken.now → trees_of result ≡ trees_used (slice_get (binding_in (dones rounds.now) binding) number) }
 {
@@ -50,7 +50,7 @@ fn trees_of<'i>(taken: &[Taken<'i>], number: usize, rounds: &[Round]) -> TokenTr
 }
 
 impl Filling {
-    // Trees, of which the last token does not stand as one with what comes behind.
+    // Writes the trees. Their last token does not form one token with what follows.
     fn append(&mut self, trees: TokenTreesView<'_>) -> Result<(), TtFault>
         ensures ok { OnOk result (Grows (alone (trees_of trees.entry)) self.old self.new) }
         ensures err { IfErr result (IsWant (size (alone (trees_of trees.entry))) self.old) }
@@ -58,7 +58,7 @@ impl Filling {
         self.builder.extend_with_tt_alone(trees)
     }
 
-    // The same trees in an opaque subtree of these spans.
+    // Writes the trees in an opaque subtree with these spans.
     fn enclose_between(
         &mut self,
         trees: TokenTreesView<'_>,
@@ -73,7 +73,7 @@ impl Filling {
         self.builder.close(last)
     }
 
-    // The same, where the spans are those of their first token and their last.
+    // Writes the trees in an opaque subtree with the spans of their first and last token.
     fn enclose(&mut self, trees: TokenTreesView<'_>) -> Result<(), TtFault>
         ensures ok { OnOk result (Grows (enclosed (trees_of trees.entry)) self.old self.new) }
         ensures err { IfErr result (IsWant (size (enclosed (trees_of trees.entry))) self.old) }
@@ -84,7 +84,7 @@ impl Filling {
         }
     }
 
-    // What a fragment took.
+    // Writes what a fragment took.
     fn write(
         &mut self,
         fragment: Option<Fragment>,
@@ -100,7 +100,7 @@ impl Filling {
         }
     }
 
-    // A use of the variable of that index.
+    // Writes what is bound to the variable of that index.
     fn place(&mut self, taken: &[Taken<'_>], number: usize) -> Result<(), TtFault>
         ensures ok { OnOk result ((binding : Bindings) → AreTaken binding taken.now → Grows (trees_placed (slice_get (bound_here binding (reverse self.old.rounds.items)) number)) self.old self.new) }
         ensures err { IfErr result (λ fault. (binding : Bindings) → AreTaken binding taken.now → IsWant (size (trees_placed (slice_get (bound_here binding (reverse self.old.rounds.items)) number))) self.old fault) }
@@ -109,7 +109,7 @@ impl Filling {
         self.write(fragment_of(taken, number), trees)
     }
 
-    // A token.
+    // Writes a token.
     fn push(&mut self, leaf: &Leaf) -> Result<(), TtFault>
         ensures ok { OnOk result (Grows (leaf_of leaf.now end) self.old self.new) }
         ensures err { IfErr result (IsWant 1 self.old) }
@@ -119,7 +119,7 @@ impl Filling {
         Ok(())
     }
 
-    // The beginning of a subtree.
+    // Opens a subtree.
     fn enter(&mut self, delimiter: &Delimiter) -> Result<(), TtFault>
         ensures ok { OnOk result (Enters delimiter.now self.old self.new) }
         ensures err { IfErr result (IsWant 1 self.old) }
@@ -128,7 +128,7 @@ impl Filling {
         self.builder.open(delimiter.kind, delimiter.open_span)
     }
 
-    // The end of a subtree, if one is open.
+    // Closes a subtree, if one is open.
     fn leave(&mut self) -> Result<(), TtFault>
         ensures ok { OnOk result (Leaves self.old self.new) }
         ensures err { IfErr result (λ fault. fault ≡ Memory) }
@@ -142,7 +142,7 @@ impl Filling {
         Ok(())
     }
 
-    // The beginning of a repetition, whose rounds begin with that part: the part that comes next.
+    // Begins a repetition whose body starts with that part. Returns the next part.
     fn begin(
         &mut self,
         parts: &[Part],
@@ -166,7 +166,7 @@ impl Filling {
         Ok(body)
     }
 
-    // A separator.
+    // Writes a separator.
     fn separate(&mut self, separator: &[Leaf]) -> Result<(), TtFault>
         ensures ok { OnOk result (Grows (leaves separator.now) self.old self.new) }
         ensures err { IfErr result (IsWant (size (leaves separator.now)) self.old) }
@@ -177,7 +177,7 @@ impl Filling {
         Ok(())
     }
 
-    // The end of a round of the innermost repetition, behind which that part stands: the part that comes next.
+    // Ends a round of the innermost repetition; the part `behind` follows it. Returns the next part.
     fn close(&mut self, parts: &[Part], tail: &Tail, behind: usize) -> Result<usize, FillError>
         ensures ok { IfOk result (λ next. (taken : List Taken) → StepsTo parts.now taken (close tail.now.separator.items tail.now.kind) behind self.old self.new next) }
         ensures err { IfErr result (λ error. (taken : List Taken) → StopsAt parts.now taken (close tail.now.separator.items tail.now.kind) behind self.old error) }
@@ -197,7 +197,7 @@ impl Filling {
         Ok(round.body)
     }
 
-    // A part, behind which that one stands: the part that comes next.
+    // Fills a part; the part `behind` follows it. Returns the next part.
     fn step(
         &mut self,
         parts: &[Part],
@@ -220,8 +220,9 @@ impl Filling {
     }
 }
 
-/// The template of these parts, filled with what is bound to the variables, under that delimiter. What is bound is let go as soon as
-/// it is no longer read, before what is written is packed.
+/// Returns the template of these parts under that delimiter, filled with what is bound to the variables.
+///
+/// The binding is dropped as soon as it is no longer read, before the written trees are packed.
 pub(crate) fn filled(
     alloc: Global,
     parts: &[Part],

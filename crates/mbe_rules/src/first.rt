@@ -1,4 +1,4 @@
-//! A template's trees, part by part.
+//! Reads a template's trees, part by part.
 ghost use Rattle.std.specs.Prelude.{◌≡◌, ◌-◌, ◌∷◌, [], true, map, IfOk};
 ghost use Rattle.std.specs.List.{position};
 ghost use Rattle.tt.specs.Forest.{leaf, size};
@@ -15,11 +15,11 @@ use mbe_pattern::{Tail, is_crate_in, is_dollar, pass, repetition_in};
 use std::alloc::{AllocError, Global};
 use tt::{Delimiter, Leaf, Symbol, TtElement, TtIter};
 
-/// The part of a template that comes first. A use and a repetition have the flat place of their `$`, and what a subtree or a repetition
-/// holds has the one behind its last token.
+/// The first part of a template. A use and a repetition have the flat place of their `$`. The inside of a subtree or a repetition has
+/// the flat place after its last token.
 #[derive(Drop)]
 pub(crate) enum First<'t> {
-    /// There is none.
+    /// There is no part.
     End,
     Use(usize, usize),
     Token(Leaf),
@@ -35,7 +35,7 @@ pub(crate) enum Mark {
     Nothing,
 }
 
-// Whether it is the variable of that name.
+// Returns whether the binder is the variable of that name.
 fn has_name(binder: &Binder, name: &Symbol) -> bool
     ensures { result ≡ has_name name.now (where_of binder.now) }
 {
@@ -45,14 +45,14 @@ fn has_name(binder: &Binder, name: &Symbol) -> bool
     }
 }
 
-// The index of the first variable of that name.
+// Returns the index of the first variable of that name.
 fn named(binders: &[Binder], name: &Symbol) -> Option<usize>
     ensures { result ≡ position (has_name name.now) (map where_of binders.now) }
 {
     binders.iter().position(|binder| has_name(binder, name))
 }
 
-// The index of the first variable whose name stands first.
+// Returns the index of the first variable whose name is the first tree.
 fn variable_in(binders: &[Binder], mut siblings: TtIter<'_>) -> Option<usize>
     ensures { result ≡ variable_in (map where_of binders.now) (rest_of siblings.entry) }
 {
@@ -60,7 +60,7 @@ fn variable_in(binders: &[Binder], mut siblings: TtIter<'_>) -> Option<usize>
     named(binders, &ident.sym)
 }
 
-// What a `$` before these siblings begins.
+// Returns what a `$` before these siblings begins.
 fn mark_in(alloc: Global, binders: &[Binder], siblings: TtIter<'_>) -> Result<Mark, AllocError>
     ensures { IfOk result (λ mark. mark_of mark ≡ mark_in (map where_of binders.now) (rest_of siblings.entry)) }
 {
@@ -76,14 +76,14 @@ fn mark_in(alloc: Global, binders: &[Binder], siblings: TtIter<'_>) -> Result<Ma
     }
 }
 
-// The flat place before these trees, where behind the last of them is that one.
+// Returns the flat place before these trees, given the place after the last of them.
 fn place_before(until: usize, trees: &TtIter<'_>) -> usize
     ensures { result ≡ until - size (rest_of trees.now) }
 {
     until.saturating_sub(trees.remaining().len())
 }
 
-// The part that a `$` begins, behind which the siblings stand, which end before that flat place.
+// Reads the part that a `$` begins. The siblings follow the `$` and end before that flat place.
 fn marked_part<'t>(
     alloc: Global,
     binders: &[Binder],
@@ -115,7 +115,7 @@ fn marked_part<'t>(
     }
 }
 
-/// The first part of the template that these trees spell, which end before that flat place. It is passed.
+/// Reads and passes the first part of the template that these trees spell. They end before that flat place.
 pub(crate) fn next_part<'t>(
     alloc: Global,
     binders: &[Binder],

@@ -1,4 +1,4 @@
-//! What is wrong with a template, by its parts from the last.
+//! Finds what is wrong with a template, by its parts from the last to the first.
 ghost use Rattle.std.specs.Prelude.{◌≡◌, map, reverse, IfOk, OnOk};
 ghost use Rattle.mbe_matcher.specs.Stepping.{where_of};
 ghost use Rattle.mbe_rules.specs.Judging.{raised, used_with, begun, judged_with, judged_by, judged_of};
@@ -10,15 +10,15 @@ use crate::parts::Part;
 use mbe_matcher::Binder;
 use std::alloc::{AllocError, Global};
 
-/// The first fault so far, and of each repetition that is open, the innermost last, in how many repetitions the variables of its uses
-/// stand, at most.
+/// The first fault so far; and for each open repetition, the innermost last, the greatest depth of a variable that it uses. The depth is
+/// the number of repetitions around a variable in its pattern.
 #[derive(Drop)]
 pub(crate) struct Judged {
     fault: Option<TemplateError>,
     depths: Vec<usize>,
 }
 
-// In how many repetitions a variable stands.
+// Returns the depth of a variable: how many repetitions enclose it in its pattern.
 fn depth_of(binders: &[Binder], number: usize) -> usize
     ensures { result ≡ depth_of (map where_of binders.now) number }
 {
@@ -28,7 +28,7 @@ fn depth_of(binders: &[Binder], number: usize) -> usize
     }
 }
 
-// The greater.
+// Returns the greater number.
 fn greater(a: usize, b: usize) -> usize
     ensures { result ≡ greater a b }
 {
@@ -36,7 +36,7 @@ fn greater(a: usize, b: usize) -> usize
 }
 
 impl Judged {
-    // The innermost repetition that is open holds a use of a variable that stands in so many.
+    // Notes that the innermost open repetition uses a variable of that depth.
     fn raise(&mut self, depth: usize) -> Result<(), AllocError>
         ensures fault { self.new.fault ≡ self.old.fault }
         ensures depths { OnOk result (reverse self.new.depths.items ≡ raised depth (reverse self.old.depths.items)) }
@@ -47,7 +47,7 @@ impl Judged {
         Ok(self.depths.push(greater(depth, deepest))?)
     }
 
-    // A use of a variable that stands in so many repetitions.
+    // Judges a use of a variable of that depth.
     fn use_at(&mut self, at: usize, depth: usize) -> Result<(), AllocError>
         ensures { OnOk result (judged_by self.new ≡ used_with at depth (judged_by self.old)) }
     {
@@ -57,7 +57,7 @@ impl Judged {
         self.raise(depth)
     }
 
-    // The beginning of the innermost repetition that is open.
+    // Judges the beginning of the innermost open repetition.
     fn begin(&mut self, at: usize) -> Result<(), AllocError>
         ensures { OnOk result (judged_by self.new ≡ begun at (judged_by self.old).depths (judged_by self.old).fault) }
     {
@@ -70,7 +70,7 @@ impl Judged {
         self.raise(deepest)
     }
 
-    // One part more, from the last.
+    // Judges one more part; the parts come from the last to the first.
     fn add(&mut self, binders: &[Binder], part: &Part) -> Result<(), AllocError>
         ensures { OnOk result (judged_by self.new ≡ judged_with (map where_of binders.now) (bit_of part.now) (judged_by self.old)) }
     {
@@ -83,7 +83,7 @@ impl Judged {
     }
 }
 
-/// What is wrong with the template of these parts, if anything is.
+/// Returns what is wrong with the template of these parts, if anything is.
 pub(crate) fn fault_of(
     alloc: Global,
     binders: &[Binder],

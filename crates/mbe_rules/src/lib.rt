@@ -1,14 +1,14 @@
 //! Macros of several arms, each a pattern and a template with repetitions.
 //!
 //! A `Template` is a list of parts: tokens, uses of variables, and the ends of subtrees and repetitions. `Template::new` reads the parts
-//! (`cutting`, `first`) and then goes through them from the last to find the first fault (`judging`). `Template::fill` goes through
-//! the parts with an index, the rounds that are under way and the close spans of the open subtrees, and writes by a
-//! `TopSubtreeBuilder`; an expression, type or pattern of several tokens goes into an opaque subtree (`placing`).
+//! (`cutting`, `first`) and then goes through them from the last to find the first fault (`judging`). `Template::fill` goes through the
+//! parts and writes with a `TopSubtreeBuilder`. It keeps an index, the rounds under way and the close spans of the open subtrees. An
+//! expression, type or pattern of several tokens goes into an opaque subtree (`placing`).
 //!
-//! A `MacroRules` is a list of arms, each a `Matcher`, a `Template` and a delimiter. `expand` returns what the first arm that matches the
-//! input makes of it.
+//! A `MacroRules` is a list of arms, each a `Matcher`, a `Template` and a delimiter. `expand` returns what the first arm
+//! that matches the input makes of it.
 //!
-//! What contracts speak of is in `specs/` of this crate.
+//! The definitions that the contracts use are in `specs/` of this crate.
 #![tactic(auto)]
 
 mod arm;

@@ -18,12 +18,13 @@ pub struct MacroRules {
 /// What a macro makes of an input.
 #[derive(Drop)]
 pub enum Expansion {
-    /// The input is no instance of the pattern of any arm. The arm that comes farthest stops at that flat place, which tells how many
-    /// tokens of the input stand before it, at any depth.
+    /// The input is no instance of the pattern of any arm. The arm that comes farthest stops at that flat place: that many tokens of
+    /// the input precede it, at any depth.
     NoMatch(usize),
-    /// It is an instance of the pattern of that arm, counted from 0, and of none before, by different readings.
+    /// The input is an instance of the pattern of that arm by different readings, and of no earlier arm's
+    /// pattern. The arms are counted from 0.
     Ambiguous(usize),
-    /// The template of the first arm of whose pattern it is an instance, filled with what it binds, under the template's delimiter.
+    /// The template of the first arm that matches the input, filled with what its pattern binds, under the template's delimiter.
     Tree(TopSubtree),
 }
 
@@ -31,11 +32,11 @@ impl MacroRules {
     ghost use Rattle.mbe_rules.specs.Expansions.{AreMade, IsExpansion, IsExpandError};
     ghost use Rattle.mbe_rules.specs.ArmFaults.{IsRulesError};
 
-    /// The macro whose arms the trees spell: `(pattern) => {template}`, in any brackets, with `;` between them, and maybe behind the
-    /// last. There is one at least.
+    /// Returns the macro whose arms the trees spell: `(pattern) => {template}`, in any brackets, with `;` between them, and optionally
+    /// after the last. There is at least one arm.
     ///
-    /// Time and memory are in proportion to the trees, and those of each pattern as `Matcher::new` tells. It is refused with the first
-    /// fault in reading order, and where memory is.
+    /// Time and memory are linear in the trees; for each pattern, they are those of `Matcher::new`. Returns the first fault in reading
+    /// order; fails also if memory runs out.
     pub fn new(alloc: Global, arms: TtIter<'_>) -> Result<MacroRules, RulesError>
         ensures ok { IfOk result (λ rules. (spelled : List ArmOf) × Spell (rest_of arms.entry) spelled × AreMade spelled rules.arms.items) }
         ensures err { IfErr result (IsRulesError (rest_of arms.entry)) }
@@ -62,11 +63,11 @@ impl MacroRules {
         Ok(MacroRules { arms: made })
     }
 
-    /// What the macro makes of an input: the first arm of whose pattern it is an instance answers.
+    /// Returns what the macro makes of an input. The first arm that matches the input answers.
     ///
-    /// Time is in proportion to the input times the edges of the patterns that are tried, and to what is written; memory to the input
-    /// and to what is written. It is refused with the first fault of filling that arm's template, with the limit that the tree is past,
-    /// or where memory is.
+    /// Time is linear in the input times the edges of the patterns that are tried, and in what is written. Memory is linear in
+    /// the input and in what is written. Returns the first fault of filling that arm's template, or the limit that the tree
+    /// exceeds; fails also if memory runs out.
     pub fn expand(&self, alloc: Global, input: TtIter<'_>) -> Result<Expansion, ExpandError>
         ensures ok { IfOk result (λ expansion. (arms : List ArmOf) → AreMade arms self.now.arms.items → IsExpansion arms 0 0 (rest_of input.entry) expansion) }
         ensures err { IfErr result (λ error. (arms : List ArmOf) → AreMade arms self.now.arms.items → IsExpandError arms 0 (rest_of input.entry) error) }

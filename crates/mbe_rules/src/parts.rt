@@ -5,16 +5,16 @@ use tt::{Delimiter, Leaf};
 /// A part of a template.
 #[derive(Drop)]
 pub enum Part {
-    /// A use of a variable: the flat place of its `$`, and the index of the variable's binder among those that were given.
+    /// A use of a variable: the flat place of its `$`, and the index of the variable's binder in the given list.
     Use(usize, usize),
-    /// A token that stands for itself.
+    /// A literal token.
     Token(Leaf),
-    /// A subtree begins.
+    /// The beginning of a subtree.
     Enter(Delimiter),
-    /// A subtree, or all, is at its end.
+    /// The end of a subtree, or of the whole template.
     Leave,
-    /// A repetition begins: the flat place of its `$`.
+    /// The beginning of a repetition: the flat place of its `$`.
     Begin(usize),
-    /// A repetition is at its end. It has this separator, and is of this kind.
+    /// The end of a repetition, with its separator and its kind.
     Close(Tail),
 }

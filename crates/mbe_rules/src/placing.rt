@@ -1,4 +1,4 @@
-//! Which trees stand as one subtree in the place of a use.
+//! Which trees become one subtree in the place of a use.
 ghost use Rattle.std.specs.Prelude.{◌≡◌};
 ghost use Rattle.tt.specs.Views.{trees_of};
 ghost use Rattle.mbe_rules.specs.Placing.{is_one_piece, is_bound_as_one, is_more, is_enclosed};
@@ -6,7 +6,7 @@ ghost use Rattle.mbe_rules.specs.Placing.{is_one_piece, is_bound_as_one, is_more
 use mbe_pattern::{Fragment, GrammarFragment, pass, unit_size};
 use tt::TokenTreesView;
 
-// An expression, a type or a pattern.
+// Returns whether the fragment is an expression, a type or a pattern.
 fn is_one_piece(fragment: GrammarFragment) -> bool
     ensures { result ≡ is_one_piece fragment }
 {
@@ -23,7 +23,7 @@ fn is_one_piece(fragment: GrammarFragment) -> bool
     }
 }
 
-// Whether the fragment takes such a one.
+// Returns whether the fragment takes an expression, a type or a pattern.
 fn is_bound_as_one(fragment: Fragment) -> bool
     ensures { result ≡ is_bound_as_one fragment }
 {
@@ -38,7 +38,7 @@ fn is_bound_as_one(fragment: Fragment) -> bool
     }
 }
 
-// Whether there is more than one token or subtree.
+// Returns whether there is more than one token or subtree.
 fn is_more(trees: TokenTreesView<'_>) -> bool
     ensures { result ≡ is_more (trees_of trees.entry) }
 {
@@ -47,7 +47,7 @@ fn is_more(trees: TokenTreesView<'_>) -> bool
     !rest.is_empty()
 }
 
-/// Whether what the fragment took stands as one subtree; where there is no fragment nothing was taken.
+/// Returns whether what the fragment took becomes one subtree. Without a fragment nothing was taken.
 pub(crate) fn is_enclosed(fragment: Option<Fragment>, trees: TokenTreesView<'_>) -> bool
     ensures { result ≡ is_enclosed fragment (trees_of trees.entry) }
 {

@@ -11,29 +11,29 @@ use mbe_pattern::PatternError;
 use std::alloc::{AllocError, AllocFailed};
 use thiserror::Error;
 
-/// What is wrong with an arm. A number is a flat place: how many tokens stand before what is meant, at any depth, among the trees of all
-/// arms; in the faults of a pattern or a template it is counted from the beginning of that.
+/// What is wrong with an arm. A number is a flat place among the trees of all arms: how many tokens, at any depth, precede the fault. In
+/// the faults of a pattern or a template it is counted from the beginning of that pattern or template.
 #[derive(Debug, Clone, Copy, PartialEq, Eq, Error)]
 pub enum ArmFault {
-    /// No subtree stands where a pattern should.
+    /// There is no subtree in the place of a pattern.
     #[error("there is no pattern")]
     NoPattern(usize),
     /// The pattern has a fault.
     #[error("{0}")]
     Pattern(PatternError),
-    /// `=>` does not stand behind the pattern.
+    /// No `=>` follows the pattern.
     #[error("there is no `=>` behind the pattern")]
     NoArrow(usize),
-    /// No subtree stands where a template should.
+    /// There is no subtree in the place of a template.
     #[error("there is no template")]
     NoTemplate(usize),
     /// The template has a fault.
     #[error("{0}")]
     Template(TemplateError),
-    /// Behind the template stands neither the end nor `;`.
+    /// After the template comes neither the end nor `;`.
     #[error("there is no `;` behind the template")]
     NoSemicolon(usize),
-    /// Memory was refused.
+    /// Memory ran out.
     #[error("out of memory")]
     Memory,
 }
@@ -46,7 +46,7 @@ pub struct RulesError {
     pub fault: ArmFault,
 }
 
-/// Why a macro does not expand an input: the number of the arm that took it, from 0, and why its template is not filled.
+/// Why a macro does not expand an input: the number of the arm that matched it, from 0, and why its template is not filled.
 #[derive(Debug, Clone, Copy, PartialEq, Eq, Error)]
 #[error("arm {arm}: {fault}")]
 pub struct ExpandError {

@@ -1,4 +1,4 @@
-//! Where trees come to stand beside others, puncts of both do not stand as one.
+//! Keeps puncts apart where trees come next to others, so that they do not form one token.
 ghost use Rattle.std.specs.Prelude.{◌≡◌, IfOk};
 ghost use Rattle.tt.specs.Building.{leaf_alone};
 ghost use Rattle.tt.specs.Iters.{rest_of};
@@ -8,7 +8,7 @@ use mbe_pattern::is_dollar;
 use std::alloc::AllocError;
 use tt::{Leaf, Punct, Spacing, TtElement, TtIter};
 
-// The leaf, alone if it is a punct.
+// Returns the leaf; a punct gets the spacing `Alone`.
 fn alone(leaf: Leaf) -> Leaf
     ensures { result ≡ leaf_alone leaf }
 {
@@ -21,7 +21,7 @@ fn alone(leaf: Leaf) -> Leaf
     }
 }
 
-/// Leaves of which the last is alone, if it is a punct.
+/// Returns the leaves; the last one gets the spacing `Alone`, if it is a punct.
 pub(crate) fn last_alone(leaves: Vec<Leaf>) -> Result<Vec<Leaf>, AllocError>
     ensures { IfOk result (λ made. made.items ≡ last_alone leaves.items) }
 {
@@ -33,7 +33,7 @@ pub(crate) fn last_alone(leaves: Vec<Leaf>) -> Result<Vec<Leaf>, AllocError>
     Ok(leaves)
 }
 
-// Whether a `$` stands first.
+// Returns whether the first tree is a `$`.
 fn is_dollar_in(mut trees: TtIter<'_>) -> bool
     ensures { result ≡ is_dollar_in (rest_of trees.entry) }
 {
@@ -43,7 +43,7 @@ fn is_dollar_in(mut trees: TtIter<'_>) -> bool
     }
 }
 
-/// The leaf before these trees: alone before a `$`, in whose place other trees may come.
+/// Returns the leaf before these trees: alone before a `$`, because other trees may replace the `$`.
 pub(crate) fn seamed(leaf: Leaf, behind: TtIter<'_>) -> Leaf
     ensures { result ≡ seamed leaf (rest_of behind.entry) }
 {

@@ -13,7 +13,7 @@ use mbe_pattern::Fragment;
 use std::alloc::{AllocError, Global};
 use tt::TokenTreesView;
 
-/// What a variable takes, and what it took, each time, and for each repetition that it stands in, the outermost first, where its rounds end, each time.
+/// What a variable takes, what it took each time, and for each repetition around it, the outermost first, where its rounds end each time.
 #[derive(Drop)]
 pub(crate) struct Taken<'i> {
     pub(crate) fragment: Fragment,
@@ -21,8 +21,8 @@ pub(crate) struct Taken<'i> {
     pub(crate) ends: Vec<Vec<usize>>,
 }
 
-/// A round of a repetition of a template: the index of the first part in it, how many rounds are done, and how many are when the last
-/// begins.
+/// A round of a repetition of a template: the index of its first part, how many rounds are done, and how
+/// many are done when the last begins.
 #[derive(Clone, Copy)]
 pub(crate) struct Round {
     pub(crate) body: usize,
@@ -30,28 +30,28 @@ pub(crate) struct Round {
     pub(crate) last: usize,
 }
 
-/// What is seen of what is bound: trees, or how many rounds.
+/// What is seen of a bound: trees, or how many rounds.
 #[derive(Clone, Copy)]
 pub(crate) enum Seen<'i> {
     Trees(TokenTreesView<'i>),
     Rounds(usize),
 }
 
-/// The rounds of one time: which is the first among all, and how many there are.
+/// The rounds of one time: the number of the first one among all, and how many there are.
 #[derive(Clone, Copy)]
 struct Rounds {
     first: usize,
     count: usize,
 }
 
-// The lesser.
+// Returns the lesser number.
 fn lesser(a: usize, b: usize) -> usize
     ensures { result ≡ lesser a b }
 {
     if a < b { a } else { b }
 }
 
-// Which round is the first of that time, where the rounds of each time end there.
+// Returns the number of the first round of that time, given where the rounds of each time end.
 fn first_at(ends: &[usize], time: usize) -> usize
     ensures { result ≡ first_at ends.now time }
 {
@@ -64,7 +64,7 @@ fn first_at(ends: &[usize], time: usize) -> usize
     }
 }
 
-// The rounds of that time, where those of each end there, and there are so many in all.
+// Returns the rounds of that time, given where the rounds of each time end and how many rounds there are in all.
 fn rounds_at(ends: &[usize], time: usize, all: usize) -> Rounds
     ensures first { result.first ≡ first_at ends.now time }
     ensures count { result.count ≡ count_at ends.now time all }
@@ -80,7 +80,8 @@ fn rounds_at(ends: &[usize], time: usize, all: usize) -> Rounds
 }
 
 impl<'i> Taken<'i> {
-    // How often what stands in so many of the repetitions is there.
+    // Returns how many times the repetition at that depth occurred, or how many times the variable took
+    // trees if there is no such repetition.
     fn times(&self, depth: usize) -> usize
         ensures { result ≡ times_at depth self.now }
     {
@@ -90,7 +91,7 @@ impl<'i> Taken<'i> {
         }
     }
 
-    // The trees of that time.
+    // Returns the trees of that time.
     fn trees_at(&self, time: usize) -> Seen<'i>
         ensures { seen_as result ≡ time_seen (slice_get (map trees_of self.now.trees.items) time) }
     {
@@ -100,7 +101,7 @@ impl<'i> Taken<'i> {
         }
     }
 
-    // What is bound in rounds that are one in the other, the outermost first.
+    // Returns what is bound in nested rounds, the outermost first.
     fn seen_in(&self, rounds: &[Round]) -> Seen<'i>
         ensures { (bound : Bound) → IsTaken bound self.now → seen_as result ≡ seen_of (bound_in (dones rounds.now) bound) }
     {
@@ -120,7 +121,7 @@ impl<'i> Taken<'i> {
         self.trees_at(time)
     }
 
-    // What a variable took.
+    // Returns what a variable took.
     fn of(alloc: Global, binder: &Binder, binding: &Binding<'i>) -> Result<Taken<'i>, AllocError>
         ensures { IfOk result (IsTakenBy (named_by (map note_of binding.now.marks.items) (where_of binder.now))) }
     {
@@ -137,7 +138,7 @@ impl<'i> Taken<'i> {
     }
 }
 
-/// What each variable took.
+/// Returns what each variable took.
 pub(crate) fn taken_by<'i>(
     alloc: Global,
     binders: &[Binder],
@@ -152,8 +153,7 @@ pub(crate) fn taken_by<'i>(
     Ok(taken)
 }
 
-/// What is bound to the variable of that index, in rounds that are one in the other, the outermost first; no trees where there is
-/// no such variable.
+/// Returns what is bound to the variable of that index in nested rounds, the outermost first; no trees if there is no such variable.
 pub(crate) fn seen_in<'i>(taken: &[Taken<'i>], number: usize, rounds: &[Round]) -> Seen<'i>
     ensures { (binding : Bindings) → AreTaken binding taken.now → seen_as result ≡ seen_at (slice_get (binding_in (dones rounds.now) binding) number) }
 {
@@ -163,7 +163,7 @@ pub(crate) fn seen_in<'i>(taken: &[Taken<'i>], number: usize, rounds: &[Round]) 
     }
 }
 
-/// The fragment of the variable of that index; none where there is no such variable.
+/// Returns the fragment of the variable of that index; none if there is no such variable.
 pub(crate) fn fragment_of(taken: &[Taken<'_>], number: usize) -> Option<Fragment>
     ensures { (binding : Bindings) → AreTaken binding taken.now → result ≡ fragment_of (slice_get binding number) }
 {

@@ -30,12 +30,13 @@ pub struct Template {
 impl Template {
     ghost use Rattle.mbe_rules.specs.Results.{IsTemplate, IsTemplateError, IsFilled, IsFillError};
 
-    /// The template that the trees spell, where a pattern has these variables: `$name` is a use of the first variable of that name,
-    /// raw or not, `$( .. )` with a separator, if there is one, and `*`, `+` or `?` a repetition, and all else stands for itself,
-    /// `$crate` and a `$` before a name that no variable has, too.
+    /// Returns the template that the trees spell; the variables are those of a pattern.
     ///
-    /// Time is in proportion to the number of trees times that of the variables, and memory to the number of trees. It is refused
-    /// with the first fault in reading order, where it has one, and where memory is.
+    /// `$name` is a use of the first variable of that name, raw or not. `$( .. )`, with a separator if there is one, and `*`, `+` or `?` is
+    /// a repetition. Everything else is written as it is, also `$crate` and a `$` before a name that no variable has.
+    ///
+    /// Time is linear in the number of trees times the number of variables, and memory in the number of trees. Returns the first fault in
+    /// reading order if the template has one; fails also if memory runs out.
     pub fn new(
         alloc: Global,
         binders: &[Binder],
@@ -51,12 +52,13 @@ impl Template {
         }
     }
 
-    /// What the template becomes where an input binds that: each use is replaced by what is bound to its variable, and each repetition is
-    /// filled as often as its variables have rounds, with its separator between them. The variables are those that it was made for.
+    /// Returns the template filled with what an input binds. Each use is replaced by what is bound to its variable. Each
+    /// repetition is filled as often as its variables have rounds, with its separator between the rounds. The variables must be
+    /// those that the template was made for.
     ///
-    /// Time and memory are in proportion to what is written, to the marks of what is bound times the number of variables, and to the
-    /// parts of repetitions, each time that one is begun. It is refused with the first fault, by the order in which it is filled, or
-    /// with the limit that the tree is past, and where memory is.
+    /// Time and memory are linear in what is written, and in the number of marks of the binding times the number of variables. They are
+    /// also linear in the number of parts of the repetitions, counted each time that one begins. Returns the first fault in the order of
+    /// filling, or the limit that the tree exceeds; fails also if memory runs out.
     pub fn fill(
         &self,
         alloc: Global,
@@ -71,7 +73,7 @@ impl Template {
         filled(alloc, &self.parts, binders, binding, delimiter)
     }
 
-    /// The parts of the template, in reading order, and the end of all.
+    /// Returns the parts of the template, in reading order, and the final end.
     pub fn parts(&self) -> &[Part]
         ensures { result.now ≡ self.now.parts.items }
     {

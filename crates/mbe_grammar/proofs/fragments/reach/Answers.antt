@@ -1,4 +1,4 @@
--- What the machine answers is how far the fragment reaches.
+-- The machine's answer is how far the fragment reaches.
 use Rattle.std.proofs.Common.{rules, ◌≡◌, Some, None, ap, sym, subst, ◌∙◌}
 use Rattle.std.specs.Prelude.{option_map}
 use Rattle.tt.specs.Iters.{rest_of}

@@ -1,4 +1,4 @@
--- It begins at the expression, and each step leaves fewer.
+-- The machine begins at the expression, and each step leaves fewer steps.
 use Rattle.std.proofs.Common.{rules, ◌≡◌, [], reverse, map, subst, sym}
 use Rattle.mbe_grammar.specs.Good.{IsGood}
 use Rattle.mbe_grammar.specs.Known.{glance_at}

@@ -1,4 +1,4 @@
--- It ends in an answer that the expression has.
+-- The machine ends with an answer that the expression has.
 use Rattle.std.proofs.Common.{reverse, map}
 use Rattle.mbe_grammar.specs.Places.{position_of}
 use Rattle.mbe_grammar.specs.Running.{state_at, frame_of}

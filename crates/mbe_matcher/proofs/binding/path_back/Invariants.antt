@@ -1,4 +1,4 @@
--- What is told of the path, behind what is still to be told, is all of it.
+-- The part of the path found so far, after the part still to be found, is all of it.
 use Rattle.std.proofs.Common.{◌≡◌, ◌++◌, reverse}
 use Rattle.mbe_matcher.specs.Threads.{path_in, path_to}
 use Rattle.mbe_matcher.proofs.binding.path_back.Given as goal

@@ -1,4 +1,4 @@
--- What was cut, and what is left of the pattern.
+-- The pieces so far, and what is left of the pattern.
 use Rattle.std.proofs.Common.{map}
 use Rattle.tt.specs.Iters.{rest_of}
 use Rattle.mbe_matcher.specs.Cutting.{levels_left}

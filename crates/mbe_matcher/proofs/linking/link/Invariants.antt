@@ -1,4 +1,4 @@
--- What is left makes of what was made what the whole makes of nothing.
+-- What is left makes of the result so far what the whole makes of nothing.
 use Rattle.std.proofs.Common.{◌≡◌, length, map}
 use Rattle.mbe_matcher.specs.Linking.{made_of, made_by, nothing_made}
 use Rattle.mbe_matcher.specs.Pieces.{bit_of}

@@ -1,4 +1,4 @@
--- No thread so far stands at its place.
+-- No thread so far is at its place.
 use Rattle.std.proofs.Common.{◌≡◌, ◌-◌, drop}
 use Rattle.tt.specs.Forest.{size}
 use Rattle.tt.specs.Iters.{rest_of}

@@ -1,4 +1,4 @@
--- What is wanted is told by the threads of the levels.
+-- The threads of the levels account for all wanted paths.
 use Rattle.std.proofs.Common.{ℕ, reverse}
 use Rattle.tt.specs.Iters.{rest_of}
 use Rattle.mbe_matcher.specs.Levels.{level_views, AreLevelsWithin}

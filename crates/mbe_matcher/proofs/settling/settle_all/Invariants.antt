@@ -1,4 +1,4 @@
--- What is left to settle makes of what is there what the whole makes of what was.
+-- What is left to settle makes of the result so far what the whole makes of the original.
 use Rattle.std.proofs.Common.{◌≡◌, drop}
 use Rattle.tt.specs.Iters.{rest_of}
 use Rattle.mbe_matcher.specs.Settling.{settled_all}

@@ -1,4 +1,4 @@
--- The threads went on so many times.
+-- The threads went on that many times.
 use Rattle.std.proofs.Common.{◌≡◌}
 use Rattle.tt.specs.Iters.{rest_of}
 use Rattle.mbe_matcher.specs.Settling.{settled}

@@ -1,4 +1,4 @@
--- What is left to spread makes of what is there what the whole makes of what was.
+-- What is left to spread makes of the result so far what the whole makes of the original.
 use Rattle.std.proofs.Common.{◌≡◌, drop}
 use Rattle.mbe_matcher.specs.Threads.{threads_spread}
 use Rattle.mbe_matcher.proofs.threads.spread_to.Given as goal

@@ -1,4 +1,4 @@
--- What is left to step makes of what is there what the whole makes of what was.
+-- What is left to step makes of the result so far what the whole makes of the original.
 use Rattle.std.proofs.Common.{List, drop}
 use Rattle.mbe_matcher.specs.Threads.{View, views_of, AreWithin, IsGrown, AllStep}
 use Rattle.mbe_matcher.proofs.threads.step_all.Given as goal

@@ -1,4 +1,4 @@
--- What was noted, before what is still to be, is what is noted from the start on.
+-- The notes so far, before those still to come, are all notes from the start on.
 use Rattle.std.proofs.Common.{◌≡◌, ◌++◌, List, length, reverse}
 use Rattle.tt.specs.Iters.{rest_of}
 use Rattle.mbe_matcher.specs.Marks.{Note}

@@ -1,4 +1,4 @@
--- What is left to pass leaves what the whole does.
+-- Passing what is left leaves the same as passing the whole.
 use Rattle.std.proofs.Common.{◌≡◌, ◌-◌}
 use Rattle.tt.specs.Gluing.{after_trees}
 use Rattle.tt.specs.Iters.{rest_of}

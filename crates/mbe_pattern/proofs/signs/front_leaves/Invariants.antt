@@ -1,4 +1,4 @@
--- Those that were taken and those at the front of what is left are those at the front of the whole.
+-- The leaves that were taken and those at the front of what is left are those at the front of the whole.
 use Rattle.std.proofs.Common.{◌≡◌, ◌-◌, ◌++◌}
 use Rattle.tt.specs.Iters.{rest_of}
 use Rattle.mbe_pattern.specs.Units.{front_leaves}

@@ -1,4 +1,4 @@
--- What is left agrees where the whole does, and the trees taken and those to be taken are those of the whole.
+-- What is left agrees exactly if the whole does; the trees taken and those to be taken are those of the whole.
 use Rattle.std.proofs.Common.{◌≡◌, ◌↔◌, ◌+◌, ◌*◌, ◌++◌, map, length, reverse}
 use Rattle.tt.specs.Iters.{rest_of}
 use Rattle.tt.specs.Views.{trees_of}

@@ -1,4 +1,4 @@
--- What is placed, with what is left, is the template filled.
+-- What is placed, with what is left, is the filled template.
 use Rattle.std.proofs.Common.{◌≡◌, ◌+◌, ◌*◌, map, length, reverse}
 use Rattle.std.specs.List.{zip}
 use Rattle.tt.specs.Building.{lowest}

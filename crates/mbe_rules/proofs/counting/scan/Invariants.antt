@@ -1,4 +1,4 @@
--- What was counted, and what is ahead, is all; no more repetitions are open than parts were passed.
+-- What was counted, with what is ahead, is everything; at most as many repetitions are open as parts were passed.
 use Rattle.std.proofs.Common.{◌≡◌, ◌-◌, ◌≤◌, drop, length, map}
 use Rattle.mbe_matcher.specs.Bindings.{Binding}
 use Rattle.mbe_rules.specs.declared.counting.Count.TheVariants.{Unknown}

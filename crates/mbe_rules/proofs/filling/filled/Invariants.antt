@@ -1,4 +1,4 @@
--- What is written, with what is left, is the template filled.
+-- What is written, with what is left, is the filled template.
 use Rattle.std.proofs.Common.{◌≡◌, List, drop, map, reverse}
 use Rattle.tt.specs.Building.{lowest}
 use Rattle.mbe_matcher.specs.Grouping.{binding_by}

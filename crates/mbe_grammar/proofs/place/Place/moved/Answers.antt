@@ -1,4 +1,4 @@
--- What is passed and what is left still fit.
+-- What is passed and what is left still fit together.
 use Rattle.std.proofs.Common.{◌≡◌, ◌+◌, ◌-◌, ◌<◌, ◌^◌, ℕ, zero, suc, sym, subst, ap, ap₂, ◌∙◌, arith}
 use Rattle.tt.specs.Forest.{Forest, size}
 use Rattle.tt.specs.Gluing.{after_trees}
@@ -7,7 +7,7 @@ use Rattle.tt.specs.Views.{trees_of}
 use Rattle.mbe_grammar.specs.Positions.{Position}
 use Rattle.mbe_grammar.proofs.place.Place.moved.Goals as goal
 
--- The trees behind some are those behind the others of them, behind the first.
+-- The trees after some are those after the rest of them, once the first is passed.
 behind_first : (count : ℕ) (trees : Forest) → 0 < count → after_trees (count - 1) (after_tree trees) ≡ after_trees count trees
 behind_first zero trees h = absurd (omega (arith, h))
 behind_first (suc count) trees h =
@@ -18,7 +18,7 @@ behind_first (suc count) trees h =
 abbrev place_at : (passed : ℕ) (rest : Forest) → Position
 place_at passed rest = record { passed = passed; rest = rest }
 
--- What is left is behind so many trees.
+-- What is left comes after that many trees.
 abbrev Left : (count : ℕ) (all left : Forest) → Type 0
 Left count all left = left ≡ after_trees count all
 

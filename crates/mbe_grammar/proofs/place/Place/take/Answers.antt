@@ -1,4 +1,4 @@
--- No tree is missing of a unit that passes a test.
+-- No tree of a unit that passes a test is missing.
 use Rattle.std.proofs.Common.{◌≡◌, ◌+◌, ◌≤◌, true, ap, sym, subst, ◌∙◌}
 use Rattle.tt.specs.Forest.{size}
 use Rattle.tt.specs.Gluing.{after_trees}

@@ -15,7 +15,7 @@ use Rattle.mbe_matcher.proofs.Results.{if_ok}
 use Rattle.mbe_matcher.proofs.Told.{tells}
 use Rattle.mbe_matcher.proofs.matcher.Matcher.read.Goals as goal
 
--- what was found by places and where they start is so
+-- what was found by places and their starts is correct
 abbrev FindsBy : (places : List Place) → (starts : List ℕ) → (input : Forest) → Paths → Type 0
 FindsBy places starts input it = Finds (ReadsAll places starts input) (λ left. StopsAll places left starts input) (size input) it
 

@@ -1,4 +1,4 @@
--- What is still to come is what was to come.
+-- What is still to come is the same as at the beginning.
 use Rattle.std.proofs.Common.{◌≡◌, ◌+◌, ◌*◌, length, reverse}
 use Rattle.mbe_rule.specs.DollarsLeft.{behind_in}
 use Rattle.mbe_rule.proofs.DollarSteps.{tokens_in}

@@ -1,4 +1,4 @@
--- What the arms that are left answer is what all do.
+-- The answer of the arms that are left is the answer of all arms.
 use Rattle.std.proofs.Common.{◌-◌, ◌≤◌, List, drop, length}
 use Rattle.tt.specs.Iters.{rest_of}
 use Rattle.mbe_rules.specs.declared.rules_error.ExpandError.{ExpandError}

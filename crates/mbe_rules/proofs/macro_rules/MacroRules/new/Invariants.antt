@@ -1,4 +1,4 @@
--- The arms that are made are those that are read so far, and what is wrong with one that is left is wrong with it among all.
+-- The arms that are made are those read so far, and a fault of an arm that is left is its fault among all arms.
 use Rattle.std.proofs.Common.{◌≡◌, ◌+◌, ℕ, suc, true, List, length, if◌then◌else◌}
 use Rattle.tt.specs.Forest.{size}
 use Rattle.tt.specs.Iters.{rest_of}

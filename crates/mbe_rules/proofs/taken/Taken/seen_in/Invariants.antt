@@ -1,4 +1,4 @@
--- What is bound in the rounds that are passed stands at that time, in the repetitions that are left.
+-- What is bound in the rounds that are passed is at that time, in the repetitions that are left.
 use Rattle.std.proofs.Common.{◌≡◌, ◌-◌, ◌≤◌, drop, get_or, length, map}
 use Rattle.tt.specs.Views.{trees_of}
 use Rattle.mbe_matcher.specs.Bindings.{Bound, none}
