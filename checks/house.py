@@ -39,7 +39,7 @@ NOT_SWEPT = {
     "tt::FlatBuilder::build": "parse_to_token_tree calls it",
     "syntax_unparse::is_writable": "rust_text does the same for each leaf",
     "mbe_rules::Template::new": "MacroRules::new calls it",
-    "mbe_rules::Template::fill": "MacroRules::expand calls it",
+    "mbe_rules::Template::transcribe": "MacroRules::expand calls it",
 }
 
 

@@ -281,7 +281,7 @@ def equation(left, text):
     return [line] if len(line) <= WIDTH else [f"{left} =", *filled(text.split(" "))]
 
 
-HEAD = """//! Rust's grammar as one table of rules, laid out name by name. docs/GRAMMAR.md tells what each name stands for, and
+HEAD = """//! Rust's grammar as one table of rules, laid out name by name. docs/GRAMMAR.md says what each name means, and
 //! `checks/lay_out_grammar.py` makes this file of it.
 use crate::rule::Rule;
 use crate::test::Test;
@@ -369,11 +369,11 @@ def definition_of_names(names, starts):
     return ["-- The names of Rust's grammar, and where each is laid out. Made by checks/lay_out_grammar.py.",
             "use Rattle.std.specs.Prelude.{ℕ}", "",
             "-- the names, as docs/GRAMMAR.md has them", "pub data Name : Type 0 where", *[f"  {name} : Name" for name in names], "",
-            "-- the place of what a name stands for", "abbrev pub start : Name → ℕ", *[f"start {name} = {starts[name]}" for name in names]]
+            "-- the place of the expression of a name", "abbrev pub start : Name → ℕ", *[f"start {name} = {starts[name]}" for name in names]]
 
 
 def definition(names):
-    lines = ["-- Rust's grammar: what each name stands for, as docs/GRAMMAR.md has it. Made by checks/lay_out_grammar.py.",
+    lines = ["-- Rust's grammar: the expression of each name, as in docs/GRAMMAR.md. Made by checks/lay_out_grammar.py.",
              "use Rattle.std.specs.Prelude.{[], ◌∷◌, codes}",
              "use Rattle.tt.specs.Types.DelimiterKind.TheVariants.{Parenthesis, Brace, Bracket}",
              "use Rattle.mbe_grammar.specs.declared.test.Test.TheVariants as test",
@@ -381,14 +381,14 @@ def definition(names):
              "use Rattle.mbe_grammar.specs.Expressions.{Expression, nothing, unit, name, many, never, maybe, ahead, all_of, one_of, word, "
              "lifetime, subtree, sign, front}",
              "use Rattle.mbe_grammar.specs.Names.{Name, " + ", ".join(names) + "}", "",
-             "-- what a name stands for", "abbrev pub stands : Name → Expression"]
+             "-- the expression of a name", "abbrev pub stands : Name → Expression"]
     for name, (_, part) in names.items():
         lines += equation(f"stands {name}", expression_text(part))
     return lines
 
 
 def proof(names, places):
-    lines = ["-- What each name of Rust's grammar stands for is laid out as the table has it. Made by checks/lay_out_grammar.py.",
+    lines = ["-- The table lays out the expression of each name of Rust's grammar. Made by checks/lay_out_grammar.py.",
              "use Rattle.std.proofs.Common.{ℕ, refl}",
              "use Rattle.mbe_grammar.specs.declared.rust.TheConstants.{RULES}",
              "use Rattle.mbe_grammar.specs.Layout.{AreLaid}",

@@ -19,8 +19,8 @@ use Rattle.mbe_pattern.specs.declared.error.PatternError.{PatternError}
 use Rattle.mbe_pattern.specs.declared.error.PatternError.TheVariants as pattern
 use Rattle.mbe_rules.specs.declared.error.TemplateError.{TemplateError}
 use Rattle.mbe_rules.specs.declared.error.TemplateError.TheVariants as template
-use Rattle.mbe_rules.specs.declared.fill_error.FillError.{FillError}
-use Rattle.mbe_rules.specs.declared.fill_error.FillError.TheVariants as filling
+use Rattle.mbe_rules.specs.declared.transcribe_error.TranscribeError.{TranscribeError}
+use Rattle.mbe_rules.specs.declared.transcribe_error.TranscribeError.TheVariants as filling
 use Rattle.syntax_parse.specs.declared.fault.BadToken.{BadToken}
 use Rattle.syntax_parse.specs.declared.fault.BadToken.TheVariants as bad
 use Rattle.syntax_parse.specs.declared.fault.SyntaxFault.{SyntaxFault}
@@ -147,14 +147,14 @@ abbrev pub rules_failure : RulesError → Failure
 rules_failure error = at_place (arm_fault error.fault) error.arm
 
 -- a template that is not filled
-abbrev pub fill_fault : FillError → Fault
-fill_fault (filling.LengthsDiffer at) = told.LengthsDiffer
-fill_fault (filling.NoRound at) = told.NoRound
-fill_fault (filling.Tree fault) = limit_fault fault
+abbrev pub transcribe_fault : TranscribeError → Fault
+transcribe_fault (filling.LengthsDiffer at) = told.LengthsDiffer
+transcribe_fault (filling.NoRound at) = told.NoRound
+transcribe_fault (filling.Tree fault) = limit_fault fault
 
 -- a macro that does not expand an input: with the number of the arm
 abbrev pub expand_failure : ExpandError → Failure
-expand_failure error = at_place (fill_fault error.fault) error.arm
+expand_failure error = at_place (transcribe_fault error.fault) error.arm
 
 -- the fault of a macro of a text, or of a call of one
 abbrev pub macro_fault : MacroFault → Fault
@@ -163,7 +163,7 @@ macro_fault found.Left = told.Left
 macro_fault found.Conditional = told.Left
 macro_fault found.NoMatch = told.NoMatch
 macro_fault (found.Ambiguous _) = told.Ambiguous
-macro_fault (found.Expansion error) = fill_fault error.fault
+macro_fault (found.Expansion error) = transcribe_fault error.fault
 macro_fault found.TooDeep = told.TooDeep
 macro_fault found.NotWritable = told.NotWritable
 macro_fault found.TooLong = told.MadeTooLong

@@ -1,11 +1,11 @@
 //! Why a call wrote no bytes, and where: the fault of this library for each fault of the libraries below.
 ghost use Rattle.std.specs.Prelude.{◌≡◌};
-ghost use Rattle.app_c.specs.Failures.{arm_fault, bad_token, bytes_failure, expand_failure, expand_text_failure, fill_fault, input_failure, limit_fault, macro_fault, pattern_fault, placeless, rules_failure, syntax_failure, template_fault, text_failure, write_failure};
+ghost use Rattle.app_c.specs.Failures.{arm_fault, bad_token, bytes_failure, expand_failure, expand_text_failure, transcribe_fault, input_failure, limit_fault, macro_fault, pattern_fault, placeless, rules_failure, syntax_failure, template_fault, text_failure, write_failure};
 
 use crate::fault::Fault;
 use expand_text::{ExpandTextError, MacroFault};
 use mbe_pattern::PatternError;
-use mbe_rules::{ArmFault, ExpandError, FillError, RulesError, TemplateError};
+use mbe_rules::{ArmFault, ExpandError, RulesError, TemplateError, TranscribeError};
 use syntax_parse::{BadToken, SyntaxFault, TextFault};
 use syntax_unparse::WriteFault;
 use tt::TtFault;
@@ -201,13 +201,13 @@ pub(crate) fn rules_failure(error: RulesError) -> Failure
 }
 
 // Returns why a template is not filled.
-fn fill_fault(fault: FillError) -> Fault
-    ensures { result ≡ fill_fault fault }
+fn transcribe_fault(fault: TranscribeError) -> Fault
+    ensures { result ≡ transcribe_fault fault }
 {
     match fault {
-        FillError::LengthsDiffer(_) => Fault::LengthsDiffer,
-        FillError::NoRound(_) => Fault::NoRound,
-        FillError::Tree(fault) => limit_fault(fault),
+        TranscribeError::LengthsDiffer(_) => Fault::LengthsDiffer,
+        TranscribeError::NoRound(_) => Fault::NoRound,
+        TranscribeError::Tree(fault) => limit_fault(fault),
     }
 }
 
@@ -216,7 +216,7 @@ pub(crate) fn expand_failure(error: ExpandError) -> Failure
     ensures { result ≡ expand_failure error }
 {
     Failure {
-        fault: fill_fault(error.fault),
+        fault: transcribe_fault(error.fault),
         at: error.arm,
     }
 }
@@ -230,7 +230,7 @@ fn macro_fault(fault: MacroFault) -> Fault
         MacroFault::Left | MacroFault::Conditional => Fault::Left,
         MacroFault::NoMatch => Fault::NoMatch,
         MacroFault::Ambiguous(_) => Fault::Ambiguous,
-        MacroFault::Expansion(error) => fill_fault(error.fault),
+        MacroFault::Expansion(error) => transcribe_fault(error.fault),
         MacroFault::TooDeep => Fault::TooDeep,
         MacroFault::NotWritable => Fault::NotWritable,
         MacroFault::TooLong => Fault::MadeTooLong,

@@ -6,8 +6,8 @@ use Rattle.mbe_pattern.specs.declared.error.PatternError.{PatternError}
 use Rattle.mbe_pattern.specs.declared.error.PatternError.TheVariants as pattern
 use Rattle.mbe_rules.specs.declared.error.TemplateError.{TemplateError}
 use Rattle.mbe_rules.specs.declared.error.TemplateError.TheVariants as template
-use Rattle.mbe_rules.specs.declared.fill_error.FillError.{FillError}
-use Rattle.mbe_rules.specs.declared.fill_error.FillError.TheVariants as filling
+use Rattle.mbe_rules.specs.declared.transcribe_error.TranscribeError.{TranscribeError}
+use Rattle.mbe_rules.specs.declared.transcribe_error.TranscribeError.TheVariants as filling
 use Rattle.mbe_rules.specs.declared.rules_error.ArmFault.{ArmFault}
 use Rattle.mbe_rules.specs.declared.rules_error.ArmFault.TheVariants as rule
 use Rattle.mbe_rules.specs.declared.rules_error.RulesError.{RulesError}
@@ -56,10 +56,10 @@ abbrev pub definition_message : (name : List ℕ) → RulesError → List ℕ
 definition_message name error = rule_message name error.arm error.fault
 
 -- why a rule of that name writes nothing
-abbrev pub fill_message : (name : List ℕ) (arm : ℕ) → FillError → List ℕ
-fill_message name arm (filling.LengthsDiffer at) = about_rule arm name (codes " repeats variables together that have different numbers of rounds")
-fill_message name arm (filling.NoRound at) = about_rule arm name (codes " needs at least one round here")
-fill_message name arm (filling.Tree fault) = about_rule arm name (codes " writes too much: " ++ fault_text fault)
+abbrev pub transcribe_message : (name : List ℕ) (arm : ℕ) → TranscribeError → List ℕ
+transcribe_message name arm (filling.LengthsDiffer at) = about_rule arm name (codes " repeats variables together that have different numbers of rounds")
+transcribe_message name arm (filling.NoRound at) = about_rule arm name (codes " needs at least one round here")
+transcribe_message name arm (filling.Tree fault) = about_rule arm name (codes " writes too much: " ++ fault_text fault)
 
 -- the limit of trees that the macro of that name or its expansion exceeds
 abbrev pub size_message : (name : List ℕ) → TtFault → List ℕ
@@ -73,7 +73,7 @@ message name wrong.Conditional =
     about (codes "this call of ") name (codes " is left as it is: `#[cfg(..)]` cannot apply to each part of its expansion")
 message name wrong.NoMatch = about (codes "no rule of ") name (codes " matches this")
 message name (wrong.Ambiguous arm) = about_rule arm name (codes " matches this in two ways")
-message name (wrong.Expansion error) = fill_message name error.arm error.fault
+message name (wrong.Expansion error) = transcribe_message name error.arm error.fault
 message name wrong.TooDeep = about (codes "recursion limit reached while expanding ") name []
 message name wrong.NotWritable = about (codes "the expansion of ") name (codes " cannot be written: this would read back as something else")
 message name wrong.TooLong = about (codes "the expansion of ") name (codes " has 4294967295 bytes or more")

@@ -56,32 +56,32 @@ pub record IsDiagnosticOf (file text : List ℕ) (limit : ℕ) (finding : Findin
   pub defined : IsNoteAt file text (about [] finding.name (codes " is defined here")) finding.defined_at it.placed_note
 
 -- its text
-abbrev pub IsFindingText : Style → (file text : List ℕ) (limit : ℕ) → Finding → List ℕ → Type 0
-IsFindingText style file text limit finding told = (it : Diagnostic) × IsDiagnosticOf file text limit finding it × (told ≡ diagnostic_text style it)
+abbrev pub IsDiagnosticText : Style → (file text : List ℕ) (limit : ℕ) → Finding → List ℕ → Type 0
+IsDiagnosticText style file text limit finding written = (it : Diagnostic) × IsDiagnosticOf file text limit finding it × (written ≡ diagnostic_text style it)
 
 -- the texts of all findings in order, with an empty line behind each
-abbrev pub AreFindingTexts : Style → (file text : List ℕ) (limit : ℕ) → List Finding → List ℕ → Type 0
-AreFindingTexts style file text limit [] told = told ≡ []
-AreFindingTexts style file text limit (finding ∷ findings) told =
-    (first others : List ℕ) × IsFindingText style file text limit finding first × AreFindingTexts style file text limit findings others
-    × (told ≡ first ++ 10 ∷ others)
+abbrev pub AreDiagnosticTexts : Style → (file text : List ℕ) (limit : ℕ) → List Finding → List ℕ → Type 0
+AreDiagnosticTexts style file text limit [] written = written ≡ []
+AreDiagnosticTexts style file text limit (finding ∷ findings) written =
+    (first others : List ℕ) × IsDiagnosticText style file text limit finding first × AreDiagnosticTexts style file text limit findings others
+    × (written ≡ first ++ 10 ∷ others)
 
 -- the text of a message without a place
-pub record IsPlainText (style : Style) (level : Level) (message told : List ℕ) : Type 0 where
+pub record IsPlainText (style : Style) (level : Level) (message written : List ℕ) : Type 0 where
   pub it : Diagnostic
   pub level_is : it.level ≡ level
   pub message_is : it.message.now ≡ message
   pub no_spot : it.spot ≡ None
   pub no_notes : it.notes.items ≡ []
   pub no_placed_note : it.placed_note ≡ None
-  pub is : told ≡ diagnostic_text style it
+  pub is : written ≡ diagnostic_text style it
 
 -- the last line: the number of errors and warnings, if there are any
 abbrev pub IsSummary : Style → Counts → List ℕ → Type 0
-IsSummary style counts told = MatchOption (level_of counts) (told ≡ []) (λ level. IsPlainText style level (message_of counts) told)
+IsSummary style counts written = MatchOption (level_of counts) (written ≡ []) (λ level. IsPlainText style level (message_of counts) written)
 
 -- all findings are reported, and the expanded text is the output, unless a finding is an error
 pub record IsReport (style : Style) (file text : List ℕ) (limit : ℕ) (found : Expanded) (report : Report) : Type 0 where
-  pub told : AreFindingTexts style file text limit found.findings.items (string_bytes report.told)
+  pub diagnostics : AreDiagnosticTexts style file text limit found.findings.items (string_bytes report.diagnostics)
   pub counts : report.counts ≡ counts_of found.findings.items
   pub output : report.output ≡ (if nat_lt 0 (counts_of found.findings.items).errors then None else Some found.text)

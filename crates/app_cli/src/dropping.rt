@@ -4,14 +4,14 @@ use expand_unused::{DropRulesError, without_rules};
 
 // Returns the failure of a text of that name whose definitions cannot be dropped.
 fn refused(rt: &HostRuntime, name: &str, error: DropRulesError) -> Failure {
-    let told = match error {
+    let message = match error {
         DropRulesError::Text(fault) => format!(in rt.alloc();
             "{name}: no definitions can be dropped, because the expanded text does not read back: {fault}"
         ),
         DropRulesError::Memory => return Failure::Memory,
     };
-    match told {
-        Ok(message) => Failure::plain(rt, message.as_str()),
+    match message {
+        Ok(message) => Failure::from_message(rt, message.as_str()),
         Err(_refused) => Failure::Memory,
     }
 }

@@ -1,12 +1,12 @@
 //! The macros of texts: the expansions of calls, and the faults.
 use crate::counts::Counts;
+use crate::diagnostics::diagnostics_text;
 use crate::dropping::without_definitions;
 use crate::failure::Failure;
-use crate::fault::told;
-use crate::finding::findings_text;
 use crate::input::Input;
 use crate::report::{Report, report_on, summary};
 use crate::style::style_of;
+use crate::syntax_error::syntax_failure;
 use expand_text::{ExpandOptions, ExpandTextError, expand_leniently};
 use std::io::{self, Write};
 use std::process::ExitCode;
@@ -33,10 +33,10 @@ fn refused(
     let alloc = rt.alloc();
     let style = style_of(rt);
     match error {
-        ExpandTextError::Text(fault) => told(rt, name, text, fault),
+        ExpandTextError::Text(fault) => syntax_failure(rt, name, text, fault),
         ExpandTextError::Memory => Failure::Memory,
         ExpandTextError::Macro(finding) => {
-            Failure::told(findings_text(alloc, style, name, text, limit, &[finding]))
+            Failure::from_text(diagnostics_text(alloc, style, name, text, limit, &[finding]))
         }
     }
 }
@@ -57,10 +57,10 @@ fn expanded(
     };
     let Report {
         output,
-        told,
+        diagnostics,
         counts,
     } = report_on(rt.alloc(), style_of(rt), name, text, limit, found)?;
-    let _ = eprint!(rt; "{told}");
+    let _ = eprint!(rt; "{diagnostics}");
     Ok(Outcome {
         output,
         has_mark: text.len() < bytes.len(),
@@ -73,7 +73,7 @@ fn outcome_of(rt: &HostRuntime, input: Input<'_>, options: ExpandOptions<'_>) ->
     match expanded(rt, input, options) {
         Ok(outcome) => outcome,
         Err(failure) => {
-            failure.tell(rt);
+            failure.report(rt);
             let _ = eprintln!(rt; "");
             Outcome {
                 output: None,
@@ -85,7 +85,7 @@ fn outcome_of(rt: &HostRuntime, input: Input<'_>, options: ExpandOptions<'_>) ->
 }
 
 // Reports the number of errors and warnings.
-fn tell_counts(rt: &HostRuntime, counts: Counts) -> Result<(), Failure> {
+fn write_summary(rt: &HostRuntime, counts: Counts) -> Result<(), Failure> {
     let text = summary(rt.alloc(), style_of(rt), counts)?;
     let _ = eprint!(rt; "{text}");
     Ok(())
@@ -114,7 +114,7 @@ pub fn expand(
         has_mark,
         counts,
     } = outcome_of(rt, input, options);
-    tell_counts(rt, counts)?;
+    write_summary(rt, counts)?;
     if let Some(text) = output {
         let text = if drops_rules {
             without_definitions(rt, name, text.as_str(), only)?
@@ -137,6 +137,6 @@ pub fn check(
         let outcome = outcome_of(rt, Input::new(Some(name)), options);
         counts = counts.plus(outcome.counts);
     }
-    tell_counts(rt, counts)?;
+    write_summary(rt, counts)?;
     Ok(counts.status())
 }

@@ -13,9 +13,9 @@ use syntax_diagnostic::Level;
 #[derive(Drop)]
 pub enum Failure {
     /// The message: whole lines.
-    Told(String),
+    Diagnostic(String),
     /// The message about a mistake in the arguments: whole lines.
-    Mistake(String),
+    Usage(String),
     /// The arguments could not be read, or standard output did not take what was written.
     Stream(io::Error),
     /// Memory ran out.
@@ -48,34 +48,34 @@ impl From<io::Error> for Failure {
 
 impl Failure {
     /// Returns the failure with that text.
-    pub fn told(text: Result<String, AllocError>) -> Failure {
+    pub fn from_text(text: Result<String, AllocError>) -> Failure {
         match text {
-            Ok(text) => Failure::Told(text),
+            Ok(text) => Failure::Diagnostic(text),
             Err(_refused) => Failure::Memory,
         }
     }
 
     /// Returns the failure of a message that has no place in a text.
-    pub fn plain(rt: &HostRuntime, message: &str) -> Failure {
-        Failure::told(plain_text(rt.alloc(), style_of(rt), Level::Error, message))
+    pub fn from_message(rt: &HostRuntime, message: &str) -> Failure {
+        Failure::from_text(plain_text(rt.alloc(), style_of(rt), Level::Error, message))
     }
 
     /// Returns the failure of a mistake in the arguments.
-    pub fn mistake(rt: &HostRuntime, message: &str) -> Failure {
+    pub fn usage(rt: &HostRuntime, message: &str) -> Failure {
         match plain_text(rt.alloc(), style_of(rt), Level::Error, message) {
-            Ok(text) => Failure::Mistake(text),
+            Ok(text) => Failure::Usage(text),
             Err(_refused) => Failure::Memory,
         }
     }
 
     /// Prints the failure on standard error, and returns the exit status. If standard output was closed, it prints nothing and returns
     /// success: the reader has read enough.
-    pub fn tell(&self, rt: &HostRuntime) -> ExitCode {
+    pub fn report(&self, rt: &HostRuntime) -> ExitCode {
         match self {
-            Failure::Told(text) => {
+            Failure::Diagnostic(text) => {
                 let _ = eprint!(rt; "{text}");
             }
-            Failure::Mistake(text) => {
+            Failure::Usage(text) => {
                 let _ = eprint!(rt; "{text}");
                 return ExitCode::from(2);
             }

@@ -32,7 +32,7 @@ impl<'a> Input<'a> {
             Err(error) => {
                 let name = self.name();
                 let message = format!(in rt.alloc(); "couldn't read {name}: {error}")?;
-                Err(Failure::plain(rt, message.as_str()))
+                Err(Failure::from_message(rt, message.as_str()))
             }
         }
     }
@@ -56,7 +56,7 @@ impl<'a> Input<'a> {
             Err(at) => {
                 let name = self.name();
                 let message = format!(in rt.alloc(); "{name} is not UTF-8 at byte {at}")?;
-                Err(Failure::plain(rt, message.as_str()))
+                Err(Failure::from_message(rt, message.as_str()))
             }
         }
     }

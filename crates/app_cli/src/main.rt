@@ -4,11 +4,10 @@
 
 mod arguments;
 mod counts;
+mod diagnostics;
 mod dropping;
 mod expanding;
 mod failure;
-mod fault;
-mod finding;
 mod input;
 mod messages;
 mod options;
@@ -16,6 +15,7 @@ mod packing;
 mod program;
 mod report;
 mod style;
+mod syntax_error;
 mod token_lines;
 mod tree_lines;
 
@@ -24,6 +24,6 @@ use std::process::ExitCode;
 fn main(rt: HostRuntime) -> ExitCode {
     match program::run(&rt) {
         Ok(status) => status,
-        Err(failure) => failure.tell(&rt),
+        Err(failure) => failure.report(&rt),
     }
 }

@@ -1,10 +1,10 @@
 //! The messages of faults of macros, in the words of the author of the macro.
 ghost use Rattle.std.specs.Prelude.{◌≡◌, ◌++◌, ℕ, IfOk, codes, decimal, string_bytes};
-ghost use Rattle.app_cli.specs.Messages.{about, about_rule, definition_message, fill_message, message, pattern_message, rule_number, size_message, template_message};
+ghost use Rattle.app_cli.specs.Messages.{about, about_rule, definition_message, transcribe_message, message, pattern_message, rule_number, size_message, template_message};
 
 use expand_text::MacroFault;
 use mbe_pattern::PatternError;
-use mbe_rules::{ArmFault, FillError, RulesError, TemplateError};
+use mbe_rules::{ArmFault, RulesError, TemplateError, TranscribeError};
 use std::alloc::{AllocError, Global};
 use tt::TtFault;
 
@@ -75,23 +75,28 @@ fn definition_message(alloc: Global, name: &str, error: RulesError) -> Result<St
 }
 
 // Returns why a rule of the macro of that name writes nothing.
-fn fill_message(
+fn transcribe_message(
     alloc: Global,
     name: &str,
     arm: usize,
-    error: FillError,
+    error: TranscribeError,
 ) -> Result<String, AllocError>
-    ensures { IfOk result (λ text. string_bytes text ≡ fill_message name.now arm error) }
+    ensures { IfOk result (λ text. string_bytes text ≡ transcribe_message name.now arm error) }
 {
     match error {
-        FillError::LengthsDiffer(_) => about_rule(
+        TranscribeError::LengthsDiffer(_) => about_rule(
             alloc,
             arm,
             name,
             " repeats variables together that have different numbers of rounds",
         ),
-        FillError::NoRound(_) => about_rule(alloc, arm, name, " needs at least one round here"),
-        FillError::Tree(fault) => {
+        TranscribeError::NoRound(_) => about_rule(
+            alloc,
+            arm,
+            name,
+            " needs at least one round here",
+        ),
+        TranscribeError::Tree(fault) => {
             let why = fault.to_string(alloc)?;
             let words = format!(in alloc; " writes too much: {why}")?;
             about_rule(alloc, arm, name, words.as_str())
@@ -123,7 +128,7 @@ pub fn message(alloc: Global, name: &str, fault: MacroFault) -> Result<String, A
         ),
         MacroFault::NoMatch => about(alloc, "no rule of ", name, " matches this"),
         MacroFault::Ambiguous(arm) => about_rule(alloc, arm, name, " matches this in two ways"),
-        MacroFault::Expansion(error) => fill_message(alloc, name, error.arm, error.fault),
+        MacroFault::Expansion(error) => transcribe_message(alloc, name, error.arm, error.fault),
         MacroFault::TooDeep => about(alloc, "recursion limit reached while expanding ", name, ""),
         MacroFault::NotWritable => about(
             alloc,

@@ -20,7 +20,7 @@ fn wants_name(rt: &HostRuntime, option: &str, value: &str) -> Result<(), Failure
         return Ok(());
     }
     let message = format!(in rt.alloc(); "{value:?} is no name, as {option} wants one")?;
-    Err(Failure::mistake(rt, message.as_str()))
+    Err(Failure::usage(rt, message.as_str()))
 }
 
 /// Returns the options of an expansion; fails if an option that needs a name has none.

@@ -11,7 +11,7 @@ use tt_bytes::{from_bytes, to_bytes};
 // Returns the failure about a file, in one line.
 fn of_file(rt: &HostRuntime, name: &str, what: impl Display + Drop) -> Failure {
     match format!(in rt.alloc(); "{name}: {what}") {
-        Ok(message) => Failure::plain(rt, message.as_str()),
+        Ok(message) => Failure::from_message(rt, message.as_str()),
         Err(_refused) => Failure::Memory,
     }
 }
@@ -30,7 +30,7 @@ pub fn pack(rt: &HostRuntime, input: Input<'_>, out: &str) -> Result<(), Failure
         Ok(()) => Ok(()),
         Err(error) => {
             let message = format!(in alloc; "couldn't write {out}: {error}")?;
-            Err(Failure::plain(rt, message.as_str()))
+            Err(Failure::from_message(rt, message.as_str()))
         }
     }
 }

@@ -2,10 +2,10 @@
 use crate::arguments::{drops_rules, file_of, files_of, out_of, parse};
 use crate::expanding::{check, expand};
 use crate::failure::Failure;
-use crate::fault::told;
 use crate::input::Input;
 use crate::options::options_of;
 use crate::packing::{pack, unpack};
+use crate::syntax_error::syntax_failure;
 use crate::token_lines::write_tokens;
 use crate::tree_lines::{tree_of, write_tree};
 use clap::ArgMatches;
@@ -66,7 +66,7 @@ fn tokens(rt: &HostRuntime, input: Input<'_>) -> Result<(), Failure> {
     let bytes = input.bytes(rt)?;
     let text = input.text(rt, bytes.as_slice())?;
     if text.len() > MOST_TEXT_BYTES {
-        return Err(told(rt, input.name(), text, TextFault::TooLong));
+        return Err(syntax_failure(rt, input.name(), text, TextFault::TooLong));
     }
     let mut out = BufWriter::new(rt.alloc(), rt.stdout())?;
     write_tokens(&mut out, text)?;

@@ -3,7 +3,7 @@ ghost use Rattle.std.specs.Prelude.{IfOk, string_bytes};
 ghost use Rattle.app_cli.specs.Reports.{IsPlainText, IsReport, IsSummary};
 
 use crate::counts::Counts;
-use crate::finding::findings_text;
+use crate::diagnostics::diagnostics_text;
 use expand_text::Expanded;
 use std::alloc::{AllocError, Global};
 use syntax_diagnostic::{Diagnostic, Level, Style, diagnostic_text};
@@ -14,7 +14,7 @@ pub struct Report {
     /// For standard output: the expanded text, unless there is an error.
     pub output: Option<String>,
     /// For standard error: a diagnostic for each finding.
-    pub told: String,
+    pub diagnostics: String,
     /// The number of errors and warnings.
     pub counts: Counts,
 }
@@ -30,7 +30,7 @@ pub fn report_on(
 ) -> Result<Report, AllocError>
     ensures { IfOk result (IsReport style name.now text.now limit found) }
 {
-    let told = findings_text(alloc, style, name, text, limit, &found.findings)?;
+    let diagnostics = diagnostics_text(alloc, style, name, text, limit, &found.findings)?;
     let counts = Counts::of(&found.findings);
     let output = if counts.has_errors() {
         None
@@ -39,7 +39,7 @@ pub fn report_on(
     };
     Ok(Report {
         output,
-        told,
+        diagnostics,
         counts,
     })
 }

@@ -1,6 +1,6 @@
 //! The tree of a text, and its lines.
 use crate::failure::Failure;
-use crate::fault::told;
+use crate::syntax_error::syntax_failure;
 use std::alloc::Global;
 use std::io::{self, Write};
 use syntax_diagnostic::Places;
@@ -18,7 +18,7 @@ pub fn tree_of(rt: &HostRuntime, name: &str, text: &str) -> Result<TopSubtree, F
     };
     match parse_to_token_tree(rt.alloc(), anchor, SyntaxContext(0), text) {
         Ok(tree) => Ok(tree),
-        Err(fault) => Err(told(rt, name, text, fault)),
+        Err(fault) => Err(syntax_failure(rt, name, text, fault)),
     }
 }
 

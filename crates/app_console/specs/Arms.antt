@@ -16,8 +16,8 @@ use Rattle.app_console.specs.Answer.{line, ok_line, empty_line, fault_line, no_m
 use Rattle.app_console.specs.State.{State, with_tree}
 use Rattle.mbe_rules.specs.declared.error.TemplateError.{TemplateError}
 use Rattle.mbe_rules.specs.declared.error.TemplateError.TheVariants as template
-use Rattle.mbe_rules.specs.declared.fill_error.FillError.{FillError}
-use Rattle.mbe_rules.specs.declared.fill_error.FillError.TheVariants as filling
+use Rattle.mbe_rules.specs.declared.transcribe_error.TranscribeError.{TranscribeError}
+use Rattle.mbe_rules.specs.declared.transcribe_error.TranscribeError.TheVariants as filling
 
 -- the number of a pattern's fault (4 is not used); exhausted memory has none
 abbrev pub pattern_number : PatternError → Option ℕ
@@ -62,7 +62,7 @@ abbrev pub lengths_line : List ℕ
 lengths_line = line (codes "lengths")
 
 -- why a template is not filled
-abbrev pub unfilled_line : FillError → List ℕ
+abbrev pub unfilled_line : TranscribeError → List ℕ
 unfilled_line (filling.LengthsDiffer at) = lengths_line
 unfilled_line (filling.NoRound at) = lengths_line
 unfilled_line (filling.Tree fault) = fault_line fault

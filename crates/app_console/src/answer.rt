@@ -6,7 +6,7 @@ use crate::arm_number::arm_fault_number;
 use arrayvec::ArrayString;
 use itoa::Buffer;
 use mbe_rule::RuleFault;
-use mbe_rules::{FillError, RulesError};
+use mbe_rules::{RulesError, TranscribeError};
 use std::alloc::AllocError;
 use std::marker::Model;
 use syntax_unparse::WriteFault;
@@ -224,12 +224,14 @@ impl Answer {
     }
 
     /// Returns why a template is not filled: `lengths`, or the fault.
-    pub(crate) fn unfilled(error: FillError) -> Answer
+    pub(crate) fn unfilled(error: TranscribeError) -> Answer
         ensures { result ≡ unfilled_line error }
     {
         match error {
-            FillError::LengthsDiffer(_) | FillError::NoRound(_) => Answer::fixed(b"lengths\n"),
-            FillError::Tree(fault) => Answer::fault(fault),
+            TranscribeError::LengthsDiffer(_) | TranscribeError::NoRound(_) => Answer::fixed(
+                b"lengths\n",
+            ),
+            TranscribeError::Tree(fault) => Answer::fault(fault),
         }
     }
 

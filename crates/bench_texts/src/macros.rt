@@ -2,7 +2,7 @@
 use crate::error::BenchError;
 use crate::reading::{BETWEEN_TEXTS, tree_of};
 use crate::rounds::nanos_of_round;
-use mbe_rules::{Expansion, FillError, MacroRules};
+use mbe_rules::{Expansion, MacroRules, TranscribeError};
 use std::alloc::Global;
 use std::io::{BufWriter, Write};
 use std::time::CpuClock;
@@ -84,9 +84,9 @@ impl Macro {
             Ok(Expansion::NoMatch(at)) => writeln!(out, "no match {at}")?,
             Ok(Expansion::Ambiguous(arm)) => writeln!(out, "ambiguous {arm}")?,
             Err(error) => match error.fault {
-                FillError::LengthsDiffer(at) => writeln!(out, "lengths {} {at}", error.arm)?,
-                FillError::NoRound(at) => writeln!(out, "no round {} {at}", error.arm)?,
-                FillError::Tree(_) => return Err(BenchError::NotExpanded(error)),
+                TranscribeError::LengthsDiffer(at) => writeln!(out, "lengths {} {at}", error.arm)?,
+                TranscribeError::NoRound(at) => writeln!(out, "no round {} {at}", error.arm)?,
+                TranscribeError::Tree(_) => return Err(BenchError::NotExpanded(error)),
             },
         }
         Ok(())

@@ -6,8 +6,8 @@ use Rattle.tt.specs.Moves.{after_tree}
 use Rattle.tt_base.proofs.Joins.{join-assoc}
 use Rattle.syntax_edit.specs.Places.{begin_at}
 use Rattle.expand_text.proofs.ManyTrees.{after_both, after_more}
-use Rattle.expand_text.specs.Standing.{Stand}
-use Rattle.expand_text.specs.Coming.{attributes_in, begin_in, behind_call, end_in, len_in, rest_in, stand_in, takes_in, whole_in}
+use Rattle.expand_text.specs.CallSites.{CallSite}
+use Rattle.expand_text.specs.Meaning.{attributes_in, begin_in, behind_call, end_in, len_in, rest_in, site_in, takes_in, whole_in}
 use Rattle.expand_items.proofs.Conditions.{StandsBehind, call_at}
 use Rattle.expand_items.proofs.Shapes.{EndsClosed, by_subtree, by_semicolon, call_closed}
 use Rattle.expand_items.specs.Attributes.{item_at, with_attributes}
@@ -71,17 +71,17 @@ module _ (position : Position) (it : Call) (trees : Forest) where
   split_in = front_joined (len_in position it trees) trees ∙ ap (join (whole_in position it trees)) (sym rest_behind)
 
   -- the place of a call that has these trees, is a statement or not, and has these siblings
-  abbrev stand_made : Forest → (is_statement : Bool) → Siblings → Stand
-  stand_made whole is_statement siblings =
+  abbrev site_made : Forest → (is_statement : Bool) → Siblings → CallSite
+  site_made whole is_statement siblings =
       record { attributes = front_trees it.attributes whole; len = it.attributes; is_statement = is_statement; siblings = siblings; delimiter = it.delimiter }
 
   -- If these values are those of the call, this is the place of the call.
-  pub stand_same : (whole : Forest) (is_statement : Bool) (siblings : Siblings) → whole ≡ whole_in position it trees → is_statement ≡ (stand_in position it trees).is_statement
-      → siblings ≡ (stand_in position it trees).siblings → stand_made whole is_statement siblings ≡ stand_in position it trees
-  stand_same whole is_statement siblings all one among =
-      let stand = stand_in position it trees in
-      ap (λ f. stand_made f is_statement siblings) all ∙ ap (λ b. stand_made (whole_in position it trees) b siblings) one
-      ∙ ap (λ s. stand_made (whole_in position it trees) stand.is_statement s) among
+  pub site_same : (whole : Forest) (is_statement : Bool) (siblings : Siblings) → whole ≡ whole_in position it trees → is_statement ≡ (site_in position it trees).is_statement
+      → siblings ≡ (site_in position it trees).siblings → site_made whole is_statement siblings ≡ site_in position it trees
+  site_same whole is_statement siblings all one among =
+      let site = site_in position it trees in
+      ap (λ f. site_made f is_statement siblings) all ∙ ap (λ b. site_made (whole_in position it trees) b siblings) one
+      ∙ ap (λ s. site_made (whole_in position it trees) site.is_statement s) among
 
 -- A call with attributes is the call alone behind them.
 module _ (position : Position) (attributes : ℕ) (bare : Call) (trees : Forest) where

@@ -9,7 +9,7 @@ use Rattle.tt.specs.Span.{start_of, end_of}
 use Rattle.tt.specs.Types.Delimiter.{Delimiter}
 use Rattle.tt.specs.Types.Leaf.TheVariants as leaf_of
 use Rattle.tt.specs.Types.Span.{Span}
-use Rattle.expand_text.specs.Coming.{begin_in, takes_in, end_in, rest_in}
+use Rattle.expand_text.specs.Meaning.{begin_in, takes_in, end_in, rest_in}
 use Rattle.syntax_edit.specs.Places.{begin_at}
 use Rattle.expand_items.specs.Items.{Call, calls, item_in}
 use Rattle.syntax_edit.specs.Laid.{Lies, Laid, lies_end, lies_leaf, lies_node}

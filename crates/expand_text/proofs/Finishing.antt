@@ -8,14 +8,14 @@ use Rattle.tt.specs.Types.Leaf.{Leaf}
 use Rattle.tt.specs.Types.Span.{Span}
 use Rattle.tt.specs.Views.{trees_of}
 use Rattle.tt_base.proofs.Appending.{append-end, append-join}
-use Rattle.expand_text.specs.Coming.{Comes}
+use Rattle.expand_text.specs.Meaning.{ExpandsTo}
 use Rattle.expand_text.specs.Expanding.{IsPutOrKept}
-use Rattle.expand_text.specs.Knowing.{Setting, Known}
+use Rattle.expand_text.specs.Contexts.{Config, Context}
 use Rattle.expand_text.specs.Outcomes.{Outcome, nothing, passes, enters, stays, becomes, trees_left}
 use Rattle.expand_items.specs.Positions.{begun as begun_among}
 use Rattle.expand_items.specs.declared.position.Siblings.{Siblings}
 use Rattle.expand_text.specs.declared.walk.Invocation.{Invocation}
-use Rattle.expand_text.specs.Walks.{Level, begun, Ends, Leads, GoesPast, stand_of, first_leaf, first_subtree, first_stay, first_becomes, closes_of}
+use Rattle.expand_text.specs.Walks.{Level, begun, Ends, Leads, GoesPast, site_of, first_leaf, first_subtree, first_stay, first_becomes, closes_of}
 
 -- what is built once the rest of these levels is, the innermost first, which close there
 abbrev pub finished : List Span → List Outcome → Stack → Stack
@@ -59,91 +59,91 @@ module _ (close : Span) (closes : List Span) (others : Outcome) (outer : List Ou
 
 -- Whatever the rest expands to, the expansion of the trees is built once that is: what is
 -- known, the levels, and what is built, at first and now.
-pub record IsGoing (setting : Setting) (limit : ℕ) (siblings : Siblings) (trees : Forest) (before : Known) (old : Stack) (levels : List Level) (now : Known) (stack : Stack) : Type 0 where
-  pub finishes : (after : Known) (outcomes : List Outcome) → Ends setting false limit levels now after outcomes
-      → (outcome : Outcome) × Comes setting false limit (begun_among siblings) 0 before trees after outcome × (finished (closes_of levels) outcomes stack ≡ append (trees_left outcome) old)
+pub record IsGoing (config : Config) (limit : ℕ) (siblings : Siblings) (trees : Forest) (before : Context) (old : Stack) (levels : List Level) (now : Context) (stack : Stack) : Type 0 where
+  pub finishes : (after : Context) (outcomes : List Outcome) → Ends config false limit levels now after outcomes
+      → (outcome : Outcome) × ExpandsTo config false limit (begun_among siblings) 0 before trees after outcome × (finished (closes_of levels) outcomes stack ≡ append (trees_left outcome) old)
 
-module _ (setting : Setting) (limit : ℕ) (siblings : Siblings) (trees : Forest) (before now others : Known) (old stack : Stack) (level next : Level) (outer nexts : List Level)
-    (going : IsGoing setting limit siblings trees before old (level ∷ outer) now stack) where
+module _ (config : Config) (limit : ℕ) (siblings : Siblings) (trees : Forest) (before now others : Context) (old stack : Stack) (level next : Level) (outer nexts : List Level)
+    (going : IsGoing config limit siblings trees before old (level ∷ outer) now stack) where
   -- The walk goes on if something more is built in the innermost level.
-  pub goes_on : (grown : List Outcome → List Outcome) (built : Stack) → Leads setting false limit (level ∷ outer) now grown (next ∷ nexts) others
+  pub goes_on : (grown : List Outcome → List Outcome) (built : Stack) → Leads config false limit (level ∷ outer) now grown (next ∷ nexts) others
       → closes_of (next ∷ nexts) ≡ closes_of (level ∷ outer)
       → ((first : Outcome) (more : List Outcome) → finished (closes_of (level ∷ outer)) (grown (first ∷ more)) stack ≡ finished (closes_of (level ∷ outer)) (first ∷ more) built)
-      → IsGoing setting limit siblings trees before old (next ∷ nexts) others built
+      → IsGoing config limit siblings trees before old (next ∷ nexts) others built
   goes_on grown built leads closes same = record { finishes = by }
     where
-      by : (after : Known) (outcomes : List Outcome) → Ends setting false limit (next ∷ nexts) others after outcomes
-          → (outcome : Outcome) × Comes setting false limit (begun_among siblings) 0 before trees after outcome × (finished (closes_of (next ∷ nexts)) outcomes built ≡ append (trees_left outcome) old)
+      by : (after : Context) (outcomes : List Outcome) → Ends config false limit (next ∷ nexts) others after outcomes
+          → (outcome : Outcome) × ExpandsTo config false limit (begun_among siblings) 0 before trees after outcome × (finished (closes_of (next ∷ nexts)) outcomes built ≡ append (trees_left outcome) old)
       by after [] e = absurd e
       by after (first ∷ more) e =
-          let (outcome, comes, is) = going.finishes after (grown (first ∷ more)) (leads after (first ∷ more) e) in
-          (outcome, comes, ap (λ cs. finished cs (first ∷ more) built) closes ∙ sym (same first more) ∙ is)
+          let (outcome, expands_to, is) = going.finishes after (grown (first ∷ more)) (leads after (first ∷ more) e) in
+          (outcome, expands_to, ap (λ cs. finished cs (first ∷ more) built) closes ∙ sym (same first more) ∙ is)
 
   -- The walk goes on if the expansion of a call takes its place, or the call stays.
-  pub goes_past : (it : Invocation) (held : Forest) (inside : Known) (built : Stack) → GoesPast setting false limit (level ∷ outer) now it held (next ∷ nexts) inside
-      → IsPutOrKept it held inside others stack built → closes_of (next ∷ nexts) ≡ closes_of (level ∷ outer) → IsGoing setting limit siblings trees before old (next ∷ nexts) others built
-  goes_past it held inside built past (inl (put, so, known, is)) closes = subst (IsGoing setting limit siblings trees before old (next ∷ nexts) others) (sym is)
-      (goes_on (first_becomes (stand_of it).attributes it.first_span it.last_span put) (append put (append (stand_of it).attributes stack))
-      (subst (Leads setting false limit (level ∷ outer) now (first_becomes (stand_of it).attributes it.first_span it.last_span put) (next ∷ nexts)) (sym known) (past.stands put so tt)) closes
-      (λ first more. finished_becomes level.close (closes_of outer) first more stack (stand_of it).attributes it.first_span it.last_span put))
-  goes_past it held inside built past (inr (fault, misplaced, known, is)) closes = subst (IsGoing setting limit siblings trees before old (next ∷ nexts) others) (sym is)
+  pub goes_past : (it : Invocation) (held : Forest) (inside : Context) (built : Stack) → GoesPast config false limit (level ∷ outer) now it held (next ∷ nexts) inside
+      → IsPutOrKept it held inside others stack built → closes_of (next ∷ nexts) ≡ closes_of (level ∷ outer) → IsGoing config limit siblings trees before old (next ∷ nexts) others built
+  goes_past it held inside built past (inl (put, so, context, is)) closes = subst (IsGoing config limit siblings trees before old (next ∷ nexts) others) (sym is)
+      (goes_on (first_becomes (site_of it).attributes it.first_span it.last_span put) (append put (append (site_of it).attributes stack))
+      (subst (Leads config false limit (level ∷ outer) now (first_becomes (site_of it).attributes it.first_span it.last_span put) (next ∷ nexts)) (sym context) (past.stands put so tt)) closes
+      (λ first more. finished_becomes level.close (closes_of outer) first more stack (site_of it).attributes it.first_span it.last_span put))
+  goes_past it held inside built past (inr (fault, misplaced, context, is)) closes = subst (IsGoing config limit siblings trees before old (next ∷ nexts) others) (sym is)
       (goes_on (first_stay (trees_of it.whole)) (append (trees_of it.whole) stack)
-      (subst (Leads setting false limit (level ∷ outer) now (first_stay (trees_of it.whole)) (next ∷ nexts)) (sym known) (past.stays (start_of it.first_span.range) fault (inl (misplaced, refl)))) closes
+      (subst (Leads config false limit (level ∷ outer) now (first_stay (trees_of it.whole)) (next ∷ nexts)) (sym context) (past.stays (start_of it.first_span.range) fault (inl (misplaced, refl)))) closes
       (λ first more. finished_stay level.close (closes_of outer) first more stack (trees_of it.whole)))
 
   -- The walk goes on in a subtree.
-  pub goes_into : (it : Delimiter) → Leads setting false limit (level ∷ outer) now (first_subtree it) (next ∷ nexts) others → closes_of (next ∷ nexts) ≡ it.close ∷ closes_of (level ∷ outer)
-      → IsGoing setting limit siblings trees before old (next ∷ nexts) others (above stack it.kind it.open_span end)
+  pub goes_into : (it : Delimiter) → Leads config false limit (level ∷ outer) now (first_subtree it) (next ∷ nexts) others → closes_of (next ∷ nexts) ≡ it.close ∷ closes_of (level ∷ outer)
+      → IsGoing config limit siblings trees before old (next ∷ nexts) others (above stack it.kind it.open_span end)
   goes_into it leads closes = record { finishes = by }
     where
-      by : (after : Known) (outcomes : List Outcome) → Ends setting false limit (next ∷ nexts) others after outcomes
-          → (outcome : Outcome) × Comes setting false limit (begun_among siblings) 0 before trees after outcome
+      by : (after : Context) (outcomes : List Outcome) → Ends config false limit (next ∷ nexts) others after outcomes
+          → (outcome : Outcome) × ExpandsTo config false limit (begun_among siblings) 0 before trees after outcome
           × (finished (closes_of (next ∷ nexts)) outcomes (above stack it.kind it.open_span end) ≡ append (trees_left outcome) old)
       by after [] e = absurd e
       by after (held ∷ []) e = absurd (none after held (leads after (held ∷ []) e))
         where
-          none : (after : Known) (held : Outcome) → Ends setting false limit (level ∷ outer) now after [] → ⊥
+          none : (after : Context) (held : Outcome) → Ends config false limit (level ∷ outer) now after [] → ⊥
           none after held e = e
       by after (held ∷ first ∷ more) e =
-          let (outcome, comes, is) = going.finishes after (first_subtree it (held ∷ first ∷ more)) (leads after (held ∷ first ∷ more) e) in (
+          let (outcome, expands_to, is) = going.finishes after (first_subtree it (held ∷ first ∷ more)) (leads after (held ∷ first ∷ more) e) in (
             outcome,
-            comes,
+            expands_to,
             ap (λ cs. finished cs (held ∷ first ∷ more) (above stack it.kind it.open_span end)) closes
                 ∙ sym (finished_subtree level.close (closes_of outer) first more stack it held) ∙ is,
           )
 
   -- The walk goes on behind a subtree.
-  pub goes_out : (close : Span) → Leads setting false limit (level ∷ outer) now (λ outcomes. nothing ∷ outcomes) (next ∷ nexts) others → close ∷ closes_of (next ∷ nexts) ≡ closes_of (level ∷ outer)
-      → IsGoing setting limit siblings trees before old (next ∷ nexts) others (close_innermost close stack)
+  pub goes_out : (close : Span) → Leads config false limit (level ∷ outer) now (λ outcomes. nothing ∷ outcomes) (next ∷ nexts) others → close ∷ closes_of (next ∷ nexts) ≡ closes_of (level ∷ outer)
+      → IsGoing config limit siblings trees before old (next ∷ nexts) others (close_innermost close stack)
   goes_out close leads closes = record { finishes = by }
     where
-      by : (after : Known) (outcomes : List Outcome) → Ends setting false limit (next ∷ nexts) others after outcomes
-          → (outcome : Outcome) × Comes setting false limit (begun_among siblings) 0 before trees after outcome
+      by : (after : Context) (outcomes : List Outcome) → Ends config false limit (next ∷ nexts) others after outcomes
+          → (outcome : Outcome) × ExpandsTo config false limit (begun_among siblings) 0 before trees after outcome
           × (finished (closes_of (next ∷ nexts)) outcomes (close_innermost close stack) ≡ append (trees_left outcome) old)
       by after [] e = absurd e
       by after (first ∷ more) e =
-          let (outcome, comes, is) = going.finishes after (nothing ∷ first ∷ more) (leads after (first ∷ more) e) in (
+          let (outcome, expands_to, is) = going.finishes after (nothing ∷ first ∷ more) (leads after (first ∷ more) e) in (
             outcome,
-            comes,
+            expands_to,
             sym (finished_close next.close (closes_of nexts) first more stack close) ∙ ap (λ cs. finished cs (nothing ∷ first ∷ more) stack) closes ∙ is,
           )
 
 -- Nothing is built yet.
-pub begins : (setting : Setting) (limit : ℕ) (siblings : Siblings) (trees : Forest) (before : Known) (old : Stack) (close : Span)
-    → IsGoing setting limit siblings trees before old (begun siblings trees close ∷ []) before old
-begins setting limit siblings trees before old close = record { finishes = by }
+pub begins : (config : Config) (limit : ℕ) (siblings : Siblings) (trees : Forest) (before : Context) (old : Stack) (close : Span)
+    → IsGoing config limit siblings trees before old (begun siblings trees close ∷ []) before old
+begins config limit siblings trees before old close = record { finishes = by }
   where
-    by : (after : Known) (outcomes : List Outcome) → Ends setting false limit (begun siblings trees close ∷ []) before after outcomes
-        → (outcome : Outcome) × Comes setting false limit (begun_among siblings) 0 before trees after outcome × (finished (close ∷ []) outcomes old ≡ append (trees_left outcome) old)
+    by : (after : Context) (outcomes : List Outcome) → Ends config false limit (begun siblings trees close ∷ []) before after outcomes
+        → (outcome : Outcome) × ExpandsTo config false limit (begun_among siblings) 0 before trees after outcome × (finished (close ∷ []) outcomes old ≡ append (trees_left outcome) old)
     by after [] e = absurd e
-    by after (it ∷ []) (inside, comes, e) = (it, subst (λ k. Comes setting false limit (begun_among siblings) 0 before trees k it) e comes, refl)
-    by after (it ∷ other ∷ more) (inside, comes, e) = absurd e
+    by after (it ∷ []) (inside, expands_to, e) = (it, subst (λ k. ExpandsTo config false limit (begun_among siblings) 0 before trees k it) e expands_to, refl)
+    by after (it ∷ other ∷ more) (inside, expands_to, e) = absurd e
 
 -- All is built.
-pub ends_so : (setting : Setting) (limit : ℕ) (siblings : Siblings) (trees : Forest) (before now after : Known) (old stack : Stack) (level : Level) (outer : List Level)
-    → IsGoing setting limit siblings trees before old (level ∷ outer) now stack → Ends setting false limit (level ∷ outer) now after (nothing ∷ [])
-    → (outcome : Outcome) × Comes setting false limit (begun_among siblings) 0 before trees after outcome × (stack ≡ append (trees_left outcome) old)
-ends_so setting limit siblings trees before now after old stack level [] going e =
-    let (outcome, comes, is) = going.finishes after (nothing ∷ []) e in
-    (outcome, comes, sym (append-end stack) ∙ is)
-ends_so setting limit siblings trees before now after old stack level (next ∷ outer) going (inside, comes, e) = absurd e
+pub ends_so : (config : Config) (limit : ℕ) (siblings : Siblings) (trees : Forest) (before now after : Context) (old stack : Stack) (level : Level) (outer : List Level)
+    → IsGoing config limit siblings trees before old (level ∷ outer) now stack → Ends config false limit (level ∷ outer) now after (nothing ∷ [])
+    → (outcome : Outcome) × ExpandsTo config false limit (begun_among siblings) 0 before trees after outcome × (stack ≡ append (trees_left outcome) old)
+ends_so config limit siblings trees before now after old stack level [] going e =
+    let (outcome, expands_to, is) = going.finishes after (nothing ∷ []) e in
+    (outcome, expands_to, sym (append-end stack) ∙ is)
+ends_so config limit siblings trees before now after old stack level (next ∷ outer) going (inside, expands_to, e) = absurd e

@@ -12,151 +12,151 @@ use Rattle.expand_text.specs.Scopes.{Macro}
 use Rattle.expand_text.specs.declared.walk.Event.{Event}
 use Rattle.expand_text.specs.declared.walk.Event.TheVariants as event
 use Rattle.expand_text.specs.Calling.{IsFaulty}
-use Rattle.expand_text.specs.Coming.{IsPlain, Comes, ends, on_leaf, on_node, on_definition, on_other_call, into_other_call, into_attributes, on_faulty_call, on_call, on_kept_call, attributes_in, begin_in, begun_by, behind_in, end_in, rest_in, stand_in, whole_in, known_after}
+use Rattle.expand_text.specs.Meaning.{IsPlain, ExpandsTo, ends, on_leaf, on_node, on_definition, on_other_call, into_other_call, into_attributes, on_faulty_call, on_call, on_kept_call, attributes_in, begin_in, begun_by, behind_in, end_in, rest_in, site_in, whole_in, context_after}
 use Rattle.expand_items.specs.Attributes.{item_at}
 use Rattle.expand_items.specs.Items.{Definition, Call, defines, calls}
-use Rattle.expand_text.specs.Knowing.{Setting, Known, with_finding, left_in_scope}
-use Rattle.expand_text.specs.Macros.{IsRead, MayStand, called_by, arms_of, found_of, known_behind}
+use Rattle.expand_text.specs.Contexts.{Config, Context, with_finding, left_in_scope}
+use Rattle.expand_text.specs.Macros.{IsRead, MayBePut, called_by, arms_of, found_of, context_behind}
 use Rattle.expand_text.specs.Outcomes.{Outcome, nothing, passes, enters, stays, becomes, trees_left}
-use Rattle.expand_text.specs.Standing.{StandAs, IsKept}
+use Rattle.expand_text.specs.CallSites.{PutAs, IsKept}
 use Rattle.expand_items.specs.Positions.{behind as past_end, behind_subtree, keeps_macros}
-use Rattle.expand_text.specs.Walks.{Level, stand_of, past_leaf, past_subtree, past, past_call, kept_behind, inside, Leads, first_leaf, first_subtree, first_stay, first_becomes, IsNext}
+use Rattle.expand_text.specs.Walks.{Level, site_of, past_leaf, past_subtree, past, past_call, kept_behind, inside, Leads, first_leaf, first_subtree, first_stay, first_becomes, IsNext}
 use Rattle.mbe_rules.specs.Arms.{Arm}
 use Rattle.mbe_rules.specs.Expansions.{IsExpansion}
 use Rattle.mbe_rules.specs.declared.macro_rules.Expansion.TheVariants as expansion
 use Rattle.mbe_pattern.specs.Units.{front_trees, is_brace}
 
-module _ (setting : Setting) (in_text : Bool) (limit : ℕ) (level : Level) (outer : List Level) (known : Known) where
+module _ (config : Config) (in_text : Bool) (limit : ℕ) (level : Level) (outer : List Level) (context : Context) where
   -- Passes a leaf.
-  pub leads_leaf : (it : Leaf) → level.rest ≡ leaf it (after_tree level.rest) → IsPlain setting known level.position level.plain level.rest
-      → Leads setting in_text limit (level ∷ outer) known (first_leaf it) (past_leaf it level ∷ outer) known
+  pub leads_leaf : (it : Leaf) → level.rest ≡ leaf it (after_tree level.rest) → IsPlain config context level.position level.plain level.rest
+      → Leads config in_text limit (level ∷ outer) context (first_leaf it) (past_leaf it level ∷ outer) context
   leads_leaf it begins plain after [] e = absurd e
-  leads_leaf it begins plain after (others ∷ more) (within, comes, behind) = (
+  leads_leaf it begins plain after (others ∷ more) (within, expands_to, behind) = (
     within,
-    subst (λ f. Comes setting in_text limit level.position level.plain known f within (passes it others)) (sym begins)
-        (on_leaf (subst (IsPlain setting known level.position level.plain) begins plain) comes),
+    subst (λ f. ExpandsTo config in_text limit level.position level.plain context f within (passes it others)) (sym begins)
+        (on_leaf (subst (IsPlain config context level.position level.plain) begins plain) expands_to),
     behind,
   )
 
   -- Enters a subtree.
-  pub leads_subtree : (delimiter : Delimiter) (children : Forest) → level.rest ≡ node delimiter children (after_tree level.rest) → IsPlain setting known level.position level.plain level.rest
-      → Leads setting in_text limit (level ∷ outer) known (first_subtree delimiter)
-      (inside delimiter children level.position (kept_behind (keeps_macros delimiter.kind level.position) (length known.macros)) ∷ past_subtree delimiter.kind level ∷ outer) known
+  pub leads_subtree : (delimiter : Delimiter) (children : Forest) → level.rest ≡ node delimiter children (after_tree level.rest) → IsPlain config context level.position level.plain level.rest
+      → Leads config in_text limit (level ∷ outer) context (first_subtree delimiter)
+      (inside delimiter children level.position (kept_behind (keeps_macros delimiter.kind level.position) (length context.macros)) ∷ past_subtree delimiter.kind level ∷ outer) context
   leads_subtree delimiter children begins plain after [] e = absurd e
-  leads_subtree delimiter children begins plain after (held ∷ []) (within, comes, e) = absurd e
-  leads_subtree delimiter children begins plain after (held ∷ others ∷ more) (within, comes, (behind, then, rest)) = (
+  leads_subtree delimiter children begins plain after (held ∷ []) (within, expands_to, e) = absurd e
+  leads_subtree delimiter children begins plain after (held ∷ others ∷ more) (within, expands_to, (behind, then, rest)) = (
     behind,
-    subst (λ f. Comes setting in_text limit level.position level.plain known f behind (enters delimiter held others)) (sym begins)
-        (on_node (subst (IsPlain setting known level.position level.plain) begins plain) comes
-        (subst (λ k. Comes setting in_text limit (behind_subtree delimiter.kind level.position) (level.plain - 1) k (after_tree level.rest) behind others) (same (keeps_macros delimiter.kind level.position)) then)),
+    subst (λ f. ExpandsTo config in_text limit level.position level.plain context f behind (enters delimiter held others)) (sym begins)
+        (on_node (subst (IsPlain config context level.position level.plain) begins plain) expands_to
+        (subst (λ k. ExpandsTo config in_text limit (behind_subtree delimiter.kind level.position) (level.plain - 1) k (after_tree level.rest) behind others) (same (keeps_macros delimiter.kind level.position)) then)),
     rest,
   )
     where
-      same : (are_kept : Bool) → left_in_scope (kept_behind are_kept (length known.macros)) within ≡ known_after are_kept known within
+      same : (are_kept : Bool) → left_in_scope (kept_behind are_kept (length context.macros)) within ≡ context_after are_kept context within
       same true = refl
       same false = refl
 
   -- Leaves a level.
-  pub leads_end : level.rest ≡ end → Leads setting in_text limit (level ∷ outer) known (λ outcomes. nothing ∷ outcomes) outer (left_in_scope level.kept known)
+  pub leads_end : level.rest ≡ end → Leads config in_text limit (level ∷ outer) context (λ outcomes. nothing ∷ outcomes) outer (left_in_scope level.kept context)
   leads_end none after outcomes e = (
-    known,
-    subst (λ f. Comes setting in_text limit level.position level.plain known f known nothing) (sym none) ends,
+    context,
+    subst (λ f. ExpandsTo config in_text limit level.position level.plain context f context nothing) (sym none) ends,
     e,
   )
 
-  module _ (first : level.plain ≡ 0) (goes_on : known.is_over ≡ false) where
+  module _ (first : level.plain ≡ 0) (goes_on : context.is_over ≡ false) where
     -- Passes a definition.
-    pub leads_definition : (it : Definition) (others : Known) → item_at setting.root level.position level.rest ≡ defines it → IsRead setting it known others
-        → Leads setting in_text limit (level ∷ outer) known (first_stay (front_trees it.len level.rest)) (past it.len true level ∷ outer) others
+    pub leads_definition : (it : Definition) (others : Context) → item_at config.root level.position level.rest ≡ defines it → IsRead config it context others
+        → Leads config in_text limit (level ∷ outer) context (first_stay (front_trees it.len level.rest)) (past it.len true level ∷ outer) others
     leads_definition it others there is after [] e = absurd e
-    leads_definition it others there is after (left ∷ more) (within, comes, behind) = (
+    leads_definition it others there is after (left ∷ more) (within, expands_to, behind) = (
       within,
-      subst (λ n. Comes setting in_text limit level.position n known level.rest within (stays (front_trees it.len level.rest) left)) (sym first)
-          (on_definition others goes_on there is (subst (λ n. Comes setting in_text limit (past_end true level.position) n others (after_trees it.len level.rest) within left) first comes)),
+      subst (λ n. ExpandsTo config in_text limit level.position n context level.rest within (stays (front_trees it.len level.rest) left)) (sym first)
+          (on_definition others goes_on there is (subst (λ n. ExpandsTo config in_text limit (past_end true level.position) n others (after_trees it.len level.rest) within left) first expands_to)),
       behind,
     )
 
-    module _ (it : Call) (there : item_at setting.root level.position level.rest ≡ calls it) where
+    module _ (it : Call) (there : item_at config.root level.position level.rest ≡ calls it) where
       -- Passes a call that is not expanded.
-      pub leads_other : it.attributes ≡ 0 → arms_of (called_by setting known.macros it) ≡ None → setting.everywhere ≡ false
-          → Leads setting in_text limit (level ∷ outer) known (first_stay (front_trees it.len level.rest)) (past it.len (is_brace it.delimiter.kind) level ∷ outer)
-          (known_behind it (called_by setting known.macros it) known)
+      pub leads_other : it.attributes ≡ 0 → arms_of (called_by config context.macros it) ≡ None → config.everywhere ≡ false
+          → Leads config in_text limit (level ∷ outer) context (first_stay (front_trees it.len level.rest)) (past it.len (is_brace it.delimiter.kind) level ∷ outer)
+          (context_behind it (called_by config context.macros it) context)
       leads_other bare none not_into after [] e = absurd e
-      leads_other bare none not_into after (others ∷ more) (within, comes, behind) = (
+      leads_other bare none not_into after (others ∷ more) (within, expands_to, behind) = (
         within,
-        subst (λ n. Comes setting in_text limit level.position n known level.rest within (stays (front_trees it.len level.rest) others)) (sym first)
+        subst (λ n. ExpandsTo config in_text limit level.position n context level.rest within (stays (front_trees it.len level.rest) others)) (sym first)
             (on_other_call goes_on there bare none not_into
-            (subst (λ n. Comes setting in_text limit (past_end (is_brace it.delimiter.kind) level.position) n (known_behind it (called_by setting known.macros it) known) (after_trees it.len level.rest) within others) first comes)),
+            (subst (λ n. ExpandsTo config in_text limit (past_end (is_brace it.delimiter.kind) level.position) n (context_behind it (called_by config context.macros it) context) (after_trees it.len level.rest) within others) first expands_to)),
         behind,
       )
 
       -- Enters a call that is not expanded.
-      pub leads_into : it.attributes ≡ 0 → arms_of (called_by setting known.macros it) ≡ None → setting.everywhere ≡ true
-          → Leads setting in_text limit (level ∷ outer) known (λ outcomes. outcomes) (record level { plain = it.len } ∷ outer) (known_behind it (called_by setting known.macros it) known)
+      pub leads_into : it.attributes ≡ 0 → arms_of (called_by config context.macros it) ≡ None → config.everywhere ≡ true
+          → Leads config in_text limit (level ∷ outer) context (λ outcomes. outcomes) (record level { plain = it.len } ∷ outer) (context_behind it (called_by config context.macros it) context)
       leads_into bare none into after [] e = absurd e
-      leads_into bare none into after (others ∷ more) (within, comes, behind) = (
+      leads_into bare none into after (others ∷ more) (within, expands_to, behind) = (
         within,
-        subst (λ n. Comes setting in_text limit level.position n known level.rest within others) (sym first) (into_other_call goes_on there bare none into comes),
+        subst (λ n. ExpandsTo config in_text limit level.position n context level.rest within others) (sym first) (into_other_call goes_on there bare none into expands_to),
         behind,
       )
 
       -- Enters the attributes before a call.
-      pub leads_attributes : 0 < it.attributes → arms_of (called_by setting known.macros it) ≡ None
-          → Leads setting in_text limit (level ∷ outer) known (λ outcomes. outcomes) (record level { plain = it.attributes } ∷ outer) known
+      pub leads_attributes : 0 < it.attributes → arms_of (called_by config context.macros it) ≡ None
+          → Leads config in_text limit (level ∷ outer) context (λ outcomes. outcomes) (record level { plain = it.attributes } ∷ outer) context
       leads_attributes some none after [] e = absurd e
-      leads_attributes some none after (others ∷ more) (within, comes, behind) = (
+      leads_attributes some none after (others ∷ more) (within, expands_to, behind) = (
         within,
-        subst (λ n. Comes setting in_text limit level.position n known level.rest within others) (sym first) (into_attributes goes_on there some none comes),
+        subst (λ n. ExpandsTo config in_text limit level.position n context level.rest within others) (sym first) (into_attributes goes_on there some none expands_to),
         behind,
       )
 
       -- Passes a call with a fault.
-      pub leads_faulty : (then : Known) → IsFaulty setting limit it known then
-          → Leads setting in_text limit (level ∷ outer) known (first_stay (front_trees it.len level.rest)) (past it.len (is_brace it.delimiter.kind) level ∷ outer) then
+      pub leads_faulty : (then : Context) → IsFaulty config limit it context then
+          → Leads config in_text limit (level ∷ outer) context (first_stay (front_trees it.len level.rest)) (past it.len (is_brace it.delimiter.kind) level ∷ outer) then
       leads_faulty then is after [] e = absurd e
-      leads_faulty then is after (others ∷ more) (within, comes, behind) = (
+      leads_faulty then is after (others ∷ more) (within, expands_to, behind) = (
         within,
-        subst (λ n. Comes setting in_text limit level.position n known level.rest within (stays (front_trees it.len level.rest) others)) (sym first)
+        subst (λ n. ExpandsTo config in_text limit level.position n context level.rest within (stays (front_trees it.len level.rest) others)) (sym first)
             (on_faulty_call is.at is.fault goes_on there is.called is.expands is.wrong
-            (subst (λ k. Comes setting in_text limit (past_end (is_brace it.delimiter.kind) level.position) 0 k (after_trees it.len level.rest) within others) is.found
-            (subst (λ n. Comes setting in_text limit (past_end (is_brace it.delimiter.kind) level.position) n then (after_trees it.len level.rest) within others) first comes))),
+            (subst (λ k. ExpandsTo config in_text limit (past_end (is_brace it.delimiter.kind) level.position) 0 k (after_trees it.len level.rest) within others) is.found
+            (subst (λ n. ExpandsTo config in_text limit (past_end (is_brace it.delimiter.kind) level.position) n then (after_trees it.len level.rest) within others) first expands_to))),
         behind,
       )
 
 -- Passes a call that expands to a tree, which expands to `held` in turn.
-module _ (setting : Setting) (in_text : Bool) (left : ℕ) (level : Level) (outer : List Level) (known : Known) (first : level.plain ≡ 0) (goes_on : known.is_over ≡ false) (it : Call)
-    (macro : Macro) (arms : List Arm) (tree : Root) (there : item_at setting.root level.position level.rest ≡ calls it) (called : called_by setting known.macros it ≡ Some macro)
-    (expands : macro.arms ≡ Some arms) (makes : IsExpansion arms 0 0 it.input (expansion.Tree tree)) (within : Known) (held : Outcome)
-    (comes : Comes setting false left (begun_by level.position it level.rest) 0 known tree.children within held) where
+module _ (config : Config) (in_text : Bool) (left : ℕ) (level : Level) (outer : List Level) (context : Context) (first : level.plain ≡ 0) (goes_on : context.is_over ≡ false) (it : Call)
+    (macro : Macro) (arms : List Arm) (tree : Root) (there : item_at config.root level.position level.rest ≡ calls it) (called : called_by config context.macros it ≡ Some macro)
+    (expands : macro.arms ≡ Some arms) (makes : IsExpansion arms 0 0 it.input (expansion.Tree tree)) (within : Context) (held : Outcome)
+    (expands_to : ExpandsTo config false left (begun_by level.position it level.rest) 0 context tree.children within held) where
   -- The expansion takes the place of the call.
-  pub leads_call : (put : Forest) → StandAs (stand_in level.position it level.rest) (trees_left held) (Some put) → MayStand in_text it.delimiter put
-      → Leads setting in_text (suc left) (level ∷ outer) known
+  pub leads_call : (put : Forest) → PutAs (site_in level.position it level.rest) (trees_left held) (Some put) → MayBePut in_text it.delimiter put
+      → Leads config in_text (suc left) (level ∷ outer) context
       (first_becomes (attributes_in level.position it level.rest) (begin_in it level.rest) (end_in level.position it level.rest) put) (past_call it level ∷ outer) within
   leads_call put so may after [] e = absurd e
   leads_call put so may after (others ∷ more) (beyond, then, behind) = (
     beyond,
-    subst (λ n. Comes setting in_text (suc left) level.position n known level.rest beyond
+    subst (λ n. ExpandsTo config in_text (suc left) level.position n context level.rest beyond
         (stays (attributes_in level.position it level.rest) (becomes (begin_in it level.rest) (end_in level.position it level.rest) put others))) (sym first)
-        (on_call tree put goes_on there (ap arms_of called ∙ expands) makes comes so may
-        (subst (λ n. Comes setting in_text (suc left) (behind_in level.position it level.rest) n within (rest_in level.position it level.rest) beyond others) first then)),
+        (on_call tree put goes_on there (ap arms_of called ∙ expands) makes expands_to so may
+        (subst (λ n. ExpandsTo config in_text (suc left) (behind_in level.position it level.rest) n within (rest_in level.position it level.rest) beyond others) first then)),
     behind,
   )
 
   -- The call stays, if the expansion does not fit there or is not written.
-  pub leads_kept : (at : ℕ) (fault : MacroFault) → IsKept in_text (stand_in level.position it level.rest) (trees_left held) (start_of (begin_in it level.rest).range) at fault
-      → Leads setting in_text (suc left) (level ∷ outer) known (first_stay (whole_in level.position it level.rest)) (past_call it level ∷ outer) (with_finding (found_of it macro at fault) within)
+  pub leads_kept : (at : ℕ) (fault : MacroFault) → IsKept in_text (site_in level.position it level.rest) (trees_left held) (start_of (begin_in it level.rest).range) at fault
+      → Leads config in_text (suc left) (level ∷ outer) context (first_stay (whole_in level.position it level.rest)) (past_call it level ∷ outer) (with_finding (found_of it macro at fault) within)
   leads_kept at fault kept after [] e = absurd e
   leads_kept at fault kept after (others ∷ more) (beyond, then, behind) = (
     beyond,
-    subst (λ n. Comes setting in_text (suc left) level.position n known level.rest beyond (stays (whole_in level.position it level.rest) others)) (sym first)
-        (on_kept_call tree at fault goes_on there called expands makes comes kept
-        (subst (λ n. Comes setting in_text (suc left) (behind_in level.position it level.rest) n (with_finding (found_of it macro at fault) within) (rest_in level.position it level.rest) beyond others) first then)),
+    subst (λ n. ExpandsTo config in_text (suc left) level.position n context level.rest beyond (stays (whole_in level.position it level.rest) others)) (sym first)
+        (on_kept_call tree at fault goes_on there called expands makes expands_to kept
+        (subst (λ n. ExpandsTo config in_text (suc left) (behind_in level.position it level.rest) n (with_finding (found_of it macro at fault) within) (rest_in level.position it level.rest) beyond others) first then)),
     behind,
   )
 
 -- The next event of other levels to which these lead is the next event of these.
-module _ (setting : Setting) (in_text : Bool) (limit : ℕ) (levels others : List Level) (known then : Known) (leads : Leads setting in_text limit levels known (λ outcomes. outcomes) others then) where
-  pub next_by : (it : Event) (nexts : List Level) (behind : Known) → IsNext setting in_text limit others then it nexts behind → IsNext setting in_text limit levels known it nexts behind
+module _ (config : Config) (in_text : Bool) (limit : ℕ) (levels others : List Level) (context then : Context) (leads : Leads config in_text limit levels context (λ outcomes. outcomes) others then) where
+  pub next_by : (it : Event) (nexts : List Level) (behind : Context) → IsNext config in_text limit others then it nexts behind → IsNext config in_text limit levels context it nexts behind
   next_by event.End nexts behind is = leads behind (nothing ∷ []) is
   next_by (event.Leaf it) nexts behind is = λ after outcomes e. leads after (first_leaf it outcomes) (is after outcomes e)
   next_by (event.Opens header) nexts behind is = λ after outcomes e. leads after (first_subtree header.delimiter outcomes) (is after outcomes e)
@@ -165,10 +165,10 @@ module _ (setting : Setting) (in_text : Bool) (limit : ℕ) (levels others : Lis
   next_by (event.Invocation it) nexts behind (left, fits, is) = (
     left,
     fits,
-    λ within held comes.
-        let past = is within held comes in
+    λ within held expands_to.
+        let past = is within held expands_to in
         record {
-          stands = λ put so may after outcomes e. leads after (first_becomes (stand_of it).attributes it.first_span it.last_span put outcomes) (past.stands put so may after outcomes e);
+          stands = λ put so may after outcomes e. leads after (first_becomes (site_of it).attributes it.first_span it.last_span put outcomes) (past.stands put so may after outcomes e);
           stays = λ at fault kept after outcomes e. leads after (first_stay (trees_of it.whole) outcomes) (past.stays at fault kept after outcomes e);
         },
   )

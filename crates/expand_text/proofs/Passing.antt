@@ -12,62 +12,62 @@ use Rattle.expand_text.specs.declared.walk.Event.{Event}
 use Rattle.expand_text.specs.declared.walk.Event.TheVariants as event
 use Rattle.expand_text.specs.declared.walk.Walk.{Walk}
 use Rattle.expand_text.specs.Calling.{IsFaulty, IsExpanded}
-use Rattle.expand_text.specs.Coming.{begin_in, begun_by, end_in, stand_in, takes_in, whole_in, Comes}
+use Rattle.expand_text.specs.Meaning.{begin_in, begun_by, end_in, site_in, takes_in, whole_in, ExpandsTo}
 use Rattle.expand_items.specs.Items.{Call, calls}
-use Rattle.expand_text.specs.Knowing.{Setting, Known, with_finding}
-use Rattle.expand_text.specs.Macros.{MayStand, called_by, arms_of, found_of, known_behind}
+use Rattle.expand_text.specs.Contexts.{Config, Context, with_finding}
+use Rattle.expand_text.specs.Macros.{MayBePut, called_by, arms_of, found_of, context_behind}
 use Rattle.expand_text.specs.Outcomes.{Outcome, trees_left}
-use Rattle.expand_text.specs.Standing.{Stand, StandAs, IsKept}
+use Rattle.expand_text.specs.CallSites.{CallSite, PutAs, IsKept}
 use Rattle.expand_text.specs.Passing.{IsStay, IsInvoked}
 use Rattle.expand_items.specs.Positions.{begun as begun_among}
-use Rattle.expand_text.specs.Walks.{Level, level_of, levels_of, past, past_call, first_stay, first_becomes, Leads, GoesPast, found_by, stand_of, closes_of, work_in, IsNext, IsFirst, IsAtItem, Steps}
+use Rattle.expand_text.specs.Walks.{Level, level_of, levels_of, past, past_call, first_stay, first_becomes, Leads, GoesPast, found_by, site_of, closes_of, work_in, IsNext, IsFirst, IsAtItem, Steps}
 use Rattle.expand_text.proofs.Leading.{leads_other, leads_faulty, leads_call, leads_kept}
 use Rattle.expand_items.proofs.Conditions.{call_at_less}
 use Rattle.expand_items.proofs.Lengths.{fewer_behind}
 use Rattle.mbe_pattern.specs.Units.{front_trees, is_brace}
 use Rattle.tt.specs.Types.Span.{Span}
 
-module _ (setting : Setting) (in_text : Bool) (limit : ℕ) (old : Walk) (known : Known) (it : Call) (there : IsAtItem (calls it) setting old known) where
+module _ (config : Config) (in_text : Bool) (limit : ℕ) (old : Walk) (context : Context) (it : Call) (there : IsAtItem (calls it) config old context) where
   -- The next event if the call stays.
-  staying : (event : Event) (new : Walk) (others : Known)
-      → Leads setting in_text limit (levels_of old) known (first_stay (front_trees it.len (rest_of old.level.rest)))
+  staying : (event : Event) (new : Walk) (others : Context)
+      → Leads config in_text limit (levels_of old) context (first_stay (front_trees it.len (rest_of old.level.rest)))
       (past it.len (is_brace it.delimiter.kind) (level_of old.level) ∷ map level_of (reverse old.outer.items)) others
-      → IsStay it old event new → IsNext setting in_text limit (levels_of old) known event (levels_of new) others
+      → IsStay it old event new → IsNext config in_text limit (levels_of old) context event (levels_of new) others
   staying event.End new others leads is = absurd is
   staying (event.Leaf l) new others leads is = absurd is
   staying (event.Opens h) new others leads is = absurd is
   staying (event.Closes c) new others leads is = absurd is
   staying (event.Invocation i) new others leads is = absurd is
   staying (event.Stays trees) new others leads (taken, now, outer) =
-      subst (λ os. IsNext setting in_text limit (levels_of old) known (event.Stays trees) (level_of new.level ∷ map level_of (reverse os)) others) (sym outer)
-      (subst (λ l. IsNext setting in_text limit (levels_of old) known (event.Stays trees) (l ∷ map level_of (reverse old.outer.items)) others) (sym now)
-      (subst (λ f. Leads setting in_text limit (levels_of old) known (first_stay f) (past it.len (is_brace it.delimiter.kind) (level_of old.level) ∷ map level_of (reverse old.outer.items)) others) (sym taken) leads))
+      subst (λ os. IsNext config in_text limit (levels_of old) context (event.Stays trees) (level_of new.level ∷ map level_of (reverse os)) others) (sym outer)
+      (subst (λ l. IsNext config in_text limit (levels_of old) context (event.Stays trees) (l ∷ map level_of (reverse old.outer.items)) others) (sym now)
+      (subst (λ f. Leads config in_text limit (levels_of old) context (first_stay f) (past it.len (is_brace it.delimiter.kind) (level_of old.level) ∷ map level_of (reverse old.outer.items)) others) (sym taken) leads))
 
   -- The call stays if no macro expands it.
-  pub next_other : (event : Event) (new : Walk) → it.attributes ≡ 0 → arms_of (called_by setting known.macros it) ≡ None → setting.everywhere ≡ false → IsStay it old event new
-      → IsNext setting in_text limit (levels_of old) known event (levels_of new) (known_behind it (called_by setting known.macros it) known)
+  pub next_other : (event : Event) (new : Walk) → it.attributes ≡ 0 → arms_of (called_by config context.macros it) ≡ None → config.everywhere ≡ false → IsStay it old event new
+      → IsNext config in_text limit (levels_of old) context event (levels_of new) (context_behind it (called_by config context.macros it) context)
   next_other event new bare none not_into is =
-      staying event new (known_behind it (called_by setting known.macros it) known)
-      (leads_other setting in_text limit (level_of old.level) (map level_of (reverse old.outer.items)) known there.first there.goes_on it there.item bare none not_into) is
+      staying event new (context_behind it (called_by config context.macros it) context)
+      (leads_other config in_text limit (level_of old.level) (map level_of (reverse old.outer.items)) context there.first there.goes_on it there.item bare none not_into) is
 
   -- The call stays if it has a fault.
-  pub next_faulty : (event : Event) (new : Walk) (others : Known) → IsFaulty setting limit it known others → IsStay it old event new
-      → IsNext setting in_text limit (levels_of old) known event (levels_of new) others
+  pub next_faulty : (event : Event) (new : Walk) (others : Context) → IsFaulty config limit it context others → IsStay it old event new
+      → IsNext config in_text limit (levels_of old) context event (levels_of new) others
   next_faulty event new others wrong is =
-      staying event new others (leads_faulty setting in_text limit (level_of old.level) (map level_of (reverse old.outer.items)) known there.first there.goes_on it there.item others wrong) is
+      staying event new others (leads_faulty config in_text limit (level_of old.level) (map level_of (reverse old.outer.items)) context there.first there.goes_on it there.item others wrong) is
 
   -- The call expands to a tree.
-  pub next_expanded : (event : Event) (new : Walk) (others : Known) (tree : Root) (defined_at : ℕ)
-      → IsExpanded setting limit it tree defined_at known others
-      → IsInvoked it tree defined_at old event new → IsNext setting in_text limit (levels_of old) known event (levels_of new) others
+  pub next_expanded : (event : Event) (new : Walk) (others : Context) (tree : Root) (defined_at : ℕ)
+      → IsExpanded config limit it tree defined_at context others
+      → IsInvoked it tree defined_at old event new → IsNext config in_text limit (levels_of old) context event (levels_of new) others
   next_expanded event.End new others tree defined_at from is = absurd is
   next_expanded (event.Leaf l) new others tree defined_at from is = absurd is
   next_expanded (event.Opens h) new others tree defined_at from is = absurd is
   next_expanded (event.Closes c) new others tree defined_at from is = absurd is
   next_expanded (event.Stays f) new others tree defined_at from is = absurd is
   next_expanded (event.Invocation i) new others tree defined_at from (is, now, outer) =
-      subst (λ os. IsNext setting in_text limit (levels_of old) known (event.Invocation i) (level_of new.level ∷ map level_of (reverse os)) others) (sym outer)
-      (subst (λ l. IsNext setting in_text limit (levels_of old) known (event.Invocation i) (l ∷ map level_of (reverse old.outer.items)) others) (sym now) (
+      subst (λ os. IsNext config in_text limit (levels_of old) context (event.Invocation i) (level_of new.level ∷ map level_of (reverse os)) others) (sym outer)
+      (subst (λ l. IsNext config in_text limit (levels_of old) context (event.Invocation i) (l ∷ map level_of (reverse old.outer.items)) others) (sym now) (
         from.left,
         from.fits,
         by,
@@ -82,8 +82,8 @@ module _ (setting : Setting) (in_text : Bool) (limit : ℕ) (old : Walk) (known 
       end : Span
       end = end_in old.level.position it trees
 
-      stand : Stand
-      stand = stand_in old.level.position it trees
+      site : CallSite
+      site = site_in old.level.position it trees
 
       nexts : List Level
       nexts = past_call it (level_of old.level) ∷ map level_of (reverse old.outer.items)
@@ -94,37 +94,37 @@ module _ (setting : Setting) (in_text : Bool) (limit : ℕ) (old : Walk) (known 
           finding : List ℕ → ℕ → Finding
           finding name place = record { name = name; at = at; fault = fault; defined_at = Some place }
 
-      by : (inside : Known) (held : Outcome) → Comes setting false from.left (begun_among i.siblings) 0 others i.tree.children inside held
-          → GoesPast setting in_text limit (levels_of old) known i (trees_left held) nexts inside
-      by inside held comes = record { stands = stands; stays = stays }
+      by : (inside : Context) (held : Outcome) → ExpandsTo config false from.left (begun_among i.siblings) 0 others i.tree.children inside held
+          → GoesPast config in_text limit (levels_of old) context i (trees_left held) nexts inside
+      by inside held expands_to = record { stands = stands; stays = stays }
         where
-          came : Comes setting false from.left (begun_by old.level.position it trees) 0 known tree.children inside held
+          came : ExpandsTo config false from.left (begun_by old.level.position it trees) 0 context tree.children inside held
           came =
-              subst (λ k. Comes setting false from.left (begun_by old.level.position it trees) 0 k tree.children inside held) from.known
-              (subst (λ t. Comes setting false from.left (begun_by old.level.position it trees) 0 others t.children inside held) is.makes
-              (subst (λ s. Comes setting false from.left (begun_among s.siblings) 0 others i.tree.children inside held) is.stand comes))
+              subst (λ k. ExpandsTo config false from.left (begun_by old.level.position it trees) 0 k tree.children inside held) from.context
+              (subst (λ t. ExpandsTo config false from.left (begun_by old.level.position it trees) 0 others t.children inside held) is.makes
+              (subst (λ s. ExpandsTo config false from.left (begun_among s.siblings) 0 others i.tree.children inside held) is.site expands_to))
 
-          stands : (put : Forest) → StandAs (stand_of i) (trees_left held) (Some put) → MayStand in_text i.delimiter put
-              → Leads setting in_text limit (levels_of old) known (first_becomes (stand_of i).attributes i.first_span i.last_span put) nexts inside
+          stands : (put : Forest) → PutAs (site_of i) (trees_left held) (Some put) → MayBePut in_text i.delimiter put
+              → Leads config in_text limit (levels_of old) context (first_becomes (site_of i).attributes i.first_span i.last_span put) nexts inside
           stands put so may =
-              subst (λ s. Leads setting in_text limit (levels_of old) known (first_becomes s.attributes i.first_span i.last_span put) nexts inside) (sym is.stand)
-              (subst (λ s. Leads setting in_text limit (levels_of old) known (first_becomes stand.attributes s i.last_span put) nexts inside) (sym is.first)
-              (subst (λ s. Leads setting in_text limit (levels_of old) known (first_becomes stand.attributes begin s put) nexts inside) (sym is.last)
-              (subst (λ n. Leads setting in_text n (levels_of old) known (first_becomes stand.attributes begin end put) nexts inside) (sym from.fits)
-              (leads_call setting in_text from.left (level_of old.level) (map level_of (reverse old.outer.items)) known there.first there.goes_on it from.macro from.arms tree there.item
+              subst (λ s. Leads config in_text limit (levels_of old) context (first_becomes s.attributes i.first_span i.last_span put) nexts inside) (sym is.site)
+              (subst (λ s. Leads config in_text limit (levels_of old) context (first_becomes site.attributes s i.last_span put) nexts inside) (sym is.first)
+              (subst (λ s. Leads config in_text limit (levels_of old) context (first_becomes site.attributes begin s put) nexts inside) (sym is.last)
+              (subst (λ n. Leads config in_text n (levels_of old) context (first_becomes site.attributes begin end put) nexts inside) (sym from.fits)
+              (leads_call config in_text from.left (level_of old.level) (map level_of (reverse old.outer.items)) context there.first there.goes_on it from.macro from.arms tree there.item
               from.called from.expands from.makes inside held came put
-              (subst (λ s. StandAs s (trees_left held) (Some put)) is.stand so) (subst (λ s. MayStand in_text s.delimiter put) is.stand may)))))
+              (subst (λ s. PutAs s (trees_left held) (Some put)) is.site so) (subst (λ s. MayBePut in_text s.delimiter put) is.site may)))))
 
-          stays : (at : ℕ) (fault : MacroFault) → IsKept in_text (stand_of i) (trees_left held) (start_of i.first_span.range) at fault
-              → Leads setting in_text limit (levels_of old) known (first_stay (trees_of i.whole)) nexts (with_finding (found_by i at fault) inside)
+          stays : (at : ℕ) (fault : MacroFault) → IsKept in_text (site_of i) (trees_left held) (start_of i.first_span.range) at fault
+              → Leads config in_text limit (levels_of old) context (first_stay (trees_of i.whole)) nexts (with_finding (found_by i at fault) inside)
           stays at fault kept =
-              subst (λ f. Leads setting in_text limit (levels_of old) known (first_stay f) nexts (with_finding (found_by i at fault) inside)) (sym is.whole)
-              (subst (λ n. Leads setting in_text n (levels_of old) known (first_stay (whole_in old.level.position it trees)) nexts (with_finding (found_by i at fault) inside)) (sym from.fits)
-              (subst (λ f. Leads setting in_text (suc from.left) (levels_of old) known (first_stay (whole_in old.level.position it trees)) nexts (with_finding f inside)) (sym (found at fault))
-              (leads_kept setting in_text from.left (level_of old.level) (map level_of (reverse old.outer.items)) known there.first there.goes_on it from.macro from.arms tree there.item
+              subst (λ f. Leads config in_text limit (levels_of old) context (first_stay f) nexts (with_finding (found_by i at fault) inside)) (sym is.whole)
+              (subst (λ n. Leads config in_text n (levels_of old) context (first_stay (whole_in old.level.position it trees)) nexts (with_finding (found_by i at fault) inside)) (sym from.fits)
+              (subst (λ f. Leads config in_text (suc from.left) (levels_of old) context (first_stay (whole_in old.level.position it trees)) nexts (with_finding f inside)) (sym (found at fault))
+              (leads_kept config in_text from.left (level_of old.level) (map level_of (reverse old.outer.items)) context there.first there.goes_on it from.macro from.arms tree there.item
               from.called from.expands from.makes inside held came at fault
-              (subst (λ s. IsKept in_text stand (trees_left held) (start_of s.range) at fault) is.first
-              (subst (λ s. IsKept in_text s (trees_left held) (start_of i.first_span.range) at fault) is.stand kept)))))
+              (subst (λ s. IsKept in_text site (trees_left held) (start_of s.range) at fault) is.first
+              (subst (λ s. IsKept in_text s (trees_left held) (start_of i.first_span.range) at fault) is.site kept)))))
 
 module _ (root : List ℕ) (old : Walk) (it : Call) (there : IsFirst (calls it) root old) where
   -- Less is left to do behind it.

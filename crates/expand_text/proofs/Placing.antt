@@ -15,19 +15,19 @@ use Rattle.expand_text.specs.Expanding.{IsAdded}
 use Rattle.expand_text.specs.Expansion.{IsTextOf, IsCallText}
 use Rattle.expand_text.specs.Macros.{IsPastLimit, tree_of}
 use Rattle.expand_text.specs.Outcomes.{placed}
-use Rattle.expand_text.specs.Standing.{Stand, StandAs, StandUnder, IsTooLarge}
+use Rattle.expand_text.specs.CallSites.{CallSite, PutAs, PutUnder, IsTooLarge}
 use Rattle.expand_items.specs.Attributes.{conditions_of}
 
 -- Without attributes, the trees are as they are placed.
-pub stands_free : (it : Stand) (trees : Forest) → it.len ≡ 0 → StandAs it trees (Some (placed it.is_statement it.delimiter trees))
-stands_free it trees none = subst (λ n. StandUnder n it trees (Some (placed it.is_statement it.delimiter trees))) (sym none) refl
+pub stands_free : (it : CallSite) (trees : Forest) → it.len ≡ 0 → PutAs it trees (Some (placed it.is_statement it.delimiter trees))
+stands_free it trees none = subst (λ n. PutUnder n it trees (Some (placed it.is_statement it.delimiter trees))) (sym none) refl
 
-module _ (it : Stand) (trees : Forest) (some : 0 < it.len) where
+module _ (it : CallSite) (trees : Forest) (some : 0 < it.len) where
   -- With attributes, the trees are under conditions.
-  pub stands_under : (put : Option Forest) → IsWithinLimits (tree_of it.delimiter trees) → AreUnder it.siblings it.delimiter (conditions_of it.attributes) trees put → StandAs it trees put
+  pub stands_under : (put : Option Forest) → IsWithinLimits (tree_of it.delimiter trees) → AreUnder it.siblings it.delimiter (conditions_of it.attributes) trees put → PutAs it trees put
   stands_under put within under = by it.len some
     where
-      by : (n : ℕ) → 0 < n → StandUnder n it trees put
+      by : (n : ℕ) → 0 < n → PutUnder n it trees put
       by zero some = absurd (omega (arith, some))
       by (suc n) some = (within, under)
 
@@ -65,6 +65,6 @@ built_alone top first last trees begun same added =
     ap₂ (λ d s. record { delimiter = d; children = bottom s }) (same ∙ ap (λ b. b.top) begun) (added ∙ ap (λ b. append trees b.stack) begun)
 
 -- The text of the trees in place is that of a call.
-pub call_text : (it : Stand) (trees put : Forest) (begin : ℕ) (text : Written) → StandAs it trees (Some put) → IsTextOf it.delimiter put begin text → IsCallText it trees begin text
+pub call_text : (it : CallSite) (trees put : Forest) (begin : ℕ) (text : Written) → PutAs it trees (Some put) → IsTextOf it.delimiter put begin text → IsCallText it trees begin text
 call_text it trees put begin (made.Text text) so (may, same) = (put, so, may, same)
 call_text it trees put begin (made.Faulty at fault) so unwritten = inr (refl, put, so, unwritten)

@@ -9,11 +9,11 @@ use Rattle.expand_items.specs.Attributes.{item_at, standing, begins_condition, a
 use Rattle.expand_items.specs.Items.{Item, Definition, Call, defines, calls, other, call_in, definition_behind, definition_in, item_from, item_in}
 use Rattle.expand_items.specs.Positions.{is_statement, keeps_macros}
 use Rattle.expand_items.specs.declared.position.Position.{Position}
-use Rattle.expand_text.specs.Coming.{Comes, ends, on_leaf, on_node, on_definition, on_other_call, into_other_call, into_attributes, on_faulty_call, on_call, on_kept_call, known_after}
+use Rattle.expand_text.specs.Meaning.{ExpandsTo, ends, on_leaf, on_node, on_definition, on_other_call, into_other_call, into_attributes, on_faulty_call, on_call, on_kept_call, context_after}
 use Rattle.expand_text.specs.Expansion.{replacements}
-use Rattle.expand_text.specs.Knowing.{Known, Setting, asks_for}
+use Rattle.expand_text.specs.Contexts.{Context, Config, asks_for}
 use Rattle.expand_text.specs.Lacking.{Lacks}
-use Rattle.expand_text.specs.Macros.{arms_of, called_by, known_behind}
+use Rattle.expand_text.specs.Macros.{arms_of, called_by, context_behind}
 use Rattle.expand_text.specs.Outcomes.{Outcome}
 use Rattle.expand_text.specs.Scopes.{Macro}
 
@@ -58,8 +58,8 @@ no_definition root position trees it lacks is = by (begins_condition position tr
     by false is = from (call_in root trees) (ap (λ d. item_from d (call_in root trees)) (sym none) ∙ is)
 
 -- If no macro is in scope, no call names one.
-called_none : (setting : Setting) (macros : List Macro) (it : Call) → macros ≡ [] → called_by setting macros it ≡ None
-called_none setting macros it none = ap (λ m. called_by setting m it) none ∙ both it.is_elsewhere (asks_for setting.only it.name.sym)
+called_none : (config : Config) (macros : List Macro) (it : Call) → macros ≡ [] → called_by config macros it ≡ None
+called_none config macros it none = ap (λ m. called_by config m it) none ∙ both it.is_elsewhere (asks_for config.only it.name.sym)
   where
     nothing : Option Macro
     nothing = None
@@ -70,37 +70,37 @@ called_none setting macros it none = ap (λ m. called_by setting m it) none ∙ 
     both false false = refl
 
 -- Nothing is learned behind a subtree in which nothing was learned.
-known_same : (are_kept : Bool) (known : Known) → known_after are_kept known known ≡ known
-known_same true known = refl
-known_same false known = ap (λ m. record known { macros = m }) (take-length known.macros)
+context_same : (are_kept : Bool) (context : Context) → context_after are_kept context context ≡ context
+context_same true context = refl
+context_same false context = ap (λ m. record context { macros = m }) (take-length context.macros)
 
-comes_quiet : {setting : Setting} {in_text : Bool} {limit plain : ℕ} {position : Position} {known after : Known} {trees : Forest} {outcome : Outcome}
-    → Comes setting in_text limit position plain known trees after outcome → known.macros ≡ [] → Lacks (codes "macro_rules") trees → (replacements outcome ≡ []) × (after ≡ known)
+comes_quiet : {config : Config} {in_text : Bool} {limit plain : ℕ} {position : Position} {context after : Context} {trees : Forest} {outcome : Outcome}
+    → ExpandsTo config in_text limit position plain context trees after outcome → context.macros ≡ [] → Lacks (codes "macro_rules") trees → (replacements outcome ≡ []) × (after ≡ context)
 comes_quiet ends none lacks = (refl, refl)
 comes_quiet (on_leaf plain others) none lacks = comes_quiet others none lacks.1
-comes_quiet (on_node {position = position} {known = known} {delimiter = delimiter} plain held others) none lacks =
+comes_quiet (on_node {position = position} {context = context} {delimiter = delimiter} plain held others) none lacks =
     let inside = comes_quiet held none lacks.0 in
-    let same = ap (known_after (keeps_macros delimiter.kind position) known) inside.1 ∙ known_same (keeps_macros delimiter.kind position) known in
+    let same = ap (context_after (keeps_macros delimiter.kind position) context) inside.1 ∙ context_same (keeps_macros delimiter.kind position) context in
     let behind = comes_quiet others (ap (λ k. k.macros) same ∙ none) lacks.1 in
     (ap₂ (λ a b. a ++ b) inside.0 behind.0, behind.1 ∙ same)
-comes_quiet {setting = setting} (on_definition {position = position} {it = it} {trees = trees} inside going is read others) none lacks =
-    absurd (no_definition setting.root position trees it lacks is)
-comes_quiet {setting = setting} (on_other_call {known = known} {it = it} {trees = trees} going is bare unexpanded not_into others) none lacks =
-    let same = ap (λ m. known_behind it m known) (called_none setting known.macros it none) in
+comes_quiet {config = config} (on_definition {position = position} {it = it} {trees = trees} inside going is read others) none lacks =
+    absurd (no_definition config.root position trees it lacks is)
+comes_quiet {config = config} (on_other_call {context = context} {it = it} {trees = trees} going is bare unexpanded not_into others) none lacks =
+    let same = ap (λ m. context_behind it m context) (called_none config context.macros it none) in
     let behind = comes_quiet others (ap (λ k. k.macros) same ∙ none) (lacks_behind (codes "macro_rules") it.len trees lacks) in
     (behind.0, behind.1 ∙ same)
-comes_quiet {setting = setting} (into_other_call {known = known} {it = it} going is bare unexpanded into others) none lacks =
-    let same = ap (λ m. known_behind it m known) (called_none setting known.macros it none) in
+comes_quiet {config = config} (into_other_call {context = context} {it = it} going is bare unexpanded into others) none lacks =
+    let same = ap (λ m. context_behind it m context) (called_none config context.macros it none) in
     let behind = comes_quiet others (ap (λ k. k.macros) same ∙ none) lacks in
     (behind.0, behind.1 ∙ same)
 comes_quiet (into_attributes going is some unexpanded others) none lacks = comes_quiet others none lacks
-comes_quiet {setting = setting} (on_faulty_call {known = known} {it = it} at fault going is called some faulty others) none lacks =
-    absurd (cc (sym (called_none setting known.macros it none) ∙ called))
-comes_quiet {setting = setting} (on_call {known = known} {it = it} tree put going is some expands held so may others) none lacks =
-    absurd (cc (sym (ap arms_of (called_none setting known.macros it none)) ∙ some))
-comes_quiet {setting = setting} (on_kept_call {known = known} {it = it} tree at fault going is called some expands held kept others) none lacks =
-    absurd (cc (sym (called_none setting known.macros it none) ∙ called))
+comes_quiet {config = config} (on_faulty_call {context = context} {it = it} at fault going is called some faulty others) none lacks =
+    absurd (cc (sym (called_none config context.macros it none) ∙ called))
+comes_quiet {config = config} (on_call {context = context} {it = it} tree put going is some expands held so may others) none lacks =
+    absurd (cc (sym (ap arms_of (called_none config context.macros it none)) ∙ some))
+comes_quiet {config = config} (on_kept_call {context = context} {it = it} tree at fault going is called some expands held kept others) none lacks =
+    absurd (cc (sym (called_none config context.macros it none) ∙ called))
 
-pub nothing_comes : {setting : Setting} {in_text : Bool} {limit plain : ℕ} {position : Position} {known after : Known} {trees : Forest} {outcome : Outcome}
-    → Comes setting in_text limit position plain known trees after outcome → known.macros ≡ [] → Lacks (codes "macro_rules") trees → (replacements outcome ≡ []) × (after ≡ known)
-nothing_comes comes none lacks = comes_quiet comes none lacks
+pub nothing_comes : {config : Config} {in_text : Bool} {limit plain : ℕ} {position : Position} {context after : Context} {trees : Forest} {outcome : Outcome}
+    → ExpandsTo config in_text limit position plain context trees after outcome → context.macros ≡ [] → Lacks (codes "macro_rules") trees → (replacements outcome ≡ []) × (after ≡ context)
+nothing_comes expands_to none lacks = comes_quiet expands_to none lacks

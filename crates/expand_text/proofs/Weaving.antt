@@ -17,9 +17,9 @@ use Rattle.expand_text.proofs.CallParts.{alone, attributes_alone, begin_alone, c
 use Rattle.expand_items.proofs.Conditions.{StandsBehind, attributes_closed, definition_at}
 use Rattle.expand_items.specs.Attributes.{item_at}
 use Rattle.expand_items.proofs.Shapes.{EndsClosed, by_subtree, by_semicolon, BeginsWithName, call_begins, call_ends, call_closed, definition_closed, punct_first, ends_by_punct}
-use Rattle.expand_text.specs.Coming.{Comes, ends, on_leaf, on_node, on_definition, on_other_call, into_other_call, into_attributes, on_faulty_call, on_call, on_kept_call, attributes_in, begin_in, end_in, len_in, named_behind, plain_behind, rest_in, takes_in, whole_in}
+use Rattle.expand_text.specs.Meaning.{ExpandsTo, ends, on_leaf, on_node, on_definition, on_other_call, into_other_call, into_attributes, on_faulty_call, on_call, on_kept_call, attributes_in, begin_in, end_in, len_in, named_behind, plain_behind, rest_in, takes_in, whole_in}
 use Rattle.expand_text.specs.Expansion.{replacement, replacements}
-use Rattle.expand_text.specs.Knowing.{Setting, Known, asks_for}
+use Rattle.expand_text.specs.Contexts.{Config, Context, asks_for}
 use Rattle.expand_text.specs.Macros.{arms_of, called_by}
 use Rattle.expand_text.specs.Outcomes.{Outcome, nothing, passes, enters, stays, becomes}
 use Rattle.expand_text.specs.Reading.{splices, sorts_left}
@@ -238,14 +238,14 @@ module _ (root : List ℕ) (trees : Forest) (position : Position) (it : Call) (i
       ∙ spelled_front trees (whole_in position it trees) (rest_in position it trees) more (split_in position it trees)
 
 -- A macro is called by its own name, not by a path.
-called_here : (setting : Setting) (macros : List Macro) (it : Call) (arms : List Arm) → arms_of (called_by setting macros it) ≡ Some arms → it.is_elsewhere ≡ false
-called_here setting macros it arms is = by it.is_elsewhere refl is
+called_here : (config : Config) (macros : List Macro) (it : Call) (arms : List Arm) → arms_of (called_by config macros it) ≡ Some arms → it.is_elsewhere ≡ false
+called_here config macros it arms is = by it.is_elsewhere refl is
   where
-    by : (elsewhere : Bool) → it.is_elsewhere ≡ elsewhere → arms_of (cond elsewhere None (cond (asks_for setting.only it.name.sym) (last_named it.name.sym macros) None)) ≡ Some arms → elsewhere ≡ false
+    by : (elsewhere : Bool) → it.is_elsewhere ≡ elsewhere → arms_of (cond elsewhere None (cond (asks_for config.only it.name.sym) (last_named it.name.sym macros) None)) ≡ Some arms → elsewhere ≡ false
     by true e f = absurd (cc f)
     by false e f = refl
 
-module _ (setting : Setting) where
+module _ (config : Config) where
   -- Trees that stay, and end with a subtree or a `;`, and then others.
   stays_woven : (trees front rest : Forest) → trees ≡ join front rest → EndsClosed front → (before : List Sort) (more : List Piece) (others : List Splice) (woven : List Sort)
       → ((behind : List Sort) → IsHeld behind rest 0 → IsWoven behind (spelled rest ++ more) others woven)
@@ -255,56 +255,56 @@ module _ (setting : Setting) where
       (keeps_all (spelled front) before (spelled rest ++ more) others woven (then (behind_pieces (spelled front) before) (held_closed front closed before rest 0)))
 
   -- What trees expand to is woven into their pieces.
-  pub comes_woven : {limit : ℕ} {position : Position} {plain : ℕ} {known after : Known} {trees : Forest} {outcome : Outcome} → Comes setting true limit position plain known trees after outcome
+  pub comes_woven : {limit : ℕ} {position : Position} {plain : ℕ} {context after : Context} {trees : Forest} {outcome : Outcome} → ExpandsTo config true limit position plain context trees after outcome
       → (before : List Sort) → IsHeld before trees plain → (more : List Piece) (others : List Splice) (woven : List Sort) → ((behind : List Sort) → IsWoven behind more others woven)
       → IsWoven before (spelled trees ++ more) (splices outcome ++ others) (sorts_left outcome ++ woven)
   comes_woven ends before held more others woven then = then before
-  comes_woven (on_leaf {plain = plain} {it = it} {rest = rest} is comes) before held more others woven then =
-      keeps (comes_woven comes (sort_of it ∷ before) (held_leaf it before rest plain held) more others woven then)
-  comes_woven (on_node {plain = plain} {delimiter = delimiter} {children = children} {rest = rest} {held = inside} {others = behind} is comes past) before held more others woven then =
+  comes_woven (on_leaf {plain = plain} {it = it} {rest = rest} is expands_to) before held more others woven then =
+      keeps (comes_woven expands_to (sort_of it ∷ before) (held_leaf it before rest plain held) more others woven then)
+  comes_woven (on_node {plain = plain} {delimiter = delimiter} {children = children} {rest = rest} {held = inside} {others = behind} is expands_to past) before held more others woven then =
       let opens = opening delimiter.kind in
       let close = closing delimiter.kind in
       let shut = at_span close delimiter.close in
       moved (ap (λ ps. at_span opens delimiter.open_span ∷ ps) (sym (append_assoc (spelled children) (shut ∷ spelled rest) more)))
       (sym (append_assoc (splices inside) (splices behind) others))
       (ap (λ ws. opens ∷ ws) (sym (append_assoc (sorts_left inside) (close ∷ sorts_left behind) woven)))
-      (keeps (comes_woven comes (opens ∷ before) (held_opening delimiter.kind before children 0) (shut ∷ (spelled rest ++ more)) (splices behind ++ others) (close ∷ (sorts_left behind ++ woven))
+      (keeps (comes_woven expands_to (opens ∷ before) (held_opening delimiter.kind before children 0) (shut ∷ (spelled rest ++ more)) (splices behind ++ others) (close ∷ (sorts_left behind ++ woven))
       (λ b. keeps (comes_woven past (close ∷ b) (held_closing delimiter.kind b rest (plain - 1)) more others woven then))))
-  comes_woven (on_definition {position = position} {it = it} {trees = trees} {others = behind} inside goes_on is read comes) before held more others woven then =
+  comes_woven (on_definition {position = position} {it = it} {trees = trees} {others = behind} inside goes_on is read expands_to) before held more others woven then =
       moved refl refl (sym (append_assoc (sorts (spelled (front_trees it.len trees))) (sorts_left behind) woven))
       (stays_woven trees (front_trees it.len trees) (after_trees it.len trees) (front_joined it.len trees)
-      (definition_closed setting.root trees it (definition_at setting.root position trees it is)) before more (splices behind ++ others) (sorts_left behind ++ woven)
-      (λ b h. comes_woven comes b h more others woven then))
-  comes_woven (on_other_call {position = position} {it = it} {trees = trees} {others = behind} goes_on is bare none out comes) before held more others woven then =
+      (definition_closed config.root trees it (definition_at config.root position trees it is)) before more (splices behind ++ others) (sorts_left behind ++ woven)
+      (λ b h. comes_woven expands_to b h more others woven then))
+  comes_woven (on_other_call {position = position} {it = it} {trees = trees} {others = behind} goes_on is bare none out expands_to) before held more others woven then =
       moved refl refl (sym (append_assoc (sorts (spelled (front_trees it.len trees))) (sorts_left behind) woven))
-      (stays_woven trees (front_trees it.len trees) (after_trees it.len trees) (front_joined it.len trees) (ends_alone setting.root position trees it is) before more (splices behind ++ others) (sorts_left behind ++ woven)
-      (λ b h. comes_woven comes b h more others woven then))
-  comes_woven (into_other_call goes_on is bare none into comes) before held more others woven then =
-      comes_woven comes before (record { begins = λ long. held.begins refl; point = λ follows at. omega (arith, held.point follows at) }) more others woven then
-  comes_woven (into_attributes goes_on is some none comes) before held more others woven then =
-      comes_woven comes before (record { begins = λ long. held.begins refl; point = λ follows at. omega (arith, held.point follows at) }) more others woven then
-  comes_woven (on_faulty_call {position = position} {it = it} {trees = trees} {others = behind} at fault goes_on is called some wrong comes) before held more others woven then =
+      (stays_woven trees (front_trees it.len trees) (after_trees it.len trees) (front_joined it.len trees) (ends_alone config.root position trees it is) before more (splices behind ++ others) (sorts_left behind ++ woven)
+      (λ b h. comes_woven expands_to b h more others woven then))
+  comes_woven (into_other_call goes_on is bare none into expands_to) before held more others woven then =
+      comes_woven expands_to before (record { begins = λ long. held.begins refl; point = λ follows at. omega (arith, held.point follows at) }) more others woven then
+  comes_woven (into_attributes goes_on is some none expands_to) before held more others woven then =
+      comes_woven expands_to before (record { begins = λ long. held.begins refl; point = λ follows at. omega (arith, held.point follows at) }) more others woven then
+  comes_woven (on_faulty_call {position = position} {it = it} {trees = trees} {others = behind} at fault goes_on is called some wrong expands_to) before held more others woven then =
       moved refl refl (sym (append_assoc (sorts (spelled (front_trees it.len trees))) (sorts_left behind) woven))
-      (stays_woven trees (front_trees it.len trees) (after_trees it.len trees) (front_joined it.len trees) (ends_alone setting.root position trees it is) before more (splices behind ++ others) (sorts_left behind ++ woven)
-      (λ b h. comes_woven comes b h more others woven then))
-  comes_woven (on_call {position = position} {known = known} {it = it} {arms = arms} {trees = trees} {others = behind} tree put goes_on is called makes comes so may past) before held more others woven then =
+      (stays_woven trees (front_trees it.len trees) (after_trees it.len trees) (front_joined it.len trees) (ends_alone config.root position trees it is) before more (splices behind ++ others) (sorts_left behind ++ woven)
+      (λ b h. comes_woven expands_to b h more others woven then))
+  comes_woven (on_call {position = position} {context = context} {it = it} {arms = arms} {trees = trees} {others = behind} tree put goes_on is called makes expands_to so may past) before held more others woven then =
       let attributes = attributes_in position it trees in
       let call = after_trees it.attributes (whole_in position it trees) in
       let rest = rest_in position it trees in
-      moved (spelled_parts setting.root trees position it is more) refl
+      moved (spelled_parts config.root trees position it is more) refl
       (ap (λ ws. sorts (spelled attributes) ++ ws) (sym (append_assoc (settled (marks 0 put)) (sorts_left behind) woven))
       ∙ sym (append_assoc (sorts (spelled attributes)) (settled (marks 0 put) ++ sorts_left behind) woven))
       (keeps_all (spelled attributes) before (spelled call ++ (spelled rest ++ more)) (splices (becomes (begin_in it trees) (end_in position it trees) put behind) ++ others)
       (settled (marks 0 put) ++ (sorts_left behind ++ woven))
-      (gives_way (held_attributes setting.root trees position it is before held) (call_taken setting.root trees position it is (called_here setting known.macros it arms called)) may.1
+      (gives_way (held_attributes config.root trees position it is before held) (call_taken config.root trees position it is (called_here config context.macros it arms called)) may.1
       (comes_woven past [] (held_none rest 0) more others woven then)))
-  comes_woven (on_kept_call {position = position} {it = it} {trees = trees} {others = behind} tree at fault goes_on is called some makes comes kept past) before held more others woven then =
+  comes_woven (on_kept_call {position = position} {it = it} {trees = trees} {others = behind} tree at fault goes_on is called some makes expands_to kept past) before held more others woven then =
       moved refl refl (sym (append_assoc (sorts (spelled (whole_in position it trees))) (sorts_left behind) woven))
-      (stays_woven trees (whole_in position it trees) (rest_in position it trees) (split_in position it trees) (whole_closed setting.root trees position it is) before more (splices behind ++ others) (sorts_left behind ++ woven)
+      (stays_woven trees (whole_in position it trees) (rest_in position it trees) (split_in position it trees) (whole_closed config.root trees position it is) before more (splices behind ++ others) (sorts_left behind ++ woven)
       (λ b h. comes_woven past b h more others woven then))
 
   -- What a whole text expands to is woven into its pieces.
-  pub text_woven : {limit : ℕ} {position : Position} {known after : Known} (trees : Forest) (outcome : Outcome) → Comes setting true limit position 0 known trees after outcome
+  pub text_woven : {limit : ℕ} {position : Position} {context after : Context} (trees : Forest) (outcome : Outcome) → ExpandsTo config true limit position 0 context trees after outcome
       → IsWoven [] (spelled trees) (splices outcome) (sorts_left outcome)
-  text_woven trees outcome comes =
-      moved (append-nil (spelled trees)) (append-nil (splices outcome)) (append-nil (sorts_left outcome)) (comes_woven comes [] (held_none trees 0) [] [] [] (λ behind. woven_end))
+  text_woven trees outcome expands_to =
+      moved (append-nil (spelled trees)) (append-nil (splices outcome)) (append-nil (sorts_left outcome)) (comes_woven expands_to [] (held_none trees 0) [] [] [] (λ behind. woven_end))

@@ -7,8 +7,8 @@ use Rattle.expand_text.specs.declared.calling.Made.{Made}
 use Rattle.expand_text.specs.declared.calling.Made.TheVariants as made
 use Rattle.expand_text.specs.declared.fault.MacroFault.{MacroFault}
 use Rattle.expand_items.specs.Items.{Call}
-use Rattle.expand_text.specs.Knowing.{Setting, Known, with_finding}
-use Rattle.expand_text.specs.Macros.{IsCallFault, called_by, arms_of, found_of, known_behind}
+use Rattle.expand_text.specs.Contexts.{Config, Context, with_finding}
+use Rattle.expand_text.specs.Macros.{IsCallFault, called_by, arms_of, found_of, context_behind}
 use Rattle.expand_text.specs.Scopes.{Macro}
 use Rattle.mbe_rules.specs.Arms.{Arm}
 use Rattle.mbe_rules.specs.Expansions.{IsExpansion}
@@ -30,31 +30,31 @@ IsCalledWithin limit called.Faulty = Unit {0}
 IsCalledWithin limit (called.Tree tree defined_at) = 0 < limit
 
 -- a call has a fault, which is found
-pub record IsFaulty (setting : Setting) (limit : ℕ) (it : Call) (before after : Known) : Type 0 where
+pub record IsFaulty (config : Config) (limit : ℕ) (it : Call) (before after : Context) : Type 0 where
   pub macro : Macro
   pub arms : List Arm
   pub at : ℕ
   pub fault : MacroFault
-  pub called : called_by setting before.macros it ≡ Some macro
+  pub called : called_by config before.macros it ≡ Some macro
   pub expands : macro.arms ≡ Some arms
   pub wrong : IsCallFault limit arms it at fault
   pub found : after ≡ with_finding (found_of it macro at fault) before
 
 -- a call of a macro whose name begins at that byte in its definition expands to a tree
-pub record IsExpanded (setting : Setting) (limit : ℕ) (it : Call) (tree : Root) (defined_at : ℕ) (before after : Known) : Type 0 where
+pub record IsExpanded (config : Config) (limit : ℕ) (it : Call) (tree : Root) (defined_at : ℕ) (before after : Context) : Type 0 where
   pub left : ℕ
   pub macro : Macro
   pub arms : List Arm
   pub fits : limit ≡ suc left
-  pub called : called_by setting before.macros it ≡ Some macro
+  pub called : called_by config before.macros it ≡ Some macro
   pub defined : macro.defined_at ≡ defined_at
   pub expands : macro.arms ≡ Some arms
   pub makes : IsExpansion arms 0 0 it.input (expansion.Tree tree)
-  pub known : after ≡ before
+  pub context : after ≡ before
 
 -- what becomes of a call, and what is known then: nothing if no arms expand it, a fault, or a tree
-abbrev pub IsCalled : Setting → (limit : ℕ) → Call → Called → (before after : Known) → Type 0
-IsCalled setting limit it called.Other before after =
-    (arms_of (called_by setting before.macros it) ≡ None) × (after ≡ known_behind it (called_by setting before.macros it) before)
-IsCalled setting limit it called.Faulty before after = IsFaulty setting limit it before after
-IsCalled setting limit it (called.Tree tree defined_at) before after = IsExpanded setting limit it tree defined_at before after
+abbrev pub IsCalled : Config → (limit : ℕ) → Call → Called → (before after : Context) → Type 0
+IsCalled config limit it called.Other before after =
+    (arms_of (called_by config before.macros it) ≡ None) × (after ≡ context_behind it (called_by config before.macros it) before)
+IsCalled config limit it called.Faulty before after = IsFaulty config limit it before after
+IsCalled config limit it (called.Tree tree defined_at) before after = IsExpanded config limit it tree defined_at before after

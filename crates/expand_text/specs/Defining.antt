@@ -12,5 +12,5 @@ use Rattle.mbe_rules.specs.Expansions.{AreMade}
 
 -- what the arms of a definition are read as: rules, or a fault and its byte
 abbrev pub IsRules : Definition → (arms : Forest) → Rules → Type 0
-IsRules it trees (rules.Known made) = (arms : List Arm) × IsWithinLimits (under it.delimiter trees) × Spell trees arms × AreMade arms made.arms.items
+IsRules it trees (rules.Context made) = (arms : List Arm) × IsWithinLimits (under it.delimiter trees) × Spell trees arms × AreMade arms made.arms.items
 IsRules it trees (rules.Faulty at fault) = IsDefinitionFault it trees at fault

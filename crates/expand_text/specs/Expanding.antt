@@ -6,41 +6,41 @@ use Rattle.tt.specs.Span.{start_of}
 use Rattle.tt.specs.Views.{trees_of}
 use Rattle.expand_text.specs.declared.fault.MacroFault.{MacroFault}
 use Rattle.expand_text.specs.declared.walk.Invocation.{Invocation}
-use Rattle.expand_text.specs.Coming.{Comes}
-use Rattle.expand_text.specs.Knowing.{Setting, Known, with_finding}
+use Rattle.expand_text.specs.Meaning.{ExpandsTo}
+use Rattle.expand_text.specs.Contexts.{Config, Context, with_finding}
 use Rattle.expand_text.specs.Outcomes.{Outcome, trees_left}
-use Rattle.expand_text.specs.Standing.{Stand, StandAs, IsMisplaced}
-use Rattle.expand_text.specs.Walks.{found_by, stand_of}
+use Rattle.expand_text.specs.CallSites.{CallSite, PutAs, IsMisplaced}
+use Rattle.expand_text.specs.Walks.{found_by, site_of}
 use Rattle.expand_items.specs.Positions.{begun}
 use Rattle.expand_items.specs.declared.position.Siblings.{Siblings}
 
 -- what sibling trees expand to, with at most so many nested expansions, is added to the innermost level of the builder
-pub record AreExpanded (setting : Setting) (limit : ℕ) (siblings : Siblings) (trees : Forest) (old new : Stack) (before after : Known) : Type 0 where
+pub record AreExpanded (config : Config) (limit : ℕ) (siblings : Siblings) (trees : Forest) (old new : Stack) (before after : Context) : Type 0 where
   pub outcome : Outcome
-  pub comes : Comes setting false limit (begun siblings) 0 before trees after outcome
+  pub expands_to : ExpandsTo config false limit (begun siblings) 0 before trees after outcome
   pub added : new ≡ append (trees_left outcome) old
 
 -- these trees are added in the place of a call that expands to them; or nothing is added, with the reason why they do not fit there
-abbrev pub IsAdded : Stand → (trees : Forest) → (misplaced : Option MacroFault) → (old new : Stack) → Type 0
-IsAdded it trees None old new = (put : Forest) × StandAs it trees (Some put) × (new ≡ append put old)
+abbrev pub IsAdded : CallSite → (trees : Forest) → (misplaced : Option MacroFault) → (old new : Stack) → Type 0
+IsAdded it trees None old new = (put : Forest) × PutAs it trees (Some put) × (new ≡ append put old)
 IsAdded it trees (Some fault) old new = IsMisplaced it trees fault × (new ≡ old)
 
 -- the expansion of a call is added
-pub record IsPlaced (setting : Setting) (limit : ℕ) (it : Invocation) (misplaced : Option MacroFault) (old new : Stack) (before after : Known) : Type 0 where
+pub record IsPlaced (config : Config) (limit : ℕ) (it : Invocation) (misplaced : Option MacroFault) (old new : Stack) (before after : Context) : Type 0 where
   pub outcome : Outcome
-  pub comes : Comes setting false limit (begun it.siblings) 0 before it.tree.children after outcome
-  pub added : IsAdded (stand_of it) (trees_left outcome) misplaced old new
+  pub expands_to : ExpandsTo config false limit (begun it.siblings) 0 before it.tree.children after outcome
+  pub added : IsAdded (site_of it) (trees_left outcome) misplaced old new
 
 -- these trees are added behind a call's attributes, in its place; or all of the call is added, which is found
-abbrev pub IsPutOrKept : Invocation → (trees : Forest) → (inside after : Known) → (old new : Stack) → Type 0
+abbrev pub IsPutOrKept : Invocation → (trees : Forest) → (inside after : Context) → (old new : Stack) → Type 0
 IsPutOrKept it trees inside after old new =
-    ((put : Forest) × StandAs (stand_of it) trees (Some put) × (after ≡ inside) × (new ≡ append put (append (stand_of it).attributes old)))
-    ⊎ ((fault : MacroFault) × IsMisplaced (stand_of it) trees fault × (after ≡ with_finding (found_by it (start_of it.first_span.range) fault) inside)
+    ((put : Forest) × PutAs (site_of it) trees (Some put) × (after ≡ inside) × (new ≡ append put (append (site_of it).attributes old)))
+    ⊎ ((fault : MacroFault) × IsMisplaced (site_of it) trees fault × (after ≡ with_finding (found_by it (start_of it.first_span.range) fault) inside)
     × (new ≡ append (trees_of it.whole) old))
 
 -- the expansion of a call takes its place, or the call stays
-pub record IsPassed (setting : Setting) (limit : ℕ) (it : Invocation) (old new : Stack) (before after : Known) : Type 0 where
-  pub inside : Known
+pub record IsPassed (config : Config) (limit : ℕ) (it : Invocation) (old new : Stack) (before after : Context) : Type 0 where
+  pub inside : Context
   pub outcome : Outcome
-  pub comes : Comes setting false limit (begun it.siblings) 0 before it.tree.children inside outcome
+  pub expands_to : ExpandsTo config false limit (begun it.siblings) 0 before it.tree.children inside outcome
   pub passed : IsPutOrKept it (trees_left outcome) inside after old new

@@ -16,18 +16,18 @@ use Rattle.expand_text.specs.declared.text.Expanded.{Expanded}
 use Rattle.expand_text.specs.declared.walk.Event.{Event}
 use Rattle.expand_text.specs.declared.walk.Event.TheVariants as event
 use Rattle.expand_text.specs.declared.walk.Invocation.{Invocation}
-use Rattle.expand_text.specs.Coming.{Comes}
+use Rattle.expand_text.specs.Meaning.{ExpandsTo}
 use Rattle.expand_text.specs.Findings.{is_warning}
-use Rattle.expand_text.specs.Knowing.{Setting, Known, knows_nothing, with_finding}
-use Rattle.expand_text.specs.Macros.{MayStand, IsUnwritten}
+use Rattle.expand_text.specs.Contexts.{Config, Context, new_context, with_finding}
+use Rattle.expand_text.specs.Macros.{MayBePut, IsUnwritten}
 use Rattle.expand_text.specs.Outcomes.{Outcome, nothing, passes, enters, stays, becomes, trees_left}
 use Rattle.expand_items.specs.Positions.{begun as begun_among}
 use Rattle.expand_items.specs.declared.position.Siblings.TheVariants.{Items}
 use Rattle.syntax_edit.specs.Places.{text_part}
 use Rattle.syntax_edit.specs.Texts.{Replacement, Writing, begun, finished, with_all, IsReplaced, AreReplaced, FitAll}
 use Rattle.expand_text.specs.Reading.{sorts_left}
-use Rattle.expand_text.specs.Standing.{Stand, StandAs, IsKept}
-use Rattle.expand_text.specs.Walks.{found_by, stand_of}
+use Rattle.expand_text.specs.CallSites.{CallSite, PutAs, IsKept}
+use Rattle.expand_text.specs.Walks.{found_by, site_of}
 use Rattle.syntax_parse.specs.Parsed.{IsParse}
 use Rattle.syntax_parse.specs.Refusal.{IsFaultOf, IsRefusal}
 use Rattle.syntax_parse.specs.Spelled.{Sort, spelled}
@@ -49,47 +49,47 @@ replacements (becomes first last trees behind) = replacement first last trees �
 
 -- the Rust text of trees that replace a call which begins at a byte, or why they have none
 abbrev pub IsTextOf : (call : Delimiter) → (put : Forest) → (begin : ℕ) → Written → Type 0
-IsTextOf call put begin (made.Text text) = MayStand true call put × (string_bytes text ≡ text_of put)
+IsTextOf call put begin (made.Text text) = MayBePut true call put × (string_bytes text ≡ text_of put)
 IsTextOf call put begin (made.Faulty at fault) = IsUnwritten call put begin at fault
 
 -- the Rust text of the expansion of a call, in its place, or why the call stays
-abbrev pub IsCallText : Stand → (trees : Forest) → (begin : ℕ) → Written → Type 0
-IsCallText it trees begin (made.Text text) = (put : Forest) × StandAs it trees (Some put) × MayStand true it.delimiter put × (string_bytes text ≡ text_of put)
+abbrev pub IsCallText : CallSite → (trees : Forest) → (begin : ℕ) → Written → Type 0
+IsCallText it trees begin (made.Text text) = (put : Forest) × PutAs it trees (Some put) × MayBePut true it.delimiter put × (string_bytes text ≡ text_of put)
 IsCallText it trees begin (made.Faulty at fault) = IsKept true it trees begin at fault
 
 -- what a call expands to is written as Rust, or cannot be
-pub record IsInvocationText (setting : Setting) (limit : ℕ) (it : Invocation) (result : Written) (before after : Known) : Type 0 where
+pub record IsInvocationText (config : Config) (limit : ℕ) (it : Invocation) (result : Written) (before after : Context) : Type 0 where
   pub outcome : Outcome
-  pub comes : Comes setting false limit (begun_among it.siblings) 0 before it.tree.children after outcome
-  pub text : IsCallText (stand_of it) (trees_left outcome) (start_of it.first_span.range) result
+  pub expands_to : ExpandsTo config false limit (begun_among it.siblings) 0 before it.tree.children after outcome
+  pub text : IsCallText (site_of it) (trees_left outcome) (start_of it.first_span.range) result
 
 -- an expansion replaces its call, if that part of the source is left; or the call stays, and that is found
-abbrev pub IsPut : Invocation → (trees : Forest) → (inside after : Known) → (old new : Writing) → Type 0
+abbrev pub IsPut : Invocation → (trees : Forest) → (inside after : Context) → (old new : Writing) → Type 0
 IsPut it trees inside after old new =
-    ((put : Forest) × StandAs (stand_of it) trees (Some put) × MayStand true it.delimiter put × (after ≡ inside)
+    ((put : Forest) × PutAs (site_of it) trees (Some put) × MayBePut true it.delimiter put × (after ≡ inside)
     × IsReplaced (replacement it.first_span it.last_span put) old new)
-    ⊎ ((at : ℕ) × (fault : MacroFault) × IsKept true (stand_of it) trees (start_of it.first_span.range) at fault
+    ⊎ ((at : ℕ) × (fault : MacroFault) × IsKept true (site_of it) trees (start_of it.first_span.range) at fault
     × (after ≡ with_finding (found_by it at fault) inside) × (new ≡ old))
 
 -- a call is replaced by its expansion
-pub record IsInvocationWritten (setting : Setting) (limit : ℕ) (it : Invocation) (old new : Writing) (before after : Known) : Type 0 where
-  pub inside : Known
+pub record IsInvocationWritten (config : Config) (limit : ℕ) (it : Invocation) (old new : Writing) (before after : Context) : Type 0 where
+  pub inside : Context
   pub outcome : Outcome
-  pub comes : Comes setting false limit (begun_among it.siblings) 0 before it.tree.children inside outcome
+  pub expands_to : ExpandsTo config false limit (begun_among it.siblings) 0 before it.tree.children inside outcome
   pub put : IsPut it (trees_left outcome) inside after old new
 
 -- nothing is written, and nothing more is known
-abbrev pub IsSame : (before after : Known) (old new : Writing) → Type 0
+abbrev pub IsSame : (before after : Context) (old new : Writing) → Type 0
 IsSame before after old new = (after ≡ before) × (new ≡ old)
 
 -- what is written for the next event of a walk
-abbrev pub IsEventWritten : Setting → (limit : ℕ) → Event → (old new : Writing) → (before after : Known) → Type 0
-IsEventWritten setting limit event.End old new before after = IsSame before after old new
-IsEventWritten setting limit (event.Leaf it) old new before after = IsSame before after old new
-IsEventWritten setting limit (event.Opens header) old new before after = IsSame before after old new
-IsEventWritten setting limit (event.Closes close) old new before after = IsSame before after old new
-IsEventWritten setting limit (event.Stays trees) old new before after = IsSame before after old new
-IsEventWritten setting limit (event.Invocation it) old new before after = IsInvocationWritten setting (limit - 1) it old new before after
+abbrev pub IsEventWritten : Config → (limit : ℕ) → Event → (old new : Writing) → (before after : Context) → Type 0
+IsEventWritten config limit event.End old new before after = IsSame before after old new
+IsEventWritten config limit (event.Leaf it) old new before after = IsSame before after old new
+IsEventWritten config limit (event.Opens header) old new before after = IsSame before after old new
+IsEventWritten config limit (event.Closes close) old new before after = IsSame before after old new
+IsEventWritten config limit (event.Stays trees) old new before after = IsSame before after old new
+IsEventWritten config limit (event.Invocation it) old new before after = IsInvocationWritten config (limit - 1) it old new before after
 
 -- the walk goes on, except at the end
 abbrev pub GoesOn : Event → (goes_on : Bool) → Type 0
@@ -101,16 +101,16 @@ GoesOn (event.Stays trees) goes_on = goes_on ≡ true
 GoesOn (event.Invocation it) goes_on = goes_on ≡ true
 
 -- a source of these trees is written with each call replaced by its expansion
-pub record IsSourceText (setting : Setting) (limit : ℕ) (source : List ℕ) (trees : Forest) (result : List ℕ) (before after : Known) : Type 0 where
+pub record IsSourceText (config : Config) (limit : ℕ) (source : List ℕ) (trees : Forest) (result : List ℕ) (before after : Context) : Type 0 where
   pub outcome : Outcome
-  pub comes : Comes setting true limit (begun_among Items) 0 before trees after outcome
+  pub expands_to : ExpandsTo config true limit (begun_among Items) 0 before trees after outcome
   pub written : Writing
   pub replaced : AreReplaced (replacements outcome) (begun source) written
   pub text : result ≡ finished written
 
 -- the setting of the options
-abbrev pub setting_by : ExpandOptions → Setting
-setting_by it = record { root = it.root.now; everywhere = it.everywhere; only = option_map (λ name. name.now) it.only }
+abbrev pub config_by : ExpandOptions → Config
+config_by it = record { root = it.root.now; everywhere = it.everywhere; only = option_map (λ name. name.now) it.only }
 
 -- a text reads back as what is left: it has no fault of syntax, and any tree that it is read as spells what is left
 pub record ReadsAs (text : List ℕ) (left : List Sort) : Type 0 where
@@ -122,9 +122,9 @@ pub record ReadsAs (text : List ℕ) (left : List Sort) : Type 0 where
 pub record IsExpanded (options : ExpandOptions) (source : List ℕ) (it : Expanded) : Type 0 where
   pub tree : Root
   pub read : IsParse text_part source tree
-  pub after : Known
+  pub after : Context
   pub outcome : Outcome
-  pub comes : Comes (setting_by options) true options.limit (begun_among Items) 0 knows_nothing tree.children after outcome
+  pub expands_to : ExpandsTo (config_by options) true options.limit (begun_among Items) 0 new_context tree.children after outcome
   pub fits : FitAll (replacements outcome) (begun source)
   pub text : string_bytes it.text ≡ with_all (replacements outcome) (begun source)
   pub back : ReadsAs (string_bytes it.text) (sorts_left outcome)

@@ -12,7 +12,7 @@ use Rattle.expand_text.specs.declared.fault.Finding.{Finding}
 use Rattle.expand_text.specs.declared.fault.MacroFault.{MacroFault}
 use Rattle.expand_text.specs.declared.fault.MacroFault.TheVariants as wrong
 use Rattle.expand_items.specs.Items.{Definition, Call}
-use Rattle.expand_text.specs.Knowing.{Setting, Known, asks_for, with_macro, with_finding}
+use Rattle.expand_text.specs.Contexts.{Config, Context, asks_for, with_macro, with_finding}
 use Rattle.expand_text.specs.Places.{byte_at, definition_byte}
 use Rattle.expand_text.specs.Roots.{rooted}
 use Rattle.expand_text.specs.Scopes.{Macro, last_named}
@@ -21,7 +21,7 @@ use Rattle.mbe_rules.specs.Expansions.{IsExpansion, IsExpandError}
 use Rattle.mbe_rules.specs.ArmFaults.{IsRulesError}
 use Rattle.mbe_rules.specs.declared.rules_error.ArmFault.TheVariants as arm_fault
 use Rattle.mbe_rules.specs.declared.macro_rules.Expansion.TheVariants as expansion
-use Rattle.mbe_rules.specs.declared.fill_error.FillError.TheVariants as fill_error
+use Rattle.mbe_rules.specs.declared.transcribe_error.TranscribeError.TheVariants as transcribe_error
 use Rattle.syntax_unparse.specs.Text.{text_of}
 use Rattle.syntax_unparse.specs.Writable.{IsWritable, IsWriteFault}
 use Rattle.syntax_unparse.specs.declared.fault.WriteFault.TheVariants as unwritten
@@ -53,23 +53,23 @@ abbrev pub found_in : Definition → (at : ℕ) → MacroFault → Finding
 found_in it at fault = record { name = it.name.sym; at = at; fault = fault; defined_at = None }
 
 -- what is known behind a definition with these arms: they spell arms; or the definition has a fault, and is left as it is
-abbrev pub IsDefined : Definition → (arms : Forest) → (before after : Known) → Type 0
+abbrev pub IsDefined : Definition → (arms : Forest) → (before after : Context) → Type 0
 IsDefined it trees before after =
     ((arms : List Arm) × IsWithinLimits (under it.delimiter trees) × Spell trees arms × (after ≡ with_macro (macro_of it (Some arms)) before))
     ⊎ ((at : ℕ) × (fault : MacroFault) × IsDefinitionFault it trees at fault × (after ≡ with_macro (macro_of it None) (with_finding (found_in it at fault) before)))
 
 -- a definition is read if macros of its name are, with the root's word for the root of the crate
-abbrev pub IsReadIf : (asked : Bool) → (root : List ℕ) → Definition → (before after : Known) → Type 0
+abbrev pub IsReadIf : (asked : Bool) → (root : List ℕ) → Definition → (before after : Context) → Type 0
 IsReadIf false root it before after = after ≡ before
 IsReadIf true root it before after = IsDefined it (rooted root it.arms) before after
 
-abbrev pub IsRead : Setting → Definition → (before after : Known) → Type 0
-IsRead setting it before after = IsReadIf (asks_for setting.only it.name.sym) setting.root it before after
+abbrev pub IsRead : Config → Definition → (before after : Context) → Type 0
+IsRead config it before after = IsReadIf (asks_for config.only it.name.sym) config.root it before after
 
 -- the macro that a call names, among these in scope: the last of its name, if macros of that name are expanded
-abbrev pub called_by : Setting → List Macro → Call → Option Macro
-called_by setting macros it =
-    if it.is_elsewhere then None else (if asks_for setting.only it.name.sym then last_named it.name.sym macros else None)
+abbrev pub called_by : Config → List Macro → Call → Option Macro
+called_by config macros it =
+    if it.is_elsewhere then None else (if asks_for config.only it.name.sym then last_named it.name.sym macros else None)
 
 -- its arms
 abbrev pub arms_of : Option Macro → Option (List Arm)
@@ -87,7 +87,7 @@ IsInputFault arms it at wrong.NoMatch =
     (place : ℕ) × IsExpansion arms 0 0 it.input (expansion.NoMatch place) × (at ≡ byte_at it.input place (start_of it.delimiter.close.range))
 IsInputFault arms it at (wrong.Ambiguous arm) = IsExpansion arms 0 0 it.input (expansion.Ambiguous arm) × (at ≡ start_of it.name.span.range)
 IsInputFault arms it at (wrong.Expansion why) =
-    IsExpandError arms 0 it.input why × (why.fault ≢ fill_error.Tree limit.Memory) × (at ≡ start_of it.name.span.range)
+    IsExpandError arms 0 it.input why × (why.fault ≢ transcribe_error.Tree limit.Memory) × (at ≡ start_of it.name.span.range)
 IsInputFault arms it at (wrong.Definition why) = ⊥
 IsInputFault arms it at wrong.Left = ⊥
 IsInputFault arms it at wrong.Conditional = ⊥
@@ -102,9 +102,9 @@ IsCallFault zero arms it at fault = (fault ≡ wrong.TooDeep) × (at ≡ start_o
 IsCallFault (suc limit) arms it at fault = IsInputFault arms it at fault
 
 -- what is known behind a call that no macro expands: if its macro is left as it is, that is found
-abbrev pub known_behind : Call → Option Macro → Known → Known
-known_behind it None known = known
-known_behind it (Some macro) known = with_finding (found_of it macro (start_of it.name.span.range) wrong.Left) known
+abbrev pub context_behind : Call → Option Macro → Context → Context
+context_behind it None context = context
+context_behind it (Some macro) context = with_finding (found_of it macro (start_of it.name.span.range) wrong.Left) context
 
 -- an expansion as a tree of its own, with the places of the call
 abbrev pub tree_of : (call : Delimiter) → Forest → Root
@@ -112,9 +112,9 @@ tree_of call trees = under (record call { kind = Invisible }) trees
 
 -- these trees may replace a call: in the text only if they are a tree within the limits, can be written as Rust, and have a length that a
 -- text may have
-abbrev pub MayStand : (in_text : Bool) → (call : Delimiter) → Forest → Type 0
-MayStand false call trees = Unit {0}
-MayStand true call trees = IsWithinLimits (tree_of call trees) × IsWritable trees × (1 + length (text_of trees) < 2 ^ 32)
+abbrev pub MayBePut : (in_text : Bool) → (call : Delimiter) → Forest → Type 0
+MayBePut false call trees = Unit {0}
+MayBePut true call trees = IsWithinLimits (tree_of call trees) × IsWritable trees × (1 + length (text_of trees) < 2 ^ 32)
 
 -- why the expansion of a call that begins at a byte is not written, and its byte: as a tree it exceeds a limit, which shows at the
 -- beginning of the call; or else its text is too long, which shows there too; or else a leaf is the first that cannot be written, which

@@ -8,9 +8,9 @@ use Rattle.expand_text.specs.declared.walk.Event.{Event}
 use Rattle.expand_text.specs.declared.walk.Event.TheVariants as event
 use Rattle.expand_text.specs.declared.walk.Invocation.{Invocation}
 use Rattle.expand_text.specs.declared.walk.Walk.{Walk}
-use Rattle.expand_text.specs.Coming.{begin_in, end_in, stand_in, whole_in}
+use Rattle.expand_text.specs.Meaning.{begin_in, end_in, site_in, whole_in}
 use Rattle.expand_items.specs.Items.{Call}
-use Rattle.expand_text.specs.Walks.{level_of, past, past_call, stand_of}
+use Rattle.expand_text.specs.Walks.{level_of, past, past_call, site_of}
 use Rattle.mbe_pattern.specs.Units.{front_trees, is_brace}
 
 -- a call that comes first stays as it is, and is passed
@@ -27,7 +27,7 @@ pub record IsInvocation (it : Call) (trees : Forest) (position : Position) (tree
   pub first : invocation.first_span ≡ begin_in it trees
   pub last : invocation.last_span ≡ end_in position it trees
   pub whole : trees_of invocation.whole ≡ whole_in position it trees
-  pub stand : stand_of invocation ≡ stand_in position it trees
+  pub site : site_of invocation ≡ site_in position it trees
   pub makes : invocation.tree ≡ tree
 
 -- a call that comes first expands to that tree, and is passed

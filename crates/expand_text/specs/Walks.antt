@@ -12,7 +12,7 @@ use Rattle.tt.specs.Types.Span.{Span}
 use Rattle.tt.specs.Views.{trees_of}
 use Rattle.expand_text.specs.declared.fault.Finding.{Finding}
 use Rattle.expand_text.specs.declared.fault.MacroFault.{MacroFault}
-use Rattle.expand_text.specs.declared.known.Known as known_in_code
+use Rattle.expand_text.specs.declared.context.Context as context_in_code
 use Rattle.expand_items.specs.declared.position.Position.{Position}
 use Rattle.expand_items.specs.declared.position.Siblings.{Siblings}
 use Rattle.mbe_pattern.specs.Units.{front_trees, is_brace}
@@ -21,13 +21,13 @@ use Rattle.expand_text.specs.declared.walk.Event.TheVariants as event
 use Rattle.expand_text.specs.declared.walk.Invocation.{Invocation}
 use Rattle.expand_text.specs.declared.walk.Level as rust
 use Rattle.expand_text.specs.declared.walk.Walk.{Walk}
-use Rattle.expand_text.specs.Coming.{Comes, plain_behind, takes_in}
+use Rattle.expand_text.specs.Meaning.{ExpandsTo, plain_behind, takes_in}
 use Rattle.expand_items.specs.Attributes.{item_at}
 use Rattle.expand_items.specs.Items.{Item, Call}
-use Rattle.expand_text.specs.Knowing.{Setting, Known, IsKnown, with_finding, left_in_scope}
-use Rattle.expand_text.specs.Macros.{MayStand}
+use Rattle.expand_text.specs.Contexts.{Config, Context, IsContext, with_finding, left_in_scope}
+use Rattle.expand_text.specs.Macros.{MayBePut}
 use Rattle.expand_text.specs.Outcomes.{Outcome, nothing, passes, enters, stays, becomes, trees_left}
-use Rattle.expand_text.specs.Standing.{Stand, StandAs, IsKept}
+use Rattle.expand_text.specs.CallSites.{CallSite, PutAs, IsKept}
 use Rattle.expand_items.specs.Positions.{begun as begun_among, first_in, behind, behind_leaf, behind_subtree, keeps_macros}
 
 -- the trees of a subtree that are left, the position before them, how many are taken as they are, where the subtree closes, and how many
@@ -76,12 +76,12 @@ past_call it level =
     past_semicolon (takes_in level.position it level.rest) (past it.len (is_brace it.delimiter.kind) level)
 
 -- what the rest of each level expands to, the innermost first
-abbrev pub Ends : Setting → (in_text : Bool) → (limit : ℕ) → List Level → (before after : Known) → List Outcome → Type 0
-Ends setting in_text limit [] before after [] = before ≡ after
-Ends setting in_text limit [] before after (it ∷ others) = ⊥
-Ends setting in_text limit (level ∷ outer) before after [] = ⊥
-Ends setting in_text limit (level ∷ outer) before after (it ∷ others) =
-    (inside : Known) × Comes setting in_text limit level.position level.plain before level.rest inside it × Ends setting in_text limit outer (left_in_scope level.kept inside) after others
+abbrev pub Ends : Config → (in_text : Bool) → (limit : ℕ) → List Level → (before after : Context) → List Outcome → Type 0
+Ends config in_text limit [] before after [] = before ≡ after
+Ends config in_text limit [] before after (it ∷ others) = ⊥
+Ends config in_text limit (level ∷ outer) before after [] = ⊥
+Ends config in_text limit (level ∷ outer) before after (it ∷ others) =
+    (inside : Context) × ExpandsTo config in_text limit level.position level.plain before level.rest inside it × Ends config in_text limit outer (left_in_scope level.kept inside) after others
 
 -- what levels expand to, with something first in the innermost
 abbrev pub first_leaf : Leaf → List Outcome → List Outcome
@@ -102,9 +102,9 @@ first_becomes attributes first last put [] = []
 first_becomes attributes first last put (others ∷ outer) = stays attributes (becomes first last put others) ∷ outer
 
 -- the levels and what is known become others, and what those expand to, so grown, is what these expand to
-abbrev pub Leads : Setting → (in_text : Bool) → (limit : ℕ) → List Level → Known → (grown : List Outcome → List Outcome) → List Level → Known → Type 0
-Leads setting in_text limit levels known grown nexts others =
-    (after : Known) (outcomes : List Outcome) → Ends setting in_text limit nexts others after outcomes → Ends setting in_text limit levels known after (grown outcomes)
+abbrev pub Leads : Config → (in_text : Bool) → (limit : ℕ) → List Level → Context → (grown : List Outcome → List Outcome) → List Level → Context → Type 0
+Leads config in_text limit levels context grown nexts others =
+    (after : Context) (outcomes : List Outcome) → Ends config in_text limit nexts others after outcomes → Ends config in_text limit levels context after (grown outcomes)
 
 -- where levels close
 abbrev pub closes_of : List Level → List Span
@@ -139,8 +139,8 @@ IsLeft old None new = map level_of (reverse old.outer.items) ≡ []
 IsLeft old (Some close) new = (close ≡ old.level.close) × (map level_of (reverse old.outer.items) ≡ levels_of new)
 
 -- the place of a call that is expanded
-abbrev pub stand_of : Invocation → Stand
-stand_of it =
+abbrev pub site_of : Invocation → CallSite
+site_of it =
     record {
       attributes = front_trees it.attributes (trees_of it.whole);
       len = it.attributes;
@@ -154,25 +154,25 @@ abbrev pub found_by : Invocation → (at : ℕ) → MacroFault → Finding
 found_by it at fault = record { name = it.name; at = at; fault = fault; defined_at = Some it.defined_at }
 
 -- what comes next behind a call that expands to these trees: they replace it if they fit and are allowed; or the call stays, which is found
-pub record GoesPast (setting : Setting) (in_text : Bool) (limit : ℕ) (levels : List Level) (known : Known) (it : Invocation) (trees : Forest) (nexts : List Level) (inside : Known) : Type 0 where
+pub record GoesPast (config : Config) (in_text : Bool) (limit : ℕ) (levels : List Level) (context : Context) (it : Invocation) (trees : Forest) (nexts : List Level) (inside : Context) : Type 0 where
   pub stands :
-      (put : Forest) → StandAs (stand_of it) trees (Some put) → MayStand in_text it.delimiter put
-      → Leads setting in_text limit levels known (first_becomes (stand_of it).attributes it.first_span it.last_span put) nexts inside
+      (put : Forest) → PutAs (site_of it) trees (Some put) → MayBePut in_text it.delimiter put
+      → Leads config in_text limit levels context (first_becomes (site_of it).attributes it.first_span it.last_span put) nexts inside
   pub stays :
-      (at : ℕ) (fault : MacroFault) → IsKept in_text (stand_of it) trees (start_of it.first_span.range) at fault
-      → Leads setting in_text limit levels known (first_stay (trees_of it.whole)) nexts (with_finding (found_by it at fault) inside)
+      (at : ℕ) (fault : MacroFault) → IsKept in_text (site_of it) trees (start_of it.first_span.range) at fault
+      → Leads config in_text limit levels context (first_stay (trees_of it.whole)) nexts (with_finding (found_by it at fault) inside)
 
 -- the next event of a walk, and what follows
-abbrev pub IsNext : Setting → (in_text : Bool) → (limit : ℕ) → List Level → Known → Event → List Level → Known → Type 0
-IsNext setting in_text limit levels known event.End nexts others = Ends setting in_text limit levels known others (nothing ∷ [])
-IsNext setting in_text limit levels known (event.Leaf it) nexts others = Leads setting in_text limit levels known (first_leaf it) nexts others
-IsNext setting in_text limit levels known (event.Opens header) nexts others = Leads setting in_text limit levels known (first_subtree header.delimiter) nexts others
-IsNext setting in_text limit levels known (event.Closes close) nexts others = Leads setting in_text limit levels known (λ outcomes. nothing ∷ outcomes) nexts others
-IsNext setting in_text limit levels known (event.Stays trees) nexts others = Leads setting in_text limit levels known (first_stay (trees_of trees)) nexts others
-IsNext setting in_text limit levels known (event.Invocation it) nexts others =
+abbrev pub IsNext : Config → (in_text : Bool) → (limit : ℕ) → List Level → Context → Event → List Level → Context → Type 0
+IsNext config in_text limit levels context event.End nexts others = Ends config in_text limit levels context others (nothing ∷ [])
+IsNext config in_text limit levels context (event.Leaf it) nexts others = Leads config in_text limit levels context (first_leaf it) nexts others
+IsNext config in_text limit levels context (event.Opens header) nexts others = Leads config in_text limit levels context (first_subtree header.delimiter) nexts others
+IsNext config in_text limit levels context (event.Closes close) nexts others = Leads config in_text limit levels context (λ outcomes. nothing ∷ outcomes) nexts others
+IsNext config in_text limit levels context (event.Stays trees) nexts others = Leads config in_text limit levels context (first_stay (trees_of trees)) nexts others
+IsNext config in_text limit levels context (event.Invocation it) nexts others =
     (left : ℕ) × (limit ≡ suc left)
-    × ((inside : Known) (held : Outcome) → Comes setting false left (begun_among it.siblings) 0 others it.tree.children inside held
-    → GoesPast setting in_text limit levels known it (trees_left held) nexts inside)
+    × ((inside : Context) (held : Outcome) → ExpandsTo config false left (begun_among it.siblings) 0 others it.tree.children inside held
+    → GoesPast config in_text limit levels context it (trees_left held) nexts inside)
 
 -- how levels become others: which are entered and left, and that less is left to do
 abbrev pub Steps : List Level → Event → List Level → Type 0
@@ -189,17 +189,17 @@ IsWithin limit (event.Invocation it) = 0 < limit
 IsWithin limit other = Unit {0}
 
 -- whatever is known, if that is allowed there: the event is the next, in the text or in an expansion, and something is known then
-abbrev pub Goes : (may : Known → Type 0) → Setting → (limit : ℕ) → (old : Walk) → (before : known_in_code.Known) → Event → (new : Walk) → (after : known_in_code.Known) → Type 0
-Goes may setting limit old before it new after =
-    (known : Known) → IsKnown known before → may known
-    → (others : Known) × IsKnown others after × ((in_text : Bool) → IsNext setting in_text limit (levels_of old) known it (levels_of new) others)
+abbrev pub Goes : (may : Context → Type 0) → Config → (limit : ℕ) → (old : Walk) → (before : context_in_code.Context) → Event → (new : Walk) → (after : context_in_code.Context) → Type 0
+Goes may config limit old before it new after =
+    (context : Context) → IsContext context before → may context
+    → (others : Context) × IsContext others after × ((in_text : Bool) → IsNext config in_text limit (levels_of old) context it (levels_of new) others)
 
 -- the item comes first
 abbrev pub IsFirst : Item → (root : List ℕ) → Walk → Type 0
 IsFirst it root walk = item_at root walk.level.position (rest_of walk.level.rest) ≡ it
 
 -- the item comes first, no tree is to be taken as it is, and calls are still expanded
-pub record IsAtItem (it : Item) (setting : Setting) (walk : Walk) (known : Known) : Type 0 where
+pub record IsAtItem (it : Item) (config : Config) (walk : Walk) (context : Context) : Type 0 where
   pub first : walk.level.plain ≡ 0
-  pub goes_on : known.is_over ≡ false
-  pub item : IsFirst it setting.root walk
+  pub goes_on : context.is_over ≡ false
+  pub item : IsFirst it config.root walk

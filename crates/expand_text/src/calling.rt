@@ -3,20 +3,20 @@ ghost use Rattle.std.specs.Prelude.{◌≡◌, List, IfOk, OnOk, is_some, option
 ghost use Rattle.tt.specs.Iters.{rest_of};
 ghost use Rattle.expand_text.specs.Calling.{IsMade, IsMadeWithin, IsCalled, IsCalledWithin};
 ghost use Rattle.expand_items.specs.Items.{call_of};
-ghost use Rattle.expand_text.specs.Knowing.{Learns, setting_of};
+ghost use Rattle.expand_text.specs.Contexts.{Learns, config_of};
 ghost use Rattle.expand_text.specs.Macros.{arms_of, called_by};
 ghost use Rattle.expand_text.specs.Scopes.{Macro as MacroOf, AreReady, IsReadyIf};
 ghost use Rattle.mbe_rules.specs.Arms.{Arm};
 ghost use Rattle.mbe_rules.specs.Expansions.{AreMade};
 
+use crate::config::Config;
+use crate::context::Context;
 use crate::fault::MacroFault;
-use crate::known::Known;
 use crate::memory::OutOfMemory;
 use crate::places::start_at;
 use crate::scope::{Macro, Scope};
-use crate::setting::Setting;
 use expand_items::Call;
-use mbe_rules::{Expansion, FillError, MacroRules};
+use mbe_rules::{Expansion, MacroRules, TranscribeError};
 use std::alloc::Global;
 use syntax_edit::start_of;
 use tt::{TopSubtree, TtFault};
@@ -62,17 +62,17 @@ fn make(
         }
         Ok(Expansion::Ambiguous(arm)) => Ok(Made::Faulty(at, MacroFault::Ambiguous(arm))),
         Err(error) => match error.fault {
-            FillError::Tree(TtFault::Memory) => Err(OutOfMemory),
+            TranscribeError::Tree(TtFault::Memory) => Err(OutOfMemory),
             _ => Ok(Made::Faulty(at, MacroFault::Expansion(error))),
         },
     }
 }
 
 // Returns the macro that a call names, if it is in scope.
-fn called_by<'k>(setting: &Setting, scope: &'k Scope, call: &Call<'_>) -> Option<&'k Macro>
-    ensures { (macros : List MacroOf) → AreReady macros scope.now.macros.items → IsReadyIf (called_by (setting_of setting.now) macros (call_of call.now)) (option_copied result) }
+fn called_by<'k>(config: &Config, scope: &'k Scope, call: &Call<'_>) -> Option<&'k Macro>
+    ensures { (macros : List MacroOf) → AreReady macros scope.now.macros.items → IsReadyIf (called_by (config_of config.now) macros (call_of call.now)) (option_copied result) }
 {
-    if call.is_elsewhere || !setting.asks_for(&call.name.sym) {
+    if call.is_elsewhere || !config.asks_for(&call.name.sym) {
         None
     } else {
         scope.last(&call.name.sym)
@@ -80,10 +80,10 @@ fn called_by<'k>(setting: &Setting, scope: &'k Scope, call: &Call<'_>) -> Option
 }
 
 /// Returns whether arms expand the call.
-pub(crate) fn is_expanded(setting: &Setting, scope: &Scope, call: &Call<'_>) -> bool
-    ensures { (macros : List MacroOf) → AreReady macros scope.now.macros.items → result ≡ is_some (arms_of (called_by (setting_of setting.now) macros (call_of call.now))) }
+pub(crate) fn is_expanded(config: &Config, scope: &Scope, call: &Call<'_>) -> bool
+    ensures { (macros : List MacroOf) → AreReady macros scope.now.macros.items → result ≡ is_some (arms_of (called_by (config_of config.now) macros (call_of call.now))) }
 {
-    match called_by(setting, scope, call) {
+    match called_by(config, scope, call) {
         Some(it) => it.rules.is_some(),
         None => false,
     }
@@ -91,28 +91,28 @@ pub(crate) fn is_expanded(setting: &Setting, scope: &Scope, call: &Call<'_>) -> 
 
 /// Expands a call, with at most `limit` nested expansions. Adds a finding if the call has a fault, or if its macro is left as it is.
 pub(crate) fn expand_call(
-    setting: &Setting,
-    known: &mut Known,
+    config: &Config,
+    context: &mut Context,
     limit: usize,
     call: &Call<'_>,
 ) -> Result<Called, OutOfMemory>
     ensures limit { IfOk result (IsCalledWithin limit) }
-    ensures called { IfOk result (λ called. Learns known.old known.new (IsCalled (setting_of setting.now) limit (call_of call.now) called)) }
+    ensures called { IfOk result (λ called. Learns context.old context.new (IsCalled (config_of config.now) limit (call_of call.now) called)) }
 {
     let name = &call.name.sym;
     let at = start_of(call.name.span);
-    let Some(it) = called_by(setting, &known.scope, call) else {
+    let Some(it) = called_by(config, &context.scope, call) else {
         return Ok(Called::Other);
     };
     let defined_at = it.defined_at;
     let Some(rules) = &it.rules else {
-        known.find(name, at, MacroFault::Left, Some(defined_at))?;
+        context.find(name, at, MacroFault::Left, Some(defined_at))?;
         return Ok(Called::Other);
     };
-    match make(setting.alloc, limit, rules, call)? {
+    match make(config.alloc, limit, rules, call)? {
         Made::Tree(tree) => Ok(Called::Tree(tree, defined_at)),
         Made::Faulty(place, fault) => {
-            known.find(name, place, fault, Some(defined_at))?;
+            context.find(name, place, fault, Some(defined_at))?;
             Ok(Called::Faulty)
         }
     }

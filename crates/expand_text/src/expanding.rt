@@ -3,12 +3,12 @@ ghost use Rattle.std.specs.Prelude.{◌≡◌, ◌<◌, IfOk, OnOk};
 ghost use Rattle.tt.specs.Building.{depth};
 ghost use Rattle.tt.specs.Iters.{rest_of};
 ghost use Rattle.expand_text.specs.Expanding.{IsPassed, IsPlaced, AreExpanded};
-ghost use Rattle.expand_text.specs.Knowing.{Learns, setting_of};
+ghost use Rattle.expand_text.specs.Contexts.{Learns, config_of};
 
+use crate::config::Config;
+use crate::context::Context;
 use crate::fault::MacroFault;
-use crate::known::Known;
 use crate::memory::OutOfMemory;
-use crate::setting::Setting;
 use crate::walk::{Event, Invocation, Walk, next};
 use expand_items::{Siblings, put_under};
 use syntax_edit::start_of;
@@ -16,9 +16,9 @@ use tt::{Delimiter, DelimiterKind, Refused, Span, TopSubtreeBuilder, TtFault, Tt
 
 // Adds what a call under conditions expands to, each part under the conditions; or returns why that is impossible.
 #[cycle(expansion)]
-fn place_under(
-    setting: &Setting,
-    known: &mut Known,
+fn expand_under(
+    config: &Config,
+    context: &mut Context,
     limit: usize,
     invocation: &Invocation<'_>,
     builder: &mut TopSubtreeBuilder,
@@ -26,7 +26,7 @@ fn place_under(
     requires { 0 < invocation.now.attributes }
     ensures top { OnOk result (builder.new.top ≡ builder.old.top) }
     ensures open { OnOk result (depth builder.new.stack ≡ depth builder.old.stack) }
-    ensures placed { IfOk result (λ misplaced. Learns known.old known.new (IsPlaced (setting_of setting.now) limit invocation.now misplaced builder.old.stack builder.new.stack)) }
+    ensures placed { IfOk result (λ misplaced. Learns context.old context.new (IsPlaced (config_of config.now) limit invocation.now misplaced builder.old.stack builder.new.stack)) }
 {
     let delimiter = invocation.delimiter;
     let siblings = invocation.siblings;
@@ -34,11 +34,11 @@ fn place_under(
         kind: DelimiterKind::Invisible,
         ..delimiter
     };
-    let mut inner = TopSubtreeBuilder::new(setting.alloc, top)?;
+    let mut inner = TopSubtreeBuilder::new(config.alloc, top)?;
     let trees = invocation.tree.iter();
     expand_trees(
-        setting,
-        known,
+        config,
+        context,
         limit,
         siblings,
         trees,
@@ -58,7 +58,7 @@ fn place_under(
     let attributes = invocation.attributes();
     let trees = held.token_trees();
     if put_under(
-        setting.alloc,
+        config.alloc,
         siblings,
         delimiter,
         attributes,
@@ -74,27 +74,27 @@ fn place_under(
 /// Expands a call with at most `limit` nested expansions, and adds the result in the place of the call. Returns the fault if the result
 /// does not fit there.
 #[cycle(expansion)]
-pub(crate) fn place(
-    setting: &Setting,
-    known: &mut Known,
+pub(crate) fn expand_invocation(
+    config: &Config,
+    context: &mut Context,
     limit: usize,
     invocation: &Invocation<'_>,
     builder: &mut TopSubtreeBuilder,
 ) -> Result<Option<MacroFault>, OutOfMemory>
     ensures top { OnOk result (builder.new.top ≡ builder.old.top) }
     ensures open { OnOk result (depth builder.new.stack ≡ depth builder.old.stack) }
-    ensures placed { IfOk result (λ misplaced. Learns known.old known.new (IsPlaced (setting_of setting.now) limit invocation.now misplaced builder.old.stack builder.new.stack)) }
+    ensures placed { IfOk result (λ misplaced. Learns context.old context.new (IsPlaced (config_of config.now) limit invocation.now misplaced builder.old.stack builder.new.stack)) }
 {
     if invocation.attributes > 0 {
-        return place_under(setting, known, limit, invocation, builder);
+        return expand_under(config, context, limit, invocation, builder);
     }
     let delimiter = invocation.delimiter;
     let siblings = invocation.siblings;
     let trees = invocation.tree.iter();
     if invocation.is_statement {
         expand_trees(
-            setting,
-            known,
+            config,
+            context,
             limit,
             siblings,
             trees,
@@ -105,8 +105,8 @@ pub(crate) fn place(
     }
     builder.open(DelimiterKind::InvisibleOpaque, delimiter.open_span)?;
     expand_trees(
-        setting,
-        known,
+        config,
+        context,
         limit,
         siblings,
         trees,
@@ -121,20 +121,20 @@ pub(crate) fn place(
 // does not fit there, adds the call itself and a finding.
 #[cycle(expansion)]
 fn pass_call(
-    setting: &Setting,
-    known: &mut Known,
+    config: &Config,
+    context: &mut Context,
     limit: usize,
     invocation: &Invocation<'_>,
     builder: &mut TopSubtreeBuilder,
 ) -> Result<(), OutOfMemory>
     ensures top { OnOk result (builder.new.top ≡ builder.old.top) }
     ensures open { OnOk result (depth builder.new.stack ≡ depth builder.old.stack) }
-    ensures passed { OnOk result (Learns known.old known.new (IsPassed (setting_of setting.now) limit invocation.now builder.old.stack builder.new.stack)) }
+    ensures passed { OnOk result (Learns context.old context.new (IsPassed (config_of config.now) limit invocation.now builder.old.stack builder.new.stack)) }
 {
     builder.extend_with_tt(invocation.attributes())?;
-    if let Some(fault) = place(setting, known, limit, invocation, builder)? {
+    if let Some(fault) = expand_invocation(config, context, limit, invocation, builder)? {
         let begin = start_of(invocation.first_span);
-        known.find(&invocation.name, begin, fault, Some(invocation.defined_at))?;
+        context.find(&invocation.name, begin, fault, Some(invocation.defined_at))?;
         builder.extend_with_tt(invocation.call())?;
     }
     Ok(())
@@ -144,8 +144,8 @@ fn pass_call(
 /// itself for each expansion, so at most `limit` deep.
 #[cycle(expansion)]
 pub(crate) fn expand_trees(
-    setting: &Setting,
-    known: &mut Known,
+    config: &Config,
+    context: &mut Context,
     limit: usize,
     siblings: Siblings,
     trees: TtIter<'_>,
@@ -154,11 +154,11 @@ pub(crate) fn expand_trees(
 ) -> Result<(), OutOfMemory>
     ensures top { OnOk result (builder.new.top ≡ builder.old.top) }
     ensures open { OnOk result (depth builder.new.stack ≡ depth builder.old.stack) }
-    ensures expanded { OnOk result (Learns known.old known.new (AreExpanded (setting_of setting.now) limit siblings (rest_of trees.entry) builder.old.stack builder.new.stack)) }
+    ensures expanded { OnOk result (Learns context.old context.new (AreExpanded (config_of config.now) limit siblings (rest_of trees.entry) builder.old.stack builder.new.stack)) }
 {
-    let mut walk = Walk::new(setting.alloc, trees, siblings, close);
+    let mut walk = Walk::new(config.alloc, trees, siblings, close);
     'trees: loop {
-        match next(&mut walk, setting, known, limit)? {
+        match next(&mut walk, config, context, limit)? {
             Event::End => return Ok(()),
             Event::Leaf(leaf) => builder.push(leaf)?,
             Event::Opens(header) => {
@@ -167,7 +167,7 @@ pub(crate) fn expand_trees(
             Event::Closes(close) => builder.close(close)?,
             Event::Stays(trees) => builder.extend_with_tt(trees)?,
             Event::Invocation(invocation) => {
-                pass_call(setting, known, limit - 1, &invocation, builder)?;
+                pass_call(config, context, limit - 1, &invocation, builder)?;
             }
         }
     }

@@ -14,17 +14,17 @@
 #![tactic(auto)]
 
 mod calling;
+mod config;
+mod context;
 mod defining;
 mod expanding;
 mod fault;
-mod known;
 pub mod laws;
 mod memory;
 mod options;
 mod places;
 mod root;
 mod scope;
-mod setting;
 mod source;
 mod text;
 mod walk;

@@ -3,16 +3,16 @@ ghost use Rattle.std.specs.Prelude.{◌≡◌, IfOk, OnOk, string_bytes};
 ghost use Rattle.tt.specs.Stored.{IsWithinLimits};
 ghost use Rattle.expand_text.specs.Macros.{tree_of};
 ghost use Rattle.expand_text.specs.Expansion.{IsTextOf, IsInvocationText, IsInvocationWritten, IsEventWritten, GoesOn, IsSourceText};
-ghost use Rattle.expand_text.specs.Knowing.{Learns, setting_of};
+ghost use Rattle.expand_text.specs.Contexts.{Learns, config_of};
 ghost use Rattle.syntax_edit.specs.Texts.{writing_of};
 ghost use Rattle.expand_text.specs.Walks.{IsWithin};
 
-use crate::expanding::place;
+use crate::config::Config;
+use crate::context::Context;
+use crate::expanding::expand_invocation;
 use crate::fault::MacroFault;
-use crate::known::Known;
 use crate::memory::OutOfMemory;
 use crate::places::start_at;
-use crate::setting::Setting;
 use crate::walk::{Event, Invocation, Walk, next};
 use expand_items::Siblings;
 use std::alloc::Global;
@@ -51,25 +51,25 @@ fn write_tree(
 
 // Returns the text of what a call expands to, or why it has none.
 fn invocation_text(
-    setting: &Setting,
-    known: &mut Known,
+    config: &Config,
+    context: &mut Context,
     limit: usize,
     invocation: &Invocation<'_>,
 ) -> Result<Written, OutOfMemory>
-    ensures { IfOk result (λ written. Learns known.old known.new (IsInvocationText (setting_of setting.now) limit invocation.now written)) }
+    ensures { IfOk result (λ written. Learns context.old context.new (IsInvocationText (config_of config.now) limit invocation.now written)) }
 {
     let top = Delimiter {
         kind: DelimiterKind::Invisible,
         ..invocation.delimiter
     };
-    let mut builder = TopSubtreeBuilder::new(setting.alloc, top)?;
+    let mut builder = TopSubtreeBuilder::new(config.alloc, top)?;
     let begin = start_of(invocation.first_span);
-    match place(setting, known, limit, invocation, &mut builder)? {
+    match expand_invocation(config, context, limit, invocation, &mut builder)? {
         Some(fault) => return Ok(Written::Faulty(begin, fault)),
         None => {}
     }
     match builder.build() {
-        Ok(tree) => Ok(write_tree(setting.alloc, begin, invocation.delimiter, &tree)?),
+        Ok(tree) => Ok(write_tree(config.alloc, begin, invocation.delimiter, &tree)?),
         Err(
             Refused {
                 fault: TtFault::Memory,
@@ -82,15 +82,15 @@ fn invocation_text(
 
 // Expands a call with at most `limit` nested expansions, and writes the result in its place. Adds a finding if there is no text.
 fn write_invocation(
-    setting: &Setting,
-    known: &mut Known,
+    config: &Config,
+    context: &mut Context,
     limit: usize,
     invocation: &Invocation<'_>,
     output: &mut Output<'_>,
 ) -> Result<(), OutOfMemory>
-    ensures { OnOk result (Learns known.old known.new (IsInvocationWritten (setting_of setting.now) limit invocation.now (writing_of output.old) (writing_of output.new))) }
+    ensures { OnOk result (Learns context.old context.new (IsInvocationWritten (config_of config.now) limit invocation.now (writing_of output.old) (writing_of output.new))) }
 {
-    match invocation_text(setting, known, limit, invocation)? {
+    match invocation_text(config, context, limit, invocation)? {
         Written::Text(text) => {
             let start = start_of(invocation.first_span) as usize;
             let end = end_of(invocation.last_span) as usize;
@@ -99,7 +99,7 @@ fn write_invocation(
         }
         Written::Faulty(at, fault) => {
             let defined_at = Some(invocation.defined_at);
-            known.find(&invocation.name, at, fault, defined_at)?;
+            context.find(&invocation.name, at, fault, defined_at)?;
             Ok(())
         }
     }
@@ -107,20 +107,20 @@ fn write_invocation(
 
 // Writes the expansion if the event is a call; all other trees stay as they are. Returns whether the walk goes on.
 fn write_event(
-    setting: &Setting,
-    known: &mut Known,
+    config: &Config,
+    context: &mut Context,
     limit: usize,
     event: Event<'_>,
     output: &mut Output<'_>,
 ) -> Result<bool, OutOfMemory>
     requires { IsWithin limit event }
     ensures goes_on { IfOk result (GoesOn event.entry) }
-    ensures written { OnOk result (Learns known.old known.new (IsEventWritten (setting_of setting.now) limit event.entry (writing_of output.old) (writing_of output.new))) }
+    ensures written { OnOk result (Learns context.old context.new (IsEventWritten (config_of config.now) limit event.entry (writing_of output.old) (writing_of output.new))) }
 {
     match event {
         Event::End => Ok(false),
         Event::Invocation(invocation) => {
-            write_invocation(setting, known, limit - 1, &invocation, output)?;
+            write_invocation(config, context, limit - 1, &invocation, output)?;
             Ok(true)
         }
         Event::Leaf(_) | Event::Opens(_) | Event::Closes(_) | Event::Stays(_) => Ok(true),
@@ -129,20 +129,20 @@ fn write_event(
 
 /// Returns the text with each call replaced by its expansion.
 pub(crate) fn expand_source(
-    setting: &Setting,
-    known: &mut Known,
+    config: &Config,
+    context: &mut Context,
     limit: usize,
     source: &str,
     tree: &TopSubtree,
 ) -> Result<String, OutOfMemory>
-    ensures { IfOk result (λ text. Learns known.old known.new (IsSourceText (setting_of setting.now) limit source.now tree.now.children (string_bytes text))) }
+    ensures { IfOk result (λ text. Learns context.old context.new (IsSourceText (config_of config.now) limit source.now tree.now.children (string_bytes text))) }
 {
-    let mut output = Output::new(setting.alloc, source);
+    let mut output = Output::new(config.alloc, source);
     let close = tree.top_subtree().delimiter.close;
-    let mut walk = Walk::new(setting.alloc, tree.iter(), Siblings::Items, close);
+    let mut walk = Walk::new(config.alloc, tree.iter(), Siblings::Items, close);
     'trees: loop {
-        let event = next(&mut walk, setting, known, limit)?;
-        let goes_on = write_event(setting, known, limit, event, &mut output)?;
+        let event = next(&mut walk, config, context, limit)?;
+        let goes_on = write_event(config, context, limit, event, &mut output)?;
         if !goes_on {
             return Ok(output.finish()?);
         }

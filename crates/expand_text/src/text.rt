@@ -1,13 +1,13 @@
 //! The macros of a text, and the expansion of its calls.
 ghost use Rattle.std.specs.Prelude.{◌≡◌, None, IfOk, IfErr, MatchOption};
-ghost use Rattle.expand_text.specs.Expansion.{setting_by, IsExpanded, IsLenientError, IsExpandTextError, first_fault, IsFirstFault};
-ghost use Rattle.expand_text.specs.Knowing.{setting_of};
+ghost use Rattle.expand_text.specs.Expansion.{config_by, IsExpanded, IsLenientError, IsExpandTextError, first_fault, IsFirstFault};
+ghost use Rattle.expand_text.specs.Contexts.{config_of};
 
+use crate::config::Config;
+use crate::context::Context;
 use crate::fault::{ExpandTextError, Finding};
-use crate::known::Known;
 use crate::memory::OutOfMemory;
 use crate::options::ExpandOptions;
-use crate::setting::Setting;
 use crate::source::expand_source;
 use std::alloc::Global;
 use syntax_edit::parse;
@@ -23,14 +23,14 @@ pub struct Expanded {
 }
 
 // Returns the setting of these options.
-fn setting_by(alloc: Global, options: ExpandOptions<'_>) -> Result<Setting, OutOfMemory>
-    ensures { IfOk result (λ setting. setting_of setting ≡ setting_by options.entry) }
+fn config_by(alloc: Global, options: ExpandOptions<'_>) -> Result<Config, OutOfMemory>
+    ensures { IfOk result (λ config. config_of config ≡ config_by options.entry) }
 {
     let only = match options.only {
         None => None,
         Some(name) => Some(Symbol::new(alloc, name)?),
     };
-    Ok(Setting {
+    Ok(Config {
         alloc,
         root: Symbol::new(alloc, options.root)?,
         everywhere: options.everywhere,
@@ -51,12 +51,12 @@ pub fn expand_leniently(
     ensures err { IfErr result (IsLenientError text.now) }
 {
     let tree = parse(alloc, text)?;
-    let setting = setting_by(alloc, options)?;
-    let mut known = Known::new(alloc);
-    let text = expand_source(&setting, &mut known, options.limit, text, &tree)?;
+    let config = config_by(alloc, options)?;
+    let mut context = Context::new(alloc);
+    let text = expand_source(&config, &mut context, options.limit, text, &tree)?;
     Ok(Expanded {
         text,
-        findings: known.findings,
+        findings: context.findings,
     })
 }
 

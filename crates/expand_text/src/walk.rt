@@ -2,20 +2,20 @@
 ghost use Rattle.std.specs.Prelude.{◌≡◌, ◌∷◌, [], ℕ, IfOk, OnOk, if◌then◌else◌};
 ghost use Rattle.tt.specs.Iters.{rest_of};
 ghost use Rattle.tt.specs.Views.{trees_of};
-ghost use Rattle.expand_text.specs.Coming.{begin_in, named_behind, IsPlain};
+ghost use Rattle.expand_text.specs.Meaning.{begin_in, named_behind, IsPlain};
 ghost use Rattle.syntax_edit.specs.Places.{begin_at};
 ghost use Rattle.expand_items.specs.Items.{defines, calls, definition_of, call_of};
-ghost use Rattle.expand_text.specs.Knowing.{Setting as SettingOf, setting_of};
+ghost use Rattle.expand_text.specs.Contexts.{Config as ConfigOf, config_of};
 ghost use Rattle.expand_text.specs.Passing.{IsStay, IsInvoked};
 ghost use Rattle.tt.specs.Gluing.{after_trees};
-ghost use Rattle.expand_text.specs.Walks.{stand_of, level_of, levels_of, past_leaf, past_subtree, past, past_semicolon, begun, entered, IsLeft, IsAtItem, IsFirst, IsWithin, Steps, Goes};
+ghost use Rattle.expand_text.specs.Walks.{site_of, level_of, levels_of, past_leaf, past_subtree, past, past_semicolon, begun, entered, IsLeft, IsAtItem, IsFirst, IsWithin, Steps, Goes};
 ghost use Rattle.mbe_pattern.specs.Units.{front_trees};
 
 use crate::calling::{Called, expand_call, is_expanded};
-use crate::defining::read;
-use crate::known::Known;
+use crate::config::Config;
+use crate::context::Context;
+use crate::defining::read_definition;
 use crate::memory::OutOfMemory;
-use crate::setting::Setting;
 use expand_items::{Call, Definition, Item, Position, Siblings, item_at};
 use mbe_pattern::{is_at_punct, pass, take};
 use std::alloc::{AllocError, Global};
@@ -152,7 +152,7 @@ impl<'a> Level<'a> {
 impl<'a> Invocation<'a> {
     /// Returns the attributes before the call.
     pub(crate) fn attributes(&self) -> TokenTreesView<'a>
-        ensures { trees_of result ≡ (stand_of self.now).attributes }
+        ensures { trees_of result ≡ (site_of self.now).attributes }
     {
         take(&mut self.whole.iter(), self.attributes)
     }
@@ -222,14 +222,14 @@ impl<'a> Walk<'a> {
 }
 
 // Takes the first tree as it is, or ends a level.
-fn next_tree<'a>(walk: &mut Walk<'a>, known: &mut Known) -> Result<Event<'a>, AllocError>
+fn next_tree<'a>(walk: &mut Walk<'a>, context: &mut Context) -> Result<Event<'a>, AllocError>
     ensures limit { IfOk result (λ event. (limit : ℕ) → IsWithin limit event) }
     ensures steps { IfOk result (λ event. Steps (levels_of walk.old) event (levels_of walk.new)) }
-    ensures next { IfOk result (λ event. (setting : SettingOf) (limit : ℕ) → Goes (λ before. IsPlain setting before walk.old.level.position walk.old.level.plain (rest_of walk.old.level.rest)) setting limit walk.old known.old event walk.new known.new) }
+    ensures next { IfOk result (λ event. (config : ConfigOf) (limit : ℕ) → Goes (λ before. IsPlain config before walk.old.level.position walk.old.level.plain (rest_of walk.old.level.rest)) config limit walk.old context.old event walk.new context.new) }
 {
     match walk.level.rest.peek() {
         None => {
-            known.leave(walk.level.kept);
+            context.leave(walk.level.kept);
             match walk.leave() {
                 Some(close) => Ok(Event::Closes(close)),
                 None => Ok(Event::End),
@@ -240,7 +240,7 @@ fn next_tree<'a>(walk: &mut Walk<'a>, known: &mut Known) -> Result<Event<'a>, Al
             Ok(Event::Leaf(leaf))
         }
         Some(TtElement::Subtree(header, children)) => {
-            walk.enter(header.delimiter, children, known.scope.len())?;
+            walk.enter(header.delimiter, children, context.scope.len())?;
             Ok(Event::Opens(header))
         }
     }
@@ -249,15 +249,15 @@ fn next_tree<'a>(walk: &mut Walk<'a>, known: &mut Known) -> Result<Event<'a>, Al
 // Passes the definition that comes first, and adds it to the scope.
 fn next_definition<'a>(
     walk: &mut Walk<'a>,
-    setting: &Setting,
-    known: &mut Known,
+    config: &Config,
+    context: &mut Context,
     definition: &Definition<'a>,
 ) -> Result<Event<'a>, OutOfMemory>
     ensures limit { IfOk result (λ event. (limit : ℕ) → IsWithin limit event) }
-    ensures steps { IfOk result (λ event. IsFirst (defines (definition_of definition.now)) setting.now.root walk.old → Steps (levels_of walk.old) event (levels_of walk.new)) }
-    ensures next { IfOk result (λ event. (limit : ℕ) → Goes (IsAtItem (defines (definition_of definition.now)) (setting_of setting.now) walk.old) (setting_of setting.now) limit walk.old known.old event walk.new known.new) }
+    ensures steps { IfOk result (λ event. IsFirst (defines (definition_of definition.now)) config.now.root walk.old → Steps (levels_of walk.old) event (levels_of walk.new)) }
+    ensures next { IfOk result (λ event. (limit : ℕ) → Goes (IsAtItem (defines (definition_of definition.now)) (config_of config.now) walk.old) (config_of config.now) limit walk.old context.old event walk.new context.new) }
 {
-    read(setting, known, definition)?;
+    read_definition(config, context, definition)?;
     Ok(Event::Stays(walk.level.take_all(definition.len, true)))
 }
 
@@ -305,26 +305,26 @@ fn invoke<'a>(
 // Passes the call that comes first, or enters it or the attributes before it.
 fn next_call<'a>(
     walk: &mut Walk<'a>,
-    setting: &Setting,
-    known: &mut Known,
+    config: &Config,
+    context: &mut Context,
     limit: usize,
     call: &Call<'a>,
 ) -> Result<Event<'a>, OutOfMemory>
     ensures limit { IfOk result (IsWithin limit) }
-    ensures steps { IfOk result (λ event. IsFirst (calls (call_of call.now)) setting.now.root walk.old → Steps (levels_of walk.old) event (levels_of walk.new)) }
-    ensures next { IfOk result (λ event. Goes (IsAtItem (calls (call_of call.now)) (setting_of setting.now) walk.old) (setting_of setting.now) limit walk.old known.old event walk.new known.new) }
+    ensures steps { IfOk result (λ event. IsFirst (calls (call_of call.now)) config.now.root walk.old → Steps (levels_of walk.old) event (levels_of walk.new)) }
+    ensures next { IfOk result (λ event. Goes (IsAtItem (calls (call_of call.now)) (config_of config.now) walk.old) (config_of config.now) limit walk.old context.old event walk.new context.new) }
 {
-    if call.attributes > 0 && !is_expanded(setting, &known.scope, call) {
+    if call.attributes > 0 && !is_expanded(config, &context.scope, call) {
         walk.level.plain = call.attributes;
-        return Ok(next_tree(walk, known)?);
+        return Ok(next_tree(walk, context)?);
     }
-    match expand_call(setting, known, limit, call)? {
+    match expand_call(config, context, limit, call)? {
         Called::Tree(tree, defined_at) => Ok(invoke(walk, call, tree, defined_at)?),
         Called::Faulty => Ok(stay(walk, call)),
         Called::Other => {
-            if setting.everywhere {
+            if config.everywhere {
                 walk.level.plain = call.len;
-                Ok(next_tree(walk, known)?)
+                Ok(next_tree(walk, context)?)
             } else {
                 Ok(stay(walk, call))
             }
@@ -335,21 +335,21 @@ fn next_call<'a>(
 /// Returns the next event, with at most `limit` nested expansions. A definition is in scope from then on.
 pub(crate) fn next<'a>(
     walk: &mut Walk<'a>,
-    setting: &Setting,
-    known: &mut Known,
+    config: &Config,
+    context: &mut Context,
     limit: usize,
 ) -> Result<Event<'a>, OutOfMemory>
     ensures limit { IfOk result (IsWithin limit) }
     ensures steps { IfOk result (λ event. Steps (levels_of walk.old) event (levels_of walk.new)) }
-    ensures next { IfOk result (λ event. Goes (λ _. Unit {0}) (setting_of setting.now) limit walk.old known.old event walk.new known.new) }
+    ensures next { IfOk result (λ event. Goes (λ _. Unit {0}) (config_of config.now) limit walk.old context.old event walk.new context.new) }
 {
-    if walk.level.plain > 0 || known.is_over {
-        return Ok(next_tree(walk, known)?);
+    if walk.level.plain > 0 || context.is_over {
+        return Ok(next_tree(walk, context)?);
     }
     let trees = walk.level.rest.remaining().iter();
-    match item_at(walk.level.position, trees, setting.root.as_str()) {
-        Item::Definition(definition) => next_definition(walk, setting, known, &definition),
-        Item::Call(call) => next_call(walk, setting, known, limit, &call),
-        Item::Other => Ok(next_tree(walk, known)?),
+    match item_at(walk.level.position, trees, config.root.as_str()) {
+        Item::Definition(definition) => next_definition(walk, config, context, &definition),
+        Item::Call(call) => next_call(walk, config, context, limit, &call),
+        Item::Other => Ok(next_tree(walk, context)?),
     }
 }

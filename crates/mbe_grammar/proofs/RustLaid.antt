@@ -1,4 +1,4 @@
--- What each name of Rust's grammar stands for is laid out as the table has it. Made by checks/lay_out_grammar.py.
+-- The table lays out the expression of each name of Rust's grammar. Made by checks/lay_out_grammar.py.
 use Rattle.std.proofs.Common.{ℕ, refl}
 use Rattle.mbe_grammar.specs.declared.rust.TheConstants.{RULES}
 use Rattle.mbe_grammar.specs.Layout.{AreLaid}

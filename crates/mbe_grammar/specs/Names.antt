@@ -106,7 +106,7 @@ pub data Name : Type 0 where
   where_clause : Name
   where_predicate : Name
 
--- the place of what a name stands for
+-- the place of the expression of a name
 abbrev pub start : Name → ℕ
 start type_path = 0
 start type_path_segments = 4

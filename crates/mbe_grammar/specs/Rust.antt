@@ -1,4 +1,4 @@
--- Rust's grammar: what each name stands for, as docs/GRAMMAR.md has it. Made by checks/lay_out_grammar.py.
+-- Rust's grammar: the expression of each name, as in docs/GRAMMAR.md. Made by checks/lay_out_grammar.py.
 use Rattle.std.specs.Prelude.{[], ◌∷◌, codes}
 use Rattle.tt.specs.Types.DelimiterKind.TheVariants.{Parenthesis, Brace, Bracket}
 use Rattle.mbe_grammar.specs.declared.test.Test.TheVariants as test
@@ -6,7 +6,7 @@ use Rattle.mbe_grammar.specs.declared.words.Word.TheVariants as it
 use Rattle.mbe_grammar.specs.Expressions.{Expression, nothing, unit, name, many, never, maybe, ahead, all_of, one_of, word, lifetime, subtree, sign, front}
 use Rattle.mbe_grammar.specs.Names.{Name, type_path, type_path_segments, type_path_segment, less, generic_arguments, generic_argument, generic_argument_end, generic_argument_value, const_argument, qualified_self, expression_path, expression_path_segments, expression_path_segment, simple_path, type, type_no_bounds, more_bounds, plain_type, pointer_type, reference_type, function_type, bounds, some_bounds, bound, begins_bound, for_lifetimes, lifetime_parameters, lifetime_parameter, use_argument, pattern_fragment, pattern_param_fragment, pattern, pattern_no_top_alt, pattern_without_range, range_tail, old_range_tail, range_operator, range_end, fields, reference_pattern, identifier_pattern, binding, expression_2021_fragment, expression, expression_before_block, range, range_before_block, operation, operation_before_block, operand, operand_before_block, unary, unary_before_block, unary_operator, postfix, bad_postfix, closure, closure_before_block, closure_head, closure_parameter, jump, jump_before_block, primary, primary_before_block, basic, block_like, loop, conditions, one_condition, let_value, lazy_operator, begins, attribute, meta, visibility, statement, let_statement, block_statement, item, declaration, item_kind, macro_item, macro_definition, use_declaration, extern_crate, rename, static_item, constant_item, function, function_qualifier, module_item, extern_block, type_alias, structure, enumeration, union, trait, implementation, generic_parameters, generic_parameter, where_clause, where_predicate}
 
--- what a name stands for
+-- the expression of a name
 abbrev pub stands : Name → Expression
 stands type_path = all_of (maybe (sign (codes "::")) ∷ name type_path_segments ∷ [])
 stands type_path_segments =

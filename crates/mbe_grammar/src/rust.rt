@@ -1,4 +1,4 @@
-//! Rust's grammar as one table of rules, laid out name by name. docs/GRAMMAR.md tells what each name stands for, and
+//! Rust's grammar as one table of rules, laid out name by name. docs/GRAMMAR.md says what each name means, and
 //! `checks/lay_out_grammar.py` makes this file of it.
 use crate::rule::Rule;
 use crate::test::Test;

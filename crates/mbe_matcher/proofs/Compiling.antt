@@ -9,7 +9,7 @@ use Rattle.tt.specs.Types.DelimiterKind.{DelimiterKind}
 use Rattle.tt.specs.Types.Leaf.{Leaf}
 use Rattle.mbe_pattern.specs.declared.pattern.RepeatKind.{RepeatKind}
 use Rattle.mbe_pattern.specs.declared.pattern.RepeatKind.TheVariants as repeat
-use Rattle.mbe_matcher.specs.Asks as ask
+use Rattle.mbe_matcher.specs.Labels as label
 use Rattle.mbe_matcher.specs.declared.places.Place.{Place}
 use Rattle.mbe_matcher.specs.Compiled.{Stop, Stand, separator_count, place_count, entries, again, separator_stops, stops}
 use Rattle.mbe_matcher.specs.Fragments.{left_by}
@@ -32,7 +32,7 @@ length-stops at (subtree kind inner others) behind =
     omega (
       arith,
       length-append (stops (suc at) inner ((suc at + place_count inner) ∷ []))
-          (record { asked = ask.leave; edges = entries (suc (suc at + place_count inner)) others behind } ∷ stops (suc (suc at + place_count inner)) others behind),
+          (record { label = label.leave; edges = entries (suc (suc at + place_count inner)) others behind } ∷ stops (suc (suc at + place_count inner)) others behind),
       length-stops (suc at) inner ((suc at + place_count inner) ∷ []),
       length-stops (suc (suc at + place_count inner)) others behind,
     )
@@ -65,13 +65,13 @@ module _ (places : List Place) (at : ℕ) (inner others : Pattern) (behind : Lis
     pub stand_inside : Stand places (suc at) (stops (suc at) inner ((suc at + place_count inner) ∷ []))
     stand_inside =
         stand_left places (suc at) (stops (suc at) inner ((suc at + place_count inner) ∷ []))
-        (record { asked = ask.leave; edges = entries (suc (suc at + place_count inner)) others behind } ∷ stops (suc (suc at + place_count inner)) others behind) stand.1
+        (record { label = label.leave; edges = entries (suc (suc at + place_count inner)) others behind } ∷ stops (suc (suc at + place_count inner)) others behind) stand.1
 
     pub stand_leave : Stand places (suc at + place_count inner)
-        (record { asked = ask.leave; edges = entries (suc (suc at + place_count inner)) others behind } ∷ stops (suc (suc at + place_count inner)) others behind)
+        (record { label = label.leave; edges = entries (suc (suc at + place_count inner)) others behind } ∷ stops (suc (suc at + place_count inner)) others behind)
     stand_leave =
         stand_right places (suc at) (suc at + place_count inner) (stops (suc at) inner ((suc at + place_count inner) ∷ []))
-        (record { asked = ask.leave; edges = entries (suc (suc at + place_count inner)) others behind } ∷ stops (suc (suc at + place_count inner)) others behind)
+        (record { label = label.leave; edges = entries (suc (suc at + place_count inner)) others behind } ∷ stops (suc (suc at + place_count inner)) others behind)
         (omega (arith, length-stops (suc at) inner ((suc at + place_count inner) ∷ []))) stand.1
 
   module _ (separator : List Leaf) (op : RepeatKind) (stand : Stand places at (stops at (repetition inner separator op others) behind)) where
@@ -103,7 +103,7 @@ module _ (places : List Place) (Last : Option Place → List Forest → Type 0) 
       → Stand places at (separator_stops (it ∷ others) behind) → Separates (it ∷ others) input rest → Via places Last behind (rest ∷ outer) path
       → Goes places Last at (input ∷ outer) path
   from_separator at it others behind input rest outer path stand separates via =
-      goes_by places Last (input ∷ outer) at (record { asked = ask.same (it ∷ others); edges = behind }) stand.0 path separates.0
+      goes_by places Last (input ∷ outer) at (record { label = label.same (it ∷ others); edges = behind }) stand.0 path separates.0
       (subst (λ r. Via places Last behind (r ∷ outer) path) separates.1 via)
 
   -- The same of the paths that lead into it.
@@ -204,21 +204,21 @@ module _ (places : List Place) (Last : Option Place → List Forest → Type 0) 
       → Via places Last (entries at pattern behind) (input ∷ outer) (path_of at pattern reading tail)
   from_reading at nothing behind input reading rest outer tail full stand takes via = subst (λ r. Via places Last behind (r ∷ outer) tail) takes.1 via
   from_reading at (variable it others) behind input reading rest outer tail full stand (more, is, taken, takes) via =
-      goes_by places Last (input ∷ outer) at (record { asked = ask.take it; edges = entries (suc at) others behind }) stand.0
+      goes_by places Last (input ∷ outer) at (record { label = label.take it; edges = entries (suc at) others behind }) stand.0
       (path_of (suc at) others (more_of reading) tail) taken
       (subst (λ r. Via places Last (entries (suc at) others behind) (left_by it.fragment input ∷ outer) (path_of (suc at) others (more_of r) tail)) (sym is)
       (from_reading (suc at) others behind (left_by it.fragment input) more rest outer tail full stand.1 takes via))
   from_reading at (token it others) behind input reading rest outer tail full stand takes via =
-      goes_by places Last (input ∷ outer) at (record { asked = ask.same it; edges = entries (suc at) others behind }) stand.0
+      goes_by places Last (input ∷ outer) at (record { label = label.same it; edges = entries (suc at) others behind }) stand.0
       (path_of (suc at) others reading tail) takes.0
       (from_reading (suc at) others behind (after_trees (length it) input) reading rest outer tail full stand.1 takes.1 via)
   from_reading at (subtree kind inner others) behind input reading rest outer tail full stand (inside, more, is, node, takes, further) via =
       let leave = suc at + place_count inner in
-      let last : Stop = record { asked = ask.leave; edges = entries (suc leave) others behind } in
+      let last : Stop = record { label = label.leave; edges = entries (suc leave) others behind } in
       let later = stand_leave places at inner others behind kind stand in
       let path = path_of (suc leave) others more tail in
       subst (λ r. Via places Last (at ∷ []) (input ∷ outer) (0 ∷ path_of (suc at) inner (inside_of r) (0 ∷ path_of (suc leave) others (more_of r) tail))) (sym is)
-      (goes_by places Last (input ∷ outer) at (record { asked = ask.enter kind; edges = entries (suc at) inner (leave ∷ []) }) stand.0
+      (goes_by places Last (input ∷ outer) at (record { label = label.enter kind; edges = entries (suc at) inner (leave ∷ []) }) stand.0
       (path_of (suc at) inner inside (0 ∷ path)) node
       (from_reading (suc at) inner (leave ∷ []) (children_of input) inside end (after_tree input ∷ outer) (0 ∷ path) full.0 (stand_inside places at inner others behind kind stand) takes
       (goes_by places Last (end ∷ after_tree input ∷ outer) leave last later.0 path refl

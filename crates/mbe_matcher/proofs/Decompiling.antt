@@ -5,7 +5,7 @@ use Rattle.tt.specs.Forest.{Forest, end}
 use Rattle.tt.specs.Gluing.{after_trees}
 use Rattle.tt.specs.Moves.{after_tree}
 use Rattle.tt.specs.Siblings.{children_of}
-use Rattle.mbe_matcher.specs.Asks as ask
+use Rattle.mbe_matcher.specs.Labels as label
 use Rattle.mbe_matcher.specs.declared.places.Place.{Place}
 use Rattle.mbe_matcher.specs.Compiled.{Stop, Stand, separator_count, place_count, entries, again, stops}
 use Rattle.mbe_matcher.specs.Fragments.{taken, left_by}
@@ -40,9 +40,9 @@ module _ (places : List Place) (Last : Option Place → List Forest → Type 0) 
       Further more = Found (suc at) others behind outer (left_by it.fragment input) more
 
       stop : Stop
-      stop = record { asked = ask.take it; edges = entries (suc at) others behind }
+      stop = record { label = label.take it; edges = entries (suc at) others behind }
 
-      on : (more : List ℕ) → path ≡ 0 ∷ more → Passes (ask.take it) (input ∷ outer) → Further more → Found at (variable it others) behind outer input path
+      on : (more : List ℕ) → path ≡ 0 ∷ more → Passes (label.take it) (input ∷ outer) → Further more → Found at (variable it others) behind outer input path
       on more same takes (inl found) =
           inl (record {
             reading = took (taken it.fragment input) found.reading;
@@ -71,9 +71,9 @@ module _ (places : List Place) (Last : Option Place → List Forest → Type 0) 
       Further more = Found (suc at) others behind outer (after_trees (length its) input) more
 
       stop : Stop
-      stop = record { asked = ask.same its; edges = entries (suc at) others behind }
+      stop = record { label = label.same its; edges = entries (suc at) others behind }
 
-      on : (more : List ℕ) → path ≡ 0 ∷ more → Passes (ask.same its) (input ∷ outer) → Further more → Found at (token its others) behind outer input path
+      on : (more : List ℕ) → path ≡ 0 ∷ more → Passes (label.same its) (input ∷ outer) → Further more → Found at (token its others) behind outer input path
       on more same like (inl found) =
           inl (record {
             reading = found.reading;
@@ -113,12 +113,12 @@ module _ (places : List Place) (Last : Option Place → List Forest → Type 0) 
       UpTo left = TakesUpTo (subtree kind inner others) input (left_in outer) left
 
       first : Stop
-      first = record { asked = ask.enter kind; edges = entries (suc at) inner ((suc at + place_count inner) ∷ []) }
+      first = record { label = label.enter kind; edges = entries (suc at) inner ((suc at + place_count inner) ∷ []) }
 
       last_stop : Stop
-      last_stop = record { asked = ask.leave; edges = entries (suc (suc at + place_count inner)) others behind }
+      last_stop = record { label = label.leave; edges = entries (suc (suc at + place_count inner)) others behind }
 
-      out : (more : List ℕ) → path ≡ 0 ∷ more → Passes (ask.enter kind) (input ∷ outer)
+      out : (more : List ℕ) → path ≡ 0 ∷ more → Passes (label.enter kind) (input ∷ outer)
           → (inside : Read places Last (suc at) inner ((suc at + place_count inner) ∷ []) (after_tree input ∷ outer) (children_of input) more)
           → (after : List ℕ) → inside.tail ≡ 0 ∷ after → inside.rest ≡ end → Further after → Found at (subtree kind inner others) behind outer input path
       out more same node inside after tail ended (inl found) =
@@ -136,7 +136,7 @@ module _ (places : List Place) (Last : Option Place → List Forest → Type 0) 
           inr (halts_with places Last (TakesUpTo others (after_tree input) (left_in outer)) UpTo
           (λ left up. inr (node, inr (inside.reading, subst (Takes inner (children_of input) inside.reading) ended inside.takes, up))) halts)
 
-      leave_by : (more : List ℕ) → path ≡ 0 ∷ more → Passes (ask.enter kind) (input ∷ outer)
+      leave_by : (more : List ℕ) → path ≡ 0 ∷ more → Passes (label.enter kind) (input ∷ outer)
           → (inside : Read places Last (suc at) inner ((suc at + place_count inner) ∷ []) (after_tree input ∷ outer) (children_of input) more)
           → (after : List ℕ) × (inside.tail ≡ 0 ∷ after) × Goes places Last (suc at + place_count inner) (inside.rest ∷ after_tree input ∷ outer) after
           → ((more : List ℕ) → Via places Last (entries (suc (suc at + place_count inner)) others behind) (after_tree input ∷ outer) more → Further more)
@@ -151,7 +151,7 @@ module _ (places : List Place) (Last : Option Place → List Forest → Type 0) 
             | inr (ended, v) ↦ out more same node inside after tail ended (further after v)
           ]
 
-      within : (more : List ℕ) → path ≡ 0 ∷ more → Passes (ask.enter kind) (input ∷ outer) → Inner more
+      within : (more : List ℕ) → path ≡ 0 ∷ more → Passes (label.enter kind) (input ∷ outer) → Inner more
           → ((more : List ℕ) → Via places Last (entries (suc (suc at + place_count inner)) others behind) (after_tree input ∷ outer) more → Further more)
           → Found at (subtree kind inner others) behind outer input path
       within more same node (inl inside) further =

@@ -6,7 +6,7 @@ use Rattle.tt.specs.Gluing.{after_trees}
 use Rattle.tt.specs.Types.Leaf.{Leaf}
 use Rattle.mbe_pattern.specs.declared.pattern.RepeatKind.{RepeatKind}
 use Rattle.mbe_pattern.specs.declared.pattern.RepeatKind.TheVariants as repeat
-use Rattle.mbe_matcher.specs.Asks as ask
+use Rattle.mbe_matcher.specs.Labels as label
 use Rattle.mbe_matcher.specs.declared.places.Place.{Place}
 use Rattle.mbe_matcher.specs.Compiled.{Stop, IsStop, Stand, separator_count, place_count, entries, again, separator_stops}
 use Rattle.mbe_matcher.specs.Fronts.{OtherRoundsUpTo, TakesUpTo}
@@ -49,7 +49,7 @@ module _ (places : List Place) (Last : Option Place → List Forest → Type 0) 
       record { place = halts.place; levels = halts.levels; last = halts.last; sooner = halts.sooner; comes = by (left_in halts.levels) halts.comes }
 
   -- A path that ends at a place ends early if the place is not the end of everything.
-  pub halts_at : (at : ℕ) (levels : List Forest) (stop : Stop) → IsStop (slice_get places at) stop → (is_leave stop.asked ≡ true → levels ≡ end ∷ [] → ⊥)
+  pub halts_at : (at : ℕ) (levels : List Forest) (stop : Stop) → IsStop (slice_get places at) stop → (is_leave stop.label ≡ true → levels ≡ end ∷ [] → ⊥)
       → Last (slice_get places at) levels → (Comes : (left : ℕ) → Type 0) → Comes (left_in levels) → Halts Comes
   halts_at at levels stop stands never last Comes comes =
       record {
@@ -77,7 +77,7 @@ module _ (places : List Place) (Last : Option Place → List Forest → Type 0) 
       → Stand places at (separator_stops (it ∷ others) behind) → Goes places Last at (input ∷ outer) path
       → Separated (it ∷ others) behind outer input (0 ∷ path) ⊎ Before input outer
   to_separator at it others behind outer input path stand goes =
-      let stop : Stop = record { asked = ask.same (it ∷ others); edges = behind } in
+      let stop : Stop = record { label = label.same (it ∷ others); edges = behind } in
       elim (comes_by places Last (input ∷ outer) at stop stand.0 path goes) [
         | inl (none, last) ↦ inr (halts_at at (input ∷ outer) stop stand.0 (λ leave ended. cc leave) last (λ left. left ≡ size input + left_in outer) refl)
         | inr (like, via) ↦

@@ -3,8 +3,8 @@ use Rattle.std.proofs.Common.{append-nil, ◌≡◌, inl, inr, ℕ, suc, zero, B
 use Rattle.std.specs.Prelude.{◌⊎◌, slice_get, Option}
 use Rattle.tt.specs.Forest.{Forest, end}
 use Rattle.tt.specs.Types.Leaf.{Leaf}
-use Rattle.mbe_matcher.specs.Asks.{Ask, ask_of}
-use Rattle.mbe_matcher.specs.Asks as ask
+use Rattle.mbe_matcher.specs.Labels.{Label, label_of}
+use Rattle.mbe_matcher.specs.Labels as label
 use Rattle.mbe_pattern.specs.declared.pattern.Fragment.{Fragment}
 use Rattle.mbe_pattern.specs.declared.pattern.Fragment.TheVariants as fragment
 use Rattle.mbe_matcher.specs.declared.places.Place.{Place}
@@ -15,7 +15,7 @@ use Rattle.mbe_matcher.specs.declared.threads.Turn.{Turn}
 use Rattle.mbe_matcher.specs.Fragments.{takes, takes_nothing}
 use Rattle.mbe_matcher.specs.Levels.{AreTwo, IsOnly, is_leave_at, with_thread, choice_of}
 use Rattle.mbe_matcher.specs.Places.{Passes, passed, onward, is_leave, OnEdge, Ends, GoesOn, Reads}
-use Rattle.mbe_matcher.specs.Settling.{asks_nothing, asks_nothing_at, AreSettled}
+use Rattle.mbe_matcher.specs.Closures.{passes_nothing, passes_nothing_at, AreClosed}
 use Rattle.mbe_matcher.specs.Threads.{View, view_of, views_of, path_to}
 use Rattle.mbe_pattern.specs.Units.{IsUnitLike}
 use Rattle.mbe_matcher.proofs.Leading.{Config, thread, threads, IsMany, Leads, Has, HasMany, AreApart, Told}
@@ -42,29 +42,29 @@ pub passed_end : (n : ℕ) (outer : List Forest) → passed n (end ∷ outer) �
 passed_end n outer = ap (λ t. t ∷ outer) (after_end n)
 
 -- Nothing passes if no level is left.
-passes_none : (it : Ask) → Passes it [] → ⊥
-passes_none (ask.take which) p = p
-passes_none (ask.same its) p = no_unit its p
-passes_none (ask.enter kind) p = p
-passes_none ask.leave p = p
+passes_none : (it : Label) → Passes it [] → ⊥
+passes_none (label.take which) p = p
+passes_none (label.same its) p = no_unit its p
+passes_none (label.enter kind) p = p
+passes_none label.leave p = p
 
 -- At the end of the outermost level only the end passes.
-passes_last : (it : Ask) → asks_nothing it end ≡ false → Passes it (end ∷ []) → onward it (end ∷ []) ≡ []
-passes_last (ask.take which) some p = absurd (takes_none which.fragment p some)
-passes_last (ask.same its) some p = absurd (no_unit its p)
-passes_last (ask.enter kind) some p = absurd p
-passes_last ask.leave some p = refl
+passes_last : (it : Label) → passes_nothing it end ≡ false → Passes it (end ∷ []) → onward it (end ∷ []) ≡ []
+passes_last (label.take which) some p = absurd (takes_none which.fragment p some)
+passes_last (label.same its) some p = absurd (no_unit its p)
+passes_last (label.enter kind) some p = absurd p
+passes_last label.leave some p = refl
 
 -- A place that is an end requires something.
-leave_some : (it : Ask) → is_leave it ≡ true → asks_nothing it end ≡ false
-leave_some (ask.take which) leave = absurd (cc leave)
-leave_some (ask.same its) leave = refl
-leave_some (ask.enter kind) leave = refl
-leave_some ask.leave leave = refl
+leave_some : (it : Label) → is_leave it ≡ true → passes_nothing it end ≡ false
+leave_some (label.take which) leave = absurd (cc leave)
+leave_some (label.same its) leave = refl
+leave_some (label.enter kind) leave = refl
+leave_some label.leave leave = refl
 
-leave_some_at : (place : Option Place) → is_leave_at place ≡ true → asks_nothing_at place end ≡ false
+leave_some_at : (place : Option Place) → is_leave_at place ≡ true → passes_nothing_at place end ≡ false
 leave_some_at None leave = refl
-leave_some_at (Some place) leave = leave_some (ask_of place.atom) leave
+leave_some_at (Some place) leave = leave_some (label_of place.atom) leave
 
 module _ (places : List Place) where
   -- No path leads on if no level is left.
@@ -78,7 +78,7 @@ module _ (places : List Place) where
     where
       by : (place : Option Place) → GoesOn place [] turn (λ to further. Reads places to further path) → ⊥
       by None g = g
-      by (Some place) g = passes_none (ask_of place.atom) g.0
+      by (Some place) g = passes_none (label_of place.atom) g.0
 
   -- No edge leads to a place if nothing holds there.
   on_edge_none : (turn : ℕ) (edges : List ℕ) (P : ℕ → Type 0) → ((to : ℕ) → P to → ⊥) → OnEdge turn edges P → ⊥
@@ -87,7 +87,7 @@ module _ (places : List Place) where
   on_edge_none (suc turn) (to ∷ others) P none on = on_edge_none turn others P none on
 
   -- At the end of the outermost level a thread leads only to its own path, and only if its place is an end.
-  ends_here : (view : View) (path : List ℕ) → asks_nothing_at (slice_get places view.at) end ≡ false → Leads places Ends (thread (end ∷ []) view) path → (is_leave_at (slice_get places view.at) ≡ true) × (path ≡ view.trace)
+  ends_here : (view : View) (path : List ℕ) → passes_nothing_at (slice_get places view.at) end ≡ false → Leads places Ends (thread (end ∷ []) view) path → (is_leave_at (slice_get places view.at) ≡ true) × (path ≡ view.trace)
   ends_here view path some ([], is, reads) = (by (slice_get places view.at) (subst (λ ls. Reads places view.at ls []) (passed_end view.wait []) reads), is ∙ append-nil view.trace)
     where
       by : (place : Option Place) → Ends place (end ∷ []) → is_leave_at place ≡ true
@@ -95,11 +95,11 @@ module _ (places : List Place) where
       by (Some place) e = e.0
   ends_here view path some (turn ∷ more, is, reads) = absurd (by (slice_get places view.at) some (subst (λ ls. Reads places view.at ls (turn ∷ more)) (passed_end view.wait []) reads))
     where
-      by : (place : Option Place) → asks_nothing_at place end ≡ false → GoesOn place (end ∷ []) turn (λ to further. Reads places to further more) → ⊥
+      by : (place : Option Place) → passes_nothing_at place end ≡ false → GoesOn place (end ∷ []) turn (λ to further. Reads places to further more) → ⊥
       by None some g = g
       by (Some place) some g =
-          on_edge_none turn place.edges.items (λ to. Reads places to (onward (ask_of place.atom) (end ∷ [])) more)
-          (λ to reads. reads_none to more (subst (λ levels. Reads places to levels more) (passes_last (ask_of place.atom) some g.0) reads)) g.1
+          on_edge_none turn place.edges.items (λ to. Reads places to (onward (label_of place.atom) (end ∷ [])) more)
+          (λ to reads. reads_none to more (subst (λ levels. Reads places to levels more) (passes_last (label_of place.atom) some g.0) reads)) g.1
 
   leads_here : (view : View) → is_leave_at (slice_get places view.at) ≡ true → Leads places Ends (thread (end ∷ []) view) view.trace
   leads_here view leave = ([], sym (append-nil view.trace), subst (λ ls. Reads places view.at ls []) (sym (passed_end view.wait [])) (by (slice_get places view.at) leave))
@@ -136,7 +136,7 @@ module _ (places : List Place) where
       here = thread (end ∷ []) (view_of log it)
 
       -- A thread that is not at the end says nothing.
-      means_missed : is_leave_at (slice_get places it.at) ≡ false → asks_nothing_at (slice_get places it.at) end ≡ false → (so_far : Choice) → Means so_far news → Means so_far (here ∷ news)
+      means_missed : is_leave_at (slice_get places it.at) ≡ false → passes_nothing_at (slice_get places it.at) end ≡ false → (so_far : Choice) → Means so_far news → Means so_far (here ∷ news)
       means_missed missed some so_far means = by so_far means
         where
           nowhere : (path : List ℕ) → Leads places Ends here path → ⊥
@@ -241,7 +241,7 @@ module _ (places : List Place) where
         by choice.Many m = two m
 
     -- The choice of threads at the end says what is wanted.
-    says_choice : (so_far : Choice) (its : List Thread) (news : List Config) → AreSettled places end (views_of log its) → Told places Ends Whole news (threads (end ∷ []) (views_of log its))
+    says_choice : (so_far : Choice) (its : List Thread) (news : List Config) → AreClosed places end (views_of log its) → Told places Ends Whole news (threads (end ∷ []) (views_of log its))
         → Means so_far news
         → Says (choice_of places so_far its)
     says_choice so_far [] news calm told means = says_all news told so_far means
@@ -256,9 +256,9 @@ module _ (places : List Place) where
         by true leave rest = rest (with_thread so_far it) (means_more it news leave over.new_apart so_far means)
         by false missed rest = rest so_far (means_missed it news missed calm.0 so_far means)
 
-    pub says : (its : List Thread) (trees : Forest) → trees ≡ end → AreSettled places trees (views_of log its) → Told places Ends Whole [] (threads (trees ∷ []) (views_of log its) ++ [])
+    pub says : (its : List Thread) (trees : Forest) → trees ≡ end → AreClosed places trees (views_of log its) → Told places Ends Whole [] (threads (trees ∷ []) (views_of log its) ++ [])
         → Says (choice_of places choice.Nothing its)
     says its trees ended calm told =
-        says_choice choice.Nothing its [] (subst (λ t. AreSettled places t (views_of log its)) ended calm)
+        says_choice choice.Nothing its [] (subst (λ t. AreClosed places t (views_of log its)) ended calm)
         (subst (λ t. Told places Ends Whole [] (threads (t ∷ []) (views_of log its))) ended (subst (Told places Ends Whole []) (append-nil (threads (trees ∷ []) (views_of log its))) told))
         (λ path h. h, λ m. m)

@@ -8,7 +8,7 @@ use Rattle.tt.specs.Siblings.{children_of}
 use Rattle.tt.specs.Types.Leaf.{Leaf}
 use Rattle.mbe_pattern.specs.declared.pattern.RepeatKind.{RepeatKind}
 use Rattle.mbe_pattern.specs.declared.pattern.RepeatKind.TheVariants as repeat
-use Rattle.mbe_matcher.specs.Asks as ask
+use Rattle.mbe_matcher.specs.Labels as label
 use Rattle.mbe_matcher.specs.declared.places.Place.{Place}
 use Rattle.mbe_matcher.specs.Compiled.{Stop, Stand, separator_count, place_count, entries, again, separator_stops, stops}
 use Rattle.mbe_matcher.specs.Fragments.{left_by}
@@ -131,18 +131,18 @@ module _ (places : List Place) (left : ℕ) where
   from_front at (variable it others) behind input outer full some stand (inr (takes, comes)) =
       let found = from_front (suc at) others behind (left_by it.fragment input) outer full some stand.1 comes in (
         0 ∷ found.0,
-        goes_by places (AreLeft left) (input ∷ outer) at (record { asked = ask.take it; edges = entries (suc at) others behind }) stand.0 found.0 takes found.1,
+        goes_by places (AreLeft left) (input ∷ outer) at (record { label = label.take it; edges = entries (suc at) others behind }) stand.0 found.0 takes found.1,
       )
   from_front at (token its others) behind input outer full some stand (inl is) = comes_here (at ∷ []) (input ∷ outer) (omega arith) is
   from_front at (token its others) behind input outer full some stand (inr (like, comes)) =
       let found = from_front (suc at) others behind (after_trees (length its) input) outer full some stand.1 comes in (
         0 ∷ found.0,
-        goes_by places (AreLeft left) (input ∷ outer) at (record { asked = ask.same its; edges = entries (suc at) others behind }) stand.0 found.0 like found.1,
+        goes_by places (AreLeft left) (input ∷ outer) at (record { label = label.same its; edges = entries (suc at) others behind }) stand.0 found.0 like found.1,
       )
   from_front at (subtree kind inner others) behind input outer full some stand (inl is) = comes_here (at ∷ []) (input ∷ outer) (omega arith) is
   from_front at (subtree kind inner others) behind input outer full some stand (inr (node, how)) =
       let leave = suc at + place_count inner in
-      let last : Stop = record { asked = ask.leave; edges = entries (suc leave) others behind } in
+      let last : Stop = record { label = label.leave; edges = entries (suc leave) others behind } in
       let later = stand_leave places at inner others behind kind stand in
       let sooner = stand_inside places at inner others behind kind stand in
       let found : Comes (entries (suc at) inner (leave ∷ [])) (children_of input ∷ after_tree input ∷ outer) = elim how [
@@ -155,7 +155,7 @@ module _ (places : List Place) (left : ℕ) where
             )
       ] in (
         0 ∷ found.0,
-        goes_by places (AreLeft left) (input ∷ outer) at (record { asked = ask.enter kind; edges = entries (suc at) inner (leave ∷ []) }) stand.0 found.0 node found.1,
+        goes_by places (AreLeft left) (input ∷ outer) at (record { label = label.enter kind; edges = entries (suc at) inner (leave ∷ []) }) stand.0 found.0 node found.1,
       )
   from_front at (repetition inner separator op others) behind input outer full some stand (inl is) =
       comes_here (entries at (repetition inner separator op others) behind) (input ∷ outer) (entries_some at (repetition inner separator op others) behind full (inr some)) is

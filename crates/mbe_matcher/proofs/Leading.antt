@@ -5,7 +5,7 @@ use Rattle.std.proofs.lemmas.Grind.{common_steps}
 use Rattle.std.specs.Prelude.{◌⊎◌, slice_get, Option}
 use Rattle.tt.specs.Forest.{Forest}
 use Rattle.mbe_matcher.specs.declared.places.Place.{Place}
-use Rattle.mbe_matcher.specs.Asks.{ask_of}
+use Rattle.mbe_matcher.specs.Labels.{label_of}
 use Rattle.mbe_matcher.specs.Levels.{AreTwo}
 use Rattle.mbe_matcher.specs.Places.{Passes, passed, onward, OnEdge, GoesOn, Goes}
 use Rattle.mbe_matcher.specs.Threads.{View, meet, doubled, delayed, added, turned, spread}
@@ -317,7 +317,7 @@ module _ (places : List Place) (Last : Option Place → List Forest → Type 0) 
     module _ (here : passed view.wait levels ≡ levels) where
       -- A thread whose place is passed is replaced by the edges of its place.
       pub becomes_fan : (place : Place) → slice_get places view.at ≡ Some place → (n : ℕ) (further : List Forest)
-          → onward (ask_of place.atom) levels ≡ passed n further → Passes (ask_of place.atom) levels → (Last (Some place) levels → ⊥)
+          → onward (label_of place.atom) levels ≡ passed n further → Passes (label_of place.atom) levels → (Last (Some place) levels → ⊥)
           → telling.Becomes Config Leads IsMany (thread levels view) (fan 0 place.edges.items further (delayed n view))
       becomes_fan place found n further on passes goes_on =
           record { goes = goes; comes = comes; many = (λ m. m, λ m. m) }
@@ -344,7 +344,7 @@ module _ (places : List Place) (Last : Option Place → List Forest → Type 0) 
               )
 
       -- A thread whose place is not passed leads nowhere.
-      pub leads_nowhere : ((place : Place) → slice_get places view.at ≡ Some place → Passes (ask_of place.atom) levels → ⊥) → ((place : Option Place) → Last place levels → ⊥)
+      pub leads_nowhere : ((place : Place) → slice_get places view.at ≡ Some place → Passes (label_of place.atom) levels → ⊥) → ((place : Option Place) → Last place levels → ⊥)
           → (path : List ℕ) → Leads (thread levels view) path → ⊥
       leads_nowhere stuck goes_on path (more, is, reads) = by (slice_get places view.at) refl more (subst (λ ls. Goes places Last view.at ls more) here reads)
         where

@@ -8,14 +8,14 @@ use Rattle.tt.specs.Siblings.{children_of}
 use Rattle.tt.specs.Types.Delimiter.{Delimiter}
 use Rattle.tt.specs.Types.DelimiterKind.{DelimiterKind}
 use Rattle.tt.specs.Types.Leaf.{Leaf}
-use Rattle.mbe_matcher.specs.Asks.{Ask, ask_of}
-use Rattle.mbe_matcher.specs.Asks as ask
+use Rattle.mbe_matcher.specs.Labels.{Label, label_of}
+use Rattle.mbe_matcher.specs.Labels as label
 use Rattle.mbe_matcher.specs.declared.ahead.Ahead.{Ahead}
 use Rattle.mbe_matcher.specs.declared.places.Place.{Place}
 use Rattle.mbe_matcher.specs.declared.threads.Move.{Move}
 use Rattle.mbe_matcher.specs.declared.threads.Move.TheVariants as move
 use Rattle.mbe_matcher.specs.Fragments.{takes, takes_nothing}
-use Rattle.mbe_matcher.specs.Settling.{is_here, asks_nothing, asks_nothing_at, goes_at_once, AreSettled}
+use Rattle.mbe_matcher.specs.Closures.{is_here, passes_nothing, passes_nothing_at, goes_at_once, AreClosed}
 use Rattle.mbe_matcher.specs.Levels.{LevelView, IsLeft, IsPassed, IsEntered, IsSkipped, Advances}
 use Rattle.mbe_matcher.specs.Places.{Passes, passed, onward}
 use Rattle.mbe_matcher.specs.Threads.{View, delayed, added, spread, IsMoved, wait_of, IsMovedAt, wait_at, edges_of, is_waiting, waited, StepsOn, Steps, AllStep}
@@ -38,9 +38,9 @@ configs_of (level ∷ outer) = threads (level.trees ∷ levels_of outer) level.v
 
 -- A thread at its place that does not go on at once requires something.
 calm_place : (places : List Place) (trees : Forest) (view : View) (place : Place) → is_here trees view.wait ≡ true → goes_at_once places trees view.at view.wait ≡ false
-    → slice_get places view.at ≡ Some place → asks_nothing (ask_of place.atom) trees ≡ false
+    → slice_get places view.at ≡ Some place → passes_nothing (label_of place.atom) trees ≡ false
 calm_place places trees view place here calm found =
-    subst (λ at. asks_nothing_at at trees ≡ false) found (by (is_here trees view.wait) (asks_nothing_at (slice_get places view.at) trees) here calm)
+    subst (λ at. passes_nothing_at at trees ≡ false) found (by (is_here trees view.wait) (passes_nothing_at (slice_get places view.at) trees) here calm)
   where
     by : (a b : Bool) → a ≡ true → (a && b) ≡ false → b ≡ false
     by true b t e = e
@@ -48,7 +48,7 @@ calm_place places trees view place here calm found =
 
 module _ (places : List Place) (Last : Option Place → List Forest → Type 0) (Whole : List ℕ → Type 0) (levels : List Forest) where
   -- A thread is moved.
-  told_moved : (by : Move) (further : List Forest) (sound : (it : Ask) → IsMoved by it → Passes it levels × (onward it levels ≡ passed (wait_of by it) further))
+  told_moved : (by : Move) (further : List Forest) (sound : (it : Label) → IsMoved by it → Passes it levels × (onward it levels ≡ passed (wait_of by it) further))
       (view : View) (old : List View) (olds : List Config) → ((place : Option Place) → Last place levels → ⊥) → passed view.wait levels ≡ levels → IsMovedAt by (slice_get places view.at)
       → Told places Last Whole (threads further old) (thread levels view ∷ olds)
       → Told places Last Whole (threads further (spread (delayed (wait_at by (slice_get places view.at)) view) 0 (edges_of (slice_get places view.at)) old)) olds
@@ -58,15 +58,15 @@ module _ (places : List Place) (Last : Option Place → List Forest → Type 0) 
           → Told places Last Whole (threads further (spread (delayed (wait_at by place) view) 0 (edges_of place) old)) olds
       at None found m = absurd m
       at (Some place) found m =
-          let n = wait_of by (ask_of place.atom) in
-          let is = sound (ask_of place.atom) m in
+          let n = wait_of by (label_of place.atom) in
+          let is = sound (label_of place.atom) m in
           told_spread places Last Whole further (delayed n view) 0 place.edges.items old olds
           (telling.told_same Config (Leads places Last) IsMany Whole (threads further old) olds (thread levels view) (fan 0 place.edges.items further (delayed n view)) told
           (becomes_fan places Last levels view here place found n further is.1 is.0 (goes_on (Some place))))
 
   -- A thread whose place requires something else is dropped.
   told_stuck : (news : List Config) (view : View) (olds : List Config) → ((place : Option Place) → Last place levels → ⊥) → passed view.wait levels ≡ levels
-      → ((place : Place) → slice_get places view.at ≡ Some place → Passes (ask_of place.atom) levels → ⊥)
+      → ((place : Place) → slice_get places view.at ≡ Some place → Passes (label_of place.atom) levels → ⊥)
       → Told places Last Whole news (thread levels view ∷ olds) → Told places Last Whole news olds
   told_stuck news view olds goes_on here stuck told =
       telling.told_dropped Config (Leads places Last) IsMany Whole news olds (thread levels view) told
@@ -82,8 +82,8 @@ module _ (places : List Place) (Last : Option Place → List Forest → Type 0) 
       (becomes_nearer places Last levels view (view.wait - 1) further same)))
 
   -- If all threads that pass are moved alike.
-  module _ (by : Move) (further : List Forest) (sound : (it : Ask) → IsMoved by it → Passes it levels × (onward it levels ≡ passed (wait_of by it) further))
-      (trees : Forest) (complete : (it : Ask) → asks_nothing it trees ≡ false → Passes it levels → IsMoved by it)
+  module _ (by : Move) (further : List Forest) (sound : (it : Label) → IsMoved by it → Passes it levels × (onward it levels ≡ passed (wait_of by it) further))
+      (trees : Forest) (complete : (it : Label) → passes_nothing it trees ≡ false → Passes it levels → IsMoved by it)
       (here : (n : ℕ) → is_waiting by n ≡ false → passed n levels ≡ levels)
       (standing : (n : ℕ) → is_waiting by n ≡ false → is_here trees n ≡ true)
       (nearer : (view : View) (old : List View) (olds : List Config) → is_waiting by view.wait ≡ true
@@ -98,9 +98,9 @@ module _ (places : List Place) (Last : Option Place → List Forest → Type 0) 
     told_step view old new olds calm goes_on (inr (stands, inr (stays, is))) told =
         subst (λ views. Told places Last Whole (threads further views) olds) (sym is)
         (told_stuck (threads further old) view olds (goes_on (standing view.wait stands)) (here view.wait stands)
-        (λ place found passes. stays (subst (IsMovedAt by) (sym found) (complete (ask_of place.atom) (calm_place places trees view place (standing view.wait stands) calm found) passes))) told)
+        (λ place found passes. stays (subst (IsMovedAt by) (sym found) (complete (label_of place.atom) (calm_place places trees view place (standing view.wait stands) calm found) passes))) told)
 
-    pub told_steps : (views old new : List View) (olds : List Config) → AreSettled places trees views → AreGoingOn Last levels trees views → AllStep places by views old new
+    pub told_steps : (views old new : List View) (olds : List Config) → AreClosed places trees views → AreGoingOn Last levels trees views → AllStep places by views old new
         → Told places Last Whole (threads further old) (threads levels views ++ olds) → Told places Last Whole (threads further new) olds
     told_steps [] old new olds calm goes_on is told = subst (λ views. Told places Last Whole (threads further views) olds) (sym is) told
     told_steps (view ∷ views) old new olds calm goes_on (middle, step, steps) told =
@@ -108,15 +108,15 @@ module _ (places : List Place) (Last : Option Place → List Forest → Type 0) 
 
   -- If some threads pass the first tree, and some enter it.
   module _ (before : Ahead) (kind : DelimiterKind) (behind inside : List Forest)
-      (pass_sound : (it : Ask) → IsMoved (move.Passes before) it → Passes it levels × (onward it levels ≡ passed (wait_of (move.Passes before) it) behind))
-      (enter_sound : (it : Ask) → IsMoved (move.Enters kind) it → Passes it levels × (onward it levels ≡ passed (wait_of (move.Enters kind) it) inside))
-      (trees : Forest) (complete : (it : Ask) → asks_nothing it trees ≡ false → Passes it levels → IsMoved (move.Passes before) it ⊎ IsMoved (move.Enters kind) it)
-      (not_both : (it : Ask) → IsMoved (move.Passes before) it → IsMoved (move.Enters kind) it → ⊥)
+      (pass_sound : (it : Label) → IsMoved (move.Passes before) it → Passes it levels × (onward it levels ≡ passed (wait_of (move.Passes before) it) behind))
+      (enter_sound : (it : Label) → IsMoved (move.Enters kind) it → Passes it levels × (onward it levels ≡ passed (wait_of (move.Enters kind) it) inside))
+      (trees : Forest) (complete : (it : Label) → passes_nothing it trees ≡ false → Passes it levels → IsMoved (move.Passes before) it ⊎ IsMoved (move.Enters kind) it)
+      (not_both : (it : Label) → IsMoved (move.Passes before) it → IsMoved (move.Enters kind) it → ⊥)
       (here : (n : ℕ) → is_waiting (move.Passes before) n ≡ false → passed n levels ≡ levels)
       (standing : (n : ℕ) → is_waiting (move.Passes before) n ≡ false → is_here trees n ≡ true)
       (nearer : (n : ℕ) → is_waiting (move.Passes before) n ≡ true → passed n levels ≡ passed (n - 1) behind) where
     told_here : (view : View) (old new old_in new_in : List View) (olds : List Config) → ((place : Option Place) → Last place levels → ⊥) → passed view.wait levels ≡ levels
-        → ((place : Place) → slice_get places view.at ≡ Some place → asks_nothing (ask_of place.atom) trees ≡ false)
+        → ((place : Place) → slice_get places view.at ≡ Some place → passes_nothing (label_of place.atom) trees ≡ false)
         → StepsOn places (move.Passes before) view old new → StepsOn places (move.Enters kind) view old_in new_in
         → Told places Last Whole (threads inside old_in) ((thread levels view ∷ olds) ++ threads behind old)
         → Told places Last Whole (threads inside new_in) (olds ++ threads behind new)
@@ -125,7 +125,7 @@ module _ (places : List Place) (Last : Option Place → List Forest → Type 0) 
       where
         at : (place : Option Place) → IsMovedAt (move.Passes before) place → IsMovedAt (move.Enters kind) place → ⊥
         at None a b = a
-        at (Some place) a b = not_both (ask_of place.atom) a b
+        at (Some place) a b = not_both (label_of place.atom) a b
     told_here view old new old_in new_in olds goes_on stands some (inl (moved, is)) (inr (stays_in, is_in)) told =
         subst (λ views. Told places Last Whole (threads inside views) (olds ++ threads behind new)) (sym is_in)
         (telling.told_swapped Config (Leads places Last) IsMany Whole (threads behind new) (threads inside old_in) olds
@@ -141,12 +141,12 @@ module _ (places : List Place) (Last : Option Place → List Forest → Type 0) 
         (subst (λ views. Told places Last Whole (threads inside views) (olds ++ threads behind old)) (sym is_in)
         (told_stuck (threads inside old_in) view (olds ++ threads behind old) goes_on stands stuck told))
       where
-        which : (place : Place) → slice_get places view.at ≡ Some place → IsMoved (move.Passes before) (ask_of place.atom) ⊎ IsMoved (move.Enters kind) (ask_of place.atom) → ⊥
+        which : (place : Place) → slice_get places view.at ≡ Some place → IsMoved (move.Passes before) (label_of place.atom) ⊎ IsMoved (move.Enters kind) (label_of place.atom) → ⊥
         which place found (inl m) = stays (subst (IsMovedAt (move.Passes before)) (sym found) m)
         which place found (inr m) = stays_in (subst (IsMovedAt (move.Enters kind)) (sym found) m)
 
-        stuck : (place : Place) → slice_get places view.at ≡ Some place → Passes (ask_of place.atom) levels → ⊥
-        stuck place found passes = which place found (complete (ask_of place.atom) (some place found) passes)
+        stuck : (place : Place) → slice_get places view.at ≡ Some place → Passes (label_of place.atom) levels → ⊥
+        stuck place found passes = which place found (complete (label_of place.atom) (some place found) passes)
 
     -- A thread that waits goes on after the tree.
     told_waits : (view : View) (old new old_in new_in : List View) (olds : List Config) → is_waiting (move.Passes before) view.wait ≡ true
@@ -176,7 +176,7 @@ module _ (places : List Place) (Last : Option Place → List Forest → Type 0) 
     told_either view old new old_in new_in olds calm goes_on (inr (stands, on)) (inr (stands_in, on_in)) told =
         told_here view old new old_in new_in olds (goes_on (standing view.wait stands)) (here view.wait stands) (λ place found. calm_place places trees view place (standing view.wait stands) calm found) on on_in told
 
-    pub told_both : (views old new old_in new_in : List View) (olds : List Config) → AreSettled places trees views → AreGoingOn Last levels trees views
+    pub told_both : (views old new old_in new_in : List View) (olds : List Config) → AreClosed places trees views → AreGoingOn Last levels trees views
         → AllStep places (move.Passes before) views old new → AllStep places (move.Enters kind) views old_in new_in
         → Told places Last Whole (threads inside old_in) ((threads levels views ++ olds) ++ threads behind old)
         → Told places Last Whole (threads inside new_in) (olds ++ threads behind new)
@@ -215,7 +215,7 @@ module _ (places : List Place) (Last : Option Place → List Forest → Type 0) 
   node_no_end trees children rest delimiter is ended = cc (sym is ∙ ended)
 
   -- A level is left.
-  pub told_left : (level : LevelView) (outer news : List LevelView) → AreSettled places level.trees level.views
+  pub told_left : (level : LevelView) (outer news : List LevelView) → AreClosed places level.trees level.views
       → AreGoingOn Last (level.trees ∷ levels_of outer) level.trees level.views → IsLeft places level outer news
       → Told places Last Whole [] (configs_of (level ∷ outer)) → Told places Last Whole [] (configs_of news)
   told_left level outer news calm goes_on is told =
@@ -234,11 +234,11 @@ module _ (places : List Place) (Last : Option Place → List Forest → Type 0) 
       still : AreGoingOn Last levels level.trees level.views
       still = subst (λ o. AreGoingOn Last (level.trees ∷ levels_of o) level.trees level.views) is.outer_is goes_on
 
-      sound : (it : Ask) → IsMoved move.Ends it → Passes it levels × (onward it levels ≡ passed (wait_of move.Ends it) further)
-      sound (ask.take which) m = absurd m
-      sound (ask.same its) m = absurd m
-      sound (ask.enter kind) m = absurd m
-      sound ask.leave m = (is.is_ended, refl)
+      sound : (it : Label) → IsMoved move.Ends it → Passes it levels × (onward it levels ≡ passed (wait_of move.Ends it) further)
+      sound (label.take which) m = absurd m
+      sound (label.same its) m = absurd m
+      sound (label.enter kind) m = absurd m
+      sound label.leave m = (is.is_ended, refl)
 
       here : (n : ℕ) → is_waiting move.Ends n ≡ false → passed n levels ≡ levels
       here n stands = ap (λ t. passed n (t ∷ further)) is.is_ended ∙ passed_end n further ∙ ap (λ t. t ∷ further) (sym is.is_ended)
@@ -250,15 +250,15 @@ module _ (places : List Place) (Last : Option Place → List Forest → Type 0) 
       standing : (n : ℕ) → is_waiting move.Ends n ≡ false → is_here level.trees n ≡ true
       standing n stands = subst (λ t. is_here t n ≡ true) (sym is.is_ended) refl
 
-      complete : (it : Ask) → asks_nothing it level.trees ≡ false → Passes it levels → IsMoved move.Ends it
-      complete (ask.take which) some p =
+      complete : (it : Label) → passes_nothing it level.trees ≡ false → Passes it levels → IsMoved move.Ends it
+      complete (label.take which) some p =
           takes_none which.fragment (subst (λ t. takes which.fragment t ≡ true) is.is_ended p) (subst (λ t. takes_nothing which.fragment t ≡ false) is.is_ended some)
-      complete (ask.same its) some p = no_unit its (subst (IsUnitLike its) is.is_ended p)
-      complete (ask.enter kind) some p = subst (IsNodeOf kind) is.is_ended p
-      complete ask.leave some p = tt
+      complete (label.same its) some p = no_unit its (subst (IsUnitLike its) is.is_ended p)
+      complete (label.enter kind) some p = subst (IsNodeOf kind) is.is_ended p
+      complete label.leave some p = tt
 
   -- A leaf is passed.
-  pub told_passed : (level : LevelView) (outer news : List LevelView) → AreSettled places level.trees level.views
+  pub told_passed : (level : LevelView) (outer news : List LevelView) → AreClosed places level.trees level.views
       → AreGoingOn Last (level.trees ∷ levels_of outer) level.trees level.views → IsPassed places level outer news
       → Told places Last Whole [] (configs_of (level ∷ outer)) → Told places Last Whole [] (configs_of news)
   told_passed level outer news calm goes_on is told =
@@ -272,16 +272,16 @@ module _ (places : List Place) (Last : Option Place → List Forest → Type 0) 
       further : List Forest
       further = after_tree level.trees ∷ levels_of outer
 
-      sound : (it : Ask) → IsMoved (move.Passes is.before) it → Passes it levels × (onward it levels ≡ passed (wait_of (move.Passes is.before) it) further)
-      sound (ask.take which) m = (
+      sound : (it : Label) → IsMoved (move.Passes is.before) it → Passes it levels × (onward it levels ≡ passed (wait_of (move.Passes is.before) it) further)
+      sound (label.take which) m = (
         subst (λ t. takes which.fragment t ≡ true) is.before_is m.0,
         take_onward which.fragment level.trees (rest_of is.before.trees) (levels_of outer) is.before_is (subst (λ t. takes_nothing which.fragment t ≡ false) is.before_is m.1),
       )
-      sound (ask.same its) m =
+      sound (label.same its) m =
           let like : IsUnitLike its level.trees = subst (IsUnitLike its) is.before_is m in
           (like, same_onward its level.trees (levels_of outer) like)
-      sound (ask.enter kind) m = absurd m
-      sound ask.leave m = absurd m
+      sound (label.enter kind) m = absurd m
+      sound label.leave m = absurd m
 
       here : (n : ℕ) → is_waiting (move.Passes is.before) n ≡ false → passed n levels ≡ levels
       here n stands = stands_here is.before level.trees (levels_of outer) n stands
@@ -291,14 +291,14 @@ module _ (places : List Place) (Last : Option Place → List Forest → Type 0) 
       nearer view old olds waits told =
           told_nearer places Last Whole levels further view old olds (goes_nearer is.before level.trees (levels_of outer) view.wait waits) told
 
-      complete : (it : Ask) → asks_nothing it level.trees ≡ false → Passes it levels → IsMoved (move.Passes is.before) it
-      complete (ask.take which) some p = (subst (λ t. takes which.fragment t ≡ true) (sym is.before_is) p, subst (λ t. takes_nothing which.fragment t ≡ false) (sym is.before_is) some)
-      complete (ask.same its) some p = subst (IsUnitLike its) (sym is.before_is) p
-      complete (ask.enter kind) some p = subst (IsNodeOf kind) is.first p
-      complete ask.leave some p = leaf_no_end level.trees (after_tree level.trees) is.it is.first p
+      complete : (it : Label) → passes_nothing it level.trees ≡ false → Passes it levels → IsMoved (move.Passes is.before) it
+      complete (label.take which) some p = (subst (λ t. takes which.fragment t ≡ true) (sym is.before_is) p, subst (λ t. takes_nothing which.fragment t ≡ false) (sym is.before_is) some)
+      complete (label.same its) some p = subst (IsUnitLike its) (sym is.before_is) p
+      complete (label.enter kind) some p = subst (IsNodeOf kind) is.first p
+      complete label.leave some p = leaf_no_end level.trees (after_tree level.trees) is.it is.first p
 
   -- A subtree is passed, or entered.
-  pub told_entered : (level : LevelView) (outer news : List LevelView) → AreSettled places level.trees level.views
+  pub told_entered : (level : LevelView) (outer news : List LevelView) → AreClosed places level.trees level.views
       → AreGoingOn Last (level.trees ∷ levels_of outer) level.trees level.views → IsEntered places level outer news
       → Told places Last Whole [] (configs_of (level ∷ outer)) → Told places Last Whole [] (configs_of news)
   told_entered level outer news calm goes_on is told =
@@ -328,34 +328,34 @@ module _ (places : List Place) (Last : Option Place → List Forest → Type 0) 
       swapped : (xs ys zs : List Config) → Told places Last Whole xs (zs ++ ys) → Told places Last Whole ys (zs ++ xs)
       swapped = telling.told_swapped Config (Leads places Last) IsMany Whole
 
-      pass_sound : (it : Ask) → IsMoved (move.Passes is.before) it → Passes it levels × (onward it levels ≡ passed (wait_of (move.Passes is.before) it) behind)
-      pass_sound (ask.take which) m = (
+      pass_sound : (it : Label) → IsMoved (move.Passes is.before) it → Passes it levels × (onward it levels ≡ passed (wait_of (move.Passes is.before) it) behind)
+      pass_sound (label.take which) m = (
         subst (λ t. takes which.fragment t ≡ true) is.before_is m.0,
         take_onward which.fragment level.trees (rest_of is.before.trees) (levels_of outer) is.before_is (subst (λ t. takes_nothing which.fragment t ≡ false) is.before_is m.1),
       )
-      pass_sound (ask.same its) m =
+      pass_sound (label.same its) m =
           let like : IsUnitLike its level.trees = subst (IsUnitLike its) is.before_is m in
           (like, same_onward its level.trees (levels_of outer) like)
-      pass_sound (ask.enter kind) m = absurd m
-      pass_sound ask.leave m = absurd m
+      pass_sound (label.enter kind) m = absurd m
+      pass_sound label.leave m = absurd m
 
-      enter_sound : (it : Ask) → IsMoved (move.Enters is.delimiter.kind) it → Passes it levels × (onward it levels ≡ passed (wait_of (move.Enters is.delimiter.kind) it) inside)
-      enter_sound (ask.take which) m = absurd m
-      enter_sound (ask.same its) m = absurd m
-      enter_sound (ask.enter kind) m = (subst (IsNodeOf kind) (sym is.first) m, ap (λ t. children_of t ∷ behind) is.first)
-      enter_sound ask.leave m = absurd m
+      enter_sound : (it : Label) → IsMoved (move.Enters is.delimiter.kind) it → Passes it levels × (onward it levels ≡ passed (wait_of (move.Enters is.delimiter.kind) it) inside)
+      enter_sound (label.take which) m = absurd m
+      enter_sound (label.same its) m = absurd m
+      enter_sound (label.enter kind) m = (subst (IsNodeOf kind) (sym is.first) m, ap (λ t. children_of t ∷ behind) is.first)
+      enter_sound label.leave m = absurd m
 
-      complete : (it : Ask) → asks_nothing it level.trees ≡ false → Passes it levels → IsMoved (move.Passes is.before) it ⊎ IsMoved (move.Enters is.delimiter.kind) it
-      complete (ask.take which) some p = inl (subst (λ t. takes which.fragment t ≡ true) (sym is.before_is) p, subst (λ t. takes_nothing which.fragment t ≡ false) (sym is.before_is) some)
-      complete (ask.same its) some p = inl (subst (IsUnitLike its) (sym is.before_is) p)
-      complete (ask.enter kind) some p = inr (subst (IsNodeOf kind) is.first p)
-      complete ask.leave some p = absurd (node_no_end level.trees is.children (after_tree level.trees) is.delimiter is.first p)
+      complete : (it : Label) → passes_nothing it level.trees ≡ false → Passes it levels → IsMoved (move.Passes is.before) it ⊎ IsMoved (move.Enters is.delimiter.kind) it
+      complete (label.take which) some p = inl (subst (λ t. takes which.fragment t ≡ true) (sym is.before_is) p, subst (λ t. takes_nothing which.fragment t ≡ false) (sym is.before_is) some)
+      complete (label.same its) some p = inl (subst (IsUnitLike its) (sym is.before_is) p)
+      complete (label.enter kind) some p = inr (subst (IsNodeOf kind) is.first p)
+      complete label.leave some p = absurd (node_no_end level.trees is.children (after_tree level.trees) is.delimiter is.first p)
 
-      not_both : (it : Ask) → IsMoved (move.Passes is.before) it → IsMoved (move.Enters is.delimiter.kind) it → ⊥
-      not_both (ask.take which) a b = b
-      not_both (ask.same its) a b = b
-      not_both (ask.enter kind) a b = a
-      not_both ask.leave a b = a
+      not_both : (it : Label) → IsMoved (move.Passes is.before) it → IsMoved (move.Enters is.delimiter.kind) it → ⊥
+      not_both (label.take which) a b = b
+      not_both (label.same its) a b = b
+      not_both (label.enter kind) a b = a
+      not_both label.leave a b = a
 
       stepped : Told places Last Whole ins (rest ++ threads behind is.views)
       stepped =
@@ -364,7 +364,7 @@ module _ (places : List Place) (Last : Option Place → List Forest → Type 0) 
           (subst (λ o. Told places Last Whole [] o) (sym (append-nil (threads levels level.views ++ rest))) told)
 
   -- A subtree that no thread enters is passed.
-  pub told_skipped : (level : LevelView) (outer news : List LevelView) → AreSettled places level.trees level.views
+  pub told_skipped : (level : LevelView) (outer news : List LevelView) → AreClosed places level.trees level.views
       → AreGoingOn Last (level.trees ∷ levels_of outer) level.trees level.views → IsSkipped places level outer news
       → Told places Last Whole [] (configs_of (level ∷ outer)) → Told places Last Whole [] (configs_of news)
   told_skipped level outer news calm goes_on is told =
@@ -385,7 +385,7 @@ module _ (places : List Place) (Last : Option Place → List Forest → Type 0) 
       }) told)
 
   -- Each step still accounts for all paths.
-  pub told_advances : (level : LevelView) (outer news : List LevelView) → AreSettled places level.trees level.views
+  pub told_advances : (level : LevelView) (outer news : List LevelView) → AreClosed places level.trees level.views
       → AreGoingOn Last (level.trees ∷ levels_of outer) level.trees level.views → Advances places level outer news
       → Told places Last Whole [] (configs_of (level ∷ outer)) → Told places Last Whole [] (configs_of news)
   told_advances level outer news calm goes_on (inl is) told = told_left level outer news calm goes_on is told

@@ -2,9 +2,9 @@ pub mod Adding
 pub mod BindRounds
 pub mod Binds
 pub mod Compiling
-pub mod CutLevels
-pub mod CutSteps
-pub mod CutWhole
+pub mod ParseLevels
+pub mod ParseSteps
+pub mod ParseWhole
 pub mod Decompiling
 pub mod DecompilingRounds
 pub mod EndSteps
@@ -19,7 +19,7 @@ pub mod Leading
 pub mod LeafSteps
 pub mod LevelSteps
 pub mod Levelling
-pub mod LinkSteps
+pub mod CompileSteps
 pub mod Logs
 pub mod OneReading
 pub mod PathsBack
@@ -28,7 +28,7 @@ pub mod Reaching
 pub mod ReadingSteps
 pub mod Results
 mod Rows
-pub mod SettleSteps
+pub mod ClosureSteps
 pub mod Standing
 pub mod Stands
 pub mod Starting

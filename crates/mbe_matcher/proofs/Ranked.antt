@@ -7,18 +7,18 @@ use Rattle.mbe_pattern.specs.declared.pattern.RepeatKind.{RepeatKind}
 use Rattle.mbe_pattern.specs.declared.pattern.RepeatKind.TheVariants as repeat
 use Rattle.mbe_pattern.specs.Patterns.{Pattern, nothing, variable, token, subtree, repetition, may_take_none, may_be_empty, IsFull}
 use Rattle.mbe_matcher.specs.declared.places.Place.{Place}
-use Rattle.mbe_matcher.specs.Asks.{ask_of}
-use Rattle.mbe_matcher.specs.Asks as ask
+use Rattle.mbe_matcher.specs.Labels.{label_of}
+use Rattle.mbe_matcher.specs.Labels as label
 use Rattle.mbe_matcher.specs.Compiled.{Stop, IsStop, Stand, place_count, separator_count, entries, again, separator_stops, stops, all_stops}
-use Rattle.mbe_matcher.specs.Linking.{stop_of}
-use Rattle.mbe_matcher.specs.Settling.{may_ask_nothing, may_ask_nothing_at, AreBelow, AreRanked}
+use Rattle.mbe_matcher.specs.Compiling.{stop_of}
+use Rattle.mbe_matcher.specs.Closures.{may_pass_nothing, may_pass_nothing_at, AreBelow, AreRanked}
 use Rattle.mbe_matcher.specs.Threads.{edges_of}
 use Rattle.mbe_matcher.proofs.Compiling.{length-stops, length-separator, entries_full}
 
 -- There are as many places as the pattern has, plus its end.
 pub length_stops : (places : List Place) (pattern : Pattern) → map stop_of places ≡ all_stops pattern → length places ≡ suc (place_count pattern)
 length_stops places pattern are =
-    let last : Stop = record { asked = ask.leave; edges = [] } in
+    let last : Stop = record { label = label.leave; edges = [] } in
     omega (arith, length-map places stop_of, ap length are, length-append (stops 0 pattern (place_count pattern ∷ [])) (last ∷ []), length-stops 0 pattern (place_count pattern ∷ []))
 
 -- the rank of a variable's place, of that many places: above those further on; if everything after it may be nothing, a round may begin
@@ -169,7 +169,7 @@ module _ (rank : ℕ → ℕ) where
 
     -- a place is ranked if it may require nothing
     abbrev IsRanked : (at : ℕ) → Stop → Type 0
-    IsRanked at stop = may_ask_nothing stop.asked ≡ true → (rank at < most + most) × AreBelow rank (rank at) stop.edges
+    IsRanked at stop = may_pass_nothing stop.label ≡ true → (rank at < most + most) × AreBelow rank (rank at) stop.edges
 
     abbrev StopsRanked : (at : ℕ) → List Stop → Type 0
     StopsRanked at [] = Unit {0}
@@ -223,7 +223,7 @@ module _ (rank : ℕ → ℕ) where
     )
     ranked_stops at (subtree kind inner others) behind full have lt low =
         let leave = suc at + place_count inner in
-        let last : Stop = record { asked = ask.leave; edges = entries (suc leave) others behind } in
+        let last : Stop = record { label = label.leave; edges = entries (suc leave) others behind } in
         let held : Have (suc at) (ranks most (suc at) inner) = have_left (suc at) (ranks most (suc at) inner) (0 ∷ ranks most (suc leave) others) have.1 in
         let rest : Have leave (0 ∷ ranks most (suc leave) others) =
         have_right (suc at) leave (ranks most (suc at) inner) (0 ∷ ranks most (suc leave) others) (omega (arith, length-ranks most (suc at) inner)) have.1 in (
@@ -258,15 +258,15 @@ module _ (rank : ℕ → ℕ) where
 
     -- If the places are these stops, each of them is ranked.
     at_stop : (places : List Place) (at : ℕ) (its : List Stop) → Stand places at its → StopsRanked at its → (n : ℕ) → at ≤ n → n < at + length its
-        → may_ask_nothing_at (slice_get places n) ≡ true → (rank n < most + most) × AreBelow rank (rank n) (edges_of (slice_get places n))
+        → may_pass_nothing_at (slice_get places n) ≡ true → (rank n < most + most) × AreBelow rank (rank n) (edges_of (slice_get places n))
     at_stop places at [] stand are n le lt h = absurd (omega (arith, le, lt))
     at_stop places at (it ∷ others) stand are n le lt h =
         by (n - at) refl (λ more less. at_stop places (suc at) others stand.1 are.1 n more less h)
       where
-        found : (place : Option Place) → IsStop place it → IsRanked n it → may_ask_nothing_at place ≡ true → (rank n < most + most) × AreBelow rank (rank n) (edges_of place)
+        found : (place : Option Place) → IsStop place it → IsRanked n it → may_pass_nothing_at place ≡ true → (rank n < most + most) × AreBelow rank (rank n) (edges_of place)
         found None is ranked h = absurd is
         found (Some place) is ranked h =
-            let told = ranked (subst (λ a. may_ask_nothing a ≡ true) is.0 h) in
+            let told = ranked (subst (λ a. may_pass_nothing a ≡ true) is.0 h) in
             (told.0, subst (AreBelow rank (rank n)) (sym is.1) told.1)
 
         by : (ahead : ℕ) → n - at ≡ ahead → (suc at ≤ n → n < suc at + length others → (rank n < most + most) × AreBelow rank (rank n) (edges_of (slice_get places n)))
@@ -313,7 +313,7 @@ are_ranked places pattern full count stand at may = by (length places - at) refl
     most = suc (place_count pattern)
 
     last : Stop
-    last = record { asked = ask.leave; edges = [] }
+    last = record { label = label.leave; edges = [] }
 
     inside : Have rank 0 (ranks most 0 pattern)
     inside = have_left rank 0 (ranks most 0 pattern) (0 ∷ []) (have_behind [] (all_ranks pattern))
@@ -328,7 +328,7 @@ are_ranked places pattern full count stand at may = by (length places - at) refl
         (λ h. absurd (cc h), tt)
 
     by : (ahead : ℕ) → length places - at ≡ ahead → (rank at < length places + length places) × AreBelow rank (rank at) (edges_of (slice_get places at))
-    by zero is = absurd (cc (sym (ap may_ask_nothing_at (none_beyond places at (omega (arith, is)))) ∙ may))
+    by zero is = absurd (cc (sym (ap may_pass_nothing_at (none_beyond places at (omega (arith, is)))) ∙ may))
     by (suc ahead) is =
         let told =
         at_stop rank most places 0 (all_stops pattern) stand all at (omega arith)

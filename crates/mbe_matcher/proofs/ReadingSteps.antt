@@ -10,7 +10,7 @@ use Rattle.mbe_matcher.specs.declared.threads.Turn.{Turn}
 use Rattle.std.specs.Prelude.{◌⊎◌, Option}
 use Rattle.mbe_matcher.specs.Levels.{LevelView, level_view, level_views, AreLevelsWithin, reached}
 use Rattle.mbe_matcher.specs.Places.{Ends, GoesAll, AreLeft, left_in}
-use Rattle.mbe_matcher.specs.Settling.{IsSettledBy}
+use Rattle.mbe_matcher.specs.Closures.{IsClosure}
 use Rattle.mbe_matcher.specs.Threads.{View, views_of, AreWithin, IsGrown, spread, threads_spread}
 use Rattle.mbe_matcher.proofs.Logs.{views_spread, within_spread, path_none}
 use Rattle.mbe_matcher.proofs.Leading.{threads, Told}
@@ -86,7 +86,7 @@ module _ (places : List Place) (starts : List ℕ) (input : Forest) (log new : L
 
   -- Then they are settled.
   pub told_next : levels ≡ popped ++ level ∷ [] → IsGrown log new → AreLevelsWithin log popped → rest_of next.rest ≡ rest_of level.rest → next.until ≡ level.until
-      → IsSettledBy places (rest_of level.rest) (views_of log level.threads.items) (views_of new next.threads.items)
+      → IsClosure places (rest_of level.rest) (views_of log level.threads.items) (views_of new next.threads.items)
       → AreTold places starts input far (level_views log (reverse levels))
       → AreTold places starts input far_with (level_view new next ∷ level_views new (reverse popped)) × IsUpTo places starts input far_with (level_view new next) (level_views new (reverse popped))
   told_next was grown within rest until by told =

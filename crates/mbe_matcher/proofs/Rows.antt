@@ -8,7 +8,7 @@ use Rattle.mbe_pattern.specs.declared.pattern.Fragment.{Fragment}
 use Rattle.mbe_pattern.specs.declared.pattern.Fragment.TheVariants as fragment
 use Rattle.mbe_pattern.specs.declared.pattern.Variable.{Variable}
 use Rattle.mbe_matcher.specs.declared.steps.Step.TheVariants as step
-use Rattle.mbe_matcher.specs.Asks as ask
+use Rattle.mbe_matcher.specs.Labels as label
 use Rattle.mbe_matcher.specs.Bindings.{one, none, first, binding_of, bound_to}
 use Rattle.mbe_matcher.specs.Grouping.{variables_of, binding_by}
 use Rattle.mbe_matcher.specs.Marks.{taken as took_by, begun, ended, notes_of}
@@ -164,10 +164,10 @@ listed_starts : starts_of (pattern_of listed) ≡ 0 ∷ 2 ∷ 3 ∷ []
 listed_starts = refl
 
 listed_stops : all_stops (pattern_of listed)
-    ≡ record { asked = ask.take (x_of fragment.Ident); edges = 1 ∷ 2 ∷ 3 ∷ [] }
-    ∷ record { asked = ask.same (punct 44 Joint ∷ []); edges = 0 ∷ [] }
-    ∷ record { asked = ask.same (punct 44 Alone ∷ []); edges = 3 ∷ [] }
-    ∷ record { asked = ask.leave; edges = [] }
+    ≡ record { label = label.take (x_of fragment.Ident); edges = 1 ∷ 2 ∷ 3 ∷ [] }
+    ∷ record { label = label.same (punct 44 Joint ∷ []); edges = 0 ∷ [] }
+    ∷ record { label = label.same (punct 44 Alone ∷ []); edges = 3 ∷ [] }
+    ∷ record { label = label.leave; edges = [] }
     ∷ []
 listed_stops = refl
 

@@ -2,7 +2,7 @@
 use Rattle.std.proofs.Common.{◌≡◌, suc, List, [], ◌∷◌, ◌++◌, map, length, Some, slice_get, refl, subst, sym, arith, append_assoc, length-append}
 use Rattle.mbe_matcher.specs.declared.places.Place.{Place}
 use Rattle.mbe_matcher.specs.Compiled.{Stop, Stand, IsStop}
-use Rattle.mbe_matcher.specs.Linking.{stop_of}
+use Rattle.mbe_matcher.specs.Compiling.{stop_of}
 
 -- The place after a prefix has the length of the prefix as its number.
 found_behind : (before : List Place) (it : Place) (others : List Place) → slice_get (before ++ it ∷ others) (length before) ≡ Some it

@@ -2,7 +2,7 @@
 use Rattle.std.proofs.Common.{ℕ, List, [], ◌∷◌, arith}
 use Rattle.std.specs.Prelude.{Option}
 use Rattle.tt.specs.Forest.{Forest}
-use Rattle.mbe_matcher.specs.Asks as ask
+use Rattle.mbe_matcher.specs.Labels as label
 use Rattle.mbe_matcher.specs.declared.places.Place.{Place}
 use Rattle.mbe_matcher.specs.Compiled.{Stop, Stand, place_count, stops, all_stops, starts_of}
 use Rattle.mbe_matcher.specs.Places.{GoesAll}
@@ -12,7 +12,7 @@ use Rattle.mbe_matcher.proofs.Via.{Via, stand_left, stand_right}
 
 -- the place of the final end
 abbrev pub last_stop : Stop
-last_stop = record { asked = ask.leave; edges = [] }
+last_stop = record { label = label.leave; edges = [] }
 
 module _ (places : List Place) (pattern : Pattern) (stand : Stand places 0 (all_stops pattern)) where
   -- The pattern's places come first, and then that one.

@@ -6,7 +6,7 @@ use Rattle.mbe_matcher.specs.declared.places.Place.{Place}
 use Rattle.mbe_matcher.specs.declared.threads.Move.{Move}
 use Rattle.mbe_matcher.specs.declared.threads.Thread.{Thread}
 use Rattle.mbe_matcher.specs.declared.threads.Turn.{Turn}
-use Rattle.mbe_matcher.specs.Asks.{ask_of}
+use Rattle.mbe_matcher.specs.Labels.{label_of}
 use Rattle.mbe_matcher.specs.Threads.{View, view_of, views_of, AreWithin, IsGrown, thread_added, delayed, spread, threads_spread, IsMoved, wait_of, IsMovedAt, wait_at, edges_of, StepsOn, Steps, AllStep}
 use Rattle.mbe_matcher.proofs.Logs.{view_kept}
 
@@ -31,11 +31,11 @@ module _ (places : List Place) (by : Move) (view : View) (old new : List View) w
   steps_none none same = inr (λ moved. subst (IsMovedAt by) none moved, same)
 
   -- A place that requires something else adds none either.
-  pub steps_still : (place : Place) → slice_get places view.at ≡ Some place → (IsMoved by (ask_of place.atom) → ⊥) → new ≡ old → StepsOn places by view old new
+  pub steps_still : (place : Place) → slice_get places view.at ≡ Some place → (IsMoved by (label_of place.atom) → ⊥) → new ≡ old → StepsOn places by view old new
   steps_still place found still same = inr (λ moved. still (subst (IsMovedAt by) found moved), same)
 
   -- A place that is passed adds a thread for each edge.
-  pub steps_moved : (place : Place) → slice_get places view.at ≡ Some place → IsMoved by (ask_of place.atom) → (wait : ℕ) → wait ≡ wait_of by (ask_of place.atom)
+  pub steps_moved : (place : Place) → slice_get places view.at ≡ Some place → IsMoved by (label_of place.atom) → (wait : ℕ) → wait ≡ wait_of by (label_of place.atom)
       → new ≡ spread (delayed wait view) 0 place.edges.items old → StepsOn places by view old new
   steps_moved place found moved wait waits is = inl (
     subst (IsMovedAt by) (sym found) moved,

@@ -5,10 +5,10 @@ use Rattle.std.specs.Prelude.{drop}
 use Rattle.mbe_matcher.specs.declared.steps.End.{End}
 use Rattle.mbe_matcher.specs.declared.steps.Step.{Step}
 use Rattle.mbe_matcher.specs.declared.steps.Step.TheVariants as step
-use Rattle.mbe_matcher.specs.Asks as ask
+use Rattle.mbe_matcher.specs.Labels as label
 use Rattle.mbe_matcher.specs.Compiled.{separator_count, place_count, entries}
 use Rattle.mbe_matcher.specs.Grouping.{Where, held_in, variables_of}
-use Rattle.mbe_matcher.specs.Linking.{again_from}
+use Rattle.mbe_matcher.specs.Compiling.{again_from}
 use Rattle.mbe_matcher.specs.Marks.{pass_count, step_count}
 use Rattle.mbe_pattern.specs.Patterns.{Pattern, nothing, variable, token, subtree, repetition, may_be_more}
 use Rattle.mbe_matcher.specs.Pieces.{Bit, place, begin, close, bits_of, all_bits}
@@ -121,20 +121,20 @@ taken_pattern at nothing behind taken = refl
 taken_pattern at (variable it others) behind taken =
     let after = taken_of behind taken in
     let nest = map number_of (reverse after.ends) in
-    ap (taken_with (place at (ask.take it))) (taken_pattern (suc at) others behind taken)
+    ap (taken_with (place at (label.take it))) (taken_pattern (suc at) others behind taken)
     ∙ ap (λ (n : ℕ). record {
       steps = step.Take it.fragment ∷ steps_before (suc at) others after.steps;
       ends = after.ends;
       variables = record { variable = it; number = n; nest = nest } ∷ placed_before others (length after.steps) nest after.variables;
     }) (length-steps (suc at) others after.steps)
-taken_pattern at (token its others) behind taken = ap (taken_with (place at (ask.same its))) (taken_pattern (suc at) others behind taken)
+taken_pattern at (token its others) behind taken = ap (taken_with (place at (label.same its))) (taken_pattern (suc at) others behind taken)
 taken_pattern at (subtree kind inner others) behind taken =
     let leave = suc at + place_count inner in
     let after = taken_of behind taken in
     let nest = map number_of (reverse after.ends) in
-    ap (taken_with (place at (ask.enter kind)))
-    (taken_pattern (suc at) inner (place leave ask.leave ∷ bits_of (suc leave) others behind) taken
-    ∙ ap (λ t. taken_before (suc at) inner (taken_with (place leave ask.leave) t)) (taken_pattern (suc leave) others behind taken))
+    ap (taken_with (place at (label.enter kind)))
+    (taken_pattern (suc at) inner (place leave label.leave ∷ bits_of (suc leave) others behind) taken
+    ∙ ap (λ t. taken_before (suc at) inner (taken_with (place leave label.leave) t)) (taken_pattern (suc leave) others behind taken))
     ∙ taken_as (step.Enter ∷ steps_before (suc at) inner (step.Leave ∷ steps_before (suc leave) others after.steps)) after.ends inner (placed_before others (length after.steps) nest after.variables)
     (suc (length (steps_before (suc leave) others after.steps))) (suc (step_count others + length after.steps)) nest nest (ap suc (length-steps (suc leave) others after.steps)) refl
 taken_pattern at (repetition inner separator op others) behind taken =
@@ -190,6 +190,6 @@ placed_as (repetition inner separator op others) behind nest left =
 -- So the pieces of a whole pattern make all of its steps, and its variables.
 pub taken_whole : (pattern : Pattern) → taken_of (all_bits pattern) nothing_taken ≡ record { steps = steps_of pattern; ends = []; variables = variables_of pattern 1 }
 taken_whole pattern =
-    taken_pattern 0 pattern (place (place_count pattern) ask.leave ∷ []) nothing_taken
+    taken_pattern 0 pattern (place (place_count pattern) label.leave ∷ []) nothing_taken
     ∙ ap (λ (l : List Where). record { steps = steps_of pattern; ends = []; variables = l })
     (placed_as pattern 1 [] [] ∙ append-nil (map (under []) (variables_of pattern 1)) ∙ under_none (variables_of pattern 1))

@@ -5,8 +5,8 @@ use Rattle.std.specs.Global.{Global}
 use Rattle.std.specs.Prelude.{◌⊎◌, ◌||◌, Vec, nat_eq}
 use Rattle.tt.specs.Forest.{Forest, end, size}
 use Rattle.tt.specs.Siblings.{is_end}
-use Rattle.mbe_matcher.specs.Asks.{Ask, ask_of}
-use Rattle.mbe_matcher.specs.Asks as ask
+use Rattle.mbe_matcher.specs.Labels.{Label, label_of}
+use Rattle.mbe_matcher.specs.Labels as label
 use Rattle.mbe_matcher.specs.declared.places.Place.{Place}
 use Rattle.mbe_matcher.specs.declared.reading.Choice.{Choice}
 use Rattle.mbe_matcher.specs.declared.reading.Choice.TheVariants as choice
@@ -14,14 +14,14 @@ use Rattle.mbe_matcher.specs.declared.threads.Thread.{Thread}
 use Rattle.mbe_matcher.specs.declared.threads.Turn.{Turn}
 use Rattle.mbe_matcher.specs.Levels.{LevelView, Advances, IsEndedWith, AreStopped, Finds, choice_of, found_of, reached}
 use Rattle.mbe_matcher.specs.Places.{is_leave, Ends, ReadsAll, StopsAll, AreLeft, left_in}
-use Rattle.mbe_matcher.specs.Settling.{is_here, asks_nothing, AreSettled, IsSettledBy}
+use Rattle.mbe_matcher.specs.Closures.{is_here, passes_nothing, AreClosed, IsClosure}
 use Rattle.mbe_matcher.specs.Threads.{View, view_of, views_of}
 use Rattle.mbe_matcher.proofs.Ending.{Says, says}
 use Rattle.mbe_matcher.proofs.Leading.{threads, Has, HasMany, Told}
 use Rattle.mbe_matcher.proofs.LevelSteps.{configs_of, levels_of, told_advances}
 use Rattle.mbe_matcher.proofs.Results.{less_or_not}
-use Rattle.mbe_matcher.proofs.SettleSteps.{here_is, told_settled}
-use Rattle.mbe_matcher.proofs.Stands.{Stands, AreGoingOn, AreGoingAtOnce, stands_settled}
+use Rattle.mbe_matcher.proofs.ClosureSteps.{here_is, told_closure}
+use Rattle.mbe_matcher.proofs.Stands.{Stands, AreGoingOn, AreGoingAtOnce, stands_closed}
 
 -- the levels, the innermost first, end where the tokens of the ones outside begin
 abbrev pub AreCounted : (total : ℕ) → List LevelView → Type 0
@@ -63,14 +63,14 @@ no_end places level outer news (inr (inr (inl is))) stands (Some place) ends = l
 no_end places level outer news (inr (inr (inr is))) stands (Some place) ends = let none : level.trees ≡ end = cc ends.1 in cc (sym is.first ∙ none)
 
 -- A place that requires nothing is no end.
-asks_inside : (it : Ask) (trees : Forest) → asks_nothing it trees ≡ true → is_leave it ≡ true → ⊥
-asks_inside (ask.take which) trees none leave = cc leave
-asks_inside (ask.same its) trees none leave = cc leave
-asks_inside (ask.enter kind) trees none leave = cc leave
-asks_inside ask.leave trees none leave = cc none
+asks_inside : (it : Label) (trees : Forest) → passes_nothing it trees ≡ true → is_leave it ≡ true → ⊥
+asks_inside (label.take which) trees none leave = cc leave
+asks_inside (label.same its) trees none leave = cc leave
+asks_inside (label.enter kind) trees none leave = cc leave
+asks_inside label.leave trees none leave = cc none
 
 no_end_at_once : (levels : List Forest) (trees : Forest) (views : List View) → AreGoingAtOnce Ends levels trees views
-no_end_at_once levels trees views stands place none ends = asks_inside (ask_of place.atom) trees none ends.0
+no_end_at_once levels trees views stands place none ends = asks_inside (label_of place.atom) trees none ends.0
 
 module _ (places : List Place) (starts : List ℕ) (input : Forest) where
   -- that many tokens precede the place where paths stop
@@ -156,29 +156,29 @@ module _ (places : List Place) (starts : List ℕ) (input : Forest) where
 
     module _ (told : AreTold at (level ∷ outer)) (up : IsUpTo at level outer) where
       -- Settled threads account for the same.
-      pub told_calm : (views : List View) → IsSettledBy places level.trees level.views views
+      pub told_calm : (views : List View) → IsClosure places level.trees level.views views
           → AreTold at (record { trees = level.trees; until = level.until; views = views } ∷ outer) × IsUpTo at (record { trees = level.trees; until = level.until; views = views }) outer
       told_calm views by = (
         record {
           whole =
               subst (λ vs. Told places Ends (ReadsAll places starts input) [] (threads levels vs ++ configs_of outer)) (sym by.same)
-              (told_settled places Ends (ReadsAll places starts input) level.trees (levels_of outer) by.count level.views (configs_of outer) (no_end_at_once levels level.trees level.views) told.whole);
+              (told_closure places Ends (ReadsAll places starts input) level.trees (levels_of outer) by.count level.views (configs_of outer) (no_end_at_once levels level.trees level.views) told.whole);
           stops = λ left less.
               subst (λ vs. Told places (AreLeft left) (StopsAll places left starts input) [] (threads levels vs ++ configs_of outer)) (sym by.same)
-              (told_settled places (AreLeft left) (StopsAll places left starts input) level.trees (levels_of outer) by.count level.views (configs_of outer)
+              (told_closure places (AreLeft left) (StopsAll places left starts input) level.trees (levels_of outer) by.count level.views (configs_of outer)
               (λ stands place none. no_stop up left less stands (Some place)) (told.stops left less));
           comes = told.comes;
           counted = told.counted;
           behind = told.behind;
         },
-        λ stands. up (stands_settled level.trees places by.count level.views (subst (Stands level.trees) by.same stands)),
+        λ stands. up (stands_closed level.trees places by.count level.views (subst (Stands level.trees) by.same stands)),
       )
         where
           levels : List Forest
           levels = level.trees ∷ levels_of outer
 
       -- The threads after a step do so too.
-      pub told_on : (news : List LevelView) → AreSettled places level.trees level.views → Advances places level outer news → AreTold at news
+      pub told_on : (news : List LevelView) → AreClosed places level.trees level.views → Advances places level outer news → AreTold at news
       told_on news calm is =
           record {
             whole = told_advances places Ends (ReadsAll places starts input) level outer news calm (no_end places level outer news is) is told.whole;
@@ -189,10 +189,10 @@ module _ (places : List Place) (starts : List ℕ) (input : Forest) where
           }
 
       -- At the end of the outermost level the choice says which paths are wanted.
-      pub says_ended : (log : List Turn) (its : List Thread) → AreSettled places level.trees level.views → IsEndedWith level outer (views_of log its)
+      pub says_ended : (log : List Turn) (its : List Thread) → AreClosed places level.trees level.views → IsEndedWith level outer (views_of log its)
           → Says places (ReadsAll places starts input) log (choice_of places choice.Nothing its)
       says_ended log its calm is =
-          says places (ReadsAll places starts input) log its level.trees is.is_ended (subst (AreSettled places level.trees) (sym is.views_are) calm)
+          says places (ReadsAll places starts input) log its level.trees is.is_ended (subst (AreClosed places level.trees) (sym is.views_are) calm)
           (subst (λ vs. Told places Ends (ReadsAll places starts input) [] (threads (level.trees ∷ []) vs ++ [])) (sym is.views_are)
           (subst (λ ls. Told places Ends (ReadsAll places starts input) [] (configs_of (level ∷ ls))) is.is_outermost told.whole))
 

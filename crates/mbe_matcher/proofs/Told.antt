@@ -14,7 +14,7 @@ use Rattle.mbe_matcher.specs.Places.{Ends, ReadsAll, Reads, StopsAll}
 use Rattle.mbe_matcher.specs.Readings.{Reading, Takes, IsInstance, IsNoInstance, IsReadBy, IsAmbiguous}
 use Rattle.mbe_matcher.specs.declared.threads.Turn.{Turn}
 use Rattle.mbe_matcher.specs.Threads.{path_to}
-use Rattle.mbe_matcher.specs.Told.{TellsPaths}
+use Rattle.mbe_matcher.specs.Finding.{ArePaths}
 use Rattle.mbe_matcher.proofs.Compiling.{from_reading}
 use Rattle.mbe_matcher.proofs.Decompiling.{to_reading}
 use Rattle.mbe_matcher.proofs.DecompilingRounds.{Read}
@@ -89,12 +89,12 @@ module _ (places : List Place) (pattern : Pattern) (full : IsFull pattern) (stan
       }
 
   -- What was found of the paths also holds of the readings.
-  pub tells : (it : Paths) → Finds (ReadsAll places (starts_of pattern) input) (λ left. StopsAll places left (starts_of pattern) input) (size input) it → TellsPaths pattern input it
+  pub tells : (it : Paths) → Finds (ReadsAll places (starts_of pattern) input) (λ left. StopsAll places left (starts_of pattern) input) (size input) it → ArePaths pattern input it
   tells (paths.Nothing at) finds = (no_instance finds.0, stops_there places pattern full stand input at finds.1)
   tells (paths.One log last) finds = let one = one_instance (path_to log.items last) finds in (one.0, one.1, one.2)
   tells paths.Many finds = two_instances finds
 
 -- If there is one path, the answer is one.
-pub as_one : (it : Paths) (log : Vec Turn Global) (newest : Turn) (pattern : Pattern) (input : Forest) → it ≡ paths.One log newest → TellsPaths pattern input it
-    → TellsPaths pattern input (paths.One log newest)
-as_one it log newest pattern input is told = subst (TellsPaths pattern input) is told
+pub as_one : (it : Paths) (log : Vec Turn Global) (newest : Turn) (pattern : Pattern) (input : Forest) → it ≡ paths.One log newest → ArePaths pattern input it
+    → ArePaths pattern input (paths.One log newest)
+as_one it log newest pattern input is told = subst (ArePaths pattern input) is told

@@ -18,17 +18,17 @@ module _ (places : List Place) where
 
   module _ (levels : List Forest) (at : ℕ) (stop : Stop) (stands : IsStop (slice_get places at) stop) where
     -- At the end of everything a path ends, and only there.
-    pub ends_by : is_leave stop.asked ≡ true → levels ≡ end ∷ [] → Reads places at levels []
+    pub ends_by : is_leave stop.label ≡ true → levels ≡ end ∷ [] → Reads places at levels []
     ends_by leave ended = by (slice_get places at) stands
       where
         by : (place : Option Place) → IsStop place stop → Ends place levels
         by None is = absurd is
         by (Some place) is = (subst (λ a. is_leave a ≡ true) (sym is.0) leave, ended)
 
-    pub ended_by : Ends (slice_get places at) levels → (is_leave stop.asked ≡ true) × (levels ≡ end ∷ [])
+    pub ended_by : Ends (slice_get places at) levels → (is_leave stop.label ≡ true) × (levels ≡ end ∷ [])
     ended_by ends = by (slice_get places at) stands ends
       where
-        by : (place : Option Place) → IsStop place stop → Ends place levels → (is_leave stop.asked ≡ true) × (levels ≡ end ∷ [])
+        by : (place : Option Place) → IsStop place stop → Ends place levels → (is_leave stop.label ≡ true) × (levels ≡ end ∷ [])
         by None is e = absurd is
         by (Some place) is e = (subst (λ a. is_leave a ≡ true) is.0 e.0, e.1)
 
@@ -96,7 +96,7 @@ module _ (places : List Place) (Last : Option Place → List Forest → Type 0) 
 
     module _ (at : ℕ) (stop : Stop) (stands : IsStop (slice_get places at) stop) where
       -- The place has what it requires, and one of its edges leads on.
-      pub goes_by : (path : List ℕ) → Passes stop.asked levels → Via stop.edges (onward stop.asked levels) path → Goes places Last at levels path
+      pub goes_by : (path : List ℕ) → Passes stop.label levels → Via stop.edges (onward stop.label levels) path → Goes places Last at levels path
       goes_by [] passes v = absurd v
       goes_by (turn ∷ more) passes v = by (slice_get places at) stands
         where
@@ -105,20 +105,20 @@ module _ (places : List Place) (Last : Option Place → List Forest → Type 0) 
           by (Some place) is = (
             subst (λ a. Passes a levels) (sym is.0) passes,
             subst (λ a. OnEdge turn place.edges.items (λ to. Goes places Last to (onward a levels) more)) (sym is.0)
-                (subst (λ e. OnEdge turn e (λ to. Goes places Last to (onward stop.asked levels) more)) (sym is.1) v),
+                (subst (λ e. OnEdge turn e (λ to. Goes places Last to (onward stop.label levels) more)) (sym is.1) v),
           )
 
       -- Conversely, if the path does not end.
       pub comes_by : (path : List ℕ) → Goes places Last at levels path
-          → ((path ≡ []) × Last (slice_get places at) levels) ⊎ (Passes stop.asked levels × Via stop.edges (onward stop.asked levels) path)
+          → ((path ≡ []) × Last (slice_get places at) levels) ⊎ (Passes stop.label levels × Via stop.edges (onward stop.label levels) path)
       comes_by [] last = inl (refl, last)
       comes_by (turn ∷ more) goes = by (slice_get places at) stands goes
         where
           by : (place : Option Place) → IsStop place stop → GoesOn place levels turn (λ to further. Goes places Last to further more)
-              → ((turn ∷ more ≡ []) × Last (slice_get places at) levels) ⊎ (Passes stop.asked levels × Via stop.edges (onward stop.asked levels) (turn ∷ more))
+              → ((turn ∷ more ≡ []) × Last (slice_get places at) levels) ⊎ (Passes stop.label levels × Via stop.edges (onward stop.label levels) (turn ∷ more))
           by None is g = absurd is
           by (Some place) is g = inr (
             subst (λ a. Passes a levels) is.0 g.0,
-            subst (λ e. OnEdge turn e (λ to. Goes places Last to (onward stop.asked levels) more)) is.1
+            subst (λ e. OnEdge turn e (λ to. Goes places Last to (onward stop.label levels) more)) is.1
                 (subst (λ a. OnEdge turn place.edges.items (λ to. Goes places Last to (onward a levels) more)) is.0 g.1),
           )

@@ -44,9 +44,9 @@ module _ (spot : Spot) (turn : ℕ) (path : List ℕ) (is : spot.path ≡ turn �
     where
       finish : (left : List Note) → notes ≡ so_far ++ left → (less : List Note) × (left ≡ noted spot.here turn (behind_turn path spot) ++ less) × Notes next less
           → (less : List Note) × (notes ≡ news ++ less) × Notes new less
-      finish left all (less, cut, on) = (
+      finish left all (less, parse, on) = (
         less,
-        all ∙ ap (λ l. so_far ++ l) cut ∙ sym (append_assoc so_far (noted spot.here turn (behind_turn path spot)) less) ∙ ap (λ l. l ++ less) (sym more),
+        all ∙ ap (λ l. so_far ++ l) parse ∙ sym (append_assoc so_far (noted spot.here turn (behind_turn path spot)) less) ∙ ap (λ l. l ++ less) (sym more),
         subst (λ s. Notes s less) (sym same) on,
       )
 

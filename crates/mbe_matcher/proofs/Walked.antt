@@ -11,7 +11,7 @@ use Rattle.mbe_matcher.specs.declared.steps.Step.{Step}
 use Rattle.mbe_matcher.specs.declared.steps.Step.TheVariants as step
 use Rattle.mbe_matcher.specs.Compiled.{separator_count, place_count, entries, again}
 use Rattle.mbe_matcher.specs.Fragments.{taken, left_by}
-use Rattle.mbe_matcher.specs.Linking.{again_from}
+use Rattle.mbe_matcher.specs.Compiling.{again_from}
 use Rattle.mbe_matcher.specs.Marks.{Note, pass_count, step_count, notes_of_rounds, notes_before, notes_of}
 use Rattle.mbe_matcher.specs.Marks as note
 use Rattle.mbe_matcher.specs.Paths.{shift, firsts, entry_count, path_of, path_of_others, path_of_rounds}
@@ -19,7 +19,7 @@ use Rattle.mbe_pattern.specs.Patterns.{Pattern, nothing, variable, token, subtre
 use Rattle.mbe_matcher.specs.Readings.{Reading, done, took, held, round, over, trees_taken, inside_of, more_of, Takes, AreRounds, AreOtherRounds, Separates, IsInstance}
 use Rattle.mbe_matcher.specs.Steps.{with_pass, with_begin, steps_before, steps_of}
 use Rattle.mbe_matcher.specs.Walking.{Notes, started}
-use Rattle.mbe_matcher.proofs.LinkSteps.{again_same}
+use Rattle.mbe_matcher.proofs.CompileSteps.{again_same}
 use Rattle.mbe_matcher.proofs.OneReading.{Below, below_entries, below_again}
 use Rattle.mbe_matcher.proofs.StepsMade.{past_rounds, past_separator, length-steps}
 use Rattle.mbe_matcher.proofs.WalkSteps.{Leads, at_spot, lead_take, lead_pass, lead_enter, lead_leave, lead_round, lead_past, lead_again, lead_over}

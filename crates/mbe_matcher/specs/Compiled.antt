@@ -4,13 +4,13 @@ use Rattle.tt.specs.Types.Leaf.{Leaf}
 use Rattle.mbe_pattern.specs.declared.pattern.RepeatKind.{RepeatKind}
 use Rattle.mbe_pattern.specs.declared.pattern.RepeatKind.TheVariants as repeat
 use Rattle.mbe_matcher.specs.declared.places.Place.{Place}
-use Rattle.mbe_matcher.specs.Asks.{Ask, ask_of}
-use Rattle.mbe_matcher.specs.Asks as ask
+use Rattle.mbe_matcher.specs.Labels.{Label, label_of}
+use Rattle.mbe_matcher.specs.Labels as label
 use Rattle.mbe_pattern.specs.Patterns.{Pattern, nothing, variable, token, subtree, repetition}
 
 -- what a place requires, and where its edges lead
 pub record Stop : Type 0 where
-  pub asked : Ask
+  pub label : Label
   pub edges : List ℕ
 
 -- how many places a separator has
@@ -49,17 +49,17 @@ again at inner (it ∷ others) repeat.OneOrMore = (at + place_count inner) ∷ [
 -- the place of a separator, which leads to a round
 abbrev pub separator_stops : List Leaf → (behind : List ℕ) → List Stop
 separator_stops [] behind = []
-separator_stops (it ∷ others) behind = record { asked = ask.same (it ∷ others); edges = behind } ∷ []
+separator_stops (it ∷ others) behind = record { label = label.same (it ∷ others); edges = behind } ∷ []
 
 -- the places of a pattern; the first has that number, and the given edges lead to what follows
 abbrev pub stops : (at : ℕ) → Pattern → (behind : List ℕ) → List Stop
 stops at nothing behind = []
-stops at (variable it others) behind = record { asked = ask.take it; edges = entries (suc at) others behind } ∷ stops (suc at) others behind
-stops at (token its others) behind = record { asked = ask.same its; edges = entries (suc at) others behind } ∷ stops (suc at) others behind
+stops at (variable it others) behind = record { label = label.take it; edges = entries (suc at) others behind } ∷ stops (suc at) others behind
+stops at (token its others) behind = record { label = label.same its; edges = entries (suc at) others behind } ∷ stops (suc at) others behind
 stops at (subtree kind inner others) behind =
-    record { asked = ask.enter kind; edges = entries (suc at) inner ((suc at + place_count inner) ∷ []) }
+    record { label = label.enter kind; edges = entries (suc at) inner ((suc at + place_count inner) ∷ []) }
     ∷ (stops (suc at) inner ((suc at + place_count inner) ∷ [])
-    ++ record { asked = ask.leave; edges = entries (suc (suc at + place_count inner)) others behind }
+    ++ record { label = label.leave; edges = entries (suc (suc at + place_count inner)) others behind }
     ∷ stops (suc (suc at + place_count inner)) others behind)
 stops at (repetition inner separator op others) behind =
     stops at inner (again at inner separator op ++ entries (at + place_count inner + separator_count separator) others behind)
@@ -68,7 +68,7 @@ stops at (repetition inner separator op others) behind =
 
 -- the places of a whole pattern; the last one is passed at the end of the input
 abbrev pub all_stops : Pattern → List Stop
-all_stops pattern = stops 0 pattern (place_count pattern ∷ []) ++ record { asked = ask.leave; edges = [] } ∷ []
+all_stops pattern = stops 0 pattern (place_count pattern ∷ []) ++ record { label = label.leave; edges = [] } ∷ []
 
 -- where it may begin
 abbrev pub starts_of : Pattern → List ℕ
@@ -77,7 +77,7 @@ starts_of pattern = entries 0 pattern (place_count pattern ∷ [])
 -- the place is such a stop
 abbrev pub IsStop : Option Place → Stop → Type 0
 IsStop None stop = ⊥
-IsStop (Some place) stop = (ask_of place.atom ≡ stop.asked) × (place.edges.items ≡ stop.edges)
+IsStop (Some place) stop = (label_of place.atom ≡ stop.label) × (place.edges.items ≡ stop.edges)
 
 -- the places from there on are these stops
 abbrev pub Stand : List Place → (at : ℕ) → List Stop → Type 0

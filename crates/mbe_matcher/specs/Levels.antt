@@ -17,9 +17,9 @@ use Rattle.mbe_matcher.specs.declared.reading.Level.{Level}
 use Rattle.mbe_matcher.specs.declared.threads.Move.TheVariants as move
 use Rattle.mbe_matcher.specs.declared.threads.Thread.{Thread}
 use Rattle.mbe_matcher.specs.declared.threads.Turn.{Turn}
-use Rattle.mbe_matcher.specs.Asks.{ask_of}
+use Rattle.mbe_matcher.specs.Labels.{label_of}
 use Rattle.mbe_matcher.specs.Places.{is_leave}
-use Rattle.mbe_matcher.specs.Settling.{is_here}
+use Rattle.mbe_matcher.specs.Closures.{is_here}
 use Rattle.mbe_matcher.specs.Threads.{View, views_of, path_to, AreWithin, AllStep}
 
 -- what is left of a level, how many tokens of the input precede its end, and the views of its threads
@@ -131,7 +131,7 @@ pub record IsEndedWith (level : LevelView) (outer : List LevelView) (views : Lis
 -- whether the place is the end of a subtree, or of the whole pattern
 abbrev pub is_leave_at : Option Place → Bool
 is_leave_at None = false
-is_leave_at (Some place) = is_leave (ask_of place.atom)
+is_leave_at (Some place) = is_leave (label_of place.atom)
 
 -- one more thread at the end: two threads, or one that represents many, are many
 abbrev pub with_thread : Choice → Thread → Choice

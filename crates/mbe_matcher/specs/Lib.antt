@@ -3,7 +3,7 @@ pub mod Aheads
 pub mod Asks
 pub mod Bindings
 pub mod Compiled
-pub mod Cutting
+pub mod Parser
 pub mod Ends
 pub mod Fragments
 pub mod Fronts

@@ -5,8 +5,8 @@ use Rattle.tt.specs.Gluing.{after_trees}
 use Rattle.tt.specs.Moves.{after_tree}
 use Rattle.tt.specs.Siblings.{children_of}
 use Rattle.mbe_matcher.specs.declared.places.Place.{Place}
-use Rattle.mbe_matcher.specs.Asks.{Ask, ask_of}
-use Rattle.mbe_matcher.specs.Asks as ask
+use Rattle.mbe_matcher.specs.Labels.{Label, label_of}
+use Rattle.mbe_matcher.specs.Labels as label
 use Rattle.mbe_matcher.specs.Fragments.{takes, reach}
 use Rattle.mbe_pattern.specs.declared.pattern.Variable.{Variable}
 use Rattle.mbe_pattern.specs.Units.{IsUnitLike, IsNodeOf}
@@ -27,11 +27,11 @@ TakesFront which [] = ⊥
 TakesFront which (trees ∷ outer) = takes which.fragment trees ≡ true
 
 -- the levels, the innermost first, have what is required
-abbrev pub Passes : Ask → List Forest → Type 0
-Passes (ask.take which) levels = TakesFront which levels
-Passes (ask.same its) levels = IsUnitLike its (front levels)
-Passes (ask.enter kind) levels = IsNodeOf kind (front levels)
-Passes ask.leave levels = IsEnded levels
+abbrev pub Passes : Label → List Forest → Type 0
+Passes (label.take which) levels = TakesFront which levels
+Passes (label.same its) levels = IsUnitLike its (front levels)
+Passes (label.enter kind) levels = IsNodeOf kind (front levels)
+Passes label.leave levels = IsEnded levels
 
 -- the levels after that many trees of the innermost
 abbrev pub passed : ℕ → List Forest → List Forest
@@ -49,11 +49,11 @@ left [] = []
 left (trees ∷ outer) = outer
 
 -- the levels after what was required
-abbrev pub onward : Ask → List Forest → List Forest
-onward (ask.take which) levels = passed (reach which.fragment (front levels)) levels
-onward (ask.same its) levels = passed (length its) levels
-onward (ask.enter kind) levels = entered levels
-onward ask.leave levels = left levels
+abbrev pub onward : Label → List Forest → List Forest
+onward (label.take which) levels = passed (reach which.fragment (front levels)) levels
+onward (label.same its) levels = passed (length its) levels
+onward (label.enter kind) levels = entered levels
+onward label.leave levels = left levels
 
 -- the edge of that number leads to where this holds
 abbrev pub OnEdge : (turn : ℕ) → (edges : List ℕ) → (ℕ → Type 0) → Type 0
@@ -62,21 +62,21 @@ OnEdge zero (to ∷ others) P = P to
 OnEdge (suc turn) (to ∷ others) P = OnEdge turn others P
 
 -- it is the end of a subtree, or of the whole pattern
-abbrev pub is_leave : Ask → Bool
-is_leave (ask.take which) = false
-is_leave (ask.same its) = false
-is_leave (ask.enter kind) = false
-is_leave ask.leave = true
+abbrev pub is_leave : Label → Bool
+is_leave (label.take which) = false
+is_leave (label.same its) = false
+is_leave (label.enter kind) = false
+is_leave label.leave = true
 
 -- the path ends here: no level is left
 abbrev pub Ends : Option Place → (levels : List Forest) → Type 0
 Ends None levels = ⊥
-Ends (Some place) levels = (is_leave (ask_of place.atom) ≡ true) × (levels ≡ end ∷ [])
+Ends (Some place) levels = (is_leave (label_of place.atom) ≡ true) × (levels ≡ end ∷ [])
 
 -- what the place requires is there, and the edge leads to where this holds of the levels after it
 abbrev pub GoesOn : Option Place → (levels : List Forest) → (turn : ℕ) → (ℕ → List Forest → Type 0) → Type 0
 GoesOn None levels turn P = ⊥
-GoesOn (Some place) levels turn P = Passes (ask_of place.atom) levels × OnEdge turn place.edges.items (λ to. P to (onward (ask_of place.atom) levels))
+GoesOn (Some place) levels turn P = Passes (label_of place.atom) levels × OnEdge turn place.edges.items (λ to. P to (onward (label_of place.atom) levels))
 
 -- the path, a list of edge numbers, leads from a place before levels to where this holds of a place and the levels that are left
 abbrev pub Goes : (places : List Place) → (Last : Option Place → List Forest → Type 0) → (at : ℕ) → (levels : List Forest) → (path : List ℕ) → Type 0

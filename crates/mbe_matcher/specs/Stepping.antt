@@ -6,10 +6,10 @@ use Rattle.mbe_matcher.specs.declared.steps.End.{End}
 use Rattle.mbe_matcher.specs.declared.steps.Step.{Step}
 use Rattle.mbe_matcher.specs.declared.steps.Step.TheVariants as step
 use Rattle.mbe_matcher.specs.declared.steps.Stepped.{Stepped}
-use Rattle.mbe_matcher.specs.Asks.{Ask}
-use Rattle.mbe_matcher.specs.Asks as ask
+use Rattle.mbe_matcher.specs.Labels.{Label}
+use Rattle.mbe_matcher.specs.Labels as label
 use Rattle.mbe_matcher.specs.Grouping.{Where}
-use Rattle.mbe_matcher.specs.Linking.{again_from}
+use Rattle.mbe_matcher.specs.Compiling.{again_from}
 use Rattle.mbe_pattern.specs.Patterns.{may_be_more}
 use Rattle.mbe_matcher.specs.Pieces.{Bit, begin, close, place}
 use Rattle.mbe_matcher.specs.Steps.{with_begin}
@@ -21,11 +21,11 @@ pub record Taken : Type 0 where
   pub variables : List Where
 
 -- the step of what a place requires
-abbrev pub step_of : Ask → Step
-step_of (ask.take which) = step.Take which.fragment
-step_of (ask.same its) = step.Pass (length its)
-step_of (ask.enter kind) = step.Enter
-step_of ask.leave = step.Leave
+abbrev pub step_of : Label → Step
+step_of (label.take which) = step.Take which.fragment
+step_of (label.same its) = step.Pass (length its)
+step_of (label.enter kind) = step.Enter
+step_of label.leave = step.Leave
 
 -- the number of a repetition
 abbrev pub number_of : End → ℕ
@@ -44,11 +44,11 @@ bound_with it taken =
 abbrev pub with_step : Step → Taken → Taken
 with_step it taken = record { steps = it ∷ taken.steps; ends = taken.ends; variables = taken.variables }
 
-abbrev pub placed_with : Ask → Taken → Taken
-placed_with (ask.take it) taken = with_step (step.Take it.fragment) (bound_with it taken)
-placed_with (ask.same its) taken = with_step (step.Pass (length its)) taken
-placed_with (ask.enter kind) taken = with_step step.Enter taken
-placed_with ask.leave taken = with_step step.Leave taken
+abbrev pub placed_with : Label → Taken → Taken
+placed_with (label.take it) taken = with_step (step.Take it.fragment) (bound_with it taken)
+placed_with (label.same its) taken = with_step (step.Pass (length its)) taken
+placed_with (label.enter kind) taken = with_step step.Enter taken
+placed_with label.leave taken = with_step step.Leave taken
 
 -- a variable of a matcher, with its number and its repetitions
 abbrev pub where_of : Binder → Where
@@ -70,7 +70,7 @@ closed_with ways separator again taken =
 
 -- one more piece; the pieces come from the last to the first
 abbrev pub taken_with : Bit → Taken → Taken
-taken_with (place at asked) taken = placed_with asked taken
+taken_with (place at label) taken = placed_with label taken
 taken_with begin taken = with_beginning taken.ends taken
 taken_with (close at separator kind its) taken =
     closed_with (length its) (length separator) (length (again_from at separator (may_be_more kind) its)) taken

@@ -3,7 +3,7 @@ use Rattle.std.specs.Prelude.{ℕ, zero, suc, ◌+◌, ◌-◌, List, [], ◌∷
 use Rattle.mbe_matcher.specs.declared.steps.Step.{Step}
 use Rattle.mbe_matcher.specs.declared.steps.Step.TheVariants as step
 use Rattle.mbe_matcher.specs.Compiled.{separator_count, place_count, entries}
-use Rattle.mbe_matcher.specs.Linking.{again_from}
+use Rattle.mbe_matcher.specs.Compiling.{again_from}
 use Rattle.mbe_matcher.specs.Marks.{pass_count}
 use Rattle.mbe_pattern.specs.Patterns.{Pattern, nothing, variable, token, subtree, repetition, may_be_more}
 

@@ -6,8 +6,8 @@ use Rattle.mbe_matcher.specs.declared.threads.Move.{Move}
 use Rattle.mbe_matcher.specs.declared.threads.Move.TheVariants as move
 use Rattle.mbe_matcher.specs.declared.threads.Thread.{Thread}
 use Rattle.mbe_matcher.specs.declared.threads.Turn.{Turn}
-use Rattle.mbe_matcher.specs.Asks.{Ask, ask_of}
-use Rattle.mbe_matcher.specs.Asks as ask
+use Rattle.mbe_matcher.specs.Labels.{Label, label_of}
+use Rattle.mbe_matcher.specs.Labels as label
 use Rattle.mbe_matcher.specs.Fragments.{takes, takes_nothing, reach}
 use Rattle.mbe_pattern.specs.Units.{IsUnitLike}
 
@@ -91,37 +91,37 @@ threads_spread wait is_many before turn (to ∷ others) threads =
     (thread_added (record { at = to; wait = wait; is_many = is_many; last = record { edge = turn; before = before } }) threads)
 
 -- the input has what is required, and goes on by this move
-abbrev pub IsMoved : Move → Ask → Type 0
-IsMoved (move.Passes ahead) (ask.take which) = (takes which.fragment (rest_of ahead.trees) ≡ true) × (takes_nothing which.fragment (rest_of ahead.trees) ≡ false)
-IsMoved (move.Passes ahead) (ask.same its) = IsUnitLike its (rest_of ahead.trees)
-IsMoved (move.Passes ahead) (ask.enter kind) = ⊥
-IsMoved (move.Passes ahead) ask.leave = ⊥
-IsMoved (move.Enters kind) (ask.take which) = ⊥
-IsMoved (move.Enters kind) (ask.same its) = ⊥
-IsMoved (move.Enters kind) (ask.enter other) = kind ≡ other
-IsMoved (move.Enters kind) ask.leave = ⊥
-IsMoved move.Ends (ask.take which) = ⊥
-IsMoved move.Ends (ask.same its) = ⊥
-IsMoved move.Ends (ask.enter kind) = ⊥
-IsMoved move.Ends ask.leave = Unit {0}
+abbrev pub IsMoved : Move → Label → Type 0
+IsMoved (move.Passes ahead) (label.take which) = (takes which.fragment (rest_of ahead.trees) ≡ true) × (takes_nothing which.fragment (rest_of ahead.trees) ≡ false)
+IsMoved (move.Passes ahead) (label.same its) = IsUnitLike its (rest_of ahead.trees)
+IsMoved (move.Passes ahead) (label.enter kind) = ⊥
+IsMoved (move.Passes ahead) label.leave = ⊥
+IsMoved (move.Enters kind) (label.take which) = ⊥
+IsMoved (move.Enters kind) (label.same its) = ⊥
+IsMoved (move.Enters kind) (label.enter other) = kind ≡ other
+IsMoved (move.Enters kind) label.leave = ⊥
+IsMoved move.Ends (label.take which) = ⊥
+IsMoved move.Ends (label.same its) = ⊥
+IsMoved move.Ends (label.enter kind) = ⊥
+IsMoved move.Ends label.leave = Unit {0}
 
 -- for how many trees after the first the thread then waits
-abbrev pub wait_of : Move → Ask → ℕ
-wait_of (move.Passes ahead) (ask.take which) = reach which.fragment (rest_of ahead.trees) - 1
-wait_of (move.Passes ahead) (ask.same its) = length its - 1
-wait_of (move.Passes ahead) (ask.enter kind) = 0
-wait_of (move.Passes ahead) ask.leave = 0
-wait_of (move.Enters kind) asked = 0
-wait_of move.Ends asked = 0
+abbrev pub wait_of : Move → Label → ℕ
+wait_of (move.Passes ahead) (label.take which) = reach which.fragment (rest_of ahead.trees) - 1
+wait_of (move.Passes ahead) (label.same its) = length its - 1
+wait_of (move.Passes ahead) (label.enter kind) = 0
+wait_of (move.Passes ahead) label.leave = 0
+wait_of (move.Enters kind) label = 0
+wait_of move.Ends label = 0
 
 -- the same, if there is such a place
 abbrev pub IsMovedAt : Move → Option Place → Type 0
 IsMovedAt by None = ⊥
-IsMovedAt by (Some place) = IsMoved by (ask_of place.atom)
+IsMovedAt by (Some place) = IsMoved by (label_of place.atom)
 
 abbrev pub wait_at : Move → Option Place → ℕ
 wait_at by None = 0
-wait_at by (Some place) = wait_of by (ask_of place.atom)
+wait_at by (Some place) = wait_of by (label_of place.atom)
 
 -- its edges
 abbrev pub edges_of : Option Place → List ℕ

@@ -6,7 +6,7 @@ ghost use Rattle.mbe_matcher.specs.Fragments.{takes, reach};
 ghost use Rattle.mbe_pattern.specs.declared.pattern.Fragment.TheVariants as fragment_of;
 ghost use Rattle.mbe_pattern.specs.Units.{unit_size, IsLeafLike, IsUnitLike};
 
-use crate::asks::{are_leaves_like, grammar_reach, reach, takes, takes_nothing};
+use crate::fragment::{are_leaves_like, grammar_reach, reach, takes, takes_nothing};
 use mbe_pattern::{Fragment, GrammarFragment, is_same_leaf, unit_size};
 use std::alloc::{AllocError, Global};
 use tt::{DelimiterKind, Leaf, Spacing, TtElement, TtIter};

@@ -8,7 +8,7 @@ ghost use Rattle.mbe_matcher.specs.Marks.{note_of};
 ghost use Rattle.mbe_pattern.specs.Patterns.{Pattern, IsFull};
 ghost use Rattle.mbe_matcher.specs.Steps.{steps_of};
 ghost use Rattle.mbe_matcher.specs.Threads.{path_to, earlier};
-ghost use Rattle.mbe_matcher.specs.Told.{Tells, TellsPaths};
+ghost use Rattle.mbe_matcher.specs.Finding.{IsFound, ArePaths};
 
 use crate::reading::Paths;
 use crate::steps::Step;
@@ -137,7 +137,7 @@ pub(crate) fn found_by<'i>(
     paths: Paths,
     input: TtIter<'i>,
 ) -> Result<Found<'i>, AllocError>
-    ensures { IfOk result (λ found. (pattern : Pattern) → IsFull pattern → steps.now ≡ steps_of pattern → TellsPaths pattern (rest_of input.entry) paths → Tells pattern (rest_of input.entry) found) }
+    ensures { IfOk result (λ found. (pattern : Pattern) → IsFull pattern → steps.now ≡ steps_of pattern → ArePaths pattern (rest_of input.entry) paths → IsFound pattern (rest_of input.entry) found) }
 {
     match paths {
         Paths::Nothing(at) => Ok(Found::Nothing(at)),

@@ -1,11 +1,11 @@
 //! Patterns of macros with repetitions, and whether an input is an instance of one.
 //!
-//! `Matcher::new` has `judge` of `mbe_pattern` check the pattern, and compiles it in two walks. `cutting` writes its parts
-//! as pieces. `linking` goes through the pieces from the last and makes places: what each requires of the input, and the
+//! `Matcher::new` has `validate` of `mbe_pattern` check the pattern, and compiles it in two walks. `parse` writes its parts
+//! as pieces. `compile` goes through the pieces from the last and makes places: what each requires of the input, and the
 //! numbers of the places that may follow.
 //!
 //! `Matcher::read` goes once through the input with a list of the open subtrees. Before each tree it keeps threads. A thread is a place,
-//! how many trees to pass before it continues there, and whether several paths lead to it. `settling` moves threads on from places that
+//! how many trees to pass before it continues there, and whether several paths lead to it. `closure` moves threads on from places that
 //! require nothing. A log of the turns makes it possible to walk back the one path that is left at the end.
 //!
 //! `walking` then goes along that path through the pattern's steps and the input, and notes marks: the trees that a variable takes, the
@@ -13,15 +13,15 @@
 #![tactic(auto)]
 
 mod ahead;
-mod asks;
 mod binding;
-mod cutting;
-mod linking;
+mod closure;
+mod compile;
+mod fragment;
 mod matcher;
+mod parse;
 mod pieces;
 mod places;
 mod reading;
-mod settling;
 mod steps;
 mod threads;
 mod walking;

@@ -1,19 +1,19 @@
 //! The matcher of a pattern. It reads any number of inputs.
 ghost use Rattle.std.specs.Prelude.{◌≡◌, None, IfOk, IfErr};
 ghost use Rattle.tt.specs.Iters.{rest_of};
-ghost use Rattle.mbe_matcher.specs.Told.{Tells};
+ghost use Rattle.mbe_matcher.specs.Finding.{IsFound};
 ghost use Rattle.mbe_matcher.specs.Matchers.{IsMatcherOf};
 ghost use Rattle.mbe_pattern.specs.Faults.{pattern_fault, IsPatternError};
 ghost use Rattle.mbe_pattern.specs.Patterns.{Pattern};
 ghost use Rattle.mbe_pattern.specs.Spelling.{pattern_of};
 
 use crate::binding::{Found, found_by};
-use crate::cutting::cut;
-use crate::linking::{Linked, link};
+use crate::compile::{Compiled, compile};
+use crate::parse::parse;
 use crate::places::Place;
 use crate::reading::read_all;
 use crate::steps::{Binder, Step, Stepped, step_by_step};
-use mbe_pattern::{PatternError, judge};
+use mbe_pattern::{PatternError, validate};
 use std::alloc::{AllocError, Global};
 use tt::TtIter;
 
@@ -39,8 +39,8 @@ impl Matcher {
         ensures sound { IfOk result (λ _. pattern_fault (rest_of pattern.entry) ≡ None) }
         ensures err { IfErr result (IsPatternError (rest_of pattern.entry)) }
     {
-        judge(alloc, pattern.remaining().iter())?;
-        let pieces = cut(alloc, pattern)?;
+        validate(alloc, pattern.remaining().iter())?;
+        let pieces = parse(alloc, pattern)?;
         let Stepped {
             mut steps,
             mut binders,
@@ -48,11 +48,11 @@ impl Matcher {
         } = step_by_step(alloc, &pieces)?;
         steps.reverse();
         binders.reverse();
-        let Linked {
+        let Compiled {
             mut places,
             edges: starts,
             ..
-        } = link(alloc, pieces)?;
+        } = compile(alloc, pieces)?;
         places.reverse();
         Ok(Matcher {
             places,
@@ -76,7 +76,7 @@ impl Matcher {
     /// places that are passed. A fragment of Rust's grammar is read at each tree before which a thread needs it, and looks ahead as far as
     /// it reaches. Fails only if memory runs out.
     pub fn read<'i>(&self, alloc: Global, input: TtIter<'i>) -> Result<Found<'i>, AllocError>
-        ensures { IfOk result (λ found. (pattern : Pattern) → IsMatcherOf pattern self.now → Tells pattern (rest_of input.entry) found) }
+        ensures { IfOk result (λ found. (pattern : Pattern) → IsMatcherOf pattern self.now → IsFound pattern (rest_of input.entry) found) }
     {
         let paths = read_all(alloc, &self.places, &self.starts, input.remaining().iter())?;
         found_by(alloc, &self.steps, paths, input)

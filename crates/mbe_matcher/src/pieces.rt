@@ -26,7 +26,7 @@ pub(crate) struct Level<'p> {
 
 /// The pieces so far, the number of the next place, and the levels that are left, the innermost last.
 #[derive(Drop)]
-pub(crate) struct Cutting<'p> {
+pub(crate) struct Parser<'p> {
     pub(crate) pieces: Vec<Piece>,
     pub(crate) count: usize,
     pub(crate) levels: Vec<Level<'p>>,

@@ -6,12 +6,12 @@ ghost use Rattle.tt.specs.Moves.{after_tree};
 ghost use Rattle.mbe_matcher.specs.Aheads.{IsAhead, IsAheadIn};
 ghost use Rattle.mbe_matcher.specs.Levels.{level_view, view_before, level_views, AreLevelsWithin, Advances, IsEndedWith, Finds, is_leave_at, with_thread, choice_of, found_of, reached};
 ghost use Rattle.mbe_matcher.specs.Places.{ReadsAll, StopsAll};
-ghost use Rattle.mbe_matcher.specs.Settling.{IsSettledBy, AreRanked};
+ghost use Rattle.mbe_matcher.specs.Closures.{IsClosure, AreRanked};
 ghost use Rattle.mbe_matcher.specs.Threads.{views_of, AreWithin, IsGrown, AllStep};
 
 use crate::ahead::Ahead;
+use crate::closure::closure;
 use crate::places::{Atom, Place};
-use crate::settling::settle;
 use crate::threads::{Move, Thread, Turn, spread_to, step_all};
 use std::alloc::{AllocError, Global};
 use tt::TtIter;
@@ -78,7 +78,7 @@ fn moved<'i>(
 }
 
 // Returns the level after its threads went on from places that require nothing.
-fn settle_level<'i>(
+fn closure_level<'i>(
     alloc: Global,
     places: &[Place],
     level: Level<'i>,
@@ -86,7 +86,7 @@ fn settle_level<'i>(
 ) -> Result<Level<'i>, AllocError>
     requires own { AreWithin log.old.items level.threads.items }
     ensures rest { IfOk result (λ next. (rest_of next.rest ≡ rest_of level.entry.rest) × (next.until ≡ level.entry.until)) }
-    ensures settled { IfOk result (λ next. IsSettledBy places.now (rest_of level.entry.rest) (views_of log.old.items level.entry.threads.items) (views_of log.new.items next.threads.items)) }
+    ensures closure { IfOk result (λ next. IsClosure places.now (rest_of level.entry.rest) (views_of log.old.items level.entry.threads.items) (views_of log.new.items next.threads.items)) }
     ensures grown { OnOk result (IsGrown log.old.items log.new.items) }
     ensures now_within { IfOk result (λ next. AreWithin log.new.items next.threads.items) }
 {
@@ -95,7 +95,7 @@ fn settle_level<'i>(
         until,
         threads,
     } = level;
-    let threads = settle(alloc, places, &rest, threads, log)?;
+    let threads = closure(alloc, places, &rest, threads, log)?;
     Ok(Level {
         rest,
         until,
@@ -269,7 +269,7 @@ pub(crate) fn read_all(
     let mut farthest = 0;
     while let Some(level) = levels.pop() {
         farthest = reached(&level, farthest);
-        let calm = settle_level(alloc, places, level, &mut log)?;
+        let calm = closure_level(alloc, places, level, &mut log)?;
         if let Some(ended) = advance(alloc, places, calm, &mut levels, &mut log)? {
             let choice = chosen(places, &ended);
             return Ok(find_by(choice, log, farthest));

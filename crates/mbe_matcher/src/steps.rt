@@ -1,7 +1,7 @@
 //! A pattern as the steps of a walk through it.
 ghost use Rattle.std.specs.Prelude.{◌≡◌, IfOk, OnOk, map, drop, length};
-ghost use Rattle.mbe_matcher.specs.Asks.{ask_of};
-ghost use Rattle.mbe_matcher.specs.Linking.{again_from};
+ghost use Rattle.mbe_matcher.specs.Labels.{label_of};
+ghost use Rattle.mbe_matcher.specs.Compiling.{again_from};
 ghost use Rattle.mbe_matcher.specs.Marks.{pass_count};
 ghost use Rattle.mbe_pattern.specs.Patterns.{may_be_more};
 ghost use Rattle.mbe_matcher.specs.Pieces.{bit_of};
@@ -59,7 +59,7 @@ pub(crate) struct Stepped {
 
 // Returns the step of a place.
 fn step_of(atom: &Atom) -> Step
-    ensures { result ≡ step_of (ask_of atom.now) }
+    ensures { result ≡ step_of (label_of atom.now) }
 {
     match atom {
         Atom::Take(variable) => Step::Take(variable.fragment),
@@ -130,7 +130,7 @@ impl Stepped {
 
     // Adds the step of a place.
     fn place(&mut self, alloc: Global, atom: &Atom) -> Result<(), AllocError>
-        ensures { OnOk result (taken_by self.new ≡ placed_with (ask_of atom.now) (taken_by self.old)) }
+        ensures { OnOk result (taken_by self.new ≡ placed_with (label_of atom.now) (taken_by self.old)) }
     {
         if let Atom::Take(variable) = atom {
             self.bind(alloc, variable)?;

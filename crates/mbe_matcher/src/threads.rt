@@ -1,7 +1,7 @@
 //! Threads: the places that the paths through an input have reached.
 ghost use Rattle.std.specs.Prelude.{◌≡◌, ◌≤◌, IfOk, OnOk, length, MatchOption};
 ghost use Rattle.mbe_matcher.specs.Aheads.{IsAheadIn};
-ghost use Rattle.mbe_matcher.specs.Asks.{ask_of};
+ghost use Rattle.mbe_matcher.specs.Labels.{label_of};
 ghost use Rattle.mbe_matcher.specs.Threads.{threads_meet, thread_added, threads_spread, view_of, views_of, AreWithin, IsGrown, IsMoved, wait_of, is_waiting, threads_waited, StepsOn, Steps, AllStep};
 
 use crate::ahead::Ahead;
@@ -40,7 +40,7 @@ pub(crate) enum Move<'i> {
 // Returns how many trees after the first a thread waits, if the input has what the atom requires.
 fn moved(alloc: Global, by: &Move<'_>, atom: &Atom) -> Result<Option<usize>, AllocError>
     requires { IsAheadIn by.now }
-    ensures { IfOk result (λ found. MatchOption found (IsMoved by.now (ask_of atom.now) → ⊥) (λ wait. IsMoved by.now (ask_of atom.now) × (wait ≡ wait_of by.now (ask_of atom.now)))) }
+    ensures { IfOk result (λ found. MatchOption found (IsMoved by.now (label_of atom.now) → ⊥) (λ wait. IsMoved by.now (label_of atom.now) × (wait ≡ wait_of by.now (label_of atom.now)))) }
 {
     match (by, atom) {
         (Move::Passes(ahead), Atom::Take(variable)) => ahead.wait_behind(alloc, variable.fragment),

@@ -11,7 +11,7 @@ ghost use Rattle.mbe_matcher.specs.Marks.{Note, note_of, taken as taken_note};
 ghost use Rattle.mbe_matcher.specs.Places.{front, passed, entered, left};
 ghost use Rattle.mbe_matcher.specs.Walking.{Notes, started, spot_of, IsWalked, walked_by, forward, begun, begin_notes, closed, close_notes};
 
-use crate::asks::reach;
+use crate::fragment::reach;
 use crate::steps::Step;
 use mbe_pattern::{Fragment, pass, take};
 use std::alloc::{AllocError, Global};

@@ -1,7 +1,7 @@
 pub mod FirstSteps
 pub mod FirstTrees
 pub mod GluedSizes
-pub mod JudgeSteps
+pub mod ValidateSteps
 pub mod PartSteps
 pub mod Passing
 pub mod Plain

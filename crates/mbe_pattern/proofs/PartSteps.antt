@@ -14,9 +14,9 @@ use Rattle.mbe_pattern.specs.declared.pattern.Variable.{Variable}
 use Rattle.mbe_pattern.specs.declared.parts.Part.{Part}
 use Rattle.mbe_pattern.specs.declared.parts.Part.TheVariants as part
 use Rattle.mbe_pattern.specs.Patterns.{Pattern, inner_part}
-use Rattle.mbe_pattern.specs.Signs.{AreLess}
+use Rattle.mbe_pattern.specs.Dollars.{AreLess}
 use Rattle.mbe_pattern.specs.Patterns as pattern
-use Rattle.mbe_pattern.specs.Spelling.{Tail, Sign, is_dollar, repetition_in, is_crate_in, variable_in, sign_from, sign_in, sign_length, tail_length, part_of, pattern_behind, pattern_of}
+use Rattle.mbe_pattern.specs.Spelling.{Tail, Dollar, is_dollar, repetition_in, is_crate_in, variable_in, dollar_from, dollar_in, dollar_length, tail_length, part_of, pattern_behind, pattern_of}
 use Rattle.mbe_pattern.specs.Spelling as spelling
 use Rattle.mbe_pattern.specs.Units.{quote, is_at_ident, unit_from, front_leaves, first_unit}
 use Rattle.mbe_pattern.proofs.Passing.{after_end}
@@ -29,50 +29,50 @@ behind_passed (suc n) (leaf it rest) = behind_passed n rest
 behind_passed (suc n) (node delimiter children rest) = behind_passed n rest
 
 -- Only a subtree begins a repetition.
-no_repetition : (b : Bool) (found : Option Variable) (tail : Tail) → sign_from None b found ≡ spelling.repetition tail → ⊥
+no_repetition : (b : Bool) (found : Option Variable) (tail : Tail) → dollar_from None b found ≡ spelling.repetition tail → ⊥
 no_repetition true found tail is = cc is
 no_repetition false None tail is = cc is
 no_repetition false (Some it) tail is = cc is
 
-pub node_there : (trees : Forest) (tail : Tail) → sign_in trees ≡ spelling.repetition tail → is_at_node trees ≡ false → ⊥
+pub node_there : (trees : Forest) (tail : Tail) → dollar_in trees ≡ spelling.repetition tail → is_at_node trees ≡ false → ⊥
 node_there end tail is none = no_repetition (is_crate_in end) (variable_in end) tail is
 node_there (leaf it rest) tail is none = no_repetition (is_crate_in (leaf it rest)) (variable_in (leaf it rest)) tail is
 node_there (node delimiter children rest) tail is none = cc none
 
 module _ (dollar : Leaf) (rest : Forest) (is : is_dollar dollar ≡ true) where
   -- A `$` begins what its sign says.
-  signed : (sign : Sign) → sign_in rest ≡ sign
-      → pattern_of (leaf dollar rest) ≡ part_of dollar sign (inner_part (pattern_behind zero rest)) (pattern_behind (sign_length sign) rest)
-  signed sign same =
-      ap (λ b. cond b (part_of dollar (sign_in rest) (inner_part (pattern_behind zero rest)) (pattern_behind (sign_length (sign_in rest)) rest))
+  begun_by : (begun : Dollar) → dollar_in rest ≡ begun
+      → pattern_of (leaf dollar rest) ≡ part_of dollar begun (inner_part (pattern_behind zero rest)) (pattern_behind (dollar_length begun) rest)
+  begun_by begun same =
+      ap (λ b. cond b (part_of dollar (dollar_in rest) (inner_part (pattern_behind zero rest)) (pattern_behind (dollar_length (dollar_in rest)) rest))
       (pattern.token (first_unit (leaf dollar rest)) (pattern_behind (unit_from dollar rest - 1) rest))) is
-      ∙ ap (λ s. part_of dollar s (inner_part (pattern_behind zero rest)) (pattern_behind (sign_length s) rest)) same
+      ∙ ap (λ s. part_of dollar s (inner_part (pattern_behind zero rest)) (pattern_behind (dollar_length s) rest)) same
 
-  pub signed_variable : (it : Variable) (behind : Forest) → sign_in rest ≡ spelling.variable it → behind ≡ after_trees 3 rest
+  pub dollar_variable : (it : Variable) (behind : Forest) → dollar_in rest ≡ spelling.variable it → behind ≡ after_trees 3 rest
       → pattern_of (leaf dollar rest) ≡ pattern.variable it (pattern_of behind)
-  signed_variable it behind same left =
-      signed (spelling.variable it) same ∙ ap (pattern.variable it) (behind_passed 3 rest ∙ ap pattern_of (sym left))
+  dollar_variable it behind same left =
+      begun_by (spelling.variable it) same ∙ ap (pattern.variable it) (behind_passed 3 rest ∙ ap pattern_of (sym left))
 
-  pub signed_repetition : (delimiter : Delimiter) (children others behind : Forest) (separator : List Leaf) (kind : RepeatKind)
-      → rest ≡ node delimiter children others → sign_in rest ≡ spelling.repetition (record { separator = separator; kind = kind })
+  pub dollar_repetition : (delimiter : Delimiter) (children others behind : Forest) (separator : List Leaf) (kind : RepeatKind)
+      → rest ≡ node delimiter children others → dollar_in rest ≡ spelling.repetition (record { separator = separator; kind = kind })
       → behind ≡ after_trees (length separator) (after_tree others)
       → pattern_of (leaf dollar rest) ≡ pattern.repetition (pattern_of children) separator kind (pattern_of behind)
-  signed_repetition delimiter children others behind separator kind begins same left =
-      signed (spelling.repetition (record { separator = separator; kind = kind })) same
+  dollar_repetition delimiter children others behind separator kind begins same left =
+      begun_by (spelling.repetition (record { separator = separator; kind = kind })) same
       ∙ ap₂ (λ held more. pattern.repetition held separator kind more) (ap (λ t. inner_part (pattern_behind zero t)) begins)
       (behind_passed (suc (suc (length separator))) rest ∙ ap (λ t. pattern_of (after_trees (suc (suc (length separator))) t)) begins ∙ ap pattern_of (sym left))
 
-  pub signed_crate : sign_in rest ≡ spelling.crate_root → pattern_of (leaf dollar rest) ≡ pattern.token (dollar ∷ []) (pattern_of rest)
-  signed_crate same = signed spelling.crate_root same
+  pub dollar_crate : dollar_in rest ≡ spelling.crate_root → pattern_of (leaf dollar rest) ≡ pattern.token (dollar ∷ []) (pattern_of rest)
+  dollar_crate same = begun_by spelling.crate_root same
 
-  pub signed_nothing : sign_in rest ≡ spelling.nothing → pattern_of (leaf dollar rest) ≡ pattern.token (dollar ∷ []) (pattern_of rest)
-  signed_nothing same = signed spelling.nothing same
+  pub dollar_nothing : dollar_in rest ≡ spelling.nothing → pattern_of (leaf dollar rest) ≡ pattern.token (dollar ∷ []) (pattern_of rest)
+  dollar_nothing same = begun_by spelling.nothing same
 
 -- Any other leaf begins a token.
 pub token_first : (it : Leaf) (rest behind : Forest) → is_dollar it ≡ false → behind ≡ after_trees (unit_from it rest - 1) rest
     → pattern_of (leaf it rest) ≡ pattern.token (first_unit (leaf it rest)) (pattern_of behind)
 token_first it rest behind other left =
-    ap (λ b. cond b (part_of it (sign_in rest) (inner_part (pattern_behind zero rest)) (pattern_behind (sign_length (sign_in rest)) rest))
+    ap (λ b. cond b (part_of it (dollar_in rest) (inner_part (pattern_behind zero rest)) (pattern_behind (dollar_length (dollar_in rest)) rest))
     (pattern.token (first_unit (leaf it rest)) (pattern_behind (unit_from it rest - 1) rest))) other
     ∙ ap (pattern.token (first_unit (leaf it rest))) (behind_passed (unit_from it rest - 1) rest ∙ ap pattern_of (sym left))
 

@@ -7,11 +7,11 @@ use Rattle.mbe_pattern.specs.Faults.{or_else, names_with, names_behind, name_fau
 use Rattle.mbe_pattern.specs.Patterns.{Pattern, IsFull, may_be_empty}
 use Rattle.mbe_pattern.specs.Patterns as pattern
 use Rattle.mbe_pattern.specs.Placed.{Placed, nothing, variable, wrong, token, subtree, repetition, plain, inner_part, part_of, placed_behind, placed_of}
-use Rattle.mbe_pattern.specs.Spelling.{Sign, is_dollar, sign_in, sign_length, pattern_behind, pattern_of}
+use Rattle.mbe_pattern.specs.Spelling.{Dollar, is_dollar, dollar_in, dollar_length, pattern_behind, pattern_of}
 use Rattle.mbe_pattern.specs.Spelling as spelling
 use Rattle.mbe_pattern.specs.Units.{unit_from, first_unit}
 
-plain_part : (at : ℕ) (it : Leaf) (s : Sign) (siblings : Forest) (held others : Placed) → plain (part_of at it s siblings held others) ≡ spelling.part_of it s (plain held) (plain others)
+plain_part : (at : ℕ) (it : Leaf) (s : Dollar) (siblings : Forest) (held others : Placed) → plain (part_of at it s siblings held others) ≡ spelling.part_of it s (plain held) (plain others)
 plain_part at it (spelling.variable found) siblings held others = refl
 plain_part at it (spelling.repetition tail) siblings held others = refl
 plain_part at it spelling.crate_root siblings held others = refl
@@ -35,13 +35,13 @@ plain_behind until zero end = refl
 plain_behind until (suc n) end = refl
 plain_behind until zero (leaf it rest) =
     either (is_dollar it)
-    (part_of (until - size (leaf it rest)) it (sign_in rest) rest (inner_part (placed_behind until zero rest)) (placed_behind until (sign_length (sign_in rest)) rest))
+    (part_of (until - size (leaf it rest)) it (dollar_in rest) rest (inner_part (placed_behind until zero rest)) (placed_behind until (dollar_length (dollar_in rest)) rest))
     (token (first_unit (leaf it rest)) (placed_behind until (unit_from it rest - 1) rest))
-    (spelling.part_of it (sign_in rest) (pattern.inner_part (pattern_behind zero rest)) (pattern_behind (sign_length (sign_in rest)) rest))
+    (spelling.part_of it (dollar_in rest) (pattern.inner_part (pattern_behind zero rest)) (pattern_behind (dollar_length (dollar_in rest)) rest))
     (pattern.token (first_unit (leaf it rest)) (pattern_behind (unit_from it rest - 1) rest))
-    (plain_part (until - size (leaf it rest)) it (sign_in rest) rest (inner_part (placed_behind until zero rest)) (placed_behind until (sign_length (sign_in rest)) rest)
-    ∙ ap₂ (spelling.part_of it (sign_in rest)) (plain_inner (placed_behind until zero rest) ∙ ap pattern.inner_part (plain_behind until zero rest))
-    (plain_behind until (sign_length (sign_in rest)) rest))
+    (plain_part (until - size (leaf it rest)) it (dollar_in rest) rest (inner_part (placed_behind until zero rest)) (placed_behind until (dollar_length (dollar_in rest)) rest)
+    ∙ ap₂ (spelling.part_of it (dollar_in rest)) (plain_inner (placed_behind until zero rest) ∙ ap pattern.inner_part (plain_behind until zero rest))
+    (plain_behind until (dollar_length (dollar_in rest)) rest))
     (ap (pattern.token (first_unit (leaf it rest))) (plain_behind until (unit_from it rest - 1) rest))
 plain_behind until zero (node delimiter children rest) = ap₂ (pattern.subtree delimiter.kind) (plain_behind (until - size rest) zero children) (plain_behind until zero rest)
 plain_behind until (suc n) (leaf it rest) = plain_behind until n rest

@@ -12,8 +12,8 @@ use Rattle.mbe_pattern.specs.declared.pattern.RepeatKind.{RepeatKind}
 use Rattle.mbe_pattern.specs.declared.pattern.Variable.{Variable}
 use Rattle.mbe_pattern.specs.Patterns.{Pattern}
 use Rattle.mbe_pattern.specs.Patterns as pattern
-use Rattle.mbe_pattern.specs.Spelling.{Sign, is_dollar, sign_in, sign_length}
-use Rattle.mbe_pattern.specs.Spelling as sign
+use Rattle.mbe_pattern.specs.Spelling.{Dollar, is_dollar, dollar_in, dollar_length}
+use Rattle.mbe_pattern.specs.Spelling as dollar
 use Rattle.mbe_pattern.specs.Units.{is_at_punct, unit_from, first_unit}
 
 -- a pattern in which variables and repetitions have the flat place of their `$`, and a `$` that begins nothing says what is wrong
@@ -58,11 +58,11 @@ fault_in at siblings =
     (first_leaf_as as_ident_or_underscore (after_tree (after_tree siblings)))
 
 -- the part that a `$` at that place begins, before these siblings
-abbrev pub part_of : (at : ℕ) → Leaf → Sign → (siblings : Forest) → (held others : Placed) → Placed
-part_of at it (sign.variable found) siblings held others = variable at found others
-part_of at it (sign.repetition tail) siblings held others = repetition at held tail.separator tail.kind others
-part_of at it sign.crate_root siblings held others = token (it ∷ []) others
-part_of at it sign.nothing siblings held others = wrong (fault_in at siblings) it others
+abbrev pub part_of : (at : ℕ) → Leaf → Dollar → (siblings : Forest) → (held others : Placed) → Placed
+part_of at it (dollar.variable found) siblings held others = variable at found others
+part_of at it (dollar.repetition tail) siblings held others = repetition at held tail.separator tail.kind others
+part_of at it dollar.crate_root siblings held others = token (it ∷ []) others
+part_of at it dollar.nothing siblings held others = wrong (fault_in at siblings) it others
 
 -- the pattern that trees spell after the first `passed` of them, which belong to an earlier part; `until`
 -- is the flat place after the last tree
@@ -70,7 +70,7 @@ abbrev pub placed_behind : (until : ℕ) → (passed : ℕ) → Forest → Place
 placed_behind until passed end = nothing
 placed_behind until zero (leaf it rest) =
     if is_dollar it
-    then part_of (until - size (leaf it rest)) it (sign_in rest) rest (inner_part (placed_behind until zero rest)) (placed_behind until (sign_length (sign_in rest)) rest)
+    then part_of (until - size (leaf it rest)) it (dollar_in rest) rest (inner_part (placed_behind until zero rest)) (placed_behind until (dollar_length (dollar_in rest)) rest)
     else token (first_unit (leaf it rest)) (placed_behind until (unit_from it rest - 1) rest)
 placed_behind until zero (node delimiter children rest) = subtree delimiter.kind (placed_behind (until - size rest) zero children) (placed_behind until zero rest)
 placed_behind until (suc passed) (leaf it rest) = placed_behind until passed rest

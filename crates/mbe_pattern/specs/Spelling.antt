@@ -143,32 +143,32 @@ abbrev pub is_crate_in : Forest → Bool
 is_crate_in siblings = is_crate_from (first_leaf_as as_ident_or_underscore siblings)
 
 -- what a `$` begins
-pub data Sign : Type 0 where
-  variable : Variable → Sign
-  repetition : Tail → Sign
-  crate_root : Sign
-  nothing : Sign
+pub data Dollar : Type 0 where
+  variable : Variable → Dollar
+  repetition : Tail → Dollar
+  crate_root : Dollar
+  nothing : Dollar
 
 -- a repetition; otherwise `$crate`; otherwise a variable; otherwise nothing
-abbrev pub sign_from : Option Tail → (crate_there : Bool) → Option Variable → Sign
-sign_from (Some tail) crate_there found = repetition tail
-sign_from None true found = crate_root
-sign_from None false (Some found) = variable found
-sign_from None false None = nothing
+abbrev pub dollar_from : Option Tail → (crate_there : Bool) → Option Variable → Dollar
+dollar_from (Some tail) crate_there found = repetition tail
+dollar_from None true found = crate_root
+dollar_from None false (Some found) = variable found
+dollar_from None false None = nothing
 
 -- what a `$` before these siblings begins
-abbrev pub sign_in : Forest → Sign
-sign_in siblings = sign_from (repetition_in siblings) (is_crate_in siblings) (variable_in siblings)
+abbrev pub dollar_in : Forest → Dollar
+dollar_in siblings = dollar_from (repetition_in siblings) (is_crate_in siblings) (variable_in siblings)
 
 -- how many trees belong to the sign: a name, a colon and a fragment, or parentheses and a tail
-abbrev pub sign_length : Sign → ℕ
-sign_length (variable it) = 3
-sign_length (repetition tail) = suc (tail_length tail)
-sign_length crate_root = 0
-sign_length nothing = 0
+abbrev pub dollar_length : Dollar → ℕ
+dollar_length (variable it) = 3
+dollar_length (repetition tail) = suc (tail_length tail)
+dollar_length crate_root = 0
+dollar_length nothing = 0
 
 -- the part that a `$` begins, before what follows; if it begins nothing, it is a literal token
-abbrev pub part_of : Leaf → Sign → (held others : Pattern) → Pattern
+abbrev pub part_of : Leaf → Dollar → (held others : Pattern) → Pattern
 part_of it (variable found) held others = pattern.variable found others
 part_of it (repetition tail) held others = pattern.repetition held tail.separator tail.kind others
 part_of it crate_root held others = pattern.token (it ∷ []) others
@@ -178,7 +178,7 @@ part_of it nothing held others = pattern.token (it ∷ []) others
 abbrev pub pattern_behind : ℕ → Forest → Pattern
 pattern_behind passed end = pattern.nothing
 pattern_behind zero (leaf it rest) =
-    if is_dollar it then part_of it (sign_in rest) (inner_part (pattern_behind zero rest)) (pattern_behind (sign_length (sign_in rest)) rest)
+    if is_dollar it then part_of it (dollar_in rest) (inner_part (pattern_behind zero rest)) (pattern_behind (dollar_length (dollar_in rest)) rest)
     else pattern.token (first_unit (leaf it rest)) (pattern_behind (unit_from it rest - 1) rest)
 pattern_behind zero (node delimiter children rest) = pattern.subtree delimiter.kind (pattern_behind zero children) (pattern_behind zero rest)
 pattern_behind (suc passed) (leaf it rest) = pattern_behind passed rest

@@ -2,14 +2,14 @@
 ghost use Rattle.std.specs.Prelude.{◌≡◌, ◌-◌, true, IfOk};
 ghost use Rattle.tt.specs.Forest.{leaf, size};
 ghost use Rattle.tt.specs.Iters.{rest_of};
-ghost use Rattle.mbe_pattern.specs.Judging.{IsFirst};
+ghost use Rattle.mbe_pattern.specs.Validating.{IsFirst};
 ghost use Rattle.mbe_pattern.specs.Placed.{fault_in, placed_until};
 ghost use Rattle.mbe_pattern.specs.Spelling.{is_dollar};
 
+use crate::dollar::{Dollar, Tail, dollar_in, is_dollar};
 use crate::error::PatternError;
 use crate::front::pass;
 use crate::pattern::Variable;
-use crate::signs::{Sign, Tail, is_dollar, sign_in};
 use crate::units::unit_size;
 use std::alloc::{AllocError, Global};
 use tt::{DelimiterKind, Leaf, TtElement, TtIter};
@@ -49,7 +49,7 @@ fn place_before(until: usize, trees: &TtIter<'_>) -> usize
 }
 
 // Reads the part that a `$` begins. The siblings follow the `$` and end before that flat place.
-fn signed_first<'p>(
+fn dollar_first<'p>(
     alloc: Global,
     until: usize,
     dollar: Leaf,
@@ -59,12 +59,12 @@ fn signed_first<'p>(
     ensures { IfOk result (λ part. IsFirst (placed_until until (leaf dollar (rest_of siblings.old))) part (placed_until until (rest_of siblings.new))) }
 {
     let at = place_before(until, siblings).saturating_sub(1);
-    match sign_in(alloc, siblings.remaining().iter())? {
-        Sign::Variable(variable) => {
+    match dollar_in(alloc, siblings.remaining().iter())? {
+        Dollar::Variable(variable) => {
             pass(siblings, 3);
             Ok(First::Variable(at, variable))
         }
-        Sign::Repetition(tail) => match siblings.expect_subtree() {
+        Dollar::Repetition(tail) => match siblings.expect_subtree() {
             Ok((_, inner)) => {
                 let inside = place_before(until, siblings);
                 siblings.next();
@@ -73,8 +73,8 @@ fn signed_first<'p>(
             }
             Err(()) => unreachable!(),
         },
-        Sign::CrateRoot => Ok(First::Token),
-        Sign::Nothing => {
+        Dollar::CrateRoot => Ok(First::Token),
+        Dollar::Nothing => {
             let fault = fault_in(at, siblings.remaining().iter());
             Ok(First::Wrong(fault, dollar))
         }
@@ -98,7 +98,7 @@ pub(crate) fn next_first<'p>(
         }
         Some(TtElement::Leaf(leaf)) => {
             if is_dollar(&leaf) {
-                let part = signed_first(alloc, until, leaf, trees)?;
+                let part = dollar_first(alloc, until, leaf, trees)?;
                 return Ok(part);
             }
             pass(trees, unit_size(before).saturating_sub(1));

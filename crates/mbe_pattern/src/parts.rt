@@ -2,12 +2,12 @@
 ghost use Rattle.std.specs.Prelude.{◌≡◌, ◌≤◌, ◌+◌, ◌∷◌, [], true, IfOk};
 ghost use Rattle.tt.specs.Forest.{leaf, size};
 ghost use Rattle.tt.specs.Iters.{rest_of};
-ghost use Rattle.mbe_pattern.specs.Signs.{IsPart, held_size, AreLess};
+ghost use Rattle.mbe_pattern.specs.Dollars.{IsPart, held_size, AreLess};
 ghost use Rattle.mbe_pattern.specs.Spelling.{is_dollar, pattern_of};
 
+use crate::dollar::{Dollar, Tail, dollar_in, first_unit, is_dollar};
 use crate::front::pass;
 use crate::pattern::Variable;
-use crate::signs::{Sign, Tail, first_unit, is_dollar, sign_in};
 use std::alloc::{AllocError, Global};
 use tt::{DelimiterKind, Leaf, TtElement, TtIter};
 
@@ -36,7 +36,7 @@ fn one_leaf(alloc: Global, leaf: Leaf) -> Result<Vec<Leaf>, AllocError>
 }
 
 // Reads the part that a `$` begins; the siblings follow the `$`.
-fn signed_part<'p>(
+fn dollar_part<'p>(
     alloc: Global,
     dollar: Leaf,
     siblings: &mut TtIter<'p>,
@@ -45,12 +45,12 @@ fn signed_part<'p>(
     ensures part { IfOk result (λ part. IsPart (pattern_of (leaf dollar (rest_of siblings.old))) part (pattern_of (rest_of siblings.new))) }
     ensures less { IfOk result (λ part. held_size part + size (rest_of siblings.new) ≤ size (rest_of siblings.old)) }
 {
-    match sign_in(alloc, siblings.remaining().iter())? {
-        Sign::Variable(variable) => {
+    match dollar_in(alloc, siblings.remaining().iter())? {
+        Dollar::Variable(variable) => {
             pass(siblings, 3);
             Ok(Part::Variable(variable))
         }
-        Sign::Repetition(tail) => match siblings.expect_subtree() {
+        Dollar::Repetition(tail) => match siblings.expect_subtree() {
             Ok((_, inner)) => {
                 siblings.next();
                 pass(siblings, tail.separator.len());
@@ -58,7 +58,7 @@ fn signed_part<'p>(
             }
             Err(()) => unreachable!(),
         },
-        Sign::CrateRoot | Sign::Nothing => Ok(Part::Token(one_leaf(alloc, dollar)?)),
+        Dollar::CrateRoot | Dollar::Nothing => Ok(Part::Token(one_leaf(alloc, dollar)?)),
     }
 }
 
@@ -75,7 +75,7 @@ pub fn next_part<'p>(alloc: Global, trees: &mut TtIter<'p>) -> Result<Part<'p>, 
         }
         Some(TtElement::Leaf(leaf)) => {
             if is_dollar(&leaf) {
-                let part = signed_part(alloc, leaf, trees)?;
+                let part = dollar_part(alloc, leaf, trees)?;
                 return Ok(part);
             }
             let token = first_unit(alloc, before)?;

@@ -10,7 +10,7 @@ use Rattle.tt.specs.Types.TtElement.TheVariants as element
 use Rattle.tt.specs.Types.TtIter.{TtIter}
 use Rattle.tt.specs.Unflat.{join-end}
 use Rattle.tt_base.proofs.Appending.{append-end, append-join, held-append, held-close}
-use Rattle.mbe_rule.specs.declared.transcribing.Level.{Level}
+use Rattle.mbe_rule.specs.declared.transcribe.Level.{Level}
 use Rattle.mbe_rule.specs.Instances.{Binding, filled}
 
 -- the builder's levels after everything that is left of the template is placed and closed, the innermost first

@@ -11,7 +11,7 @@ use Rattle.tt.specs.Types.Subtree.{Subtree}
 use Rattle.tt.specs.Types.TtElement.TheVariants as element
 use Rattle.tt.specs.Types.TtFault.{TtFault}
 use Rattle.tt.specs.Types.TtIter.{TtIter}
-use Rattle.mbe_rule.specs.declared.transcribing.Level.{Level}
+use Rattle.mbe_rule.specs.declared.transcribe.Level.{Level}
 use Rattle.mbe_rule.specs.Instances.{Binding, filled}
 use Rattle.mbe_rule.specs.Transcribing.{Places, IsPlaceFault}
 use Rattle.mbe_rule.proofs.Advancing.{leaf_before, node_before}

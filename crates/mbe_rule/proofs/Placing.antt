@@ -15,7 +15,7 @@ use Rattle.tt.specs.Types.TtFault.{TtFault}
 use Rattle.tt.specs.Types.TtFault.TheVariants.{Memory}
 use Rattle.tt.specs.Types.TtIter.{TtIter}
 use Rattle.tt_base.proofs.Joins.{size-join}
-use Rattle.mbe_rule.specs.declared.transcribing.Level.{Level}
+use Rattle.mbe_rule.specs.declared.transcribe.Level.{Level}
 use Rattle.mbe_rule.specs.declared.variable.Name.{Name}
 use Rattle.mbe_rule.specs.Instances.{Binding, bound_to, filled, expansion}
 use Rattle.mbe_rule.specs.Transcribing.{Places, IsPlaceFault}

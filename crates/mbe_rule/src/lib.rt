@@ -13,7 +13,7 @@ mod fault;
 mod matching;
 mod names;
 mod rule;
-mod transcribing;
+mod transcribe;
 mod variable;
 
 pub use fault::RuleFault;

@@ -10,7 +10,7 @@ ghost use Rattle.mbe_rule.specs.Faults.{rule_fault};
 use crate::fault::RuleFault;
 use crate::matching::trees_taken;
 use crate::names::{check_template, pattern_names};
-use crate::transcribing::transcribed;
+use crate::transcribe::transcribed;
 use crate::variable::Name;
 use indexmap::IndexSet;
 use std::alloc::Global;

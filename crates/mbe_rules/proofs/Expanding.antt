@@ -3,7 +3,7 @@ use Rattle.std.proofs.Common.{◌≡◌, ℕ, zero, suc, true, false, List, [], 
 use Rattle.std.specs.Prelude.{max, slice_get, Bool, not}
 use Rattle.tt.specs.Forest.{Forest, Root, end, leaf, node}
 use Rattle.tt.specs.Siblings.{is_end}
-use Rattle.mbe_rules.specs.declared.fill_error.FillError.{FillError}
+use Rattle.mbe_rules.specs.declared.transcribe_error.TranscribeError.{TranscribeError}
 use Rattle.mbe_rules.specs.declared.arm.Answer.TheVariants as answer
 use Rattle.mbe_rules.specs.declared.arm.Arm as rust
 use Rattle.mbe_rules.specs.declared.rules_error.ArmFault.{ArmFault}
@@ -90,7 +90,7 @@ module _ (arms : List Arm) (its : List rust.Arm) (n : ℕ) (it : rust.Arm) (are 
       subst (λ l. IsExpansion l n far input (expansion.Tree tree)) (sym split) (inr (says arm is))
 
   -- The arm gives an error.
-  pub refused_here : (fault : FillError) → ((arm : Arm) → IsMade arm it → IsRefusal arm input fault)
+  pub refused_here : (fault : TranscribeError) → ((arm : Arm) → IsMade arm it → IsRefusal arm input fault)
       → IsExpandError (drop n arms) n input (record { arm = n; fault = fault })
   refused_here fault says =
       let (arm, is, split) = made_at arms its n it are there in

@@ -7,14 +7,14 @@ use Rattle.tt.specs.Types.Span.{Span}
 use Rattle.tt.specs.Types.TtFault.{TtFault}
 use Rattle.tt.specs.Types.TtFault.TheVariants as limit
 use Rattle.mbe_matcher.specs.Bindings.{Binding}
-use Rattle.mbe_rules.specs.declared.fill_error.FillError.{FillError}
-use Rattle.mbe_rules.specs.declared.fill_error.FillError.TheVariants as refusal
-use Rattle.mbe_rules.specs.declared.filling.Filling.{Filling}
+use Rattle.mbe_rules.specs.declared.transcribe_error.TranscribeError.{TranscribeError}
+use Rattle.mbe_rules.specs.declared.transcribe_error.TranscribeError.TheVariants as refusal
+use Rattle.mbe_rules.specs.declared.transcribe.Transcriber.{Transcriber}
 use Rattle.mbe_rules.specs.declared.parts.Part.{Part}
 use Rattle.mbe_rules.specs.declared.taken.Round.{Round}
-use Rattle.mbe_rules.specs.Filling.{Filled, filled, in_round}
+use Rattle.mbe_rules.specs.Transcribing.{Transcribed, transcribed, in_round}
 use Rattle.mbe_rules.specs.Parts.{Bit, bit_of, bits_of}
-use Rattle.mbe_rules.specs.Results.{IsToldOf, IsFillError}
+use Rattle.mbe_rules.specs.Results.{IsToldOf, IsTranscribeError}
 use Rattle.mbe_rules.specs.Rounds.{bound_in}
 use Rattle.mbe_rules.specs.Standing.{AreLevels, IsAt, IsStop}
 use Rattle.mbe_rules.specs.Templates.{Template, nothing, use_of, token, subtree, repetition}
@@ -24,7 +24,7 @@ use Rattle.mbe_rules.proofs.Going.{level_of}
 use Rattle.mbe_rules.proofs.Wholeness.{parts_are}
 
 -- what is written if everything is filled
-abbrev pub written_of : Filled → Written
+abbrev pub written_of : Transcribed → Written
 written_of it = record { stack = lowest it.trees; fault = it.fault }
 
 -- If no round is under way, everything is bound as it is.
@@ -37,7 +37,7 @@ abbrev pub first_level : List Part → Binding → Level
 first_level parts binding = level_of (whole_of parts) binding last
 
 -- At the beginning the filling is in that level.
-pub starts : (parts : List Part) (binding : Binding) (it : Filling) (delimiter : Delimiter) → are_whole parts ≡ true → it.builder ≡ empty_builder delimiter
+pub starts : (parts : List Part) (binding : Binding) (it : Transcriber) (delimiter : Delimiter) → are_whole parts ≡ true → it.builder ≡ empty_builder delimiter
     → it.rounds.items ≡ [] → it.closes.items ≡ [] → IsAt (map bit_of parts) binding (first_level parts binding ∷ []) it (map bit_of parts)
 starts parts binding it delimiter whole builder rounds closes =
     record {
@@ -48,8 +48,8 @@ starts parts binding it delimiter whole builder rounds closes =
       few = omega (arith, ap (λ b. tokens_held b.stack) builder);
     }
 
-pub starts_whole : (parts : List Part) (binding : Binding) (it : Filling) (delimiter : Delimiter) → it.builder ≡ empty_builder delimiter
-    → finished (first_level parts binding ∷ []) (written_by it) ≡ written_of (filled (whole_of parts) binding)
+pub starts_whole : (parts : List Part) (binding : Binding) (it : Transcriber) (delimiter : Delimiter) → it.builder ≡ empty_builder delimiter
+    → finished (first_level parts binding ∷ []) (written_by it) ≡ written_of (transcribed (whole_of parts) binding)
 starts_whole parts binding it delimiter builder = ap (λ b. finished (first_level parts binding ∷ []) (record { stack = b.stack; fault = None })) builder
 
 -- At the end no level is left.
@@ -65,18 +65,18 @@ ends bits whole [] rounds closes stand = refl
 ends bits whole (level ∷ outer) rounds closes (behind, is, bound, more) = absurd (none_left level.rest level.closing behind is)
 
 -- So everything is written.
-pub ends_whole : (it : Filling) (levels : List Level) (all : Filled) → levels ≡ [] → finished levels (written_by it) ≡ written_of all → written_by it ≡ written_of all
+pub ends_whole : (it : Transcriber) (levels : List Level) (all : Transcribed) → levels ≡ [] → finished levels (written_by it) ≡ written_of all → written_by it ≡ written_of all
 ends_whole it levels all none is = sym (ap (λ l. finished l (written_by it)) none) ∙ is
 
-pub not_open : (it : Filling) (all : Filled) → written_by it ≡ written_of all → IsOpen it.builder → ⊥
+pub not_open : (it : Transcriber) (all : Transcribed) → written_by it ≡ written_of all → IsOpen it.builder → ⊥
 not_open it all is above = subst IsAbove (ap (λ w. w.stack) is) above
 
 -- What is built is the tree.
-pub built_is : (it : Filling) (all : Filled) (delimiter : Delimiter) → written_by it ≡ written_of all → it.builder.top ≡ delimiter → built it.builder ≡ under delimiter all.trees
+pub built_is : (it : Transcriber) (all : Transcribed) (delimiter : Delimiter) → written_by it ≡ written_of all → it.builder.top ≡ delimiter → built it.builder ≡ under delimiter all.trees
 built_is it all delimiter is top = ap₂ (λ d w. under d (bottom w.stack)) top is
 
 -- Each limit is one of the whole filled template.
-pub told_all : (it : Filled) (fault : TtFault) → None ≡ it.fault → IsToldOf it fault
+pub told_all : (it : Transcribed) (fault : TtFault) → None ≡ it.fault → IsToldOf it fault
 told_all it limit.Memory none = tt
 told_all it limit.TooManyTokens none = tt
 told_all it limit.NotOneSubtree none = sym none
@@ -90,7 +90,7 @@ told_all it limit.TooManyBytes none = sym none
 told_all it limit.PointsSpent none = sym none
 
 -- The error that stops the filling is the right one.
-pub stop_told : (delimiter : Delimiter) (it : Filled) (error : FillError) → IsStop (written_of it) error → IsFillError delimiter it error
+pub stop_told : (delimiter : Delimiter) (it : Transcribed) (error : TranscribeError) → IsStop (written_of it) error → IsTranscribeError delimiter it error
 stop_told delimiter it (refusal.LengthsDiffer at) stop = stop
 stop_told delimiter it (refusal.NoRound at) stop = stop
 stop_told delimiter it (refusal.Tree limit.Memory) stop = (tt, tt)

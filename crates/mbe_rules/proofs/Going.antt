@@ -8,7 +8,7 @@ use Rattle.tt.specs.Types.Leaf.{Leaf}
 use Rattle.tt.specs.Types.Span.{Span}
 use Rattle.mbe_matcher.specs.Bindings.{Binding}
 use Rattle.mbe_rules.specs.declared.taken.Round.{Round}
-use Rattle.mbe_rules.specs.Filling.{all_filled, in_subtree, filled, trees_placed}
+use Rattle.mbe_rules.specs.Transcribing.{all_transcribed, in_subtree, transcribed, trees_transcribed}
 use Rattle.mbe_rules.specs.Parts.{Bit, uses, same, enter, leave, bits_of}
 use Rattle.mbe_rules.specs.Standing.{bound_here, IsEnd, AreLevels}
 use Rattle.mbe_rules.specs.Templates.{Template, nothing, use_of, token, subtree, repetition}
@@ -36,7 +36,7 @@ module _ (bits : List Bit) (whole : Binding) (outer : List Level) (rounds : List
 
   -- A use comes first.
   use_next : (at variable : ℕ) (rest : Template) → uses at variable ∷ left ≡ bits_of rest (end_of closing ∷ behind)
-      → Next bits whole (level_of rest binding closing ∷ outer) rounds closes left (append (trees_placed (slice_get (bound_here whole rounds) variable)))
+      → Next bits whole (level_of rest binding closing ∷ outer) rounds closes left (append (trees_transcribed (slice_get (bound_here whole rounds) variable)))
   use_next at variable nothing is = absurd (by closing is)
     where
       by : (closing : Closing) → uses at variable ∷ left ≡ end_of closing ∷ behind → ⊥
@@ -48,8 +48,8 @@ module _ (bits : List Bit) (whole : Binding) (outer : List Level) (rounds : List
         news = level_of others binding closing ∷ outer;
         stand = stand_on others (cc is);
         same =
-            λ stack. ap (λ w. finished outer (behind_end closing w)) (write_both (all_filled (trees_placed (slice_get binding which))) (filled others binding) (sound stack))
-            ∙ ap₂ (λ b v. finished outer (behind_end closing (write (filled others binding) (sound (append (trees_placed (slice_get b v)) stack))))) bound same_variable;
+            λ stack. ap (λ w. finished outer (behind_end closing w)) (write_both (all_transcribed (trees_transcribed (slice_get binding which))) (transcribed others binding) (sound stack))
+            ∙ ap₂ (λ b v. finished outer (behind_end closing (write (transcribed others binding) (sound (append (trees_transcribed (slice_get b v)) stack))))) bound same_variable;
         less = omega arith;
       }
     where
@@ -74,8 +74,8 @@ module _ (bits : List Bit) (whole : Binding) (outer : List Level) (rounds : List
         news = level_of others binding closing ∷ outer;
         stand = stand_on others (cc is);
         same =
-            λ stack. ap (λ w. finished outer (behind_end closing w)) (write_both (all_filled (leaf other end)) (filled others binding) (sound stack))
-            ∙ ap (λ l. finished outer (behind_end closing (write (filled others binding) (sound (append (leaf l end) stack))))) same_leaf;
+            λ stack. ap (λ w. finished outer (behind_end closing w)) (write_both (all_transcribed (leaf other end)) (transcribed others binding) (sound stack))
+            ∙ ap (λ l. finished outer (behind_end closing (write (transcribed others binding) (sound (append (leaf l end) stack))))) same_leaf;
         less = omega arith;
       }
     where
@@ -101,8 +101,8 @@ module _ (bits : List Bit) (whole : Binding) (outer : List Level) (rounds : List
         stand =
             (bits_of others (end_of closing ∷ behind), (λ i. held i), bound, (closes, refl, (behind, refl, bound, ends)));
         same =
-            λ stack. ap (λ w. finished outer (behind_end closing w)) (write_both (in_subtree other (filled inner binding)) (filled others binding) (sound stack))
-            ∙ ap (λ d. finished outer (behind_end closing (write (filled others binding) (write (in_subtree d (filled inner binding)) (sound stack))))) same_delimiter;
+            λ stack. ap (λ w. finished outer (behind_end closing w)) (write_both (in_subtree other (transcribed inner binding)) (transcribed others binding) (sound stack))
+            ∙ ap (λ d. finished outer (behind_end closing (write (transcribed others binding) (write (in_subtree d (transcribed inner binding)) (sound stack))))) same_delimiter;
         less = omega arith;
       }
     where
@@ -116,7 +116,7 @@ module _ (bits : List Bit) (whole : Binding) (outer : List Level) (rounds : List
 -- what holds of the levels if that part comes first
 module _ (bits : List Bit) (whole : Binding) (rounds : List Round) (closes : List Span) (left : List Bit) where
   pub goes_use : (at variable : ℕ) (levels : List Level) → AreLevels bits whole levels rounds closes (uses at variable ∷ left)
-      → Next bits whole levels rounds closes left (append (trees_placed (slice_get (bound_here whole rounds) variable)))
+      → Next bits whole levels rounds closes left (append (trees_transcribed (slice_get (bound_here whole rounds) variable)))
   goes_use at variable [] stand = absurd (cc stand.2)
   goes_use at variable (level ∷ outer) (behind, is, bound, ends) =
       use_next bits whole outer rounds closes level.binding level.closing behind left bound ends at variable level.rest is

@@ -9,13 +9,13 @@ use Rattle.tt.specs.Types.DelimiterKind.TheVariants.{InvisibleOpaque}
 use Rattle.tt.specs.Types.Leaf.{Leaf}
 use Rattle.tt.specs.Types.Span.{Span}
 use Rattle.tt.specs.Types.TtFault.{TtFault}
-use Rattle.mbe_rules.specs.declared.filling.Filling.{Filling}
-use Rattle.mbe_rules.specs.Placing.{enclosed_between}
+use Rattle.mbe_rules.specs.declared.transcribe.Transcriber.{Transcriber}
+use Rattle.mbe_rules.specs.Enclosing.{enclosed_between}
 use Rattle.mbe_rules.specs.Standing.{Grows, IsWant}
 use Rattle.tt_base.proofs.Appending.{append-end, append-join, held-append}
 
 -- Trees that there is room for are written.
-pub grows_by : (more : Forest) (old new : Filling) → new.builder ≡ extended more old.builder → HasRoom (size more) old.builder → new.rounds ≡ old.rounds
+pub grows_by : (more : Forest) (old new : Transcriber) → new.builder ≡ extended more old.builder → HasRoom (size more) old.builder → new.rounds ≡ old.rounds
     → new.closes ≡ old.closes → Grows more old new
 grows_by more old new builder room rounds closes =
     record {
@@ -27,16 +27,16 @@ grows_by more old new builder room rounds closes =
     }
 
 -- Or an error is returned.
-pub growth_wants : (more : ℕ) (old : Filling) (fault : TtFault) → IsGrowthFault more old.builder fault → IsWant more old fault
+pub growth_wants : (more : ℕ) (old : Transcriber) (fault : TtFault) → IsGrowthFault more old.builder fault → IsWant more old fault
 growth_wants more old fault (inl (e, room)) = inl e
 growth_wants more old fault (inr (e, many)) = inr (e, many)
 
 -- Nothing is written.
-pub grows_none : (old : Filling) → Grows end old old
+pub grows_none : (old : Transcriber) → Grows end old old
 grows_none old = record { stack = sym (append-end old.builder.stack); top = refl; few = λ few. few; rounds = refl; closes = refl }
 
 -- Trees, and then others.
-grows_both : (f g : Forest) (old between new : Filling) → Grows f old between → Grows g between new → Grows (join f g) old new
+grows_both : (f g : Forest) (old between new : Transcriber) → Grows f old between → Grows g between new → Grows (join f g) old new
 grows_both f g old between new first then =
     record {
       stack = then.stack ∙ ap (append g) first.stack ∙ sym (append-join f g old.builder.stack);
@@ -55,13 +55,13 @@ size_leaves [] = refl
 size_leaves (it ∷ xs) = ap suc (size_leaves xs)
 
 -- One more leaf.
-pub grows_more : (its : List Leaf) (n : ℕ) (it : Leaf) (old between new : Filling) → n < length its → it ≡ get_or its n it → Grows (leaves (take n its)) old between
+pub grows_more : (its : List Leaf) (n : ℕ) (it : Leaf) (old between new : Transcriber) → n < length its → it ≡ get_or its n it → Grows (leaves (take n its)) old between
     → Grows (leaf it end) between new → Grows (leaves (take (n + 1) its)) old new
 grows_more its n it old between new within is first then =
     subst (λ l. Grows (leaves l) old new) (sym (take_more its n it within ∙ ap (λ x. take n its ++ x ∷ []) (sym is)))
     (subst (λ f. Grows f old new) (sym (leaves_both (take n its) (it ∷ []))) (grows_both (leaves (take n its)) (leaf it end) old between new first then))
 
-pub wants_more : (its : List Leaf) (n : ℕ) (old between : Filling) (fault : TtFault) → n < length its → Grows (leaves (take n its)) old between → IsWant 1 between fault
+pub wants_more : (its : List Leaf) (n : ℕ) (old between : Transcriber) (fault : TtFault) → n < length its → Grows (leaves (take n its)) old between → IsWant 1 between fault
     → IsWant (size (leaves its)) old fault
 wants_more its n old between fault within first (inl e) = inl e
 wants_more its n old between fault within first (inr (e, many)) =
@@ -111,7 +111,7 @@ size-alone (node delimiter children end) = omega (arith, size-alone children)
 size-alone (node delimiter children (leaf next rest)) = omega (arith, size-alone (leaf next rest))
 size-alone (node delimiter children (node next inner rest)) = omega (arith, size-alone (node next inner rest))
 
-module _ (old : Filling) (trees : Forest) (first last : Span) where
+module _ (old : Transcriber) (trees : Forest) (first last : Span) where
   -- an opaque subtree of these trees
   abbrev held : Forest
   held = enclosed_between first last trees
@@ -120,7 +120,7 @@ module _ (old : Filling) (trees : Forest) (first last : Span) where
   within = extended trees (opened InvisibleOpaque first old.builder)
 
   -- Trees written between the opening and the closing of a subtree are inside it.
-  pub grows_held : (new : Filling) → new.builder ≡ closed last within → HasRoom 1 old.builder → HasRoom (size trees) (opened InvisibleOpaque first old.builder)
+  pub grows_held : (new : Transcriber) → new.builder ≡ closed last within → HasRoom 1 old.builder → HasRoom (size trees) (opened InvisibleOpaque first old.builder)
       → new.rounds ≡ old.rounds → new.closes ≡ old.closes → Grows held old new
   grows_held new builder room inside rounds closes =
       let stack : new.builder.stack ≡ append held old.builder.stack = ap (λ b. b.stack) builder in

@@ -1,12 +1,12 @@
 pub mod Expanding
 pub mod Reading
 pub mod Aloneness
-pub mod CutSteps
+pub mod ParseSteps
 pub mod Finishing
 pub mod FirstParts
 pub mod Going
 pub mod Growing
-pub mod Judges
+pub mod Validates
 pub mod Measuring
 pub mod Naming
 pub mod Nesting

@@ -5,7 +5,7 @@ use Rattle.tt.specs.Types.Span.{Span}
 use Rattle.mbe_pattern.specs.declared.pattern.RepeatKind.{RepeatKind}
 use Rattle.mbe_matcher.specs.Bindings.{Binding}
 use Rattle.mbe_rules.specs.declared.taken.Round.{Round}
-use Rattle.mbe_rules.specs.Filling.{in_round}
+use Rattle.mbe_rules.specs.Transcribing.{in_round}
 use Rattle.mbe_rules.specs.Parts.{Bit, uses, same, enter, leave, begin, close, bits_of}
 use Rattle.mbe_rules.specs.Standing.{later, bound_here, IsEnd, AreLevels}
 use Rattle.mbe_rules.specs.Templates.{Template, nothing}

@@ -7,7 +7,7 @@ use Rattle.mbe_matcher.specs.Bindings.{Bound, one, none}
 use Rattle.mbe_matcher.specs.Ends.{sums}
 use Rattle.mbe_matcher.specs.Grouping.{listed, grouped, first_bound, bounds_by, taken_by, counts_by}
 use Rattle.mbe_matcher.specs.Marks.{Note}
-use Rattle.mbe_rules.specs.Filling.{round_count}
+use Rattle.mbe_rules.specs.Transcribing.{round_count}
 use Rattle.mbe_rules.specs.Rounds.{round_at, bound_in, rounds, seen_of, time_seen, nested, lesser, first_at, count_at}
 
 -- the number of the first round of that time, if that many came before all

@@ -10,7 +10,7 @@ use Rattle.mbe_matcher.specs.Bindings.{Binding}
 use Rattle.mbe_rules.specs.declared.counting.Count.TheVariants.{Unknown}
 use Rattle.mbe_rules.specs.declared.taken.Round.{Round}
 use Rattle.mbe_rules.specs.Counting.{counted_all, rounds_by, uses_before, kind_before, behind_close}
-use Rattle.mbe_rules.specs.Filling.{FillFault, all_filled, and_then, more_rounds, filled_if, filled, first_of, others_of, in_round, rounds_of, counts_of, used_in}
+use Rattle.mbe_rules.specs.Transcribing.{TranscribeFault, all_transcribed, and_then, more_rounds, transcribed_if, transcribed, first_of, others_of, in_round, rounds_of, counts_of, used_in}
 use Rattle.mbe_rules.specs.Parts.{Bit, leave, begin, close, bits_of}
 use Rattle.mbe_rules.specs.Standing.{later, bound_here, IsEnd, AreLevels}
 use Rattle.mbe_rules.specs.Templates.{Template, nothing, use_of, token, subtree, repetition}
@@ -23,7 +23,7 @@ use Rattle.tt_base.proofs.Appending.{held-append}
 use Rattle.mbe_rules.proofs.Writes.{sound, faulty, write_nothing, write_both, fault_stays, held_stays}
 
 -- how often the repetition with these parts is filled
-abbrev pub asked : (at : ℕ) → Binding → List Bit → Result ℕ FillFault
+abbrev pub asked : (at : ℕ) → Binding → List Bit → Result ℕ TranscribeFault
 asked at here bits = rounds_by at (kind_before 0 bits) (counted_all (counts_of here (uses_before 0 bits)) Unknown)
 
 -- Its template determines the number.
@@ -85,19 +85,19 @@ module _ (bits : List Bit) (whole : Binding) (left : List Bit) where
       (at : ℕ) (inner : Template) (separator : List Leaf) (kind : RepeatKind) (others : Template)
       (held : left ≡ bits_of inner (close separator kind ∷ bits_of others (end_of closing ∷ behind))) where
     -- how often it is filled
-    told_as : (n : Result ℕ FillFault) → asked at (bound_here whole rounds) left ≡ n → rounds_of at kind (counts_of binding (used_in inner)) ≡ n
+    told_as : (n : Result ℕ TranscribeFault) → asked at (bound_here whole rounds) left ≡ n → rounds_of at kind (counts_of binding (used_in inner)) ≡ n
     told_as n is =
         sym (asked_is at binding inner separator kind (bits_of others (end_of closing ∷ behind)))
         ∙ ap (asked at binding) (sym held) ∙ ap (λ b. asked at b left) bound ∙ is
 
     -- what is written of it, and then of the others
-    written_as : (n : Result ℕ FillFault) (stack : Stack) → asked at (bound_here whole rounds) left ≡ n
+    written_as : (n : Result ℕ TranscribeFault) (stack : Stack) → asked at (bound_here whole rounds) left ≡ n
         → finished (level_of (repetition at inner separator kind others) binding closing ∷ outer) (sound stack)
-        ≡ finished outer (behind_end closing (write (filled others binding) (write (filled_if (filled inner) (leaves separator) n binding) (sound stack))))
+        ≡ finished outer (behind_end closing (write (transcribed others binding) (write (transcribed_if (transcribed inner) (leaves separator) n binding) (sound stack))))
     written_as n stack is =
         ap (λ w. finished outer (behind_end closing w))
-        (write_both (filled_if (filled inner) (leaves separator) (rounds_of at kind (counts_of binding (used_in inner))) binding) (filled others binding) (sound stack))
-        ∙ ap (λ r. finished outer (behind_end closing (write (filled others binding) (write (filled_if (filled inner) (leaves separator) r binding) (sound stack))))) (told_as n is)
+        (write_both (transcribed_if (transcribed inner) (leaves separator) (rounds_of at kind (counts_of binding (used_in inner))) binding) (transcribed others binding) (sound stack))
+        ∙ ap (λ r. finished outer (behind_end closing (write (transcribed others binding) (write (transcribed_if (transcribed inner) (leaves separator) r binding) (sound stack))))) (told_as n is)
 
     -- It has no round.
     begin_none : asked at (bound_here whole rounds) left ≡ Ok 0
@@ -108,7 +108,7 @@ module _ (bits : List Bit) (whole : Binding) (left : List Bit) where
           stand =
               (behind, ap (behind_close 0) held ∙ scanned_behind inner separator kind (bits_of others (end_of closing ∷ behind)), bound, ends);
           same =
-              λ stack. written_as (Ok 0) stack is ∙ ap (λ w. finished outer (behind_end closing (write (filled others binding) w))) (write_nothing (sound stack));
+              λ stack. written_as (Ok 0) stack is ∙ ap (λ w. finished outer (behind_end closing (write (transcribed others binding) w))) (write_nothing (sound stack));
           less = omega arith;
         }
 
@@ -135,13 +135,13 @@ module _ (bits : List Bit) (whole : Binding) (left : List Bit) where
           );
           same =
               λ stack. written_as (Ok (suc n)) stack is
-              ∙ ap (λ w. finished outer (behind_end closing (write (filled others binding) w)))
-              (write_both (filled inner (map (in_round first_of) binding)) (more_rounds (filled inner) (leaves separator) n (map (in_round others_of) binding)) (sound stack));
+              ∙ ap (λ w. finished outer (behind_end closing (write (transcribed others binding) w)))
+              (write_both (transcribed inner (map (in_round first_of) binding)) (more_rounds (transcribed inner) (leaves separator) n (map (in_round others_of) binding)) (sound stack));
           less = omega (arith, ap (λ r. work_in_rounds (work inner) (told r) binding) (told_as (Ok (suc n)) is));
         }
 
     -- The number of rounds is a fault.
-    begin_fault : (fault : FillFault) (stack : Stack) → asked at (bound_here whole rounds) left ≡ Err fault
+    begin_fault : (fault : TranscribeFault) (stack : Stack) → asked at (bound_here whole rounds) left ≡ Err fault
         → ((finished (level_of (repetition at inner separator kind others) binding closing ∷ outer) (sound stack)).fault ≡ Some fault)
         × (tokens_held (finished (level_of (repetition at inner separator kind others) binding closing ∷ outer) (sound stack)).stack ≡ tokens_held stack)
     begin_fault fault stack is =
@@ -235,13 +235,13 @@ module _ (bits : List Bit) (whole : Binding) (left : List Bit) where
         bound_in_it = ap (map (in_round first_of)) bound_outside ∙ first_round (suc it.done) (bound_here whole more) ∙ bound_inside whole next more
 
         rounds_written : (stack : Stack)
-            → write (more_rounds (filled body) (leaves other_separator) (suc n) others) (sound stack)
-            ≡ write (more_rounds (filled body) (leaves other_separator) n (map (in_round others_of) others))
-            (write (filled body (map (in_round first_of) others)) (sound (append (leaves separator) stack)))
+            → write (more_rounds (transcribed body) (leaves other_separator) (suc n) others) (sound stack)
+            ≡ write (more_rounds (transcribed body) (leaves other_separator) n (map (in_round others_of) others))
+            (write (transcribed body (map (in_round first_of) others)) (sound (append (leaves separator) stack)))
         rounds_written stack =
-            let first = filled body (map (in_round first_of) others) in
-            let behind_first = more_rounds (filled body) (leaves other_separator) n (map (in_round others_of) others) in
-            write_both (all_filled (leaves other_separator)) (and_then first behind_first) (sound stack)
+            let first = transcribed body (map (in_round first_of) others) in
+            let behind_first = more_rounds (transcribed body) (leaves other_separator) n (map (in_round others_of) others) in
+            write_both (all_transcribed (leaves other_separator)) (and_then first behind_first) (sound stack)
             ∙ write_both first behind_first (sound (append (leaves other_separator) stack))
             ∙ ap (λ l. write behind_first (write first (sound (append (leaves l) stack)))) same_separator
     close_again closing (use_of there which others) is ends within = absurd (cc is)
@@ -306,7 +306,7 @@ module _ (bits : List Bit) (whole : Binding) (rounds : List Round) (left : List 
         (begin_some bits whole left outer rounds closes level.binding level.closing behind bound ends at it.inner it.separator it.kind it.others it.held n body told here)
 
     -- Or its fault is the fault of the whole.
-    pub goes_nowhere : (fault : FillFault) (stack : Stack) (levels : List Level) → AreLevels bits whole levels rounds closes (begin at ∷ left)
+    pub goes_nowhere : (fault : TranscribeFault) (stack : Stack) (levels : List Level) → AreLevels bits whole levels rounds closes (begin at ∷ left)
         → asked at (bound_here whole rounds) left ≡ Err fault
         → ((finished levels (sound stack)).fault ≡ Some fault) × (tokens_held (finished levels (sound stack)).stack ≡ tokens_held stack)
     goes_nowhere fault stack [] stand told = absurd (cc stand.2)

@@ -4,7 +4,7 @@ use Rattle.std.proofs.lemmas.Grind.{reverse_onto}
 use Rattle.std.proofs.lemmas.List.{map-append}
 use Rattle.mbe_matcher.specs.Bindings.{Bound, Binding}
 use Rattle.mbe_rules.specs.declared.taken.Round.{Round}
-use Rattle.mbe_rules.specs.Filling.{first_of, others_of, in_round}
+use Rattle.mbe_rules.specs.Transcribing.{first_of, others_of, in_round}
 use Rattle.mbe_rules.specs.Rounds.{round_at, bound_in, binding_in, dones}
 use Rattle.mbe_rules.specs.Standing.{later, bound_here}
 

@@ -17,7 +17,7 @@ use Rattle.mbe_matcher.specs.Grouping.{Where}
 use Rattle.mbe_rules.specs.declared.error.TemplateError.{TemplateError}
 use Rattle.mbe_rules.specs.declared.error.TemplateError.TheVariants as error
 use Rattle.mbe_rules.specs.Faults.{template_fault}
-use Rattle.mbe_rules.specs.Filling.{Filled, all_filled, filled, lengths_differ, no_round}
+use Rattle.mbe_rules.specs.Transcribing.{Transcribed, all_transcribed, transcribed, lengths_differ, no_round}
 use Rattle.mbe_rules.specs.Parts.{all_bits, uses, same, begin, close, leave}
 use Rattle.mbe_rules.specs.Spelling.{template_of}
 use Rattle.mbe_rules.specs.Templates.{Template, nothing, use_of, token, subtree as held_by, repetition}
@@ -160,24 +160,24 @@ binding =
     ∷ bind z (first (first (one a_tree) none) (first none none)) ∷ []
 
 -- what trees become
-abbrev becomes : Binding → Forest → Filled
-becomes bound trees = filled (template_of variables trees) bound
+abbrev becomes : Binding → Forest → Transcribed
+becomes bound trees = transcribed (template_of variables trees) bound
 
 -- `$x;`, `$($y),*` and `$($x $y)*`
-use_filled : becomes binding (alone 36 (word x (alone 59 end))) ≡ all_filled (word (codes "a") (alone 59 end))
-use_filled = refl
+use_transcribed : becomes binding (alone 36 (word x (alone 59 end))) ≡ all_transcribed (word (codes "a") (alone 59 end))
+use_transcribed = refl
 
-list_filled : becomes binding (rounds (alone 36 (word y end)) (alone 44 (alone 42 end))) ≡ all_filled (word (codes "a") (alone 44 (word (codes "b") end)))
-list_filled = refl
+list_transcribed : becomes binding (rounds (alone 36 (word y end)) (alone 44 (alone 42 end))) ≡ all_transcribed (word (codes "a") (alone 44 (word (codes "b") end)))
+list_transcribed = refl
 
-outer_filled : becomes binding (rounds (alone 36 (word x (alone 36 (word y end)))) (alone 42 end))
-    ≡ all_filled (word (codes "a") (word (codes "a") (word (codes "a") (word (codes "b") end))))
-outer_filled = refl
+outer_transcribed : becomes binding (rounds (alone 36 (word x (alone 36 (word y end)))) (alone 42 end))
+    ≡ all_transcribed (word (codes "a") (word (codes "a") (word (codes "a") (word (codes "b") end))))
+outer_transcribed = refl
 
 -- `$($y $($z)*)*`: `$y` is written in each round, and `$z` in the first.
-nested_filled : becomes binding (rounds (alone 36 (word y (rounds (alone 36 (word z end)) (alone 42 end)))) (alone 42 end))
-    ≡ all_filled (word (codes "a") (word (codes "a") (word (codes "b") end)))
-nested_filled = refl
+nested_transcribed : becomes binding (rounds (alone 36 (word y (rounds (alone 36 (word z end)) (alone 42 end)))) (alone 42 end))
+    ≡ all_transcribed (word (codes "a") (word (codes "a") (word (codes "b") end)))
+nested_transcribed = refl
 
 -- `+` requires a round; and `$y` and `$z` must have the same number of rounds.
 abbrev empty : Binding
@@ -186,7 +186,7 @@ empty = record { variable = nameless; bound = one b_tree } ∷ bind x (one a_tre
 none_wanted : becomes empty (rounds (alone 36 (word y end)) (alone 43 end)) ≡ record { trees = end; fault = Some (no_round 0) }
 none_wanted = refl
 
-none_there : becomes empty (rounds (alone 36 (word y end)) (alone 42 end)) ≡ all_filled end
+none_there : becomes empty (rounds (alone 36 (word y end)) (alone 42 end)) ≡ all_transcribed end
 none_there = refl
 
 lengths_apart : becomes empty (rounds (alone 36 (word y (rounds (alone 36 (word z end)) (alone 42 end)))) (alone 42 end)) ≡ record { trees = end; fault = Some (lengths_differ 0) }
@@ -207,7 +207,7 @@ joint_separator : template_of variables (rounds (alone 36 (word y end)) (joint 6
     ≡ repetition 0 (use_of 2 2 nothing) (punct 61 Joint ∷ punct 62 Alone ∷ []) repeat.ZeroOrMore nothing
 joint_separator = refl
 
-joint_bound : filled (use_of 0 0 (token (punct 61 Alone) nothing)) (bind x (one (joint 61 (joint 62 end))) ∷ []) ≡ all_filled (joint 61 (alone 62 (alone 61 end)))
+joint_bound : transcribed (use_of 0 0 (token (punct 61 Alone) nothing)) (bind x (one (joint 61 (joint 62 end))) ∷ []) ≡ all_transcribed (joint 61 (alone 62 (alone 61 end)))
 joint_bound = refl
 
 -- What a fragment of Rust's grammar took: an expression of more than one token becomes one opaque subtree with the spans of its ends. A
@@ -219,19 +219,19 @@ bound_as which trees = record { variable = record { name = Some x; fragment = fr
 abbrev sum : Forest
 sum = leaf (leaf_of.Ident (record { sym = codes "a"; span = span 0 1; is_raw = Yes })) (alone 43 (leaf (leaf_of.Ident (record { sym = codes "b"; span = span 4 5; is_raw = Yes })) end))
 
-sum_bound : filled (use_of 0 0 nothing) (bound_as grammar.Expr sum)
-    ≡ all_filled (node (record { open_span = span 0 1; close = span 4 5; kind = InvisibleOpaque }) sum end)
+sum_bound : transcribed (use_of 0 0 nothing) (bound_as grammar.Expr sum)
+    ≡ all_transcribed (node (record { open_span = span 0 1; close = span 4 5; kind = InvisibleOpaque }) sum end)
 sum_bound = refl
 
-sum_again : filled (use_of 0 0 nothing) (bound_as grammar.Pat (node (delimiter InvisibleOpaque (span 0 1) (span 4 5)) sum end))
-    ≡ all_filled (node (delimiter InvisibleOpaque (span 0 1) (span 4 5)) sum end)
+sum_again : transcribed (use_of 0 0 nothing) (bound_as grammar.Pat (node (delimiter InvisibleOpaque (span 0 1) (span 4 5)) sum end))
+    ≡ all_transcribed (node (delimiter InvisibleOpaque (span 0 1) (span 4 5)) sum end)
 sum_again = refl
 
-token_bound : filled (use_of 0 0 nothing) (bound_as grammar.Ty (word (codes "a") end)) ≡ all_filled (word (codes "a") end)
+token_bound : transcribed (use_of 0 0 nothing) (bound_as grammar.Ty (word (codes "a") end)) ≡ all_transcribed (word (codes "a") end)
 token_bound = refl
 
-dots_bound : filled (use_of 0 0 nothing) (bound_as grammar.PatParam (joint 46 (alone 46 end))) ≡ all_filled (joint 46 (alone 46 end))
+dots_bound : transcribed (use_of 0 0 nothing) (bound_as grammar.PatParam (joint 46 (alone 46 end))) ≡ all_transcribed (joint 46 (alone 46 end))
 dots_bound = refl
 
-path_bound : filled (use_of 0 0 nothing) (bound_as grammar.Path sum) ≡ all_filled sum
+path_bound : transcribed (use_of 0 0 nothing) (bound_as grammar.Path sum) ≡ all_transcribed sum
 path_bound = refl

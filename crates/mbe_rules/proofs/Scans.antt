@@ -8,7 +8,7 @@ use Rattle.tt.specs.Types.Leaf.{Leaf}
 use Rattle.mbe_rules.specs.declared.counting.Count.{Count}
 use Rattle.mbe_rules.specs.declared.counting.Count.TheVariants.{Unknown, Same, Differ}
 use Rattle.mbe_rules.specs.Counting.{counted_with, counted_all, counts_seen, rounds_by, uses_before, kind_before, behind_close}
-use Rattle.mbe_rules.specs.Filling.{lengths_differ, enough, are_all, rounds_of, used_in, count_in, count_of, counts_of, trees_in, trees_used}
+use Rattle.mbe_rules.specs.Transcribing.{lengths_differ, enough, are_all, rounds_of, used_in, count_in, count_of, counts_of, trees_in, trees_used}
 use Rattle.mbe_rules.specs.Parts.{Bit, leave, close, bits_of}
 use Rattle.mbe_rules.specs.Rounds.{seen_of, seen_at, trees_seen}
 use Rattle.mbe_rules.specs.Templates.{Template, nothing, use_of, token, subtree, repetition}

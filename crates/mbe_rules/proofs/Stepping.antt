@@ -12,11 +12,11 @@ use Rattle.tt.specs.Types.Span.{Span}
 use Rattle.tt.specs.Types.TtFault.{TtFault}
 use Rattle.mbe_pattern.specs.declared.pattern.RepeatKind.{RepeatKind}
 use Rattle.mbe_matcher.specs.Bindings.{Binding}
-use Rattle.mbe_rules.specs.declared.fill_error.FillError.TheVariants as error
-use Rattle.mbe_rules.specs.declared.filling.Filling.{Filling}
+use Rattle.mbe_rules.specs.declared.transcribe_error.TranscribeError.TheVariants as error
+use Rattle.mbe_rules.specs.declared.transcribe.Transcriber.{Transcriber}
 use Rattle.mbe_rules.specs.declared.taken.Round.{Round}
 use Rattle.mbe_rules.specs.Counting.{behind_close, round_error}
-use Rattle.mbe_rules.specs.Filling.{FillFault, lengths_differ, no_round, trees_placed}
+use Rattle.mbe_rules.specs.Transcribing.{TranscribeFault, lengths_differ, no_round, trees_transcribed}
 use Rattle.mbe_rules.specs.Parts.{Bit, uses, same, enter, leave, begin, close}
 use Rattle.mbe_rules.specs.Standing.{AreLevels, IsAt, Goes, Grows, IsWant, Enters, AreClosed, Leaves, IsStop, bound_here}
 use Rattle.mbe_rules.specs.Writing.{Level, written_by, finished}
@@ -27,7 +27,7 @@ use Rattle.mbe_rules.proofs.Writes.{sound, held_less}
 
 module _ (bits : List Bit) (whole : Binding) (levels : List Level) (left : List Bit) where
   -- The filling goes on like this.
-  goes_on : (old new : Filling) (rounds : List Round) (closes : List Span) (change : Stack → Stack) → Next bits whole levels rounds closes left change
+  goes_on : (old new : Transcriber) (rounds : List Round) (closes : List Span) (change : Stack → Stack) → Next bits whole levels rounds closes left change
       → reverse new.rounds.items ≡ rounds → reverse new.closes.items ≡ closes → new.builder.stack ≡ change old.builder.stack
       → tokens_held new.builder.stack ≤ most_tokens → new.builder.top ≡ old.builder.top → Goes bits whole levels old new left
   goes_on old new rounds closes change next r c s few top =
@@ -44,7 +44,7 @@ module _ (bits : List Bit) (whole : Binding) (levels : List Level) (left : List 
       }
 
   -- Or that many more tokens give an error.
-  want_stops : (old : Filling) (rounds : List Round) (closes : List Span) (behind : List Bit) (change : Stack → Stack) (more : ℕ) (fault : TtFault)
+  want_stops : (old : Transcriber) (rounds : List Round) (closes : List Span) (behind : List Bit) (change : Stack → Stack) (more : ℕ) (fault : TtFault)
       → Next bits whole levels rounds closes behind change → tokens_held (change old.builder.stack) ≡ tokens_held old.builder.stack + more → IsWant more old fault
       → IsStop (finished levels (written_by old)) (error.Tree fault)
   want_stops old rounds closes behind change more fault next held (inl e) = subst (λ f. IsStop (finished levels (written_by old)) (error.Tree f)) (sym e) tt
@@ -58,7 +58,7 @@ module _ (bits : List Bit) (whole : Binding) (levels : List Level) (left : List 
       ) in
       subst (λ f. IsStop (finished levels (written_by old)) (error.Tree f)) (sym e) past
 
-  module _ (old : Filling) where
+  module _ (old : Transcriber) where
     -- the rounds under way, and the open subtrees
     abbrev pub rounds : List Round
     rounds = reverse old.rounds.items
@@ -67,21 +67,21 @@ module _ (bits : List Bit) (whole : Binding) (levels : List Level) (left : List 
     closes = reverse old.closes.items
 
     -- A use.
-    pub use_steps : (new : Filling) (at variable : ℕ) → IsAt bits whole levels old (uses at variable ∷ left)
-        → Grows (trees_placed (slice_get (bound_here whole rounds) variable)) old new → Goes bits whole levels old new left
+    pub use_steps : (new : Transcriber) (at variable : ℕ) → IsAt bits whole levels old (uses at variable ∷ left)
+        → Grows (trees_transcribed (slice_get (bound_here whole rounds) variable)) old new → Goes bits whole levels old new left
     use_steps new at variable is grows =
-        let trees = trees_placed (slice_get (bound_here whole rounds) variable) in
+        let trees = trees_transcribed (slice_get (bound_here whole rounds) variable) in
         goes_on old new rounds closes (append trees) (goes_use bits whole rounds closes left at variable levels is.stand)
         (ap (λ r. reverse r.items) grows.rounds) (ap (λ r. reverse r.items) grows.closes) grows.stack (grows.few is.few) grows.top
 
     pub use_stops : (at variable : ℕ) (fault : TtFault) → IsAt bits whole levels old (uses at variable ∷ left)
-        → IsWant (size (trees_placed (slice_get (bound_here whole rounds) variable))) old fault → IsStop (finished levels (written_by old)) (error.Tree fault)
+        → IsWant (size (trees_transcribed (slice_get (bound_here whole rounds) variable))) old fault → IsStop (finished levels (written_by old)) (error.Tree fault)
     use_stops at variable fault is want =
-        let trees = trees_placed (slice_get (bound_here whole rounds) variable) in
+        let trees = trees_transcribed (slice_get (bound_here whole rounds) variable) in
         want_stops old rounds closes left (append trees) (size trees) fault (goes_use bits whole rounds closes left at variable levels is.stand) (held-append trees old.builder.stack) want
 
     -- A token.
-    pub token_steps : (new : Filling) (it : Leaf) → IsAt bits whole levels old (same it ∷ left) → Grows (leaf it end) old new → Goes bits whole levels old new left
+    pub token_steps : (new : Transcriber) (it : Leaf) → IsAt bits whole levels old (same it ∷ left) → Grows (leaf it end) old new → Goes bits whole levels old new left
     token_steps new it is grows =
         goes_on old new rounds closes (append (leaf it end)) (goes_token bits whole rounds closes left it levels is.stand)
         (ap (λ r. reverse r.items) grows.rounds) (ap (λ r. reverse r.items) grows.closes) grows.stack (grows.few is.few) grows.top
@@ -92,7 +92,7 @@ module _ (bits : List Bit) (whole : Binding) (levels : List Level) (left : List 
         want_stops old rounds closes left (append (leaf it end)) 1 fault (goes_token bits whole rounds closes left it levels is.stand) (held-append (leaf it end) old.builder.stack) want
 
     -- A subtree begins.
-    pub enter_steps : (new : Filling) (delimiter : Delimiter) → IsAt bits whole levels old (enter delimiter ∷ left) → Enters delimiter old new
+    pub enter_steps : (new : Transcriber) (delimiter : Delimiter) → IsAt bits whole levels old (enter delimiter ∷ left) → Enters delimiter old new
         → Goes bits whole levels old new left
     enter_steps new delimiter is enters =
         goes_on old new rounds (delimiter.close ∷ closes) (λ stack. above stack delimiter.kind delimiter.open_span end)
@@ -107,7 +107,7 @@ module _ (bits : List Bit) (whole : Binding) (levels : List Level) (left : List 
         (goes_enter bits whole rounds closes left delimiter levels is.stand) (omega arith) want
 
     -- A subtree ends, or the template does.
-    pub leave_steps : (new : Filling) → IsAt bits whole levels old (leave ∷ left) → Leaves old new → Goes bits whole levels old new left
+    pub leave_steps : (new : Transcriber) → IsAt bits whole levels old (leave ∷ left) → Leaves old new → Goes bits whole levels old new left
     leave_steps new is leaves = by closes refl leaves
       where
         by : (spans : List Span) → closes ≡ spans → AreClosed spans old new → Goes bits whole levels old new left
@@ -122,7 +122,7 @@ module _ (bits : List Bit) (whole : Binding) (levels : List Level) (left : List 
             (omega (arith, ap tokens_held stack, held-close span old.builder.stack, is.few)) top
 
     -- A repetition begins, and has no round.
-    pub none_steps : (new : Filling) (at : ℕ) → IsAt bits whole levels old (begin at ∷ left) → asked at (bound_here whole rounds) left ≡ Ok 0 → new ≡ old
+    pub none_steps : (new : Transcriber) (at : ℕ) → IsAt bits whole levels old (begin at ∷ left) → asked at (bound_here whole rounds) left ≡ Ok 0 → new ≡ old
         → Goes bits whole levels old new (behind_close 0 left)
     none_steps new at is told unchanged =
         let next = goes_none bits whole rounds left closes at levels is.stand told in
@@ -135,7 +135,7 @@ module _ (bits : List Bit) (whole : Binding) (levels : List Level) (left : List 
         }
 
     -- It has some rounds.
-    pub begin_steps : (new : Filling) (at n body : ℕ) → IsAt bits whole levels old (begin at ∷ left) → asked at (bound_here whole rounds) left ≡ Ok (suc n)
+    pub begin_steps : (new : Transcriber) (at n body : ℕ) → IsAt bits whole levels old (begin at ∷ left) → asked at (bound_here whole rounds) left ≡ Ok (suc n)
         → drop body bits ≡ left → new.builder ≡ old.builder → new.closes ≡ old.closes
         → new.rounds.items ≡ old.rounds.items ++ record { body = body; done = 0; last = n } ∷ []
         → Goes bits whole levels old new left
@@ -146,19 +146,19 @@ module _ (bits : List Bit) (whole : Binding) (levels : List Level) (left : List 
         (omega (arith, ap (λ b. tokens_held b.stack) builder, is.few)) (ap (λ b. b.top) builder)
 
     -- The number of rounds is a fault.
-    pub begin_stops : (at : ℕ) (fault : FillFault) → IsAt bits whole levels old (begin at ∷ left) → asked at (bound_here whole rounds) left ≡ Err fault
+    pub begin_stops : (at : ℕ) (fault : TranscribeFault) → IsAt bits whole levels old (begin at ∷ left) → asked at (bound_here whole rounds) left ≡ Err fault
         → IsStop (finished levels (written_by old)) (round_error fault)
     begin_stops at fault is told =
         let (first, held) = goes_nowhere bits whole rounds left closes at fault old.builder.stack levels is.stand told in
         by fault first (omega (arith, held, is.few))
       where
-        by : (fault : FillFault) → (finished levels (written_by old)).fault ≡ Some fault → tokens_held (finished levels (written_by old)).stack ≤ most_tokens
+        by : (fault : TranscribeFault) → (finished levels (written_by old)).fault ≡ Some fault → tokens_held (finished levels (written_by old)).stack ≤ most_tokens
             → IsStop (finished levels (written_by old)) (round_error fault)
         by (lengths_differ there) first few = (first, few)
         by (no_round there) first few = (first, few)
 
 -- A round ends.
-module _ (bits : List Bit) (whole : Binding) (levels : List Level) (left : List Bit) (old : Filling) (separator : List Leaf) (kind : RepeatKind)
+module _ (bits : List Bit) (whole : Binding) (levels : List Level) (left : List Bit) (old : Transcriber) (separator : List Leaf) (kind : RepeatKind)
     (before : List Round) (it : Round) (was : old.rounds.items ≡ before ++ it ∷ [])
     (is : IsAt bits whole levels old (close separator kind ∷ left)) where
   -- the levels, with that round
@@ -166,7 +166,7 @@ module _ (bits : List Bit) (whole : Binding) (levels : List Level) (left : List 
   stand = subst (λ l. AreLevels bits whole levels l (reverse old.closes.items) (close separator kind ∷ left)) (ap reverse was ∙ reverse-append before (it ∷ [])) is.stand
 
   -- It is the last round.
-  pub last_steps : (new : Filling) → it.last ≤ it.done → new.builder ≡ old.builder → new.closes ≡ old.closes → new.rounds.items ≡ before
+  pub last_steps : (new : Transcriber) → it.last ≤ it.done → new.builder ≡ old.builder → new.closes ≡ old.closes → new.rounds.items ≡ before
       → Goes bits whole levels old new left
   last_steps new past builder same_closes same_rounds =
       goes_on bits whole levels left old new (reverse before) (reverse old.closes.items) (λ stack. stack)
@@ -175,7 +175,7 @@ module _ (bits : List Bit) (whole : Binding) (levels : List Level) (left : List 
       (omega (arith, ap (λ b. tokens_held b.stack) builder, is.few)) (ap (λ b. b.top) builder)
 
   -- There is another round.
-  pub again_steps : (new : Filling) → it.done < it.last → new.builder.stack ≡ append (leaves separator) old.builder.stack → new.builder.top ≡ old.builder.top
+  pub again_steps : (new : Transcriber) → it.done < it.last → new.builder.stack ≡ append (leaves separator) old.builder.stack → new.builder.top ≡ old.builder.top
       → (tokens_held old.builder.stack ≤ most_tokens → tokens_held new.builder.stack ≤ most_tokens) → new.closes ≡ old.closes
       → new.rounds.items ≡ before ++ record { body = it.body; done = suc it.done; last = it.last } ∷ []
       → Goes bits whole levels old new (drop it.body bits)

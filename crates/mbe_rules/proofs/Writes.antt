@@ -6,7 +6,7 @@ use Rattle.tt.specs.Siblings.{leaves}
 use Rattle.tt.specs.Types.Span.{Span}
 use Rattle.tt.specs.Unflat.{join-end}
 use Rattle.tt_base.proofs.Appending.{append-end, append-join, held-append, held-close}
-use Rattle.mbe_rules.specs.Filling.{FillFault, Filled, all_filled, and_then, more_rounds, filled}
+use Rattle.mbe_rules.specs.Transcribing.{TranscribeFault, Transcribed, all_transcribed, and_then, more_rounds, transcribed}
 use Rattle.mbe_rules.specs.Writing.{Closing, last, shut, again, Level, Written, write, behind_end, finished}
 
 -- a stack, and no fault
@@ -14,22 +14,22 @@ abbrev pub sound : Stack → Written
 sound stack = record { stack = stack; fault = None }
 
 -- a stack, and a fault
-abbrev pub faulty : Stack → FillFault → Written
+abbrev pub faulty : Stack → TranscribeFault → Written
 faulty stack fault = record { stack = stack; fault = Some fault }
 
 -- Nothing more is written.
-pub write_nothing : (it : Written) → write (all_filled end) it ≡ it
+pub write_nothing : (it : Written) → write (all_transcribed end) it ≡ it
 write_nothing it = by it.fault it.stack
   where
-    by : (fault : Option FillFault) (stack : Stack) → write (all_filled end) (record { stack = stack; fault = fault }) ≡ record { stack = stack; fault = fault }
+    by : (fault : Option TranscribeFault) (stack : Stack) → write (all_transcribed end) (record { stack = stack; fault = fault }) ≡ record { stack = stack; fault = fault }
     by None stack = ap sound (append-end stack)
     by (Some fault) stack = refl
 
 -- One is written, and then the other.
-pub write_both : (a b : Filled) (it : Written) → write (and_then a b) it ≡ write b (write a it)
+pub write_both : (a b : Transcribed) (it : Written) → write (and_then a b) it ≡ write b (write a it)
 write_both a b it = by it.fault a.fault it.stack
   where
-    by : (before fault : Option FillFault) (stack : Stack)
+    by : (before fault : Option TranscribeFault) (stack : Stack)
         → write (and_then (record { trees = a.trees; fault = fault }) b) (record { stack = stack; fault = before })
         ≡ write b (write (record { trees = a.trees; fault = fault }) (record { stack = stack; fault = before }))
     by (Some f) fault stack = refl
@@ -37,44 +37,44 @@ write_both a b it = by it.fault a.fault it.stack
     by None None stack = ap (λ s. record { stack = s; fault = b.fault }) (append-join a.trees b.trees stack)
 
 -- No fewer tokens are held.
-held-write : (it : Filled) (before : Written) → tokens_held before.stack ≤ tokens_held (write it before).stack
+held-write : (it : Transcribed) (before : Written) → tokens_held before.stack ≤ tokens_held (write it before).stack
 held-write it before = by before.fault before.stack
   where
-    by : (fault : Option FillFault) (stack : Stack) → tokens_held stack ≤ tokens_held (write it (record { stack = stack; fault = fault })).stack
+    by : (fault : Option TranscribeFault) (stack : Stack) → tokens_held stack ≤ tokens_held (write it (record { stack = stack; fault = fault })).stack
     by None stack = omega (arith, held-append it.trees stack)
     by (Some fault) stack = omega arith
 
 held-behind : (closing : Closing) (it : Written) → tokens_held it.stack ≤ tokens_held (behind_end closing it).stack
 held-behind last it = omega arith
 held-behind (shut span) it = omega (arith, held-close span it.stack)
-held-behind (again body separator kind left others) it = held-write (more_rounds (filled body) (leaves separator) left others) it
+held-behind (again body separator kind left others) it = held-write (more_rounds (transcribed body) (leaves separator) left others) it
 
 pub held_less : (levels : List Level) (it : Written) → tokens_held it.stack ≤ tokens_held (finished levels it).stack
 held_less [] it = omega arith
 held_less (level ∷ outer) it =
-    let next = write (filled level.rest level.binding) it in
-    omega (arith, held-write (filled level.rest level.binding) it, held-behind level.closing next, held_less outer (behind_end level.closing next))
+    let next = write (transcribed level.rest level.binding) it in
+    omega (arith, held-write (transcribed level.rest level.binding) it, held-behind level.closing next, held_less outer (behind_end level.closing next))
 
 -- After a fault nothing more is written.
-behind_fault : (closing : Closing) (stack : Stack) (fault : FillFault) → (behind_end closing (faulty stack fault)).fault ≡ Some fault
+behind_fault : (closing : Closing) (stack : Stack) (fault : TranscribeFault) → (behind_end closing (faulty stack fault)).fault ≡ Some fault
 behind_fault last stack fault = refl
 behind_fault (shut span) stack fault = refl
 behind_fault (again body separator kind left others) stack fault = refl
 
-behind_held : (closing : Closing) (stack : Stack) (fault : FillFault) → tokens_held (behind_end closing (faulty stack fault)).stack ≡ tokens_held stack
+behind_held : (closing : Closing) (stack : Stack) (fault : TranscribeFault) → tokens_held (behind_end closing (faulty stack fault)).stack ≡ tokens_held stack
 behind_held last stack fault = refl
 behind_held (shut span) stack fault = held-close span stack
 behind_held (again body separator kind left others) stack fault = refl
 
-pub fault_stays : (levels : List Level) (it : Written) (fault : FillFault) → it.fault ≡ Some fault → (finished levels it).fault ≡ Some fault
+pub fault_stays : (levels : List Level) (it : Written) (fault : TranscribeFault) → it.fault ≡ Some fault → (finished levels it).fault ≡ Some fault
 fault_stays [] it fault is = is
 fault_stays (level ∷ outer) it fault is =
-    ap (λ f. (finished outer (behind_end level.closing (write (filled level.rest level.binding) (record { stack = it.stack; fault = f })))).fault) is
+    ap (λ f. (finished outer (behind_end level.closing (write (transcribed level.rest level.binding) (record { stack = it.stack; fault = f })))).fault) is
     ∙ fault_stays outer (behind_end level.closing (faulty it.stack fault)) fault (behind_fault level.closing it.stack fault)
 
-pub held_stays : (levels : List Level) (it : Written) (fault : FillFault) → it.fault ≡ Some fault → tokens_held (finished levels it).stack ≡ tokens_held it.stack
+pub held_stays : (levels : List Level) (it : Written) (fault : TranscribeFault) → it.fault ≡ Some fault → tokens_held (finished levels it).stack ≡ tokens_held it.stack
 held_stays [] it fault is = refl
 held_stays (level ∷ outer) it fault is =
-    ap (λ f. tokens_held (finished outer (behind_end level.closing (write (filled level.rest level.binding) (record { stack = it.stack; fault = f })))).stack) is
+    ap (λ f. tokens_held (finished outer (behind_end level.closing (write (transcribed level.rest level.binding) (record { stack = it.stack; fault = f })))).stack) is
     ∙ held_stays outer (behind_end level.closing (faulty it.stack fault)) fault (behind_fault level.closing it.stack fault)
     ∙ behind_held level.closing it.stack fault

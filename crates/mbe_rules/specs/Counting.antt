@@ -4,9 +4,9 @@ use Rattle.mbe_pattern.specs.declared.pattern.RepeatKind.{RepeatKind}
 use Rattle.mbe_pattern.specs.declared.pattern.RepeatKind.TheVariants.{ZeroOrMore}
 use Rattle.mbe_rules.specs.declared.counting.Count.{Count}
 use Rattle.mbe_rules.specs.declared.counting.Count.TheVariants.{Unknown, Same, Differ}
-use Rattle.mbe_rules.specs.declared.fill_error.FillError.{FillError}
-use Rattle.mbe_rules.specs.declared.fill_error.FillError.TheVariants.{LengthsDiffer, NoRound}
-use Rattle.mbe_rules.specs.Filling.{FillFault, lengths_differ, no_round, enough}
+use Rattle.mbe_rules.specs.declared.transcribe_error.TranscribeError.{TranscribeError}
+use Rattle.mbe_rules.specs.declared.transcribe_error.TranscribeError.TheVariants.{LengthsDiffer, NoRound}
+use Rattle.mbe_rules.specs.Transcribing.{TranscribeFault, lengths_differ, no_round, enough}
 use Rattle.mbe_rules.specs.Parts.{Bit, uses, same, enter, leave, begin, close}
 use Rattle.mbe_rules.specs.Rounds.{Seen, trees, rounds}
 
@@ -27,13 +27,13 @@ counts_seen (trees its) = []
 counts_seen (rounds n) = n ∷ []
 
 -- how often a repetition of that kind is filled
-abbrev pub rounds_by : (at : ℕ) → RepeatKind → Count → Result ℕ FillFault
+abbrev pub rounds_by : (at : ℕ) → RepeatKind → Count → Result ℕ TranscribeFault
 rounds_by at kind Unknown = Ok 0
 rounds_by at kind (Same n) = enough at kind n
 rounds_by at kind Differ = Err (lengths_differ at)
 
 -- the error for a fault
-abbrev pub round_error : FillFault → FillError
+abbrev pub round_error : TranscribeFault → TranscribeError
 round_error (lengths_differ at) = LengthsDiffer at
 round_error (no_round at) = NoRound at
 

@@ -6,10 +6,10 @@ use Rattle.mbe_matcher.specs.Bindings.{binding_of}
 use Rattle.mbe_matcher.specs.Fronts.{StopsAt}
 use Rattle.mbe_matcher.specs.Matchers.{IsMatcherOf}
 use Rattle.mbe_matcher.specs.Readings.{Reading, IsNoInstance, IsReadBy, IsAmbiguous}
-use Rattle.mbe_rules.specs.declared.fill_error.FillError.{FillError}
-use Rattle.mbe_rules.specs.declared.fill_error.FillError.TheVariants.{Tree}
-use Rattle.mbe_rules.specs.Filling.{Filled, filled}
-use Rattle.mbe_rules.specs.Results.{IsTemplate, IsFilled, IsFillError}
+use Rattle.mbe_rules.specs.declared.transcribe_error.TranscribeError.{TranscribeError}
+use Rattle.mbe_rules.specs.declared.transcribe_error.TranscribeError.TheVariants.{Tree}
+use Rattle.mbe_rules.specs.Transcribing.{Transcribed, transcribed}
+use Rattle.mbe_rules.specs.Results.{IsTemplate, IsTranscribed, IsTranscribeError}
 use Rattle.mbe_rules.specs.declared.arm.Answer.{Answer}
 use Rattle.mbe_rules.specs.declared.arm.Answer.TheVariants as answer
 use Rattle.mbe_rules.specs.declared.arm.Arm as rust
@@ -31,20 +31,20 @@ AreMade (arm ∷ more) [] = ⊥
 AreMade (arm ∷ more) (it ∷ others) = IsMade arm it × AreMade more others
 
 -- what the arm writes for such a reading of an input
-abbrev pub written : Arm → Reading → Filled
-written arm reading = filled arm.template (binding_of arm.pattern reading)
+abbrev pub written : Arm → Reading → Transcribed
+written arm reading = transcribed arm.template (binding_of arm.pattern reading)
 
 -- what the arm makes of an input: no match, if it is no instance of the pattern, which stops there; ambiguous, if there are two readings;
 -- or the template, filled with what the one reading binds
 abbrev pub IsAnswer : Arm → (input : Forest) → Answer → Type 0
 IsAnswer arm input (answer.NoMatch at) = IsNoInstance arm.pattern input × StopsAt arm.pattern input at
 IsAnswer arm input answer.Ambiguous = IsAmbiguous arm.pattern input
-IsAnswer arm input (answer.Tree tree) = (reading : Reading) × IsReadBy arm.pattern input reading × IsFilled arm.delimiter (written arm reading) tree
+IsAnswer arm input (answer.Tree tree) = (reading : Reading) × IsReadBy arm.pattern input reading × IsTranscribed arm.delimiter (written arm reading) tree
 
 -- why the arm makes nothing of it: memory ran out, or the template cannot be filled with what the one reading binds
-abbrev pub IsRefusal : Arm → (input : Forest) → FillError → Type 0
+abbrev pub IsRefusal : Arm → (input : Forest) → TranscribeError → Type 0
 IsRefusal arm input (Tree Memory) = Unit {0}
-IsRefusal arm input error = (reading : Reading) × IsReadBy arm.pattern input reading × IsFillError arm.delimiter (written arm reading) error
+IsRefusal arm input error = (reading : Reading) × IsReadBy arm.pattern input reading × IsTranscribeError arm.delimiter (written arm reading) error
 
 -- the answer of the first arm that matches the input; the first of these arms has that number, and earlier arms came up to a flat
 -- place; if no arm matches, the farthest place

@@ -7,7 +7,7 @@ pub mod ArmSpelling
 -- What a template is, how trees spell it, what is wrong with it, and what it becomes.
 pub mod Counting
 pub mod Faults
-pub mod Filling
+pub mod Transcriber
 pub mod Judging
 pub mod Marks
 pub mod Parts

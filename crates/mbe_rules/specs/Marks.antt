@@ -1,5 +1,5 @@
 -- What was read of a template, in the terms of its definitions.
-use Rattle.mbe_pattern.specs.Signs.{tail_of}
+use Rattle.mbe_pattern.specs.Dollars.{tail_of}
 use Rattle.mbe_rules.specs.declared.first.Mark.{Mark}
 use Rattle.mbe_rules.specs.declared.first.Mark.TheVariants as mark
 use Rattle.mbe_rules.specs.Spelling as spelling

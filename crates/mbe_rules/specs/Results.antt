@@ -10,10 +10,10 @@ use Rattle.mbe_matcher.specs.Grouping.{Where}
 use Rattle.mbe_rules.specs.declared.error.TemplateError.{TemplateError}
 use Rattle.mbe_rules.specs.declared.error.TemplateError.TheVariants as error
 use Rattle.mbe_rules.specs.declared.template.Template as rust
-use Rattle.mbe_rules.specs.declared.fill_error.FillError.{FillError}
-use Rattle.mbe_rules.specs.declared.fill_error.FillError.TheVariants as refusal
+use Rattle.mbe_rules.specs.declared.transcribe_error.TranscribeError.{TranscribeError}
+use Rattle.mbe_rules.specs.declared.transcribe_error.TranscribeError.TheVariants as refusal
 use Rattle.mbe_rules.specs.Faults.{template_fault}
-use Rattle.mbe_rules.specs.Filling.{Filled, lengths_differ, no_round}
+use Rattle.mbe_rules.specs.Transcribing.{Transcribed, lengths_differ, no_round}
 use Rattle.mbe_rules.specs.Parts.{bit_of, all_bits}
 use Rattle.mbe_rules.specs.Templates.{Template}
 
@@ -29,18 +29,18 @@ IsTemplateError variables template (error.StillRepeats at) = template_fault vari
 IsTemplateError variables template (error.NothingRepeats at) = template_fault variables template ≡ Some (error.NothingRepeats at)
 
 -- the tree is all that was filled, under that delimiter
-pub record IsFilled (delimiter : Delimiter) (it : Filled) (tree : Root) : Type 0 where
+pub record IsTranscribed (delimiter : Delimiter) (it : Transcribed) (tree : Root) : Type 0 where
   pub sound : it.fault ≡ None
   pub is : tree ≡ under delimiter it.trees
 
 -- a limit other than that of tokens is reported only if the whole template was filled; memory may run out at any time
-abbrev pub IsToldOf : Filled → TtFault → Type 0
+abbrev pub IsToldOf : Transcribed → TtFault → Type 0
 IsToldOf it limit.Memory = Unit {0}
 IsToldOf it limit.TooManyTokens = Unit {0}
 IsToldOf it other = it.fault ≡ None
 
 -- why there is no such tree: the first fault, or what was filled up to it exceeds a limit, or memory ran out
-abbrev pub IsFillError : Delimiter → Filled → FillError → Type 0
-IsFillError delimiter it (refusal.LengthsDiffer at) = (it.fault ≡ Some (lengths_differ at)) × (size it.trees ≤ most_tokens)
-IsFillError delimiter it (refusal.NoRound at) = (it.fault ≡ Some (no_round at)) × (size it.trees ≤ most_tokens)
-IsFillError delimiter it (refusal.Tree fault) = IsToldOf it fault × IsTreeFault (under delimiter it.trees) fault
+abbrev pub IsTranscribeError : Delimiter → Transcribed → TranscribeError → Type 0
+IsTranscribeError delimiter it (refusal.LengthsDiffer at) = (it.fault ≡ Some (lengths_differ at)) × (size it.trees ≤ most_tokens)
+IsTranscribeError delimiter it (refusal.NoRound at) = (it.fault ≡ Some (no_round at)) × (size it.trees ≤ most_tokens)
+IsTranscribeError delimiter it (refusal.Tree fault) = IsToldOf it fault × IsTreeFault (under delimiter it.trees) fault

@@ -9,7 +9,7 @@ use Rattle.mbe_rules.specs.declared.taken.Round.{Round}
 use Rattle.mbe_rules.specs.declared.taken.Seen as rust
 use Rattle.mbe_rules.specs.declared.taken.Seen.TheVariants as variant
 use Rattle.mbe_rules.specs.declared.taken.Taken.{Taken}
-use Rattle.mbe_rules.specs.Filling.{first_of, others_of, in_round, round_count}
+use Rattle.mbe_rules.specs.Transcribing.{first_of, others_of, in_round, round_count}
 
 -- what is bound in the round of that number, from 0
 abbrev pub round_at : ℕ → Bound → Bound

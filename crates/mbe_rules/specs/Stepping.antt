@@ -1,10 +1,10 @@
 -- What is left of a template's trees, level by level.
 use Rattle.std.specs.Prelude.{◌≡◌, List, [], ◌∷◌, ◌++◌, map, reverse, Option, None, Some}
 use Rattle.tt.specs.Iters.{rest_of}
-use Rattle.mbe_pattern.specs.declared.signs.Tail.{Tail}
+use Rattle.mbe_pattern.specs.declared.dollar.Tail.{Tail}
 use Rattle.mbe_matcher.specs.Grouping.{Where}
-use Rattle.mbe_rules.specs.declared.cutting.Cutting.{Cutting}
-use Rattle.mbe_rules.specs.declared.cutting.Level.{Level}
+use Rattle.mbe_rules.specs.declared.parse.Parser.{Parser}
+use Rattle.mbe_rules.specs.declared.parse.Level.{Level}
 use Rattle.mbe_rules.specs.declared.first.First.{First}
 use Rattle.mbe_rules.specs.declared.first.First.TheVariants as first
 use Rattle.mbe_rules.specs.Parts.{Bit, uses, same, enter, leave, begin, close, bits_of, bit_of}
@@ -63,6 +63,6 @@ stepped variables (first.Repetition at inner until tail) level outer =
     record { bit = begin at; levels = level_of (template_until variables until (rest_of inner)) (Some tail) ∷ level ∷ outer }
 
 -- `next` is `old` after the step
-pub record IsStepped (variables : List Where) (step : Step) (old next : Cutting) : Type 0 where
+pub record IsStepped (variables : List Where) (step : Step) (old next : Parser) : Type 0 where
   pub bits : map bit_of next.parts.items ≡ map bit_of old.parts.items ++ step.bit ∷ []
   pub levels : levels_left variables next.levels.items ≡ step.levels

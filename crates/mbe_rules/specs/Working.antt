@@ -1,12 +1,12 @@
 -- How much work is left while a template is filled.
 use Rattle.std.specs.Prelude.{◌+◌, ℕ, zero, suc, List, [], ◌∷◌, map, Result, Ok, Err}
 use Rattle.mbe_matcher.specs.Bindings.{Binding}
-use Rattle.mbe_rules.specs.Filling.{FillFault, in_round, first_of, others_of, rounds_of, counts_of, used_in}
+use Rattle.mbe_rules.specs.Transcribing.{TranscribeFault, in_round, first_of, others_of, rounds_of, counts_of, used_in}
 use Rattle.mbe_rules.specs.Templates.{Template, nothing, use_of, token, subtree, repetition}
 use Rattle.mbe_rules.specs.Writing.{Closing, last, shut, again, Level}
 
 -- how many rounds, if the number is known
-abbrev pub told : Result ℕ FillFault → ℕ
+abbrev pub told : Result ℕ TranscribeFault → ℕ
 told (Ok n) = n
 told (Err fault) = 0
 

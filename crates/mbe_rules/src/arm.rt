@@ -7,9 +7,9 @@ ghost use Rattle.mbe_rules.specs.Expansions.{IsMade, IsAnswer, IsRefusal};
 ghost use Rattle.mbe_rules.specs.ArmFaults.{place, body_fault, arm_fault, IsArmFault};
 
 use crate::arrow::{ARROW_LEN, is_arrow_in, is_punct_in};
-use crate::fill_error::FillError;
 use crate::rules_error::ArmFault;
 use crate::template::Template;
+use crate::transcribe_error::TranscribeError;
 use mbe_matcher::{Found, Matcher};
 use mbe_pattern::pass;
 use std::alloc::Global;
@@ -88,7 +88,7 @@ impl Arm {
     }
 
     /// Returns what the arm makes of an input.
-    pub(crate) fn expand(&self, alloc: Global, input: TtIter<'_>) -> Result<Answer, FillError>
+    pub(crate) fn expand(&self, alloc: Global, input: TtIter<'_>) -> Result<Answer, TranscribeError>
         ensures ok { IfOk result (λ answer. (arm : ArmOf) → IsMade arm self.now → IsAnswer arm (rest_of input.entry) answer) }
         ensures err { IfErr result (λ error. (arm : ArmOf) → IsMade arm self.now → IsRefusal arm (rest_of input.entry) error) }
     {
@@ -99,7 +99,7 @@ impl Arm {
         };
         let tree = self
             .template
-            .fill(alloc, self.matcher.binders(), binding, self.delimiter)?;
+            .transcribe(alloc, self.matcher.binders(), binding, self.delimiter)?;
         Ok(Answer::Tree(tree))
     }
 }

@@ -3,13 +3,13 @@ ghost use Rattle.std.specs.Prelude.{◌≡◌, Ok, Err, drop, map, IfOk, IfErr};
 ghost use Rattle.mbe_matcher.specs.Bindings.{Binding};
 ghost use Rattle.mbe_rules.specs.declared.counting.Count.TheVariants.{Unknown};
 ghost use Rattle.mbe_rules.specs.Counting.{counted_with, counted_all, rounds_by, counts_seen, uses_before, kind_before, behind_close, round_error};
-ghost use Rattle.mbe_rules.specs.Filling.{FillFault, counts_of};
+ghost use Rattle.mbe_rules.specs.Transcribing.{TranscribeFault, counts_of};
 ghost use Rattle.mbe_rules.specs.Parts.{bit_of};
 ghost use Rattle.mbe_rules.specs.Rounds.{AreTaken, binding_in, dones, seen_as};
 
-use crate::fill_error::FillError;
 use crate::parts::Part;
 use crate::taken::{Round, Seen, Taken, seen_in};
+use crate::transcribe_error::TranscribeError;
 use mbe_pattern::RepeatKind;
 
 /// How many rounds some variables have: none of them has rounds, all have the same number, or the numbers differ.
@@ -77,14 +77,14 @@ pub(crate) fn scan(parts: &[Part], taken: &[Taken<'_>], rounds: &[Round], body: 
 }
 
 /// Returns how often the repetition whose `$` is at that flat place is filled.
-pub(crate) fn rounds_by(at: usize, kind: RepeatKind, count: Count) -> Result<usize, FillError>
+pub(crate) fn rounds_by(at: usize, kind: RepeatKind, count: Count) -> Result<usize, TranscribeError>
     ensures ok { IfOk result (λ n. rounds_by at kind count ≡ Ok n) }
-    ensures err { IfErr result (λ error. (fault : FillFault) × (rounds_by at kind count ≡ Err fault) × (error ≡ round_error fault)) }
+    ensures err { IfErr result (λ error. (fault : TranscribeFault) × (rounds_by at kind count ≡ Err fault) × (error ≡ round_error fault)) }
 {
     match (count, kind) {
         (Count::Unknown, _) => Ok(0),
-        (Count::Same(0), RepeatKind::OneOrMore) => Err(FillError::NoRound(at)),
+        (Count::Same(0), RepeatKind::OneOrMore) => Err(TranscribeError::NoRound(at)),
         (Count::Same(rounds), _) => Ok(rounds),
-        (Count::Differ, _) => Err(FillError::LengthsDiffer(at)),
+        (Count::Differ, _) => Err(TranscribeError::LengthsDiffer(at)),
     }
 }

@@ -1,9 +1,9 @@
 //! Macros of several arms, each a pattern and a template with repetitions.
 //!
 //! A `Template` is a list of parts: tokens, uses of variables, and the ends of subtrees and repetitions. `Template::new` reads the parts
-//! (`cutting`, `first`) and then goes through them from the last to find the first fault (`judging`). `Template::fill` goes through the
+//! (`parse`, `first`) and then goes through them from the last to find the first fault (`validate`). `Template::transcribe` goes through the
 //! parts and writes with a `TopSubtreeBuilder`. It keeps an index, the rounds under way and the close spans of the open subtrees. An
-//! expression, type or pattern of several tokens goes into an opaque subtree (`placing`).
+//! expression, type or pattern of several tokens goes into an opaque subtree (`enclose`).
 //!
 //! A `MacroRules` is a list of arms, each a `Matcher`, a `Template` and a delimiter. `expand` returns what the first arm
 //! that matches the input makes of it.
@@ -14,23 +14,23 @@
 mod arm;
 mod arrow;
 mod counting;
-mod cutting;
+mod enclose;
 mod error;
-mod fill_error;
-mod filling;
 mod first;
-mod judging;
 mod macro_rules;
+mod parse;
 mod parts;
-mod placing;
 mod rules_error;
 mod seams;
 mod taken;
 mod template;
+mod transcribe;
+mod transcribe_error;
+mod validate;
 
 pub use error::TemplateError;
-pub use fill_error::FillError;
 pub use macro_rules::{Expansion, MacroRules};
 pub use parts::Part;
 pub use rules_error::{ArmFault, ExpandError, RulesError};
 pub use template::Template;
+pub use transcribe_error::TranscribeError;

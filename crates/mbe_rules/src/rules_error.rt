@@ -6,7 +6,7 @@ ghost use Rattle.mbe_rules.specs.ArmFaults.{of_pattern, of_template};
 ghost use Rattle.mbe_rules.specs.declared.rules_error.ArmFault.TheVariants.{Memory};
 
 use crate::error::TemplateError;
-use crate::fill_error::FillError;
+use crate::transcribe_error::TranscribeError;
 use mbe_pattern::PatternError;
 use std::alloc::{AllocError, AllocFailed};
 use thiserror::Error;
@@ -51,7 +51,7 @@ pub struct RulesError {
 #[error("arm {arm}: {fault}")]
 pub struct ExpandError {
     pub arm: usize,
-    pub fault: FillError,
+    pub fault: TranscribeError,
 }
 
 impl From<PatternError> for ArmFault {

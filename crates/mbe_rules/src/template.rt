@@ -5,17 +5,17 @@ ghost use Rattle.tt.specs.Stored.{IsWithinLimits};
 ghost use Rattle.mbe_matcher.specs.Grouping.{binding_by};
 ghost use Rattle.mbe_matcher.specs.Marks.{note_of};
 ghost use Rattle.mbe_matcher.specs.Stepping.{where_of};
-ghost use Rattle.mbe_rules.specs.Filling.{filled};
+ghost use Rattle.mbe_rules.specs.Transcribing.{transcribed};
 ghost use Rattle.mbe_rules.specs.Spelling.{template_of};
 ghost use Rattle.mbe_rules.specs.Templates.{Template as IsOf};
 ghost use Rattle.mbe_rules.specs.Wholes.{are_whole};
 
-use crate::cutting::cut;
 use crate::error::TemplateError;
-use crate::fill_error::FillError;
-use crate::filling::filled;
-use crate::judging::fault_of;
+use crate::parse::parse;
 use crate::parts::Part;
+use crate::transcribe::transcribed;
+use crate::transcribe_error::TranscribeError;
+use crate::validate::fault_of;
 use mbe_matcher::{Binder, Binding};
 use std::alloc::Global;
 use tt::{Delimiter, TopSubtree, TtIter};
@@ -28,7 +28,7 @@ pub struct Template {
 }
 
 impl Template {
-    ghost use Rattle.mbe_rules.specs.Results.{IsTemplate, IsTemplateError, IsFilled, IsFillError};
+    ghost use Rattle.mbe_rules.specs.Results.{IsTemplate, IsTemplateError, IsTranscribed, IsTranscribeError};
 
     /// Returns the template that the trees spell; the variables are those of a pattern.
     ///
@@ -45,7 +45,7 @@ impl Template {
         ensures ok { IfOk result (IsTemplate (map where_of binders.now) (template_of (map where_of binders.now) (rest_of trees.entry))) }
         ensures err { IfErr result (IsTemplateError (map where_of binders.now) (template_of (map where_of binders.now) (rest_of trees.entry))) }
     {
-        let parts = cut(alloc, binders, trees)?;
+        let parts = parse(alloc, binders, trees)?;
         match fault_of(alloc, binders, &parts)? {
             Some(fault) => Err(fault),
             None => Ok(Template { parts }),
@@ -59,18 +59,18 @@ impl Template {
     /// Time and memory are linear in what is written, and in the number of marks of the binding times the number of variables. They are
     /// also linear in the number of parts of the repetitions, counted each time that one begins. Returns the first fault in the order of
     /// filling, or the limit that the tree exceeds; fails also if memory runs out.
-    pub fn fill(
+    pub fn transcribe(
         &self,
         alloc: Global,
         binders: &[Binder],
         binding: Binding<'_>,
         delimiter: Delimiter,
-    ) -> Result<TopSubtree, FillError>
-        ensures ok { IfOk result (λ tree. (template : IsOf) → IsTemplate (map where_of binders.now) template self.now → IsFilled delimiter (filled template (binding_by (map where_of binders.now) (map note_of binding.entry.marks.items))) tree) }
+    ) -> Result<TopSubtree, TranscribeError>
+        ensures ok { IfOk result (λ tree. (template : IsOf) → IsTemplate (map where_of binders.now) template self.now → IsTranscribed delimiter (transcribed template (binding_by (map where_of binders.now) (map note_of binding.entry.marks.items))) tree) }
         ensures limits { IfOk result (λ tree. IsWithinLimits tree) }
-        ensures err { IfErr result (λ error. (template : IsOf) → IsTemplate (map where_of binders.now) template self.now → IsFillError delimiter (filled template (binding_by (map where_of binders.now) (map note_of binding.entry.marks.items))) error) }
+        ensures err { IfErr result (λ error. (template : IsOf) → IsTemplate (map where_of binders.now) template self.now → IsTranscribeError delimiter (transcribed template (binding_by (map where_of binders.now) (map note_of binding.entry.marks.items))) error) }
     {
-        filled(alloc, &self.parts, binders, binding, delimiter)
+        transcribed(alloc, &self.parts, binders, binding, delimiter)
     }
 
     /// Returns the parts of the template, in reading order, and the final end.

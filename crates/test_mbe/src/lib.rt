@@ -2,8 +2,6 @@
 #![tactic(auto)]
 
 #[cfg(test)]
-mod filled;
-#[cfg(test)]
 mod fragments;
 #[cfg(test)]
 mod macros;
@@ -19,6 +17,8 @@ mod reaches_by_name;
 mod templates;
 #[cfg(test)]
 mod texts;
+#[cfg(test)]
+mod transcribed;
 #[cfg(test)]
 mod ways;
 #[cfg(test)]

@@ -2,7 +2,7 @@
 use crate::texts::{holds, tree_of};
 use crate::written::written;
 use mbe_pattern::PatternError;
-use mbe_rules::{ArmFault, Expansion, FillError, MacroRules, TemplateError};
+use mbe_rules::{ArmFault, Expansion, MacroRules, TemplateError, TranscribeError};
 use std::alloc::Global;
 use std::test::Fail;
 
@@ -17,9 +17,9 @@ fn told(alloc: Global, arms: &str, input: &str) -> Option<String> {
         Ok(Expansion::NoMatch(at)) => numbered(alloc, "no match ", at),
         Ok(Expansion::Ambiguous(arm)) => numbered(alloc, "ambiguous ", arm),
         Err(error) => match error.fault {
-            FillError::LengthsDiffer(_) => numbered(alloc, "lengths ", error.arm),
-            FillError::NoRound(_) => numbered(alloc, "no round ", error.arm),
-            FillError::Tree(_) => None,
+            TranscribeError::LengthsDiffer(_) => numbered(alloc, "lengths ", error.arm),
+            TranscribeError::NoRound(_) => numbered(alloc, "no round ", error.arm),
+            TranscribeError::Tree(_) => None,
         },
     }
 }
@@ -295,6 +295,6 @@ fn what_stands_as_one_is_taken_as_one(rt: HostRuntime) -> Result<(), Fail> {
 }
 
 #[test]
-fn the_first_fault_is_told_with_its_arm(rt: HostRuntime) -> Result<(), Fail> {
+fn the_first_fault_is_reported_with_its_arm(rt: HostRuntime) -> Result<(), Fail> {
     holds(are_faults(rt.alloc()))
 }

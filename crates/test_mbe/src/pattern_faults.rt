@@ -170,6 +170,6 @@ fn are_told(alloc: Global) -> bool {
 }
 
 #[test]
-fn the_first_fault_is_told_with_its_place(rt: HostRuntime) -> Result<(), Fail> {
+fn the_first_fault_is_reported_with_its_place(rt: HostRuntime) -> Result<(), Fail> {
     holds(are_told(rt.alloc()))
 }

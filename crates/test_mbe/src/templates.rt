@@ -164,6 +164,6 @@ fn templates_have_these_parts(rt: HostRuntime) -> Result<(), Fail> {
 }
 
 #[test]
-fn the_first_fault_is_told_with_its_place(rt: HostRuntime) -> Result<(), Fail> {
+fn the_first_fault_is_reported_with_its_place(rt: HostRuntime) -> Result<(), Fail> {
     holds(are_faults(rt.alloc()))
 }

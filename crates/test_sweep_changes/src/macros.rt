@@ -1,5 +1,5 @@
 //! Calls that make a macro of a tree, and use it on another.
-use mbe_rules::{ArmFault, Expansion, FillError, MacroRules};
+use mbe_rules::{ArmFault, Expansion, MacroRules, TranscribeError};
 use std::alloc::Global;
 use syntax_parse::{TextFault, parse_to_token_tree};
 use test_sweep::{Call, When, judge};
@@ -63,8 +63,10 @@ fn expanded(
         Ok(Expansion::Tree(tree)) => Ok(Some(tree)),
         Ok(Expansion::NoMatch(_)) | Ok(Expansion::Ambiguous(_)) => Ok(None),
         Err(error) => match error.fault {
-            FillError::Tree(fault) => Err(fault),
-            FillError::LengthsDiffer(_) | FillError::NoRound(_) => Err(TtFault::NotOneSubtree),
+            TranscribeError::Tree(fault) => Err(fault),
+            TranscribeError::LengthsDiffer(_) | TranscribeError::NoRound(_) => Err(
+                TtFault::NotOneSubtree,
+            ),
         },
     }
 }

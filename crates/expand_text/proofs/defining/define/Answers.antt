@@ -6,34 +6,34 @@ use Rattle.expand_text.specs.declared.fault.Finding.{Finding}
 use Rattle.expand_text.specs.declared.scope.Macro as rust
 use Rattle.expand_text.specs.Defining.{IsRules}
 use Rattle.expand_items.specs.Items.{Definition, definition_of}
-use Rattle.expand_text.specs.Knowing.{Known, IsKnown, with_macro, with_finding}
+use Rattle.expand_text.specs.Contexts.{Context, IsContext, with_macro, with_finding}
 use Rattle.expand_text.specs.Macros.{macro_of, found_in}
 use Rattle.expand_text.specs.Roots.{rooted}
 use Rattle.expand_text.specs.Scopes.{AreReady, AreRules}
 use Rattle.expand_text.proofs.Readiness.{ready_more}
 use Rattle.expand_text.proofs.defining.define.Goals as goal
-use Rattle.expand_text.proofs.defining.define.Goals.{in-Known, in-Faulty+in_ok-find-in-Faulty}
+use Rattle.expand_text.proofs.defining.define.Goals.{in-Context, in-Faulty+in_ok-find-in-Faulty}
 
 pub returns : goal.returns
-returns c known is =
+returns c context is =
     let it : Definition = definition_of c.args.definition.now in
-    let trees : Forest = rooted c.args.setting.now.root (rest_of c.args.definition.now.arms) in
+    let trees : Forest = rooted c.args.config.now.root (rest_of c.args.definition.now.arms) in
     let name : c.in_ok-name.name ≡ it.name.sym = search rules in
     let place : c.start_of.result ≡ start_of it.name.span.range = search rules in
     let made : rust.Macro = record { name = c.in_ok-name.name; defined_at = c.start_of.result; rules = c.match-branch-3.rules } in
-    let more : c.define.new.self.macros.items ≡ c.match-branch-3.known.scope.macros.items ++ made ∷ [] = c.in_ok-define.ensures.ok in
+    let more : c.define.new.self.macros.items ≡ c.match-branch-3.context.scope.macros.items ++ made ∷ [] = c.in_ok-define.ensures.ok in
     elim c.match-branch-3.branch [
-      | in-Known w ↦
-          let (arms, limits, spelled, ready) = subst (IsRules it trees) w.in-Known.is c.in_ok-rules.ensures in
-          let before : AreReady known.macros c.match-branch-3.known.scope.macros.items = subst (λ k. AreReady known.macros k.scope.macros.items) (sym w.known-is) is.macros in
+      | in-Context w ↦
+          let (arms, limits, spelled, ready) = subst (IsRules it trees) w.in-Context.is c.in_ok-rules.ensures in
+          let before : AreReady context.macros c.match-branch-3.context.scope.macros.items = subst (λ k. AreReady context.macros k.scope.macros.items) (sym w.context-is) is.macros in
           let rules_are : AreRules (Some arms) c.match-branch-3.rules = subst (AreRules (Some arms)) (sym w.rules-is) ready in (
-            with_macro (macro_of it (Some arms)) known,
+            with_macro (macro_of it (Some arms)) context,
             record {
               macros =
-                  subst (AreReady (known.macros ++ macro_of it (Some arms) ∷ [])) (sym more)
-                  (ready_more known.macros c.match-branch-3.known.scope.macros.items (macro_of it (Some arms)) made before (record { name = name; defined_at = place; rules = rules_are }));
-              findings = ap (λ k. k.findings.items) w.known-is ∙ is.findings;
-              is_over = ap (λ k. k.is_over) w.known-is ∙ is.is_over;
+                  subst (AreReady (context.macros ++ macro_of it (Some arms) ∷ [])) (sym more)
+                  (ready_more context.macros c.match-branch-3.context.scope.macros.items (macro_of it (Some arms)) made before (record { name = name; defined_at = place; rules = rules_are }));
+              findings = ap (λ k. k.findings.items) w.context-is ∙ is.findings;
+              is_over = ap (λ k. k.is_over) w.context-is ∙ is.is_over;
             },
             inl (arms, limits, spelled, refl),
           )
@@ -42,15 +42,15 @@ returns c known is =
           let wrong_there = subst (IsRules it trees) w.in-Faulty.is c.in_ok-rules.ensures in
           let made_finding : Finding = record { name = c.in_ok-name.name; at = w.in-Faulty.at; fault = fault; defined_at = None } in
           let same : made_finding ≡ found_in it w.in-Faulty.at fault = ap (λ n. record { name = n; at = w.in-Faulty.at; fault = fault; defined_at = None }) name in
-          let then : Known = with_finding (found_in it w.in-Faulty.at fault) known in
-          let found : IsKnown then c.match-branch-3.known =
-          subst (IsKnown then) (sym w.known-is) (subst (λ f. IsKnown (with_finding f known) w.find.new.self) same (w.in_ok-find-in-Faulty.ensures known is)) in
+          let then : Context = with_finding (found_in it w.in-Faulty.at fault) context in
+          let found : IsContext then c.match-branch-3.context =
+          subst (IsContext then) (sym w.context-is) (subst (λ f. IsContext (with_finding f context) w.find.new.self) same (w.in_ok-find-in-Faulty.ensures context is)) in
           let rules_are : AreRules None c.match-branch-3.rules = subst (AreRules None) (sym w.rules-is) tt in (
             with_macro (macro_of it None) then,
             record {
               macros =
                   subst (AreReady (then.macros ++ macro_of it None ∷ [])) (sym more)
-                  (ready_more then.macros c.match-branch-3.known.scope.macros.items (macro_of it None) made found.macros (record { name = name; defined_at = place; rules = rules_are }));
+                  (ready_more then.macros c.match-branch-3.context.scope.macros.items (macro_of it None) made found.macros (record { name = name; defined_at = place; rules = rules_are }));
               findings = found.findings;
               is_over = found.is_over;
             },

@@ -10,10 +10,10 @@ use Rattle.tt.specs.Types.DelimiterKind.TheVariants.{Invisible}
 use Rattle.tt.specs.Types.TtFault.TheVariants as limit
 use Rattle.tt.specs.Views.{trees_of}
 use Rattle.expand_text.specs.declared.walk.Event.TheVariants as event
-use Rattle.expand_text.specs.Coming.{Comes}
+use Rattle.expand_text.specs.Meaning.{ExpandsTo}
 use Rattle.expand_items.specs.Spreads.{IsPutUnder}
 use Rattle.expand_text.specs.Expanding.{IsAdded}
-use Rattle.expand_text.specs.Knowing.{Setting, IsKnown, setting_of, with_finding}
+use Rattle.expand_text.specs.Contexts.{Config, IsContext, config_of, with_finding}
 use Rattle.expand_text.specs.Macros.{tree_of}
 use Rattle.expand_items.specs.Attributes.{conditions_of}
 use Rattle.mbe_pattern.proofs.Passing.{front_joined}
@@ -22,21 +22,21 @@ use Rattle.tt_base.proofs.Appending.{append-join}
 use Rattle.expand_text.proofs.Placing.{added_under, built_alone, is_too_large, kept_under}
 use Rattle.expand_text.specs.Outcomes.{nothing, trees_left}
 use Rattle.expand_items.specs.Positions.{begun as begun_among}
-use Rattle.expand_text.specs.Walks.{Level, level_of, levels_of, stand_of, found_by, closes_of, first_leaf, first_subtree, first_stay, Ends, Leads, IsNext, IsWithin, Steps}
+use Rattle.expand_text.specs.Walks.{Level, level_of, levels_of, site_of, found_by, closes_of, first_leaf, first_subtree, first_stay, Ends, Leads, IsNext, IsWithin, Steps}
 use Rattle.expand_text.proofs.Finishing.{IsGoing, begins, ends_so, goes_on, goes_into, goes_out, goes_past, finished_leaf, finished_stay}
 use Rattle.expand_text.proofs.Rooting.{depth_append, is_above, depth_close}
 use Rattle.expand_text.proofs.expanding.+expansion.Goals as goal
 
 pub expand_trees-trees-init : goal.expand_trees-trees-init
 expand_trees-trees-init t c =
-    let setting : Setting = setting_of c.args.setting.now in
+    let config : Config = config_of c.args.config.now in
     let trees : Forest = rest_of c.args.trees in
     let stack : Stack = c.args.builder.now.stack in
     record {
       going = λ before is. (
         before,
         is,
-        subst (λ ls. IsGoing setting c.args.limit c.args.siblings trees before stack ls before stack) (sym c.new-walk.ensures) (begins setting c.args.limit c.args.siblings trees before stack c.args.close),
+        subst (λ ls. IsGoing config c.args.limit c.args.siblings trees before stack ls before stack) (sym c.new-walk.ensures) (begins config c.args.limit c.args.siblings trees before stack c.args.close),
       );
       entered = omega (arith, ap (λ ls. length (closes_of ls)) c.new-walk.ensures);
       top = refl;
@@ -50,16 +50,16 @@ expand_trees-returns-in-End-clause-open t c =
 
 pub expand_trees-returns-in-End-clause-expanded : goal.expand_trees-returns-in-End-clause-expanded
 expand_trees-returns-in-End-clause-expanded t c before is =
-    let setting : Setting = setting_of c.args.setting.now in
+    let config : Config = config_of c.args.config.now in
     let trees : Forest = rest_of c.args.trees in
     let level : Level = level_of c.trees.walk.level in
     let outer : List Level = map level_of (reverse c.trees.walk.outer.items) in
-    let (now, known, going) = c.trees.invariant.going before is in
-    let (others, then, next) = c.in_ok-next.ensures.next now known tt in
-    let ended : Ends setting false c.args.limit (level ∷ outer) now others (nothing ∷ []) =
-    subst (λ e. IsNext setting false c.args.limit (level ∷ outer) now e (levels_of c.next.new.walk) others) c.in-End.is (next false) in
-    let (outcome, comes, built) = ends_so setting c.args.limit c.args.siblings trees before now others c.args.builder.now.stack c.trees.builder.stack level outer going ended in
-    (others, then, record { outcome = outcome; comes = comes; added = built })
+    let (now, context, going) = c.trees.invariant.going before is in
+    let (others, then, next) = c.in_ok-next.ensures.next now context tt in
+    let ended : Ends config false c.args.limit (level ∷ outer) now others (nothing ∷ []) =
+    subst (λ e. IsNext config false c.args.limit (level ∷ outer) now e (levels_of c.next.new.walk) others) c.in-End.is (next false) in
+    let (outcome, expands_to, built) = ends_so config c.args.limit c.args.siblings trees before now others c.args.builder.now.stack c.trees.builder.stack level outer going ended in
+    (others, then, record { outcome = outcome; expands_to = expands_to; added = built })
 
 pub expand_trees-trees-smaller-in-Continue-branch-3 : goal.expand_trees-trees-smaller-in-Continue-branch-3
 expand_trees-trees-smaller-in-Continue-branch-3 t c =
@@ -69,7 +69,7 @@ expand_trees-trees-smaller-in-Continue-branch-3 t c =
 
 pub expand_trees-trees-preserved-in-Continue-branch-3 : goal.expand_trees-trees-preserved-in-Continue-branch-3
 expand_trees-trees-preserved-in-Continue-branch-3 t c =
-    let setting : Setting = setting_of c.args.setting.now in
+    let config : Config = config_of c.args.config.now in
     let limit : ℕ = c.args.limit in
     let trees : Forest = rest_of c.args.trees in
     let old : Stack = c.args.builder.now.stack in
@@ -83,13 +83,13 @@ expand_trees-trees-preserved-in-Continue-branch-3 t c =
     let grown : c.push.new.self ≡ pushed c.in-Leaf.leaf c.trees.builder = c.in_ok-push-in-Leaf.ensures.ok in
     record {
       going = λ before is.
-          let (now, known, going) = c.trees.invariant.going before is in
-          let (others, then, comes_next) = c.in_ok-next.ensures.next now known tt in
-          let leads : Leads setting false limit (level ∷ outer) now (first_leaf c.in-Leaf.leaf) (next ∷ nexts) others =
-          subst (λ e. IsNext setting false limit (level ∷ outer) now e (next ∷ nexts) others) c.in-Leaf.is (comes_next false) in (
+          let (now, context, going) = c.trees.invariant.going before is in
+          let (others, then, comes_next) = c.in_ok-next.ensures.next now context tt in
+          let leads : Leads config false limit (level ∷ outer) now (first_leaf c.in-Leaf.leaf) (next ∷ nexts) others =
+          subst (λ e. IsNext config false limit (level ∷ outer) now e (next ∷ nexts) others) c.in-Leaf.is (comes_next false) in (
             others,
             then,
-            subst (λ s. IsGoing setting limit c.args.siblings trees before old (next ∷ nexts) others s.stack) (sym grown) (goes_on setting limit c.args.siblings trees before now others old stack level next outer nexts going (first_leaf c.in-Leaf.leaf) (append (leaf c.in-Leaf.leaf end) stack) leads steps.0 (λ first more. finished_leaf level.close (closes_of outer) first more stack c.in-Leaf.leaf)),
+            subst (λ s. IsGoing config limit c.args.siblings trees before old (next ∷ nexts) others s.stack) (sym grown) (goes_on config limit c.args.siblings trees before now others old stack level next outer nexts going (first_leaf c.in-Leaf.leaf) (append (leaf c.in-Leaf.leaf end) stack) leads steps.0 (λ first more. finished_leaf level.close (closes_of outer) first more stack c.in-Leaf.leaf)),
           );
       entered = ap (λ s. suc (depth s.stack)) grown ∙ ap suc (depth_append (leaf c.in-Leaf.leaf end) stack) ∙ c.trees.invariant.entered ∙ ap (λ cs. length cs + depth old) (sym steps.0);
       top = ap (λ s. s.top) grown ∙ c.trees.invariant.top;
@@ -103,7 +103,7 @@ expand_trees-trees-smaller-in-Continue-branch-4 t c =
 
 pub expand_trees-trees-preserved-in-Continue-branch-4 : goal.expand_trees-trees-preserved-in-Continue-branch-4
 expand_trees-trees-preserved-in-Continue-branch-4 t c =
-    let setting : Setting = setting_of c.args.setting.now in
+    let config : Config = config_of c.args.config.now in
     let limit : ℕ = c.args.limit in
     let trees : Forest = rest_of c.args.trees in
     let old : Stack = c.args.builder.now.stack in
@@ -117,13 +117,13 @@ expand_trees-trees-preserved-in-Continue-branch-4 t c =
     let grown : c.open.new.self ≡ opened c.in-Opens.header.delimiter.kind c.in-Opens.header.delimiter.open_span c.trees.builder = c.in_ok-open-in-Opens.ensures.ok in
     record {
       going = λ before is.
-          let (now, known, going) = c.trees.invariant.going before is in
-          let (others, then, comes_next) = c.in_ok-next.ensures.next now known tt in
-          let leads : Leads setting false limit (level ∷ outer) now (first_subtree c.in-Opens.header.delimiter) (next ∷ nexts) others =
-          subst (λ e. IsNext setting false limit (level ∷ outer) now e (next ∷ nexts) others) c.in-Opens.is (comes_next false) in (
+          let (now, context, going) = c.trees.invariant.going before is in
+          let (others, then, comes_next) = c.in_ok-next.ensures.next now context tt in
+          let leads : Leads config false limit (level ∷ outer) now (first_subtree c.in-Opens.header.delimiter) (next ∷ nexts) others =
+          subst (λ e. IsNext config false limit (level ∷ outer) now e (next ∷ nexts) others) c.in-Opens.is (comes_next false) in (
             others,
             then,
-            subst (λ s. IsGoing setting limit c.args.siblings trees before old (next ∷ nexts) others s.stack) (sym grown) (goes_into setting limit c.args.siblings trees before now others old stack level next outer nexts going c.in-Opens.header.delimiter leads steps.0),
+            subst (λ s. IsGoing config limit c.args.siblings trees before old (next ∷ nexts) others s.stack) (sym grown) (goes_into config limit c.args.siblings trees before now others old stack level next outer nexts going c.in-Opens.header.delimiter leads steps.0),
           );
       entered = omega (arith, ap (λ s. depth s.stack) grown, c.trees.invariant.entered, ap length steps.0);
       top = ap (λ s. s.top) grown ∙ c.trees.invariant.top;
@@ -143,7 +143,7 @@ expand_trees-trees-smaller-in-Continue-branch-5 t c =
 
 pub expand_trees-trees-preserved-in-Continue-branch-5 : goal.expand_trees-trees-preserved-in-Continue-branch-5
 expand_trees-trees-preserved-in-Continue-branch-5 t c =
-    let setting : Setting = setting_of c.args.setting.now in
+    let config : Config = config_of c.args.config.now in
     let limit : ℕ = c.args.limit in
     let trees : Forest = rest_of c.args.trees in
     let old : Stack = c.args.builder.now.stack in
@@ -157,13 +157,13 @@ expand_trees-trees-preserved-in-Continue-branch-5 t c =
     let grown : c.close.new.self ≡ closed c.in-Closes.close c.trees.builder = c.in_ok-close-in-Closes.ensures.ok in
     record {
       going = λ before is.
-          let (now, known, going) = c.trees.invariant.going before is in
-          let (others, then, comes_next) = c.in_ok-next.ensures.next now known tt in
-          let leads : Leads setting false limit (level ∷ outer) now (λ outcomes. nothing ∷ outcomes) (next ∷ nexts) others =
-          subst (λ e. IsNext setting false limit (level ∷ outer) now e (next ∷ nexts) others) c.in-Closes.is (comes_next false) in (
+          let (now, context, going) = c.trees.invariant.going before is in
+          let (others, then, comes_next) = c.in_ok-next.ensures.next now context tt in
+          let leads : Leads config false limit (level ∷ outer) now (λ outcomes. nothing ∷ outcomes) (next ∷ nexts) others =
+          subst (λ e. IsNext config false limit (level ∷ outer) now e (next ∷ nexts) others) c.in-Closes.is (comes_next false) in (
             others,
             then,
-            subst (λ s. IsGoing setting limit c.args.siblings trees before old (next ∷ nexts) others s.stack) (sym grown) (goes_out setting limit c.args.siblings trees before now others old stack level next outer nexts going c.in-Closes.close leads steps.0),
+            subst (λ s. IsGoing config limit c.args.siblings trees before old (next ∷ nexts) others s.stack) (sym grown) (goes_out config limit c.args.siblings trees before now others old stack level next outer nexts going c.in-Closes.close leads steps.0),
           );
       entered = let deep : depth stack ≡ suc (depth stack - 1) = omega (arith, c.trees.invariant.entered, ap length steps.0) in omega (arith, ap (λ s. depth s.stack) grown, depth_close c.in-Closes.close stack (depth stack - 1) deep, deep, c.trees.invariant.entered, ap length steps.0);
       top = ap (λ s. s.top) grown ∙ c.trees.invariant.top;
@@ -177,7 +177,7 @@ expand_trees-trees-smaller-in-Continue-branch-6 t c =
 
 pub expand_trees-trees-preserved-in-Continue-branch-6 : goal.expand_trees-trees-preserved-in-Continue-branch-6
 expand_trees-trees-preserved-in-Continue-branch-6 t c =
-    let setting : Setting = setting_of c.args.setting.now in
+    let config : Config = config_of c.args.config.now in
     let limit : ℕ = c.args.limit in
     let trees : Forest = rest_of c.args.trees in
     let old : Stack = c.args.builder.now.stack in
@@ -191,13 +191,13 @@ expand_trees-trees-preserved-in-Continue-branch-6 t c =
     let grown : c.extend_with_tt.new.self ≡ extended (trees_of c.in-Stays.trees) c.trees.builder = c.in_ok-extend_with_tt-in-Stays.ensures.ok in
     record {
       going = λ before is.
-          let (now, known, going) = c.trees.invariant.going before is in
-          let (others, then, comes_next) = c.in_ok-next.ensures.next now known tt in
-          let leads : Leads setting false limit (level ∷ outer) now (first_stay (trees_of c.in-Stays.trees)) (next ∷ nexts) others =
-          subst (λ e. IsNext setting false limit (level ∷ outer) now e (next ∷ nexts) others) c.in-Stays.is (comes_next false) in (
+          let (now, context, going) = c.trees.invariant.going before is in
+          let (others, then, comes_next) = c.in_ok-next.ensures.next now context tt in
+          let leads : Leads config false limit (level ∷ outer) now (first_stay (trees_of c.in-Stays.trees)) (next ∷ nexts) others =
+          subst (λ e. IsNext config false limit (level ∷ outer) now e (next ∷ nexts) others) c.in-Stays.is (comes_next false) in (
             others,
             then,
-            subst (λ s. IsGoing setting limit c.args.siblings trees before old (next ∷ nexts) others s.stack) (sym grown) (goes_on setting limit c.args.siblings trees before now others old stack level next outer nexts going (first_stay (trees_of c.in-Stays.trees)) (append (trees_of c.in-Stays.trees) stack) leads steps.0 (λ first more. finished_stay level.close (closes_of outer) first more stack (trees_of c.in-Stays.trees))),
+            subst (λ s. IsGoing config limit c.args.siblings trees before old (next ∷ nexts) others s.stack) (sym grown) (goes_on config limit c.args.siblings trees before now others old stack level next outer nexts going (first_stay (trees_of c.in-Stays.trees)) (append (trees_of c.in-Stays.trees) stack) leads steps.0 (λ first more. finished_stay level.close (closes_of outer) first more stack (trees_of c.in-Stays.trees))),
           );
       entered = ap (λ s. suc (depth s.stack)) grown ∙ ap suc (depth_append (trees_of c.in-Stays.trees) stack) ∙ c.trees.invariant.entered ∙ ap (λ cs. length cs + depth old) (sym steps.0);
       top = ap (λ s. s.top) grown ∙ c.trees.invariant.top;
@@ -216,7 +216,7 @@ expand_trees-trees-smaller t c =
 
 pub expand_trees-trees-preserved : goal.expand_trees-trees-preserved
 expand_trees-trees-preserved t c =
-    let setting : Setting = setting_of c.args.setting.now in
+    let config : Config = config_of c.args.config.now in
     let limit : ℕ = c.args.limit in
     let trees : Forest = rest_of c.args.trees in
     let old : Stack = c.args.builder.now.stack in
@@ -230,34 +230,34 @@ expand_trees-trees-preserved t c =
     subst (λ e. Steps (level ∷ outer) e (next ∷ nexts)) c.in-Invocation.is c.in_ok-next.ensures.steps in
     record {
       going = λ before is.
-          let (now, known, going) = c.trees.invariant.going before is in
-          let (others, then, comes_next) = c.in_ok-next.ensures.next now known tt in
-          let (left, fits, goes) = subst (λ e. IsNext setting false limit (level ∷ outer) now e (next ∷ nexts) others) c.in-Invocation.is (comes_next false) in
+          let (now, context, going) = c.trees.invariant.going before is in
+          let (others, then, comes_next) = c.in_ok-next.ensures.next now context tt in
+          let (left, fits, goes) = subst (λ e. IsNext config false limit (level ∷ outer) now e (next ∷ nexts) others) c.in-Invocation.is (comes_next false) in
           let (after, ready, passed) = c.in_ok-pass_call-in-Invocation.ensures.passed others then in
           let back : limit - 1 ≡ left = omega (arith, fits) in
-          let comes : Comes setting false left (begun_among it.siblings) 0 others it.tree.children passed.inside passed.outcome =
-          subst (λ n. Comes setting false n (begun_among it.siblings) 0 others it.tree.children passed.inside passed.outcome) back passed.comes in (
+          let expands_to : ExpandsTo config false left (begun_among it.siblings) 0 others it.tree.children passed.inside passed.outcome =
+          subst (λ n. ExpandsTo config false n (begun_among it.siblings) 0 others it.tree.children passed.inside passed.outcome) back passed.expands_to in (
             after,
             ready,
-            goes_past setting limit c.args.siblings trees before now after old stack level next outer nexts going it (trees_left passed.outcome) passed.inside c.pass_call.new.builder.stack
-                (goes passed.inside passed.outcome comes) passed.passed steps.0,
+            goes_past config limit c.args.siblings trees before now after old stack level next outer nexts going it (trees_left passed.outcome) passed.inside c.pass_call.new.builder.stack
+                (goes passed.inside passed.outcome expands_to) passed.passed steps.0,
           );
       entered = omega (arith, c.in_ok-pass_call-in-Invocation.ensures.open, c.trees.invariant.entered, ap length steps.0);
       top = c.in_ok-pass_call-in-Invocation.ensures.top ∙ c.trees.invariant.top;
     }
 
-pub place-expand_trees-requires : goal.place-expand_trees-requires
-place-expand_trees-requires t c = (omega (arith, c.decreases), tt)
+pub expand_invocation-expand_trees-requires : goal.expand_invocation-expand_trees-requires
+expand_invocation-expand_trees-requires t c = (omega (arith, c.decreases), tt)
 
-pub place-expand_trees-requires-2 : goal.place-expand_trees-requires-2
-place-expand_trees-requires-2 t c = (omega (arith, c.decreases), tt)
+pub expand_invocation-expand_trees-requires-2 : goal.expand_invocation-expand_trees-requires-2
+expand_invocation-expand_trees-requires-2 t c = (omega (arith, c.decreases), tt)
 
-pub place-close-requires : goal.place-close-requires
-place-close-requires t c =
+pub expand_invocation-close-requires : goal.expand_invocation-close-requires
+expand_invocation-close-requires t c =
     is_above c.expand_trees-2.new.builder.stack (depth c.args.builder.now.stack) (c.in_ok-expand_trees-2.ensures.open ∙ ap (λ s. depth s.stack) c.in_ok-open.ensures.ok)
 
-pub place-returns-clause-open : goal.place-returns-clause-open
-place-returns-clause-open t c =
+pub expand_invocation-returns-clause-open : goal.expand_invocation-returns-clause-open
+expand_invocation-returns-clause-open t c =
     let old = depth c.args.builder.now.stack in
     let span = c.args.invocation.now.delimiter.close in
     let inside = c.expand_trees-2.new.builder in
@@ -277,19 +277,19 @@ pass_call-returns-in_ok-extend_with_tt-2-clause-passed t c before is =
     let opened : Stack = c.extend_with_tt.new.self.stack in
     let placed : Stack = c.place.new.builder.stack in
     let whole : Forest = trees_of it.whole in
-    let (now, known, put) = c.in_ok-fault.ensures.placed before is in
-    let (misplaced, same) = subst (λ m. IsAdded (stand_of it) (trees_left put.outcome) m opened placed) c.in-Some.is put.added in
+    let (now, context, put) = c.in_ok-fault.ensures.placed before is in
+    let (misplaced, same) = subst (λ m. IsAdded (site_of it) (trees_left put.outcome) m opened placed) c.in-Some.is put.added in
     let front : opened ≡ append (front_trees it.attributes whole) old = ap (λ s. s.stack) c.in_ok-extend_with_tt.ensures.ok ∙ ap (λ f. append f old) c.attributes.ensures in
     let added : c.extend_with_tt-in-Some.new.self.stack ≡ append whole old =
     ap (λ s. s.stack) c.in_ok-extend_with_tt-2.ensures.ok ∙ ap₂ (λ f s. append f s) c.call.ensures (same ∙ front)
     ∙ sym (append-join (front_trees it.attributes whole) (after_trees it.attributes whole) old) ∙ ap (λ f. append f old) (sym (front_joined it.attributes whole)) in (
       with_finding (found_by it (start_of it.first_span.range) fault) now,
-      subst (λ n. IsKnown (with_finding (found_by it n fault) now) c.find.new.self) c.start_of-begin.ensures (c.in_ok-find.ensures now known),
-      record { inside = now; outcome = put.outcome; comes = put.comes; passed = inr (fault, misplaced, refl, added) },
+      subst (λ n. IsContext (with_finding (found_by it n fault) now) c.find.new.self) c.start_of-begin.ensures (c.in_ok-find.ensures now context),
+      record { inside = now; outcome = put.outcome; expands_to = put.expands_to; passed = inr (fault, misplaced, refl, added) },
     )
 
-pub place_under-returns-in-Err : goal.place_under-returns-in-Err
-place_under-returns-in-Err t c = record {
+pub expand_under-returns-in-Err : goal.expand_under-returns-in-Err
+expand_under-returns-in-Err t c = record {
   top = refl;
   «open» = refl;
   placed = λ before is.
@@ -297,8 +297,8 @@ place_under-returns-in-Err t c = record {
       let why = c.in-Err.refused.fault in
       let (after, ready, all) = c.in_ok-expand_trees.ensures.expanded before is in
       let held : Forest = trees_left all.outcome in
-      let comes : Comes (setting_of c.args.setting.now) false c.args.limit (begun_among it.siblings) 0 before it.tree.children after all.outcome =
-      subst (λ f. Comes (setting_of c.args.setting.now) false c.args.limit (begun_among it.siblings) 0 before f after all.outcome) c.iter-trees.ensures all.comes in
+      let expands_to : ExpandsTo (config_of c.args.config.now) false c.args.limit (begun_among it.siblings) 0 before it.tree.children after all.outcome =
+      subst (λ f. ExpandsTo (config_of c.args.config.now) false c.args.limit (begun_among it.siblings) 0 before f after all.outcome) c.iter-trees.ensures all.expands_to in
       let whole : built c.expand_trees.new.builder ≡ tree_of it.delimiter held =
       built_alone (record it.delimiter { kind = Invisible }) c.in_ok-inner.inner c.expand_trees.new.builder held c.in_ok-inner.ensures.ok c.in_ok-expand_trees.ensures.top all.added in
       let past : IsTreeFault (built c.expand_trees.new.builder) why = search rules in
@@ -307,44 +307,44 @@ place_under-returns-in-Err t c = record {
         ready,
         record {
           outcome = all.outcome;
-          comes = comes;
-          added = (inr (is_too_large (stand_of it) held c.requires why (subst (λ r. IsTreeFault r why) whole past, no_memory)), refl);
+          expands_to = expands_to;
+          added = (inr (is_too_large (site_of it) held c.requires why (subst (λ r. IsTreeFault r why) whole past, no_memory)), refl);
         },
       );
 }
 
-pub place_under-returns-then-branch-clause-placed : goal.place_under-returns-then-branch-clause-placed
-place_under-returns-then-branch-clause-placed t c before is =
+pub expand_under-returns-then-branch-clause-placed : goal.expand_under-returns-then-branch-clause-placed
+expand_under-returns-then-branch-clause-placed t c before is =
     let it = c.args.invocation.now in
     let (after, ready, all) = c.in_ok-expand_trees.ensures.expanded before is in
     let held : Forest = trees_left all.outcome in
-    let comes : Comes (setting_of c.args.setting.now) false c.args.limit (begun_among it.siblings) 0 before it.tree.children after all.outcome =
-    subst (λ f. Comes (setting_of c.args.setting.now) false c.args.limit (begun_among it.siblings) 0 before f after all.outcome) c.iter-trees.ensures all.comes in
+    let expands_to : ExpandsTo (config_of c.args.config.now) false c.args.limit (begun_among it.siblings) 0 before it.tree.children after all.outcome =
+    subst (λ f. ExpandsTo (config_of c.args.config.now) false c.args.limit (begun_among it.siblings) 0 before f after all.outcome) c.iter-trees.ensures all.expands_to in
     let whole : built c.expand_trees.new.builder ≡ tree_of it.delimiter held =
     built_alone (record it.delimiter { kind = Invisible }) c.in_ok-inner.inner c.expand_trees.new.builder held c.in_ok-inner.ensures.ok c.in_ok-expand_trees.ensures.top all.added in
     let tree : c.in-Ok.tree ≡ tree_of it.delimiter held = c.in-Ok.ensures.ok ∙ whole in
     let trees : trees_of c.token_trees-trees.result ≡ held = c.token_trees-trees.ensures ∙ ap (λ r. r.children) tree in
     let within : IsWithinLimits (tree_of it.delimiter held) = subst IsWithinLimits tree c.in-Ok.ensures.limits in
-    let under : IsPutUnder it.siblings it.delimiter (conditions_of (stand_of it).attributes) held c.in_ok-put_under.field-0 c.args.builder.now.stack c.put_under.new.builder.stack =
-    subst (λ f. IsPutUnder it.siblings it.delimiter (conditions_of (stand_of it).attributes) f c.in_ok-put_under.field-0 c.args.builder.now.stack c.put_under.new.builder.stack) trees
+    let under : IsPutUnder it.siblings it.delimiter (conditions_of (site_of it).attributes) held c.in_ok-put_under.field-0 c.args.builder.now.stack c.put_under.new.builder.stack =
+    subst (λ f. IsPutUnder it.siblings it.delimiter (conditions_of (site_of it).attributes) f c.in_ok-put_under.field-0 c.args.builder.now.stack c.put_under.new.builder.stack) trees
     (subst (λ f. IsPutUnder it.siblings it.delimiter (conditions_of f) (trees_of c.token_trees-trees.result) c.in_ok-put_under.field-0 c.args.builder.now.stack c.put_under.new.builder.stack) c.attributes-attributes.ensures
     c.in_ok-put_under.ensures.put) in
-    (after, ready, record { outcome = all.outcome; comes = comes; added = added_under (stand_of it) held c.requires within c.in_ok-put_under.field-0 c.args.builder.now.stack c.put_under.new.builder.stack under c.if-branch.true })
+    (after, ready, record { outcome = all.outcome; expands_to = expands_to; added = added_under (site_of it) held c.requires within c.in_ok-put_under.field-0 c.args.builder.now.stack c.put_under.new.builder.stack under c.if-branch.true })
 
-pub place_under-returns-clause-placed : goal.place_under-returns-clause-placed
-place_under-returns-clause-placed t c before is =
+pub expand_under-returns-clause-placed : goal.expand_under-returns-clause-placed
+expand_under-returns-clause-placed t c before is =
     let it = c.args.invocation.now in
     let (after, ready, all) = c.in_ok-expand_trees.ensures.expanded before is in
     let held : Forest = trees_left all.outcome in
-    let comes : Comes (setting_of c.args.setting.now) false c.args.limit (begun_among it.siblings) 0 before it.tree.children after all.outcome =
-    subst (λ f. Comes (setting_of c.args.setting.now) false c.args.limit (begun_among it.siblings) 0 before f after all.outcome) c.iter-trees.ensures all.comes in
+    let expands_to : ExpandsTo (config_of c.args.config.now) false c.args.limit (begun_among it.siblings) 0 before it.tree.children after all.outcome =
+    subst (λ f. ExpandsTo (config_of c.args.config.now) false c.args.limit (begun_among it.siblings) 0 before f after all.outcome) c.iter-trees.ensures all.expands_to in
     let whole : built c.expand_trees.new.builder ≡ tree_of it.delimiter held =
     built_alone (record it.delimiter { kind = Invisible }) c.in_ok-inner.inner c.expand_trees.new.builder held c.in_ok-inner.ensures.ok c.in_ok-expand_trees.ensures.top all.added in
     let tree : c.in-Ok.tree ≡ tree_of it.delimiter held = c.in-Ok.ensures.ok ∙ whole in
     let trees : trees_of c.token_trees-trees.result ≡ held = c.token_trees-trees.ensures ∙ ap (λ r. r.children) tree in
     let within : IsWithinLimits (tree_of it.delimiter held) = subst IsWithinLimits tree c.in-Ok.ensures.limits in
-    let under : IsPutUnder it.siblings it.delimiter (conditions_of (stand_of it).attributes) held c.in_ok-put_under.field-0 c.args.builder.now.stack c.put_under.new.builder.stack =
-    subst (λ f. IsPutUnder it.siblings it.delimiter (conditions_of (stand_of it).attributes) f c.in_ok-put_under.field-0 c.args.builder.now.stack c.put_under.new.builder.stack) trees
+    let under : IsPutUnder it.siblings it.delimiter (conditions_of (site_of it).attributes) held c.in_ok-put_under.field-0 c.args.builder.now.stack c.put_under.new.builder.stack =
+    subst (λ f. IsPutUnder it.siblings it.delimiter (conditions_of (site_of it).attributes) f c.in_ok-put_under.field-0 c.args.builder.now.stack c.put_under.new.builder.stack) trees
     (subst (λ f. IsPutUnder it.siblings it.delimiter (conditions_of f) (trees_of c.token_trees-trees.result) c.in_ok-put_under.field-0 c.args.builder.now.stack c.put_under.new.builder.stack) c.attributes-attributes.ensures
     c.in_ok-put_under.ensures.put) in
-    (after, ready, record { outcome = all.outcome; comes = comes; added = kept_under (stand_of it) held c.requires within c.in_ok-put_under.field-0 c.args.builder.now.stack c.put_under.new.builder.stack under c.if-branch.false })
+    (after, ready, record { outcome = all.outcome; expands_to = expands_to; added = kept_under (site_of it) held c.requires within c.in_ok-put_under.field-0 c.args.builder.now.stack c.put_under.new.builder.stack under c.if-branch.false })

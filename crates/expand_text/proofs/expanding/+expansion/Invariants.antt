@@ -2,7 +2,7 @@
 use Rattle.std.proofs.Common.{◌≡◌, ◌+◌, ◌*◌, suc, length}
 use Rattle.tt.specs.Building.{depth}
 use Rattle.tt.specs.Iters.{rest_of}
-use Rattle.expand_text.specs.Knowing.{Known, IsKnown, setting_of}
+use Rattle.expand_text.specs.Contexts.{Context, IsContext, config_of}
 use Rattle.expand_text.specs.Walks.{levels_of, closes_of, work_in}
 use Rattle.expand_text.proofs.Finishing.{IsGoing}
 use Rattle.expand_text.proofs.expanding.+expansion.Given as goal
@@ -10,11 +10,11 @@ use Rattle.expand_text.proofs.expanding.+expansion.Given as goal
 abbrev pub decreases-expand_trees : goal.decreases-expand_trees
 decreases-expand_trees l = l.limit * 4
 
-abbrev pub decreases-place_under : goal.decreases-place_under
-decreases-place_under l = l.limit * 4 + 1
+abbrev pub decreases-expand_under : goal.decreases-expand_under
+decreases-expand_under l = l.limit * 4 + 1
 
-abbrev pub decreases-place : goal.decreases-place
-decreases-place l = l.limit * 4 + 2
+abbrev pub decreases-expand_invocation : goal.decreases-expand_invocation
+decreases-expand_invocation l = l.limit * 4 + 2
 
 abbrev pub decreases-pass_call : goal.decreases-pass_call
 decreases-pass_call l = l.limit * 4 + 3
@@ -23,9 +23,9 @@ abbrev pub invariant-expand_trees-trees : goal.invariant-expand_trees-trees
 invariant-expand_trees-trees l =
     record {
       going :
-          (before : Known) → IsKnown before l.fn.known
-          → (now : Known) × IsKnown now l.known
-          × IsGoing (setting_of l.setting) l.limit l.fn.siblings (rest_of l.fn.trees) before l.fn.builder.stack (levels_of l.walk) now l.builder.stack;
+          (before : Context) → IsContext before l.fn.context
+          → (now : Context) × IsContext now l.context
+          × IsGoing (config_of l.config) l.limit l.fn.siblings (rest_of l.fn.trees) before l.fn.builder.stack (levels_of l.walk) now l.builder.stack;
       entered : suc (depth l.builder.stack) ≡ length (closes_of (levels_of l.walk)) + depth l.fn.builder.stack;
       top : l.builder.top ≡ l.fn.builder.top;
     }

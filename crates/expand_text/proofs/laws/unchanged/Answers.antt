@@ -5,5 +5,5 @@ use Rattle.expand_text.proofs.laws.unchanged.Goals as goal
 
 pub returns : goal.returns
 returns c = λ options source it is lacks.
-    let quiet = nothing_comes is.comes refl (lacks is.tree is.read) in
-    (is.text ∙ ap (λ its. with_all its (begun source)) quiet.0, is.findings ∙ ap (λ known. known.findings) quiet.1)
+    let quiet = nothing_comes is.expands_to refl (lacks is.tree is.read) in
+    (is.text ∙ ap (λ its. with_all its (begun source)) quiet.0, is.findings ∙ ap (λ context. context.findings) quiet.1)

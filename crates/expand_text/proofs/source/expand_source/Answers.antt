@@ -1,6 +1,6 @@
 use Rattle.std.proofs.Common.{◌∷◌, [], List, map, reverse, true, false, sym, subst}
 use Rattle.expand_text.specs.Expansion.{GoesOn}
-use Rattle.expand_text.specs.Knowing.{Setting, setting_of}
+use Rattle.expand_text.specs.Contexts.{Config, config_of}
 use Rattle.syntax_edit.specs.Texts.{Writing, begun, writing_of}
 use Rattle.expand_text.specs.Walks.{Level, level_of, levels_of, begun as begun_at}
 use Rattle.expand_items.specs.declared.position.Siblings.TheVariants.{Items}
@@ -9,20 +9,20 @@ use Rattle.expand_text.proofs.source.expand_source.Goals as goal
 
 pub trees-init : goal.trees-init
 trees-init c before is =
-    let setting : Setting = setting_of c.args.setting.now in
+    let config : Config = config_of c.args.config.now in
     let trees = c.args.tree.now.children in (
       before,
       is,
       [],
-      subst (λ ls. IsReading setting c.args.limit trees before ls before []) (sym c.new-walk.ensures)
-          (subst (λ f. IsReading setting c.args.limit trees before (begun_at Items f c.top_subtree.result.delimiter.close ∷ []) before []) (sym c.iter.ensures)
-          (begins setting c.args.limit trees before c.top_subtree.result.delimiter.close)),
+      subst (λ ls. IsReading config c.args.limit trees before ls before []) (sym c.new-walk.ensures)
+          (subst (λ f. IsReading config c.args.limit trees before (begun_at Items f c.top_subtree.result.delimiter.close ∷ []) before []) (sym c.iter.ensures)
+          (begins config c.args.limit trees before c.top_subtree.result.delimiter.close)),
       c.new-output.ensures,
     )
 
 pub trees-preserved : goal.trees-preserved
 trees-preserved c before is =
-    let setting : Setting = setting_of c.args.setting.now in
+    let config : Config = config_of c.args.config.now in
     let limit = c.args.limit in
     let trees = c.args.tree.now.children in
     let level : Level = level_of c.trees.walk.level in
@@ -31,16 +31,16 @@ trees-preserved c before is =
     let old : Writing = writing_of c.trees.output in
     let new : Writing = writing_of c.write_event.new.output in
     let event = c.in_ok-event.event in
-    let (now, known, done, reading, are) = c.trees.invariant before is in
-    let (others, then, next) = c.in_ok-event.ensures.next now known tt in
+    let (now, context, done, reading, are) = c.trees.invariant before is in
+    let (others, then, next) = c.in_ok-event.ensures.next now context tt in
     let (after, ready, written) = c.in_ok-goes_on.ensures.written others then in
     let goes : GoesOn event true = subst (GoesOn event) c.if-not-goes_on.false c.in_ok-goes_on.ensures.goes_on in
-    let (all, read, replaced) = reads_event setting limit trees before now others after (begun c.args.source.now) level outer nexts done old new reading are event (next true) goes written in
+    let (all, read, replaced) = reads_event config limit trees before now others after (begun c.args.source.now) level outer nexts done old new reading are event (next true) goes written in
     (after, ready, all, read, replaced)
 
 pub returns-then-not-goes_on : goal.returns-then-not-goes_on
 returns-then-not-goes_on c before is =
-    let setting : Setting = setting_of c.args.setting.now in
+    let config : Config = config_of c.args.config.now in
     let limit = c.args.limit in
     let trees = c.args.tree.now.children in
     let level : Level = level_of c.trees.walk.level in
@@ -49,12 +49,12 @@ returns-then-not-goes_on c before is =
     let old : Writing = writing_of c.trees.output in
     let new : Writing = writing_of c.write_event.new.output in
     let event = c.in_ok-event.event in
-    let (now, known, done, reading, are) = c.trees.invariant before is in
-    let (others, then, next) = c.in_ok-event.ensures.next now known tt in
+    let (now, context, done, reading, are) = c.trees.invariant before is in
+    let (others, then, next) = c.in_ok-event.ensures.next now context tt in
     let (after, ready, written) = c.in_ok-goes_on.ensures.written others then in
     let goes : GoesOn event false = subst (GoesOn event) c.if-not-goes_on.true c.in_ok-goes_on.ensures.goes_on in
-    let (outcome, comes, replaced) = reads_to_end setting limit trees before now others after (begun c.args.source.now) level outer nexts done old new reading are event (next true) goes written in
-    (after, ready, record { outcome = outcome; comes = comes; written = new; replaced = replaced; text = c.in_ok-finish.ensures })
+    let (outcome, expands_to, replaced) = reads_to_end config limit trees before now others after (begun c.args.source.now) level outer nexts done old new reading are event (next true) goes written in
+    (after, ready, record { outcome = outcome; expands_to = expands_to; written = new; replaced = replaced; text = c.in_ok-finish.ensures })
 
 pub trees-smaller : goal.trees-smaller
 trees-smaller c =

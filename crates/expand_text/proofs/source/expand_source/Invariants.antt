@@ -1,6 +1,6 @@
 -- The replacements so far and those of the rest are those of all trees.
 use Rattle.std.proofs.Common.{List}
-use Rattle.expand_text.specs.Knowing.{Known, IsKnown, setting_of}
+use Rattle.expand_text.specs.Contexts.{Context, IsContext, config_of}
 use Rattle.syntax_edit.specs.Texts.{Replacement, begun, writing_of, AreReplaced}
 use Rattle.expand_text.specs.Walks.{levels_of, work_in}
 use Rattle.expand_text.proofs.Replacing.{IsReading}
@@ -8,9 +8,9 @@ use Rattle.expand_text.proofs.source.expand_source.Given as goal
 
 abbrev pub invariant-trees : goal.invariant-trees
 invariant-trees l =
-    (before : Known) → IsKnown before l.fn.known
-    → (now : Known) × IsKnown now l.known
-    × (done : List Replacement) × IsReading (setting_of l.setting) l.limit l.tree.children before (levels_of l.walk) now done
+    (before : Context) → IsContext before l.fn.context
+    → (now : Context) × IsContext now l.context
+    × (done : List Replacement) × IsReading (config_of l.config) l.limit l.tree.children before (levels_of l.walk) now done
     × AreReplaced done (begun l.source) (writing_of l.output)
 
 abbrev pub decreases-trees : goal.decreases-trees

@@ -1,17 +1,17 @@
 use Rattle.std.proofs.Common.{inr, refl, subst}
 use Rattle.tt.specs.Span.{start_of}
 use Rattle.expand_text.specs.Expansion.{IsCallText}
-use Rattle.expand_text.specs.Knowing.{with_finding}
+use Rattle.expand_text.specs.Contexts.{with_finding}
 use Rattle.expand_text.specs.Outcomes.{trees_left}
-use Rattle.expand_text.specs.Walks.{found_by, stand_of}
+use Rattle.expand_text.specs.Walks.{found_by, site_of}
 use Rattle.expand_text.proofs.source.write_invocation.Goals as goal
 
 pub returns-in_ok-find-in-Faulty : goal.returns-in_ok-find-in-Faulty
 returns-in_ok-find-in-Faulty c before is =
     let it = c.args.invocation.now in
-    let (now, known, came) = c.in_ok-text.ensures before is in
-    let kept = subst (IsCallText (stand_of it) (trees_left came.outcome) (start_of it.first_span.range)) c.in-Faulty.is came.text in (
+    let (now, context, came) = c.in_ok-text.ensures before is in
+    let kept = subst (IsCallText (site_of it) (trees_left came.outcome) (start_of it.first_span.range)) c.in-Faulty.is came.text in (
       with_finding (found_by it c.in-Faulty.at c.in-Faulty.fault) now,
-      c.in_ok-find-in-Faulty.ensures now known,
-      record { inside = now; outcome = came.outcome; comes = came.comes; put = inr (c.in-Faulty.at, c.in-Faulty.fault, kept, refl, refl) },
+      c.in_ok-find-in-Faulty.ensures now context,
+      record { inside = now; outcome = came.outcome; expands_to = came.expands_to; put = inr (c.in-Faulty.at, c.in-Faulty.fault, kept, refl, refl) },
     )

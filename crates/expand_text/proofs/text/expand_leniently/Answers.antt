@@ -1,9 +1,9 @@
 use Rattle.std.proofs.Common.{◌≡◌, ◌∙◌, [], true, ap, sym, subst}
 use Rattle.std.specs.Prelude.{string_bytes}
-use Rattle.expand_text.specs.Coming.{Comes}
-use Rattle.expand_text.specs.Expansion.{setting_by, replacements}
+use Rattle.expand_text.specs.Meaning.{ExpandsTo}
+use Rattle.expand_text.specs.Expansion.{config_by, replacements}
 use Rattle.syntax_edit.specs.Places.{text_part}
-use Rattle.expand_text.specs.Knowing.{knows_nothing}
+use Rattle.expand_text.specs.Contexts.{new_context}
 use Rattle.expand_items.specs.Positions.{begun as begun_among}
 use Rattle.expand_items.specs.declared.position.Siblings.TheVariants.{Items}
 use Rattle.syntax_edit.specs.Texts.{begun, with_all, FitAll}
@@ -25,11 +25,11 @@ returns-clause-ok c =
     let tree = c.in_ok-tree.tree in
     let options = c.args.options in
     let read : IsParse text_part text tree = c.in_ok-tree.ensures.ok in
-    let (after, ready, source) = c.in_ok-text.ensures knows_nothing c.new-known.ensures in
-    let comes : Comes (setting_by options) true options.limit (begun_among Items) 0 knows_nothing tree.children after source.outcome =
-    subst (λ s. Comes s true options.limit (begun_among Items) 0 knows_nothing tree.children after source.outcome) c.in_ok-setting.ensures source.comes in
-    let woven : IsWoven [] (spelled tree.children) (splices source.outcome) (sorts_left source.outcome) = text_woven (setting_by options) tree.children source.outcome comes in
-    let fits : FitAll (replacements source.outcome) (begun text) = comes_fit text_part text tree c.utf8.text read comes in
+    let (after, ready, source) = c.in_ok-text.ensures new_context c.new-context.ensures in
+    let expands_to : ExpandsTo (config_by options) true options.limit (begun_among Items) 0 new_context tree.children after source.outcome =
+    subst (λ s. ExpandsTo s true options.limit (begun_among Items) 0 new_context tree.children after source.outcome) c.in_ok-config.ensures source.expands_to in
+    let woven : IsWoven [] (spelled tree.children) (splices source.outcome) (sorts_left source.outcome) = text_woven (config_by options) tree.children source.outcome expands_to in
+    let fits : FitAll (replacements source.outcome) (begun text) = comes_fit text_part text tree c.utf8.text read expands_to in
     let written : string_bytes c.in_ok-text.text ≡ with_all (replacements source.outcome) (begun text) =
     source.text ∙ all_replaced (replacements source.outcome) (begun text) source.written fits source.replaced in
     let spliced : string_bytes c.in_ok-text.text ≡ with_all (replacements_of (splices source.outcome)) (begun text) =
@@ -39,7 +39,7 @@ returns-clause-ok c =
       read = read;
       after = after;
       outcome = source.outcome;
-      comes = comes;
+      expands_to = expands_to;
       fits = fits;
       text = written;
       back = record {

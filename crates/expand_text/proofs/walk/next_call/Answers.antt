@@ -3,7 +3,7 @@ use Rattle.std.proofs.lemmas.Bool.{false≢true}
 use Rattle.std.specs.Prelude.{is_some}
 use Rattle.expand_text.specs.Calling.{IsCalled, IsFaulty, IsExpanded}
 use Rattle.expand_items.specs.Items.{Call, call_of}
-use Rattle.expand_text.specs.Knowing.{setting_of}
+use Rattle.expand_text.specs.Contexts.{config_of}
 use Rattle.expand_text.specs.Walks.{Level, level_of, levels_of, Leads, IsNext}
 use Rattle.expand_text.specs.Macros.{arms_of, called_by}
 use Rattle.expand_text.proofs.Leading.{leads_attributes, leads_into, next_by}
@@ -14,96 +14,96 @@ use Rattle.expand_text.proofs.walk.next_call.Goals as goal
 use Rattle.expand_text.proofs.walk.next_call.Goals.{else-call-gt0-via-then-call-gt0+else-not-is_expanded, else-call-gt0-via-else-call-gt0}
 
 pub returns-in_ok-invoke-in-Tree-clause-next : goal.returns-in_ok-invoke-in-Tree-clause-next
-returns-in_ok-invoke-in-Tree-clause-next c known is there =
-    let setting = setting_of c.args.setting.now in
+returns-in_ok-invoke-in-Tree-clause-next c context is there =
+    let config = config_of c.args.config.now in
     let it : Call = call_of c.args.call.now in
     let tree = c.in-Tree.tree in
     let at = c.in-Tree.defined_at in
-    let (others, then, called) = c.in_ok-tree.ensures.called known is in
-    let from : IsExpanded setting c.args.limit it tree at known others = subst (λ r. IsCalled setting c.args.limit it r known others) c.in-Tree.is called in
-    (others, then, λ in_text. next_expanded setting in_text c.args.limit c.args.walk.now known it there c.in_ok-invoke-in-Tree.field-0 c.invoke.new.walk others tree at from c.in_ok-invoke-in-Tree.ensures)
+    let (others, then, called) = c.in_ok-tree.ensures.called context is in
+    let from : IsExpanded config c.args.limit it tree at context others = subst (λ r. IsCalled config c.args.limit it r context others) c.in-Tree.is called in
+    (others, then, λ in_text. next_expanded config in_text c.args.limit c.args.walk.now context it there c.in_ok-invoke-in-Tree.field-0 c.invoke.new.walk others tree at from c.in_ok-invoke-in-Tree.ensures)
 
 pub returns-in-Faulty-clause-next : goal.returns-in-Faulty-clause-next
-returns-in-Faulty-clause-next c known is there =
-    let setting = setting_of c.args.setting.now in
+returns-in-Faulty-clause-next c context is there =
+    let config = config_of c.args.config.now in
     let it : Call = call_of c.args.call.now in
-    let (others, then, called) = c.in_ok-tree.ensures.called known is in
-    let wrong : IsFaulty setting c.args.limit it known others = subst (λ r. IsCalled setting c.args.limit it r known others) c.in-Faulty.is called in
-    (others, then, λ in_text. next_faulty setting in_text c.args.limit c.args.walk.now known it there c.stay.result c.stay.new.walk others wrong c.stay.ensures)
+    let (others, then, called) = c.in_ok-tree.ensures.called context is in
+    let wrong : IsFaulty config c.args.limit it context others = subst (λ r. IsCalled config c.args.limit it r context others) c.in-Faulty.is called in
+    (others, then, λ in_text. next_faulty config in_text c.args.limit c.args.walk.now context it there c.stay.result c.stay.new.walk others wrong c.stay.ensures)
 
-pub returns-else-setting-clause-next : goal.returns-else-setting-clause-next
-returns-else-setting-clause-next c known is there =
-    let setting = setting_of c.args.setting.now in
+pub returns-else-config-clause-next : goal.returns-else-config-clause-next
+returns-else-config-clause-next c context is there =
+    let config = config_of c.args.config.now in
     let it : Call = call_of c.args.call.now in
     let walk = c.args.walk.now in
-    let event = c.stay-else-setting.result in
-    let new = c.stay-else-setting.new.walk in
-    let (others, then, called) = c.in_ok-tree.ensures.called known is in
-    let (none, same) = subst (λ r. IsCalled setting c.args.limit it r known others) c.in-Other.is called in
+    let event = c.stay-else-config.result in
+    let new = c.stay-else-config.new.walk in
+    let (others, then, called) = c.in_ok-tree.ensures.called context is in
+    let (none, same) = subst (λ r. IsCalled config c.args.limit it r context others) c.in-Other.is called in
     let bare : it.attributes ≡ 0 = elim c.else-call-gt0.branch [
-      | else-call-gt0-via-then-call-gt0+else-not-is_expanded w ↦ absurd (false≢true (sym (ap is_some none) ∙ sym (w.is_expanded.ensures known.macros is.macros) ∙ w.if-not-is_expanded.false))
+      | else-call-gt0-via-then-call-gt0+else-not-is_expanded w ↦ absurd (false≢true (sym (ap is_some none) ∙ sym (w.is_expanded.ensures context.macros is.macros) ∙ w.if-not-is_expanded.false))
       | else-call-gt0-via-else-call-gt0 w ↦ omega (arith, w.if-call-gt0.false)
     ] in (
       others,
       then,
-      λ in_text. subst (IsNext setting in_text c.args.limit (levels_of walk) known event (levels_of new)) (sym same)
-          (next_other setting in_text c.args.limit walk known it there event new bare none c.if-setting.false c.stay-else-setting.ensures),
+      λ in_text. subst (IsNext config in_text c.args.limit (levels_of walk) context event (levels_of new)) (sym same)
+          (next_other config in_text c.args.limit walk context it there event new bare none c.if-config.false c.stay-else-config.ensures),
     )
 
 pub returns-in_ok-next_tree-in-Other-clause-limit : goal.returns-in_ok-next_tree-in-Other-clause-limit
 returns-in_ok-next_tree-in-Other-clause-limit c = c.in_ok-next_tree-in-Other.ensures.limit c.args.limit
 
 pub returns-in_ok-next_tree-in-Other-clause-next : goal.returns-in_ok-next_tree-in-Other-clause-next
-returns-in_ok-next_tree-in-Other-clause-next c known is there =
-    let setting = setting_of c.args.setting.now in
+returns-in_ok-next_tree-in-Other-clause-next c context is there =
+    let config = config_of c.args.config.now in
     let limit = c.args.limit in
     let it : Call = call_of c.args.call.now in
     let level : Level = level_of c.args.walk.now.level in
     let outer : List Level = map level_of (reverse c.args.walk.now.outer.items) in
-    let (others, then, called) = c.in_ok-tree.ensures.called known is in
-    let (none, same) = subst (λ r. IsCalled setting limit it r known others) c.in-Other.is called in
+    let (others, then, called) = c.in_ok-tree.ensures.called context is in
+    let (none, same) = subst (λ r. IsCalled config limit it r context others) c.in-Other.is called in
     let bare : it.attributes ≡ 0 = elim c.else-call-gt0.branch [
-      | else-call-gt0-via-then-call-gt0+else-not-is_expanded w ↦ absurd (false≢true (sym (ap is_some none) ∙ sym (w.is_expanded.ensures known.macros is.macros) ∙ w.if-not-is_expanded.false))
+      | else-call-gt0-via-then-call-gt0+else-not-is_expanded w ↦ absurd (false≢true (sym (ap is_some none) ∙ sym (w.is_expanded.ensures context.macros is.macros) ∙ w.if-not-is_expanded.false))
       | else-call-gt0-via-else-call-gt0 w ↦ omega (arith, w.if-call-gt0.false)
     ] in
-    let leads : (in_text : Bool) → Leads setting in_text limit (level ∷ outer) known (λ outcomes. outcomes) (record level { plain = it.len } ∷ outer) others =
-    λ in_text. subst (Leads setting in_text limit (level ∷ outer) known (λ outcomes. outcomes) (record level { plain = it.len } ∷ outer)) (sym same)
-    (leads_into setting in_text limit level outer known there.first there.goes_on it there.item bare none c.if-setting.true) in
-    let (nexts, after, next) = c.in_ok-next_tree-in-Other.ensures.next setting limit others then (inr (inl (omega (arith, call_at_long setting.root level.position level.rest it there.item)))) in (
+    let leads : (in_text : Bool) → Leads config in_text limit (level ∷ outer) context (λ outcomes. outcomes) (record level { plain = it.len } ∷ outer) others =
+    λ in_text. subst (Leads config in_text limit (level ∷ outer) context (λ outcomes. outcomes) (record level { plain = it.len } ∷ outer)) (sym same)
+    (leads_into config in_text limit level outer context there.first there.goes_on it there.item bare none c.if-config.true) in
+    let (nexts, after, next) = c.in_ok-next_tree-in-Other.ensures.next config limit others then (inr (inl (omega (arith, call_at_long config.root level.position level.rest it there.item)))) in (
       nexts,
       after,
-      λ in_text. next_by setting in_text limit (level ∷ outer) (record level { plain = it.len } ∷ outer) known others (leads in_text) c.in_ok-next_tree-in-Other.field-0 (levels_of c.next_tree-then-setting.new.walk) nexts (next in_text),
+      λ in_text. next_by config in_text limit (level ∷ outer) (record level { plain = it.len } ∷ outer) context others (leads in_text) c.in_ok-next_tree-in-Other.field-0 (levels_of c.next_tree-then-config.new.walk) nexts (next in_text),
     )
 
 pub returns-in_ok-invoke-in-Tree-clause-steps : goal.returns-in_ok-invoke-in-Tree-clause-steps
 returns-in_ok-invoke-in-Tree-clause-steps c there =
-    invoked_step c.args.setting.now.root c.args.walk.now (call_of c.args.call.now) there c.in-Tree.tree c.in-Tree.defined_at c.in_ok-invoke-in-Tree.field-0 c.invoke.new.walk c.in_ok-invoke-in-Tree.ensures
+    invoked_step c.args.config.now.root c.args.walk.now (call_of c.args.call.now) there c.in-Tree.tree c.in-Tree.defined_at c.in_ok-invoke-in-Tree.field-0 c.invoke.new.walk c.in_ok-invoke-in-Tree.ensures
 
 pub returns-in-Faulty-clause-steps : goal.returns-in-Faulty-clause-steps
 returns-in-Faulty-clause-steps c there =
-    stays_step c.args.setting.now.root c.args.walk.now (call_of c.args.call.now) there c.stay.result c.stay.new.walk c.stay.ensures
+    stays_step c.args.config.now.root c.args.walk.now (call_of c.args.call.now) there c.stay.result c.stay.new.walk c.stay.ensures
 
-pub returns-else-setting-clause-steps : goal.returns-else-setting-clause-steps
-returns-else-setting-clause-steps c there =
-    stays_step c.args.setting.now.root c.args.walk.now (call_of c.args.call.now) there c.stay-else-setting.result c.stay-else-setting.new.walk c.stay-else-setting.ensures
+pub returns-else-config-clause-steps : goal.returns-else-config-clause-steps
+returns-else-config-clause-steps c there =
+    stays_step c.args.config.now.root c.args.walk.now (call_of c.args.call.now) there c.stay-else-config.result c.stay-else-config.new.walk c.stay-else-config.ensures
 
 pub returns-then-not-is_expanded-clause-limit : goal.returns-then-not-is_expanded-clause-limit
 returns-then-not-is_expanded-clause-limit c = c.in_ok-next_tree.ensures.limit c.args.limit
 
 pub returns-then-not-is_expanded-clause-next : goal.returns-then-not-is_expanded-clause-next
-returns-then-not-is_expanded-clause-next c known is there =
-    let setting = setting_of c.args.setting.now in
+returns-then-not-is_expanded-clause-next c context is there =
+    let config = config_of c.args.config.now in
     let limit = c.args.limit in
     let it : Call = call_of c.args.call.now in
     let level : Level = level_of c.args.walk.now.level in
     let outer : List Level = map level_of (reverse c.args.walk.now.outer.items) in
     let some : 0 < it.attributes = c.if-call-gt0.true in
-    let none : arms_of (called_by setting known.macros it) ≡ None =
-    no_arms (arms_of (called_by setting known.macros it)) (sym (c.is_expanded.ensures known.macros is.macros) ∙ c.if-not-is_expanded.true) in
-    let leads : (in_text : Bool) → Leads setting in_text limit (level ∷ outer) known (λ outcomes. outcomes) (record level { plain = it.attributes } ∷ outer) known =
-    λ in_text. leads_attributes setting in_text limit level outer known there.first there.goes_on it there.item some none in
-    let (nexts, after, next) = c.in_ok-next_tree.ensures.next setting limit known is (inr (inl some)) in (
+    let none : arms_of (called_by config context.macros it) ≡ None =
+    no_arms (arms_of (called_by config context.macros it)) (sym (c.is_expanded.ensures context.macros is.macros) ∙ c.if-not-is_expanded.true) in
+    let leads : (in_text : Bool) → Leads config in_text limit (level ∷ outer) context (λ outcomes. outcomes) (record level { plain = it.attributes } ∷ outer) context =
+    λ in_text. leads_attributes config in_text limit level outer context there.first there.goes_on it there.item some none in
+    let (nexts, after, next) = c.in_ok-next_tree.ensures.next config limit context is (inr (inl some)) in (
       nexts,
       after,
-      λ in_text. next_by setting in_text limit (level ∷ outer) (record level { plain = it.attributes } ∷ outer) known known (leads in_text) c.in_ok-next_tree.field-0 (levels_of c.next_tree.new.walk) nexts (next in_text),
+      λ in_text. next_by config in_text limit (level ∷ outer) (record level { plain = it.attributes } ∷ outer) context context (leads in_text) c.in_ok-next_tree.field-0 (levels_of c.next_tree.new.walk) nexts (next in_text),
     )

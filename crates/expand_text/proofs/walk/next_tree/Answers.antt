@@ -4,7 +4,7 @@ use Rattle.tt.specs.Iters.{rest_of, IsFirstElement}
 use Rattle.tt.specs.Moves.{after_tree}
 use Rattle.tt.specs.Types.TtElement.TheVariants as element
 use Rattle.expand_text.specs.declared.walk.Event.TheVariants as event
-use Rattle.expand_text.specs.Knowing.{left_in_scope}
+use Rattle.expand_text.specs.Contexts.{left_in_scope}
 use Rattle.expand_text.specs.Walks.{Level, level_of, levels_of, past_leaf, entered, closes_of, Ends, IsLeft, IsNext, Steps}
 use Rattle.expand_text.proofs.Leading.{leads_leaf, leads_subtree, leads_end}
 use Rattle.expand_text.proofs.Readiness.{ready_length}
@@ -12,62 +12,62 @@ use Rattle.expand_text.proofs.Rooting.{leaf_first, node_first, none_first}
 use Rattle.expand_text.proofs.walk.next_tree.Goals as goal
 
 pub returns-in-Some-clause-next : goal.returns-in-Some-clause-next
-returns-in-Some-clause-next c setting limit known is plain =
+returns-in-Some-clause-next c config limit context is plain =
     let level : Level = level_of c.args.walk.now.level in
     let outer = map level_of (reverse c.args.walk.now.outer.items) in
     let close = c.in-Some.close in
-    let others = left_in_scope level.kept known in
+    let others = left_in_scope level.kept context in
     let first : IsFirstElement level.rest None = search rules in
     let none : level.rest ≡ end = none_first level.rest first in
     let left : IsLeft c.args.walk.now (Some close) c.leave-in-None.new.self = c.in-Some.ensures in (
       others,
-      c.leave.ensures known is,
-      λ in_text. subst (λ ls. IsNext setting in_text limit (level ∷ outer) known (event.Closes close) ls others) left.1
-          (leads_end setting in_text limit level outer known none),
+      c.leave.ensures context is,
+      λ in_text. subst (λ ls. IsNext config in_text limit (level ∷ outer) context (event.Closes close) ls others) left.1
+          (leads_end config in_text limit level outer context none),
     )
 
 pub returns-in-None-leave-clause-next : goal.returns-in-None-leave-clause-next
-returns-in-None-leave-clause-next c setting limit known is plain =
+returns-in-None-leave-clause-next c config limit context is plain =
     let level : Level = level_of c.args.walk.now.level in
     let outer = map level_of (reverse c.args.walk.now.outer.items) in
-    let others = left_in_scope level.kept known in
+    let others = left_in_scope level.kept context in
     let first : IsFirstElement level.rest None = search rules in
     let none : level.rest ≡ end = none_first level.rest first in
     let last : outer ≡ [] = c.in-None-leave.ensures in (
       others,
-      c.leave.ensures known is,
-      λ in_text. leads_end setting in_text limit level outer known none others [] (subst (λ o. Ends setting in_text limit o others others []) (sym last) refl),
+      c.leave.ensures context is,
+      λ in_text. leads_end config in_text limit level outer context none others [] (subst (λ o. Ends config in_text limit o others others []) (sym last) refl),
     )
 
 pub returns-in-Some-Leaf-clause-next : goal.returns-in-Some-Leaf-clause-next
-returns-in-Some-Leaf-clause-next c setting limit known is plain =
+returns-in-Some-Leaf-clause-next c config limit context is plain =
     let level : Level = level_of c.args.walk.now.level in
     let outer = map level_of (reverse c.args.walk.now.outer.items) in
     let it = c.in-Some-Leaf.leaf in
     let first : IsFirstElement level.rest (Some (element.Leaf it)) = search rules in
     let begins : level.rest ≡ leaf it (after_tree level.rest) = leaf_first level.rest it first in
     let now : level_of c.pass_leaf.new.self ≡ past_leaf it level = c.pass_leaf.ensures in (
-      known,
+      context,
       is,
-      λ in_text. subst (λ l. IsNext setting in_text limit (level ∷ outer) known (event.Leaf it) (l ∷ outer) known) (sym now)
-          (leads_leaf setting in_text limit level outer known it begins plain),
+      λ in_text. subst (λ l. IsNext config in_text limit (level ∷ outer) context (event.Leaf it) (l ∷ outer) context) (sym now)
+          (leads_leaf config in_text limit level outer context it begins plain),
     )
 
 pub returns-in_ok-enter-in-Some-Subtree-clause-next : goal.returns-in_ok-enter-in-Some-Subtree-clause-next
-returns-in_ok-enter-in-Some-Subtree-clause-next c setting limit known is plain =
+returns-in_ok-enter-in-Some-Subtree-clause-next c config limit context is plain =
     let level : Level = level_of c.args.walk.now.level in
     let outer = map level_of (reverse c.args.walk.now.outer.items) in
     let header = c.in-Some-Subtree.header in
     let children = rest_of c.in-Some-Subtree.children in
     let first : IsFirstElement level.rest (Some (element.Subtree header c.in-Some-Subtree.children)) = search rules in
     let begins : level.rest ≡ node header.delimiter children (after_tree level.rest) = node_first level.rest header c.in-Some-Subtree.children first in
-    let count : c.len.result ≡ length known.macros = c.len.ensures ∙ sym (ready_length known.macros c.args.known.now.scope.macros.items is.macros) in
-    let now : levels_of c.enter.new.self ≡ entered header.delimiter children (length known.macros) (level ∷ outer) =
+    let count : c.len.result ≡ length context.macros = c.len.ensures ∙ sym (ready_length context.macros c.args.context.now.scope.macros.items is.macros) in
+    let now : levels_of c.enter.new.self ≡ entered header.delimiter children (length context.macros) (level ∷ outer) =
     c.in_ok-enter-in-Some-Subtree.ensures ∙ ap (λ n. entered header.delimiter children n (level ∷ outer)) count in (
-      known,
+      context,
       is,
-      λ in_text. subst (λ ls. IsNext setting in_text limit (level ∷ outer) known (event.Opens header) ls known) (sym now)
-          (leads_subtree setting in_text limit level outer known header.delimiter children begins plain),
+      λ in_text. subst (λ ls. IsNext config in_text limit (level ∷ outer) context (event.Opens header) ls context) (sym now)
+          (leads_subtree config in_text limit level outer context header.delimiter children begins plain),
     )
 
 pub returns-in-Some-clause-steps : goal.returns-in-Some-clause-steps

@@ -4,7 +4,7 @@ use Rattle.tt.specs.Forest.{size}
 use Rattle.tt.specs.Iters.{rest_of}
 use Rattle.tt.specs.Siblings.{is_end}
 use Rattle.mbe_matcher.specs.declared.threads.Thread.{Thread}
-use Rattle.mbe_matcher.specs.Settling.{is_here}
+use Rattle.mbe_matcher.specs.Closures.{is_here}
 use Rattle.mbe_matcher.proofs.Stopping.{reached_here, reached_next, reached_none, here_ended, here_now, not_here}
 use Rattle.mbe_matcher.proofs.reading.reached.Goals.{then-is_ended-via-then-is_ended, then-is_ended-via-else-is_ended+then-thread-eq0}
 use Rattle.mbe_matcher.proofs.reading.reached.Goals as goal

@@ -5,12 +5,12 @@ use Rattle.mbe_matcher.specs.declared.reading.Choice.TheVariants as choice
 use Rattle.mbe_matcher.specs.declared.reading.Level.{Level}
 use Rattle.mbe_matcher.specs.Levels.{level_view, level_views, AreLevelsWithin, Advances, IsEndedWith, Finds, choice_of, found_of, reached}
 use Rattle.mbe_matcher.specs.Places.{ReadsAll, StopsAll}
-use Rattle.mbe_matcher.specs.Settling.{IsSettledBy}
+use Rattle.mbe_matcher.specs.Closures.{IsClosure}
 use Rattle.mbe_matcher.specs.Threads.{views_of, IsGrown, threads_spread}
 use Rattle.mbe_matcher.proofs.Ending.{Says}
 use Rattle.mbe_matcher.proofs.Levelling.{within_rest, within_last, levels_within_kept, work_left, less_left}
 use Rattle.mbe_matcher.proofs.ReadingSteps.{told_first, within_init, told_next, work_kept}
-use Rattle.mbe_matcher.proofs.SettleSteps.{calm_level}
+use Rattle.mbe_matcher.proofs.ClosureSteps.{calm_level}
 use Rattle.mbe_matcher.proofs.Stopping.{AreTold, told_on, says_ended, stopped_ended, stopped_nowhere, finds, none_told}
 use Rattle.mbe_matcher.proofs.reading.read_all.Goals as goal
 
@@ -30,8 +30,8 @@ loop-level-init c =
       within = subst (AreLevelsWithin log) (sym is) (within_init log c.args.starts.now its spreads, tt);
     }
 
-pub settle_level-requires : goal.settle_level-requires
-settle_level-requires c =
+pub closure_level-requires : goal.closure_level-requires
+closure_level-requires c =
     let log = c.loop-level.log.items in
     let level : Level = c.in-Some.level in
     let was : c.loop-level.levels.items ≡ c.pop.new.self.items ++ level ∷ [] = search rules in
@@ -40,7 +40,7 @@ settle_level-requires c =
 pub advance-requires-clause-outside : goal.advance-requires-clause-outside
 advance-requires-clause-outside c =
     let log = c.loop-level.log.items in
-    let mid = c.settle_level.new.log.items in
+    let mid = c.closure_level.new.log.items in
     let level : Level = c.in-Some.level in
     let was : c.loop-level.levels.items ≡ c.pop.new.self.items ++ level ∷ [] = search rules in
     let grown : IsGrown log mid = search rules in
@@ -52,7 +52,7 @@ returns-in-Some-2 c rank ranked =
     let starts = c.args.starts.now in
     let input = rest_of c.args.input in
     let log = c.loop-level.log.items in
-    let mid = c.settle_level.new.log.items in
+    let mid = c.closure_level.new.log.items in
     let new = c.advance.new.log.items in
     let level : Level = c.in-Some.level in
     let calm : Level = c.in_ok-calm.calm in
@@ -63,15 +63,15 @@ returns-in-Some-2 c rank ranked =
     let grown : IsGrown log mid = search rules in
     let rest : rest_of calm.rest ≡ rest_of level.rest = search rules in
     let until : calm.until ≡ level.until = search rules in
-    let settled : IsSettledBy places (rest_of level.rest) (views_of log level.threads.items) (views_of mid calm.threads.items) = search rules in
+    let closure : IsClosure places (rest_of level.rest) (views_of log level.threads.items) (views_of mid calm.threads.items) = search rules in
     let reached_at : c.reached-farthest.result ≡ reached (rest_of level.rest) (level.until - size (rest_of level.rest)) far level.threads.items = search rules in
     let ended : IsEndedWith (level_view mid calm) (level_views mid (reverse popped)) (views_of new its) = search rules in
     let here : c.deref.result.now ≡ its = search rules in
     let choice_is : c.chosen-choice.result ≡ choice_of places choice.Nothing c.deref.result.now = search rules in
     let found_is : c.find_by.result ≡ found_of c.chosen-choice.result c.advance.new.log c.reached-farthest.result = search rules in
     let within = within_rest log popped level (subst (AreLevelsWithin log) was c.loop-level.invariant.within) in
-    let told = told_next places starts input log mid c.loop-level.levels.items popped level calm far was grown within rest until settled (c.loop-level.invariant.told rank ranked) in
-    let still = calm_level places rank ranked (rest_of level.rest) (rest_of calm.rest) (views_of log level.threads.items) (views_of mid calm.threads.items) (sym rest) settled in
+    let told = told_next places starts input log mid c.loop-level.levels.items popped level calm far was grown within rest until closure (c.loop-level.invariant.told rank ranked) in
+    let still = calm_level places rank ranked (rest_of level.rest) (rest_of calm.rest) (views_of log level.threads.items) (views_of mid calm.threads.items) (sym rest) closure in
     let at = reached (rest_of level.rest) (level.until - size (rest_of level.rest)) far level.threads.items in
     subst (Finds (ReadsAll places starts input) (λ left. StopsAll places left starts input) (size input)) (sym (found_is ∙ ap (found_of c.chosen-choice.result c.advance.new.log) reached_at))
     (finds places starts input c.advance.new.log at c.chosen-choice.result
@@ -85,7 +85,7 @@ loop-level-preserved c =
     let starts = c.args.starts.now in
     let input = rest_of c.args.input in
     let log = c.loop-level.log.items in
-    let mid = c.settle_level.new.log.items in
+    let mid = c.closure_level.new.log.items in
     let new = c.advance.new.log.items in
     let level : Level = c.in-Some.level in
     let calm : Level = c.in_ok-calm.calm in
@@ -96,18 +96,18 @@ loop-level-preserved c =
     let grown : IsGrown log mid = search rules in
     let rest : rest_of calm.rest ≡ rest_of level.rest = search rules in
     let until : calm.until ≡ level.until = search rules in
-    let settled : IsSettledBy places (rest_of level.rest) (views_of log level.threads.items) (views_of mid calm.threads.items) = search rules in
+    let closure : IsClosure places (rest_of level.rest) (views_of log level.threads.items) (views_of mid calm.threads.items) = search rules in
     let reached_at : c.reached-farthest.result ≡ reached (rest_of level.rest) (level.until - size (rest_of level.rest)) far level.threads.items = search rules in
     let steps : Advances places (level_view mid calm) (level_views mid (reverse popped)) (level_views new (reverse news)) = search rules in
     let within : AreLevelsWithin new news = search rules in
     let before = within_rest log popped level (subst (AreLevelsWithin log) was c.loop-level.invariant.within) in
     record {
       told = λ rank ranked.
-          let told = told_next places starts input log mid c.loop-level.levels.items popped level calm far was grown before rest until settled (c.loop-level.invariant.told rank ranked) in
+          let told = told_next places starts input log mid c.loop-level.levels.items popped level calm far was grown before rest until closure (c.loop-level.invariant.told rank ranked) in
           subst (λ at. AreTold places starts input at (level_views new (reverse news))) (sym reached_at)
           (told_on places starts input (reached (rest_of level.rest) (level.until - size (rest_of level.rest)) far level.threads.items)
           (level_view mid calm) (level_views mid (reverse popped)) told.0 told.1 (level_views new (reverse news))
-          (calm_level places rank ranked (rest_of level.rest) (rest_of calm.rest) (views_of log level.threads.items) (views_of mid calm.threads.items) (sym rest) settled) steps);
+          (calm_level places rank ranked (rest_of level.rest) (rest_of calm.rest) (views_of log level.threads.items) (views_of mid calm.threads.items) (sym rest) closure) steps);
       within = within;
     }
 
@@ -115,7 +115,7 @@ pub loop-level-smaller : goal.loop-level-smaller
 loop-level-smaller c =
     let places = c.args.places.now in
     let log = c.loop-level.log.items in
-    let mid = c.settle_level.new.log.items in
+    let mid = c.closure_level.new.log.items in
     let new = c.advance.new.log.items in
     let level : Level = c.in-Some.level in
     let calm : Level = c.in_ok-calm.calm in

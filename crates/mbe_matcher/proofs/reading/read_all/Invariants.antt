@@ -2,7 +2,7 @@
 use Rattle.std.proofs.Common.{ℕ, reverse}
 use Rattle.tt.specs.Iters.{rest_of}
 use Rattle.mbe_matcher.specs.Levels.{level_views, AreLevelsWithin}
-use Rattle.mbe_matcher.specs.Settling.{AreRanked}
+use Rattle.mbe_matcher.specs.Closures.{AreRanked}
 use Rattle.mbe_matcher.proofs.Levelling.{work_left}
 use Rattle.mbe_matcher.proofs.Stopping.{AreTold}
 use Rattle.mbe_matcher.proofs.reading.read_all.Given as goal

@@ -1,7 +1,7 @@
 use Rattle.std.proofs.Common.{rules, ◌≡◌, ◌<◌, ◌++◌, ◌∷◌, [], Some, length, get_or, ap, sym, ◌∙◌}
 use Rattle.std.proofs.lemmas.Option.{slice_get-get_or}
 use Rattle.std.specs.Prelude.{slice_get, OnOk}
-use Rattle.mbe_matcher.specs.Asks.{ask_of}
+use Rattle.mbe_matcher.specs.Labels.{label_of}
 use Rattle.mbe_matcher.specs.Threads.{view_of, views_of, threads_spread, IsMoved, wait_of}
 use Rattle.mbe_matcher.proofs.Logs.{step_views, step_within}
 use Rattle.mbe_matcher.proofs.Results.{on_ok}
@@ -21,8 +21,8 @@ returns-clause-steps c =
     let lt : thread.at < length c.args.places.now = search rules in
     let there : place ≡ get_or c.args.places.now thread.at place = search rules in
     let found : slice_get c.args.places.now thread.at ≡ Some place = slice_get-get_or c.args.places.now thread.at place lt ∙ ap Some (sym there) in
-    let moved : IsMoved c.args.by.now (ask_of place.atom) = search rules in
-    let waits : wait ≡ wait_of c.args.by.now (ask_of place.atom) = search rules in
+    let moved : IsMoved c.args.by.now (label_of place.atom) = search rules in
+    let waits : wait ≡ wait_of c.args.by.now (label_of place.atom) = search rules in
     let spreads : OnOk c.spread_to.result (news ≡ threads_spread wait thread.is_many (length new) 0 place.edges.items next) = search rules in
     on_ok c.spread_to.result
     (λ is. steps_moved c.args.places.now c.args.by.now (view_of log thread) (views_of log next) (views_of new news) place found moved wait waits

@@ -4,7 +4,7 @@ use Rattle.tt.specs.Gluing.{after_trees}
 use Rattle.tt.specs.Iters.{rest_of, IsFirstElement}
 use Rattle.tt.specs.Moves.{after_tree}
 use Rattle.tt.specs.Types.TtElement.TheVariants as element
-use Rattle.mbe_pattern.specs.Judging.{IsFirst}
+use Rattle.mbe_pattern.specs.Validating.{IsFirst}
 use Rattle.mbe_pattern.specs.Placed.{placed_until}
 use Rattle.mbe_pattern.specs.Spelling.{is_dollar}
 use Rattle.mbe_pattern.specs.Units.{unit_size, unit_from, first_unit}
@@ -18,7 +18,7 @@ returns-then-is_dollar c =
     let trees = rest_of c.args.trees.now in
     let it = c.in-Some-Leaf.leaf in
     let found = c.in_ok-part-in-Some-Leaf.part in
-    let others = placed_until until (rest_of c.signed_first.new.siblings) in
+    let others = placed_until until (rest_of c.dollar_first.new.siblings) in
     let first : IsFirstElement trees (Some (element.Leaf it)) = search rules in
     let begins : trees ≡ leaf it (after_tree trees) = leaf_before trees it first in
     let rest : rest_of c.next.new.self ≡ after_tree trees = search rules in

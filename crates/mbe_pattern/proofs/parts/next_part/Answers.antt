@@ -5,7 +5,7 @@ use Rattle.tt.specs.Iters.{rest_of, IsFirstElement}
 use Rattle.tt.specs.Moves.{after_tree}
 use Rattle.tt.specs.Types.TtElement.TheVariants as element
 use Rattle.mbe_pattern.specs.Patterns as pattern
-use Rattle.mbe_pattern.specs.Signs.{IsPart, held_size}
+use Rattle.mbe_pattern.specs.Dollars.{IsPart, held_size}
 use Rattle.mbe_pattern.specs.Spelling.{is_dollar, pattern_of}
 use Rattle.mbe_pattern.specs.Units.{unit_from, first_unit}
 use Rattle.mbe_pattern.proofs.FirstTrees.{leaf_before}
@@ -33,7 +33,7 @@ returns-then-is_dollar-clause-part c =
     let trees = rest_of c.args.trees.now in
     let it = c.in-Some-Leaf.leaf in
     let found = c.in_ok-part-in-Some-Leaf.part in
-    let others = pattern_of (rest_of c.signed_part.new.siblings) in
+    let others = pattern_of (rest_of c.dollar_part.new.siblings) in
     let first : IsFirstElement trees (Some (element.Leaf it)) = search rules in
     let begins : trees ≡ leaf it (after_tree trees) = leaf_before trees it first in
     let rest : rest_of c.next.new.self ≡ after_tree trees = search rules in
@@ -48,5 +48,5 @@ returns-then-is_dollar-clause-less c =
     let first : IsFirstElement trees (Some (element.Leaf it)) = search rules in
     let begins : trees ≡ leaf it (after_tree trees) = leaf_before trees it first in
     let rest : rest_of c.next.new.self ≡ after_tree trees = search rules in
-    let less : held_size found + size (rest_of c.signed_part.new.siblings) ≤ size (rest_of c.next.new.self) = search rules in
-    are_less found (held_size found + size (rest_of c.signed_part.new.siblings)) (size trees) (omega (arith, ap size begins, ap size rest, less))
+    let less : held_size found + size (rest_of c.dollar_part.new.siblings) ≤ size (rest_of c.next.new.self) = search rules in
+    are_less found (held_size found + size (rest_of c.dollar_part.new.siblings)) (size trees) (omega (arith, ap size begins, ap size rest, less))

@@ -4,7 +4,7 @@ use Rattle.tt.specs.Iters.{rest_of}
 use Rattle.mbe_rule.specs.DollarsLeft.{dollars_left}
 use Rattle.mbe_rule.specs.Variables.{name_in}
 use Rattle.mbe_rule.specs.contracts.variable.NamePartialEq.TheImpl as name_impl
-use Rattle.mbe_rule.proofs.Judging.{unknown, used_on}
+use Rattle.mbe_rule.proofs.Validating.{unknown, used_on}
 use Rattle.mbe_rule.proofs.names.check_template.Goals as goal
 
 pub returns-then-not-contains-clause-fault : goal.returns-then-not-contains-clause-fault

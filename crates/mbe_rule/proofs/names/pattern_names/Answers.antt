@@ -5,7 +5,7 @@ use Rattle.tt.specs.Iters.{rest_of}
 use Rattle.mbe_rule.specs.DollarsLeft.{dollars_left}
 use Rattle.mbe_rule.specs.Variables.{variable_in}
 use Rattle.mbe_rule.specs.contracts.variable.NamePartialEq.TheImpl as name_impl
-use Rattle.mbe_rule.proofs.Judging.{duplicate, noted_name, judged_on, named_on}
+use Rattle.mbe_rule.proofs.Validating.{duplicate, noted_name, validated_on, named_on}
 use Rattle.mbe_rule.proofs.names.pattern_names.Goals as goal
 
 pub returns-then-not-branch-clause-fault : goal.returns-then-not-branch-clause-fault
@@ -28,7 +28,7 @@ loop-dollars-preserved c =
     let noted = noted_name names (rest_of c.in-Some.siblings) (dollars_left c.loop-dollars.dollars) (dollars_left c.next.new.self) here it found c.insert.new.self.keys absent kept in
     record {
       fault =
-          judged_on names (rest_of c.in-Some.siblings) (dollars_left c.loop-dollars.dollars) (dollars_left c.next.new.self) here it found c.insert.new.self.keys absent noted
+          validated_on names (rest_of c.in-Some.siblings) (dollars_left c.loop-dollars.dollars) (dollars_left c.next.new.self) here it found c.insert.new.self.keys absent noted
           ∙ c.loop-dollars.invariant.fault;
       named =
           named_on names (rest_of c.in-Some.siblings) (dollars_left c.loop-dollars.dollars) (dollars_left c.next.new.self) here it found c.insert.new.self.keys noted

@@ -2,7 +2,7 @@ use Rattle.std.proofs.Common.{rules, ◌≡◌, refl, ap₂}
 use Rattle.mbe_pattern.specs.declared.pattern.RepeatKind.TheVariants.{OneOrMore}
 use Rattle.mbe_rules.specs.declared.counting.Count.TheVariants.{Same, Differ}
 use Rattle.mbe_rules.specs.Counting.{rounds_by}
-use Rattle.mbe_rules.specs.Filling.{lengths_differ, no_round}
+use Rattle.mbe_rules.specs.Transcribing.{lengths_differ, no_round}
 use Rattle.mbe_rules.proofs.counting.rounds_by.Goals as goal
 
 pub returns-in-Same-eq0-OneOrMore-clause-err : goal.returns-in-Same-eq0-OneOrMore-clause-err

@@ -3,7 +3,7 @@ use Rattle.std.proofs.Common.{◌≡◌, ◌-◌, ◌≤◌, drop, length, map}
 use Rattle.mbe_matcher.specs.Bindings.{Binding}
 use Rattle.mbe_rules.specs.declared.counting.Count.TheVariants.{Unknown}
 use Rattle.mbe_rules.specs.Counting.{counted_all, uses_before, kind_before, behind_close}
-use Rattle.mbe_rules.specs.Filling.{counts_of}
+use Rattle.mbe_rules.specs.Transcribing.{counts_of}
 use Rattle.mbe_rules.specs.Parts.{bit_of}
 use Rattle.mbe_rules.specs.Rounds.{AreTaken, binding_in, dones}
 use Rattle.mbe_rules.proofs.counting.scan.Given as goal

@@ -1,7 +1,7 @@
 use Rattle.std.proofs.Common.{rules, ◌≡◌, ◌<◌, ◌≤◌, length, get_or, Some, None, ap, sym, ◌∙◌}
 use Rattle.std.proofs.lemmas.Option.{slice_get-map, slice_get_past, slice_get-get_or}
 use Rattle.std.specs.Prelude.{slice_get, option_map}
-use Rattle.mbe_rules.specs.Filling.{in_round}
+use Rattle.mbe_rules.specs.Transcribing.{in_round}
 use Rattle.mbe_rules.specs.Rounds.{trees, bound_in, dones, seen_at}
 use Rattle.mbe_rules.proofs.Seeing.{taken_at, none_at}
 use Rattle.mbe_rules.proofs.taken.seen_in.Goals as goal

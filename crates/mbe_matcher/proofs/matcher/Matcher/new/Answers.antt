@@ -2,11 +2,11 @@ use Rattle.std.proofs.Common.{rules, ◌≡◌, [], map, reverse, None, ap, sym,
 use Rattle.tt.specs.Iters.{rest_of}
 use Rattle.mbe_matcher.specs.Compiled.{all_stops, starts_of}
 use Rattle.mbe_matcher.specs.Grouping.{variables_of}
-use Rattle.mbe_matcher.specs.Linking.{Made, made_of, made_by, nothing_made, stop_of}
+use Rattle.mbe_matcher.specs.Compiling.{Made, made_of, made_by, nothing_made, stop_of}
 use Rattle.mbe_pattern.specs.Faults.{pattern_fault}
 use Rattle.mbe_pattern.specs.Spelling.{pattern_of}
 use Rattle.mbe_pattern.proofs.Plain.{sound_pattern}
-use Rattle.mbe_matcher.proofs.LinkSteps.{made_whole}
+use Rattle.mbe_matcher.proofs.CompileSteps.{made_whole}
 use Rattle.mbe_matcher.specs.Pieces.{bit_of}
 use Rattle.mbe_matcher.specs.Stepping.{Taken, taken_of, taken_by, nothing_taken, where_of}
 use Rattle.mbe_matcher.specs.Steps.{steps_of}
@@ -18,13 +18,13 @@ use Rattle.mbe_matcher.proofs.matcher.Matcher.new.Goals as goal
 pub returns-clause-ok : goal.returns-clause-ok
 returns-clause-ok c =
     let pattern = pattern_of (rest_of c.args.pattern) in
-    let linked = c.in_ok-places.field-0 in
+    let compiled = c.in_ok-places.field-0 in
     let places = c.reverse-3.new.self.items in
     let stepped = c.in_ok-steps.field-0 in
     let pieces = c.in_ok-pieces.ensures in
     let whole : Made = record { stops = all_stops pattern; edges = starts_of pattern; around = [] } in
-    let made : made_by linked ≡ whole = c.in_ok-places.ensures ∙ ap (λ bits. made_of bits nothing_made) pieces ∙ made_whole pattern in
-    let turned : places ≡ reverse linked.places.items = search rules in
+    let made : made_by compiled ≡ whole = c.in_ok-places.ensures ∙ ap (λ bits. made_of bits nothing_made) pieces ∙ made_whole pattern in
+    let turned : places ≡ reverse compiled.places.items = search rules in
     let here : c.deref.result.now ≡ c.in_ok-pieces.pieces.items = search rules in
     let all : Taken = record { steps = steps_of pattern; ends = []; variables = variables_of pattern 1 } in
     let taken : taken_by stepped ≡ all = c.in_ok-steps.ensures ∙ ap (λ its. taken_of (map bit_of its) nothing_taken) here ∙ ap (λ bits. taken_of bits nothing_taken) pieces ∙ taken_whole pattern in

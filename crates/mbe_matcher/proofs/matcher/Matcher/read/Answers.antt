@@ -7,9 +7,9 @@ use Rattle.mbe_matcher.specs.declared.reading.Paths.{Paths}
 use Rattle.mbe_matcher.specs.Levels.{Finds}
 use Rattle.mbe_pattern.specs.Patterns.{Pattern, IsFull}
 use Rattle.mbe_matcher.specs.Places.{ReadsAll, StopsAll}
-use Rattle.mbe_matcher.specs.Settling.{AreRanked}
+use Rattle.mbe_matcher.specs.Closures.{AreRanked}
 use Rattle.mbe_matcher.specs.Steps.{steps_of}
-use Rattle.mbe_matcher.specs.Told.{Tells, TellsPaths}
+use Rattle.mbe_matcher.specs.Finding.{IsFound, ArePaths}
 use Rattle.mbe_matcher.proofs.Ranked.{rank_in, are_ranked}
 use Rattle.mbe_matcher.proofs.Results.{if_ok}
 use Rattle.mbe_matcher.proofs.Told.{tells}
@@ -34,7 +34,7 @@ returns c =
     subst (λ p. (rank : ℕ → ℕ) → AreRanked p rank → FindsBy p matcher.starts.items input it) places
     (subst (λ s. (rank : ℕ → ℕ) → AreRanked c.deref.result.now rank → FindsBy c.deref.result.now s input it) starts
     (subst (λ t. (rank : ℕ → ℕ) → AreRanked c.deref.result.now rank → FindsBy c.deref.result.now c.deref-2.result.now t it) same found)) in
-    let told : IfOk c.found_by.result (λ found. (pattern : Pattern) → IsFull pattern → c.deref-3.result.now ≡ steps_of pattern → TellsPaths pattern input it → Tells pattern input found) = search rules in
+    let told : IfOk c.found_by.result (λ found. (pattern : Pattern) → IsFull pattern → c.deref-3.result.now ≡ steps_of pattern → ArePaths pattern input it → IsFound pattern input found) = search rules in
     if_ok c.found_by.result
     (λ found is pattern of. is pattern of.full (steps ∙ of.steps)
     (tells matcher.places.items pattern of.full of.stand input it (subst (λ s. FindsBy matcher.places.items s input it) of.starts (finds (rank_in pattern) (are_ranked matcher.places.items pattern of.full of.count of.stand))))) told

@@ -1,10 +1,10 @@
 use Rattle.std.proofs.Common.{rules, ◌≡◌, map, Some, None, ap, sym, ◌∙◌}
 use Rattle.tt.specs.Iters.{rest_of}
 use Rattle.mbe_matcher.specs.Stepping.{where_of}
-use Rattle.mbe_rules.specs.Judging.{judged_of}
+use Rattle.mbe_rules.specs.Validating.{validated_of}
 use Rattle.mbe_rules.specs.Parts.{bit_of}
 use Rattle.mbe_rules.specs.Spelling.{template_of}
-use Rattle.mbe_rules.proofs.Judges.{judged_whole, is_error}
+use Rattle.mbe_rules.proofs.Validates.{validated_whole, is_error}
 use Rattle.mbe_rules.proofs.Wholeness.{are_its}
 use Rattle.mbe_rules.proofs.template.Template.new.Goals as goal
 
@@ -13,19 +13,19 @@ returns-in-Some-clause-err c =
     let variables = map where_of c.args.binders.now in
     let template = template_of variables (rest_of c.args.trees) in
     let here : c.deref.result.now ≡ c.in_ok-parts.parts.items = search rules in
-    let found : Some c.in-Some.fault ≡ (judged_of variables (map bit_of c.deref.result.now)).fault = search rules in
+    let found : Some c.in-Some.fault ≡ (validated_of variables (map bit_of c.deref.result.now)).fault = search rules in
     is_error variables template c.in-Some.fault
-    (sym (found ∙ ap (λ its. (judged_of variables (map bit_of its)).fault) here ∙ ap (λ bits. (judged_of variables bits).fault) c.in_ok-parts.ensures ∙ judged_whole variables template))
+    (sym (found ∙ ap (λ its. (validated_of variables (map bit_of its)).fault) here ∙ ap (λ bits. (validated_of variables bits).fault) c.in_ok-parts.ensures ∙ validated_whole variables template))
 
 pub returns-in-None-clause-ok : goal.returns-in-None-clause-ok
 returns-in-None-clause-ok c =
     let variables = map where_of c.args.binders.now in
     let template = template_of variables (rest_of c.args.trees) in
     let here : c.deref.result.now ≡ c.in_ok-parts.parts.items = search rules in
-    let found : None ≡ (judged_of variables (map bit_of c.deref.result.now)).fault = search rules in
+    let found : None ≡ (validated_of variables (map bit_of c.deref.result.now)).fault = search rules in
     record {
       parts = c.in_ok-parts.ensures;
-      sound = sym (found ∙ ap (λ its. (judged_of variables (map bit_of its)).fault) here ∙ ap (λ bits. (judged_of variables bits).fault) c.in_ok-parts.ensures ∙ judged_whole variables template);
+      sound = sym (found ∙ ap (λ its. (validated_of variables (map bit_of its)).fault) here ∙ ap (λ bits. (validated_of variables bits).fault) c.in_ok-parts.ensures ∙ validated_whole variables template);
     }
 
 pub invariant_of-result : goal.invariant_of-result

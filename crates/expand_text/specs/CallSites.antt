@@ -1,0 +1,46 @@
+-- How the expansion of a call is in its place.
+use Rattle.std.specs.Prelude.{◌≡◌, ◌⊎◌, ℕ, zero, suc, Bool, true, Option, None, Some}
+use Rattle.tt.specs.Forest.{Forest}
+use Rattle.tt.specs.Stored.{IsWithinLimits}
+use Rattle.tt.specs.Types.Delimiter.{Delimiter}
+use Rattle.expand_items.specs.Spreads.{AreUnder}
+use Rattle.expand_text.specs.declared.fault.MacroFault.{MacroFault}
+use Rattle.expand_text.specs.declared.fault.MacroFault.TheVariants as wrong
+use Rattle.expand_text.specs.Macros.{IsPastLimit, IsUnwritten, tree_of}
+use Rattle.expand_text.specs.Outcomes.{placed}
+use Rattle.expand_items.specs.Attributes.{conditions_of}
+use Rattle.expand_items.specs.declared.position.Siblings.{Siblings}
+
+-- the place of a call: the attributes before it and their number of trees (none if it is under no condition); whether it is a statement or
+-- an item; its siblings; and its delimiter
+pub record CallSite : Type 0 where
+  pub attributes : Forest
+  pub len : ℕ
+  pub is_statement : Bool
+  pub siblings : Siblings
+  pub delimiter : Delimiter
+
+-- an expansion in its place: as it is, or under the conditions of the call, if possible
+abbrev pub PutUnder : (attributes : ℕ) → CallSite → (trees : Forest) → (put : Option Forest) → Type 0
+PutUnder zero it trees put = put ≡ Some (placed it.is_statement it.delimiter trees)
+PutUnder (suc more) it trees put = IsWithinLimits (tree_of it.delimiter trees) × AreUnder it.siblings it.delimiter (conditions_of it.attributes) trees put
+
+abbrev pub PutAs : CallSite → (trees : Forest) → (put : Option Forest) → Type 0
+PutAs it trees put = PutUnder it.len it trees put
+
+-- the expansion of a call under conditions exceeds a limit as a tree
+abbrev pub IsTooLarge : (attributes : ℕ) → CallSite → (trees : Forest) → MacroFault → Type 0
+IsTooLarge zero it trees fault = ⊥
+IsTooLarge (suc more) it trees (wrong.TooLarge why) = IsPastLimit (tree_of it.delimiter trees) why
+IsTooLarge (suc more) it trees fault = ⊥
+
+-- why an expansion does not fit its place: the conditions cannot be put before its parts, or it exceeds a limit as a tree
+abbrev pub IsMisplaced : CallSite → (trees : Forest) → MacroFault → Type 0
+IsMisplaced it trees fault = ((fault ≡ wrong.Conditional) × PutAs it trees None) ⊎ IsTooLarge it.len it trees fault
+
+-- why a call with that expansion stays, and its byte: the expansion does not fit its place, which shows at the beginning of the call; or it
+-- does, but is not written in the text
+abbrev pub IsKept : (in_text : Bool) → CallSite → (trees : Forest) → (begin at : ℕ) → MacroFault → Type 0
+IsKept in_text it trees begin at fault =
+    (IsMisplaced it trees fault × (at ≡ begin))
+    ⊎ ((in_text ≡ true) × (put : Forest) × PutAs it trees (Some put) × IsUnwritten it.delimiter put begin at fault)

@@ -1,0 +1,176 @@
+-- What trees expand to in which macros are defined and called.
+use Rattle.std.specs.Prelude.{◌≡◌, ◌⊎◌, ◌<◌, ◌-◌, ℕ, suc, Bool, true, false, List, length, take, None, Some, codes, max, ◌==◌, if◌then◌else◌}
+use Rattle.tt.specs.Forest.{Forest, Root, end, leaf, node}
+use Rattle.tt.specs.Gluing.{after_trees}
+use Rattle.tt.specs.Moves.{after_tree}
+use Rattle.tt.specs.Span.{start_of}
+use Rattle.tt.specs.Types.Delimiter.{Delimiter}
+use Rattle.tt.specs.Types.Leaf.{Leaf}
+use Rattle.tt.specs.Types.Leaf.TheVariants as leaf_of
+use Rattle.tt.specs.Types.Span.{Span}
+use Rattle.expand_text.specs.declared.fault.MacroFault.{MacroFault}
+use Rattle.syntax_edit.specs.Places.{begin_at}
+use Rattle.expand_items.specs.declared.position.Position.{Position}
+use Rattle.expand_items.specs.Attributes.{item_at}
+use Rattle.expand_items.specs.Items.{Definition, Call, defines, calls, other}
+use Rattle.expand_text.specs.Contexts.{Config, Context, with_finding}
+use Rattle.expand_text.specs.Macros.{IsRead, IsCallFault, MayBePut, called_by, arms_of, found_of, context_behind}
+use Rattle.expand_text.specs.Outcomes.{Outcome, nothing, passes, enters, stays, becomes, trees_left}
+use Rattle.expand_items.specs.Positions.{begun, first_in, behind, behind_leaf, behind_subtree, keeps_macros, is_statement, takes_semicolon, siblings_of_call}
+use Rattle.expand_text.specs.Scopes.{Macro}
+use Rattle.expand_text.specs.CallSites.{CallSite, PutAs, IsKept}
+use Rattle.mbe_rules.specs.Arms.{Arm}
+use Rattle.mbe_rules.specs.Expansions.{IsExpansion}
+use Rattle.mbe_rules.specs.declared.macro_rules.Expansion.TheVariants as expansion
+use Rattle.mbe_pattern.specs.Units.{front_trees, is_brace, is_at_punct}
+
+-- the first tree is taken as it is: no call is expanded any more, or it is one of the plain
+-- trees, or it begins neither a definition nor a call
+abbrev pub IsPlain : Config → Context → Position → (plain : ℕ) → Forest → Type 0
+IsPlain config context position plain trees = (context.is_over ≡ true) ⊎ ((0 < plain) ⊎ (item_at config.root position trees ≡ other))
+
+-- how many trees behind a leaf begin no call: the name of a lifetime, or behind a literal a `.` and the name of a field
+abbrev pub named_behind : Leaf → (rest : Forest) → ℕ
+named_behind (leaf_of.Punct it) rest = if it.char == 39 then 1 else 0
+named_behind (leaf_of.Literal it) rest = if is_at_punct (codes ".") rest then 2 else 0
+named_behind (leaf_of.Ident it) rest = 0
+
+-- how many of the next trees are taken as they are: those after this leaf that are no call, or the plain trees left, if more
+abbrev pub plain_behind : Leaf → (rest : Forest) → (plain : ℕ) → ℕ
+plain_behind it rest plain = max (plain - 1) (named_behind it rest)
+
+-- what is known behind a subtree: its macros are in scope if they are kept
+abbrev pub context_after : (are_kept : Bool) → (before inside : Context) → Context
+context_after true before inside = inside
+context_after false before inside = record inside { macros = take (length before.macros) inside.macros }
+
+-- the trees behind a call that comes first
+abbrev pub behind_call : Call → (trees : Forest) → Forest
+behind_call it trees = after_trees it.len trees
+
+-- the `;` behind the call is a part of it
+abbrev pub takes_in : Position → Call → (trees : Forest) → Bool
+takes_in position it trees = takes_semicolon it.delimiter.kind (behind_call it trees) position
+
+-- where the call ends then
+abbrev pub end_in : Position → Call → (trees : Forest) → Span
+end_in position it trees = if takes_in position it trees then begin_at (behind_call it trees) it.delimiter.close else it.delimiter.close
+
+-- how many trees the call is then
+abbrev pub len_in : Position → Call → (trees : Forest) → ℕ
+len_in position it trees = if takes_in position it trees then suc it.len else it.len
+
+-- the trees behind the call then, and the position behind the call
+abbrev pub rest_in : Position → Call → (trees : Forest) → Forest
+rest_in position it trees = if takes_in position it trees then after_tree (behind_call it trees) else behind_call it trees
+
+abbrev pub behind_in : Position → Call → (trees : Forest) → Position
+behind_in position it trees =
+    if takes_in position it trees then behind true (behind (is_brace it.delimiter.kind) position) else behind (is_brace it.delimiter.kind) position
+
+-- the position before the first of the trees that the call expands to
+abbrev pub begun_by : Position → Call → (trees : Forest) → Position
+begun_by position it trees = begun (siblings_of_call it.delimiter.kind (behind_call it trees) position)
+
+-- all trees of the call then, and the attributes before it
+abbrev pub whole_in : Position → Call → (trees : Forest) → Forest
+whole_in position it trees = front_trees (len_in position it trees) trees
+
+abbrev pub attributes_in : Position → Call → (trees : Forest) → Forest
+attributes_in position it trees = front_trees it.attributes (whole_in position it trees)
+
+-- the place of the call
+abbrev pub site_in : Position → Call → (trees : Forest) → CallSite
+site_in position it trees =
+    record {
+      attributes = attributes_in position it trees;
+      len = it.attributes;
+      is_statement = is_statement it.delimiter.kind (behind_call it trees) position;
+      siblings = siblings_of_call it.delimiter.kind (behind_call it trees) position;
+      delimiter = it.delimiter;
+    }
+
+-- where the call begins, behind its attributes
+abbrev pub begin_in : Call → (trees : Forest) → Span
+begin_in it trees = begin_at (after_trees it.attributes trees) it.name.span
+
+-- its attributes stay, and these trees replace the call
+abbrev pub becomes_in : Position → Call → (trees put : Forest) → Outcome → Outcome
+becomes_in position it trees put others = stays (attributes_in position it trees) (becomes (begin_in it trees) (end_in position it trees) put others)
+
+-- the call stays, with its attributes and the `;` that is a part of it
+abbrev pub stays_in : Position → Call → (trees : Forest) → Outcome → Outcome
+stays_in position it trees others = stays (whole_in position it trees) others
+
+-- what trees of the text itself, or of an expansion, expand to, with at most so many nested expansions: at a position, with so many plain
+-- trees, and from what is known before; and what is known then. The expansion of a call replaces it, and is written there in the text. If
+-- it does not fit there, or cannot be written, the call stays with its attributes and its `;`, and that is found. Findings and definitions
+-- in the expansion are known behind the call in any case
+pub data ExpandsTo (config : Config) : (in_text : Bool) → (limit : ℕ) → Position → (plain : ℕ) → Context → Forest → Context → Outcome → Type 0 where
+  ends : {in_text : Bool} {limit plain : ℕ} {position : Position} {context : Context} → ExpandsTo config in_text limit position plain context end context nothing
+  on_leaf : {in_text : Bool} {limit plain : ℕ} {position : Position} {context after : Context} {it : Leaf} {rest : Forest} {others : Outcome}
+      → IsPlain config context position plain (leaf it rest)
+      → ExpandsTo config in_text limit (behind_leaf it rest position) (plain_behind it rest plain) context rest after others
+      → ExpandsTo config in_text limit position plain context (leaf it rest) after (passes it others)
+  on_node : {in_text : Bool} {limit plain : ℕ} {position : Position} {context inside after : Context} {delimiter : Delimiter} {children rest : Forest} {held others : Outcome}
+      → IsPlain config context position plain (node delimiter children rest)
+      → ExpandsTo config in_text limit (first_in delimiter.kind position) 0 context children inside held
+      → ExpandsTo config in_text limit (behind_subtree delimiter.kind position) (plain - 1) (context_after (keeps_macros delimiter.kind position) context inside) rest after others
+      → ExpandsTo config in_text limit position plain context (node delimiter children rest) after (enters delimiter held others)
+  on_definition : {in_text : Bool} {limit : ℕ} {position : Position} {context after : Context} {it : Definition} {trees : Forest} {others : Outcome} (inside : Context)
+      → context.is_over ≡ false
+      → item_at config.root position trees ≡ defines it
+      → IsRead config it context inside
+      → ExpandsTo config in_text limit (behind true position) 0 inside (after_trees it.len trees) after others
+      → ExpandsTo config in_text limit position 0 context trees after (stays (front_trees it.len trees) others)
+  on_other_call : {in_text : Bool} {limit : ℕ} {position : Position} {context after : Context} {it : Call} {trees : Forest} {others : Outcome}
+      → context.is_over ≡ false
+      → item_at config.root position trees ≡ calls it
+      → it.attributes ≡ 0
+      → arms_of (called_by config context.macros it) ≡ None
+      → config.everywhere ≡ false
+      → ExpandsTo config in_text limit (behind (is_brace it.delimiter.kind) position) 0 (context_behind it (called_by config context.macros it) context) (behind_call it trees) after others
+      → ExpandsTo config in_text limit position 0 context trees after (stays (front_trees it.len trees) others)
+  into_other_call : {in_text : Bool} {limit : ℕ} {position : Position} {context after : Context} {it : Call} {trees : Forest} {others : Outcome}
+      → context.is_over ≡ false
+      → item_at config.root position trees ≡ calls it
+      → it.attributes ≡ 0
+      → arms_of (called_by config context.macros it) ≡ None
+      → config.everywhere ≡ true
+      → ExpandsTo config in_text limit position it.len (context_behind it (called_by config context.macros it) context) trees after others
+      → ExpandsTo config in_text limit position 0 context trees after others
+  into_attributes : {in_text : Bool} {limit : ℕ} {position : Position} {context after : Context} {it : Call} {trees : Forest} {others : Outcome}
+      → context.is_over ≡ false
+      → item_at config.root position trees ≡ calls it
+      → 0 < it.attributes
+      → arms_of (called_by config context.macros it) ≡ None
+      → ExpandsTo config in_text limit position it.attributes context trees after others
+      → ExpandsTo config in_text limit position 0 context trees after others
+  on_faulty_call : {in_text : Bool} {limit : ℕ} {position : Position} {context after : Context} {it : Call} {macro : Macro} {arms : List Arm} {trees : Forest} {others : Outcome} (at : ℕ) (fault : MacroFault)
+      → context.is_over ≡ false
+      → item_at config.root position trees ≡ calls it
+      → called_by config context.macros it ≡ Some macro
+      → macro.arms ≡ Some arms
+      → IsCallFault limit arms it at fault
+      → ExpandsTo config in_text limit (behind (is_brace it.delimiter.kind) position) 0 (with_finding (found_of it macro at fault) context) (behind_call it trees) after others
+      → ExpandsTo config in_text limit position 0 context trees after (stays (front_trees it.len trees) others)
+  on_call : {in_text : Bool} {limit : ℕ} {position : Position} {context inside after : Context} {it : Call} {arms : List Arm} {trees : Forest} {held others : Outcome} (tree : Root) (put : Forest)
+      → context.is_over ≡ false
+      → item_at config.root position trees ≡ calls it
+      → arms_of (called_by config context.macros it) ≡ Some arms
+      → IsExpansion arms 0 0 it.input (expansion.Tree tree)
+      → ExpandsTo config false limit (begun_by position it trees) 0 context tree.children inside held
+      → PutAs (site_in position it trees) (trees_left held) (Some put)
+      → MayBePut in_text it.delimiter put
+      → ExpandsTo config in_text (suc limit) (behind_in position it trees) 0 inside (rest_in position it trees) after others
+      → ExpandsTo config in_text (suc limit) position 0 context trees after (becomes_in position it trees put others)
+  on_kept_call : {in_text : Bool} {limit : ℕ} {position : Position} {context inside after : Context} {it : Call} {macro : Macro} {arms : List Arm} {trees : Forest} {held others : Outcome} (tree : Root) (at : ℕ) (fault : MacroFault)
+      → context.is_over ≡ false
+      → item_at config.root position trees ≡ calls it
+      → called_by config context.macros it ≡ Some macro
+      → macro.arms ≡ Some arms
+      → IsExpansion arms 0 0 it.input (expansion.Tree tree)
+      → ExpandsTo config false limit (begun_by position it trees) 0 context tree.children inside held
+      → IsKept in_text (site_in position it trees) (trees_left held) (start_of (begin_in it trees).range) at fault
+      → ExpandsTo config in_text (suc limit) (behind_in position it trees) 0 (with_finding (found_of it macro at fault) inside) (rest_in position it trees) after others
+      → ExpandsTo config in_text (suc limit) position 0 context trees after (stays_in position it trees others)

@@ -1,0 +1,30 @@
+//! The setting of a walk.
+ghost use Rattle.std.specs.Prelude.{◌≡◌};
+ghost use Rattle.expand_text.specs.Contexts.{asks_for};
+
+use std::alloc::Global;
+use tt::Symbol;
+
+/// The setting of a walk, and the allocator.
+#[derive(Drop)]
+pub(crate) struct Config {
+    pub(crate) alloc: Global,
+    /// The word that `$crate` becomes.
+    pub(crate) root: Symbol,
+    /// Whether the walk enters calls that are not expanded.
+    pub(crate) everywhere: bool,
+    /// The name of the only macros that are read and expanded; `None` for all macros.
+    pub(crate) only: Option<Symbol>,
+}
+
+impl Config {
+    /// Returns whether macros of that name are read and expanded.
+    pub(crate) fn asks_for(&self, name: &Symbol) -> bool
+        ensures { result ≡ asks_for self.now.only name.now }
+    {
+        match &self.only {
+            None => true,
+            Some(it) => *it == *name,
+        }
+    }
+}

@@ -1,0 +1,47 @@
+use Rattle.std.proofs.Common.{rules, ◌≡◌, ◌≤◌, false, ap, sym, ◌∙◌, length, arith}
+use Rattle.tt.specs.Expectations.{is_at_node}
+use Rattle.tt.specs.Forest.{node, size}
+use Rattle.tt.specs.Gluing.{after_trees}
+use Rattle.tt.specs.Iters.{rest_of, IsFirstSubtree}
+use Rattle.tt.specs.Moves.{after_tree}
+use Rattle.mbe_pattern.specs.Dollars.{tail_of}
+use Rattle.mbe_pattern.specs.Spelling.{dollar_in}
+use Rattle.mbe_pattern.specs.Spelling as spelling
+use Rattle.mbe_pattern.proofs.FirstTrees.{node_before}
+use Rattle.mbe_pattern.proofs.PartSteps.{node_there, dollar_repetition}
+use Rattle.mbe_pattern.proofs.Passing.{after_less}
+use Rattle.mbe_pattern.proofs.parts.dollar_part.Goals as goal
+
+pub returns-in-Ok-clause-part : goal.returns-in-Ok-clause-part
+returns-in-Ok-clause-part c =
+    let rest = rest_of c.args.siblings.now in
+    let inner = c.in-Ok.inner in
+    let header = c.in-Ok.field-0-0 in
+    let tail = c.in-Repetition.tail in
+    let first : IsFirstSubtree rest header inner = search rules in
+    let begins : rest ≡ node header.delimiter (rest_of inner) (after_tree rest) = node_before rest header inner first in
+    let seen : rest_of c.iter.result ≡ rest = search rules in
+    let told : spelling.repetition (record { separator = tail.separator.items; kind = tail.kind }) ≡ dollar_in (rest_of c.iter.result) = search rules in
+    let same : dollar_in rest ≡ spelling.repetition (record { separator = tail.separator.items; kind = tail.kind }) = sym (told ∙ ap dollar_in seen) in
+    let left : rest_of c.pass-in-Ok.new.trees ≡ after_trees (length tail.separator.items) (after_tree (after_tree rest)) = search rules in
+    dollar_repetition c.args.dollar rest c.requires header.delimiter (rest_of inner) (after_tree rest) (rest_of c.pass-in-Ok.new.trees) tail.separator.items tail.kind begins same left
+
+pub returns-in-Ok-clause-less : goal.returns-in-Ok-clause-less
+returns-in-Ok-clause-less c =
+    let rest = rest_of c.args.siblings.now in
+    let inner = c.in-Ok.inner in
+    let header = c.in-Ok.field-0-0 in
+    let first : IsFirstSubtree rest header inner = search rules in
+    let begins : rest ≡ node header.delimiter (rest_of inner) (after_tree rest) = node_before rest header inner first in
+    let next : rest_of c.next.new.self ≡ after_tree (after_tree rest) = search rules in
+    let passed : size (rest_of c.pass-in-Ok.new.trees) ≤ size (rest_of c.next.new.self) = search rules in
+    omega (arith, ap size begins, ap size next, passed, after_less 1 (after_tree rest))
+
+pub unreachable-requires : goal.unreachable-requires
+unreachable-requires c =
+    let rest = rest_of c.args.siblings.now in
+    let tail = tail_of c.in-Repetition.tail in
+    let seen : rest_of c.iter.result ≡ rest = search rules in
+    let told : spelling.repetition tail ≡ dollar_in (rest_of c.iter.result) = search rules in
+    let none : is_at_node rest ≡ false = search rules in
+    node_there rest tail (sym (told ∙ ap dollar_in seen)) none

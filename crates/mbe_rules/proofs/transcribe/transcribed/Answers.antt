@@ -1,0 +1,147 @@
+use Rattle.std.proofs.Common.{rules, ◌≡◌, ◌+◌, ◌<◌, ◌≤◌, ◌∷◌, [], Err, length, get_or, drop, map, reverse, ap, sym, subst, ◌∙◌, arith}
+use Rattle.std.proofs.Math.ListN.{drop_of_length-le}
+use Rattle.std.proofs.lemmas.List.{drop_more}
+use Rattle.tt.specs.Building.{empty_builder}
+use Rattle.tt.specs.TreeFault.{IsTreeFault}
+use Rattle.mbe_matcher.specs.Grouping.{binding_by}
+use Rattle.mbe_matcher.specs.Marks.{note_of}
+use Rattle.mbe_matcher.specs.Stepping.{where_of}
+use Rattle.mbe_rules.specs.declared.transcribe_error.TranscribeError.TheVariants.{Tree}
+use Rattle.mbe_rules.specs.Transcribing.{transcribed}
+use Rattle.mbe_rules.specs.Parts.{bit_of}
+use Rattle.mbe_rules.specs.Rounds.{AreTaken}
+use Rattle.mbe_rules.specs.Standing.{IsAt, Goes, IsStop, bits_from, AreLevels}
+use Rattle.mbe_rules.specs.Wholes.{whole_of}
+use Rattle.mbe_rules.specs.Writing.{written_by}
+use Rattle.mbe_rules.proofs.Finishing.{written_of, first_level, starts, starts_whole, ends, ends_whole, not_open, built_is, told_all, stop_told}
+use Rattle.mbe_rules.proofs.Measuring.{work_is}
+use Rattle.mbe_rules.proofs.transcribe.transcribed.Goals as goal
+
+pub loop-part-init : goal.loop-part-init
+loop-part-init c =
+    let binding = binding_by (map where_of c.args.binders.now) (map note_of c.args.binding.marks.items) in
+    let builder : c.in_ok-new.field-0 ≡ empty_builder c.args.delimiter = search rules in
+    record {
+      levels = first_level c.args.parts.now binding ∷ [];
+      stands = starts c.args.parts.now binding (record { builder = c.in_ok-new.field-0; rounds = c.new-2.result; closes = c.new-3.result }) c.args.delimiter c.requires builder c.new-2.ensures.items c.new-3.ensures.items;
+      whole = starts_whole c.args.parts.now binding (record { builder = c.in_ok-new.field-0; rounds = c.new-2.result; closes = c.new-3.result }) c.args.delimiter builder;
+      top = ap (λ b. b.top) builder;
+    }
+
+pub returns-in_err-next-clause-err : goal.returns-in_err-next-clause-err
+returns-in_err-next-clause-err c =
+    let parts = c.args.parts.now in
+    let bits = map bit_of parts in
+    let binding = binding_by (map where_of c.args.binders.now) (map note_of c.args.binding.marks.items) in
+    let at = c.loop-part.next in
+    let part = c.in-Some.part.now in
+    let inv = c.loop-part.invariant in
+    let lt : at < length parts = search rules in
+    let there : part ≡ get_or parts at part = search rules in
+    let here : drop at parts ≡ part ∷ drop (at + 1) parts = drop_more parts at part lt ∙ ap (λ p. p ∷ drop (at + 1) parts) (sym there) in
+    let are : AreTaken binding c.in_ok-taken.taken.items = search rules in
+    let taken : c.deref.result.now ≡ c.in_ok-taken.taken.items = search rules in
+    let stands : IsAt bits binding inv.levels c.loop-part.transcriber (bit_of part ∷ bits_from parts (at + 1)) = subst (λ l. IsAt bits binding inv.levels c.loop-part.transcriber (map bit_of l)) here inv.stands in
+    let failed : c.from_residual-in_err-next.result ≡ Err c.in_err-next.field-0.0 = search rules in
+    rw failed
+    (stop_told c.args.delimiter (transcribed (whole_of parts) binding) c.in_err-next.field-0.0
+    (subst (λ w. IsStop w c.in_err-next.field-0.0) inv.whole (c.in_err-next.ensures.err binding inv.levels (subst (AreTaken binding) (sym taken) are) stands)))
+
+pub loop-part-smaller : goal.loop-part-smaller
+loop-part-smaller c =
+    let parts = c.args.parts.now in
+    let bits = map bit_of parts in
+    let binding = binding_by (map where_of c.args.binders.now) (map note_of c.args.binding.marks.items) in
+    let at = c.loop-part.next in
+    let part = c.in-Some.part.now in
+    let inv = c.loop-part.invariant in
+    let lt : at < length parts = search rules in
+    let there : part ≡ get_or parts at part = search rules in
+    let here : drop at parts ≡ part ∷ drop (at + 1) parts = drop_more parts at part lt ∙ ap (λ p. p ∷ drop (at + 1) parts) (sym there) in
+    let are : AreTaken binding c.in_ok-taken.taken.items = search rules in
+    let taken : c.deref.result.now ≡ c.in_ok-taken.taken.items = search rules in
+    let stands : IsAt bits binding inv.levels c.loop-part.transcriber (bit_of part ∷ bits_from parts (at + 1)) = subst (λ l. IsAt bits binding inv.levels c.loop-part.transcriber (map bit_of l)) here inv.stands in
+    let goes : Goes bits binding inv.levels c.loop-part.transcriber c.step.new.self (bits_from parts c.in_ok-next.next) =
+    c.in_ok-next.ensures.ok binding inv.levels (subst (AreTaken binding) (sym taken) are) stands in
+    omega (
+      arith,
+      goes.less,
+      work_is bits binding inv.levels (reverse c.loop-part.transcriber.rounds.items) (reverse c.loop-part.transcriber.closes.items) (map bit_of (drop at parts)) inv.stands.stand,
+      work_is bits binding goes.news (reverse c.step.new.self.rounds.items) (reverse c.step.new.self.closes.items) (bits_from parts c.in_ok-next.next) goes.stands.stand,
+    )
+
+pub loop-part-preserved : goal.loop-part-preserved
+loop-part-preserved c =
+    let parts = c.args.parts.now in
+    let bits = map bit_of parts in
+    let binding = binding_by (map where_of c.args.binders.now) (map note_of c.args.binding.marks.items) in
+    let at = c.loop-part.next in
+    let part = c.in-Some.part.now in
+    let inv = c.loop-part.invariant in
+    let lt : at < length parts = search rules in
+    let there : part ≡ get_or parts at part = search rules in
+    let here : drop at parts ≡ part ∷ drop (at + 1) parts = drop_more parts at part lt ∙ ap (λ p. p ∷ drop (at + 1) parts) (sym there) in
+    let are : AreTaken binding c.in_ok-taken.taken.items = search rules in
+    let taken : c.deref.result.now ≡ c.in_ok-taken.taken.items = search rules in
+    let stands : IsAt bits binding inv.levels c.loop-part.transcriber (bit_of part ∷ bits_from parts (at + 1)) = subst (λ l. IsAt bits binding inv.levels c.loop-part.transcriber (map bit_of l)) here inv.stands in
+    let goes : Goes bits binding inv.levels c.loop-part.transcriber c.step.new.self (bits_from parts c.in_ok-next.next) =
+    c.in_ok-next.ensures.ok binding inv.levels (subst (AreTaken binding) (sym taken) are) stands in
+    record {
+      levels = goes.news;
+      stands = goes.stands;
+      whole = goes.same ∙ inv.whole;
+      top = goes.top ∙ inv.top;
+    }
+
+pub build-requires : goal.build-requires
+build-requires c =
+    let parts = c.args.parts.now in
+    let bits = map bit_of parts in
+    let binding = binding_by (map where_of c.args.binders.now) (map note_of c.args.binding.marks.items) in
+    let all = transcribed (whole_of parts) binding in
+    let inv = c.loop-part.invariant in
+    let beyond : length parts ≤ c.loop-part.next = search rules in
+    let nothing_left : map bit_of (drop c.loop-part.next parts) ≡ [] = ap (map bit_of) (drop_of_length-le parts beyond) in
+    let none : inv.levels ≡ [] =
+    ends bits binding inv.levels (reverse c.loop-part.transcriber.rounds.items) (reverse c.loop-part.transcriber.closes.items)
+    (subst (λ l. AreLevels bits binding inv.levels (reverse c.loop-part.transcriber.rounds.items) (reverse c.loop-part.transcriber.closes.items) l) nothing_left inv.stands.stand) in
+    let whole : written_by c.loop-part.transcriber ≡ written_of all = ends_whole c.loop-part.transcriber inv.levels all none inv.whole in
+    not_open c.loop-part.transcriber all whole
+
+pub returns-in_err-build-clause-err : goal.returns-in_err-build-clause-err
+returns-in_err-build-clause-err c =
+    let parts = c.args.parts.now in
+    let bits = map bit_of parts in
+    let binding = binding_by (map where_of c.args.binders.now) (map note_of c.args.binding.marks.items) in
+    let all = transcribed (whole_of parts) binding in
+    let inv = c.loop-part.invariant in
+    let beyond : length parts ≤ c.loop-part.next = search rules in
+    let nothing_left : map bit_of (drop c.loop-part.next parts) ≡ [] = ap (map bit_of) (drop_of_length-le parts beyond) in
+    let none : inv.levels ≡ [] =
+    ends bits binding inv.levels (reverse c.loop-part.transcriber.rounds.items) (reverse c.loop-part.transcriber.closes.items)
+    (subst (λ l. AreLevels bits binding inv.levels (reverse c.loop-part.transcriber.rounds.items) (reverse c.loop-part.transcriber.closes.items) l) nothing_left inv.stands.stand) in
+    let whole : written_by c.loop-part.transcriber ≡ written_of all = ends_whole c.loop-part.transcriber inv.levels all none inv.whole in
+    let fault = c.in_err-build.field-0.0.fault in
+    let failed : c.from_residual-in_err-build.result ≡ Err (Tree fault) = search rules in
+    rw failed (
+      told_all all fault (ap (λ w. w.fault) whole),
+      subst (λ root. IsTreeFault root fault) (built_is c.loop-part.transcriber all c.args.delimiter whole inv.top) c.in_err-build.ensures.fault,
+    )
+
+pub returns-clause-ok : goal.returns-clause-ok
+returns-clause-ok c =
+    let parts = c.args.parts.now in
+    let bits = map bit_of parts in
+    let binding = binding_by (map where_of c.args.binders.now) (map note_of c.args.binding.marks.items) in
+    let all = transcribed (whole_of parts) binding in
+    let inv = c.loop-part.invariant in
+    let beyond : length parts ≤ c.loop-part.next = search rules in
+    let nothing_left : map bit_of (drop c.loop-part.next parts) ≡ [] = ap (map bit_of) (drop_of_length-le parts beyond) in
+    let none : inv.levels ≡ [] =
+    ends bits binding inv.levels (reverse c.loop-part.transcriber.rounds.items) (reverse c.loop-part.transcriber.closes.items)
+    (subst (λ l. AreLevels bits binding inv.levels (reverse c.loop-part.transcriber.rounds.items) (reverse c.loop-part.transcriber.closes.items) l) nothing_left inv.stands.stand) in
+    let whole : written_by c.loop-part.transcriber ≡ written_of all = ends_whole c.loop-part.transcriber inv.levels all none inv.whole in
+    record {
+      sound = sym (ap (λ w. w.fault) whole);
+      is = c.in_ok-build.ensures.ok ∙ built_is c.loop-part.transcriber all c.args.delimiter whole inv.top;
+    }

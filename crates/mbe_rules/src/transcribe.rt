@@ -1,0 +1,256 @@
+//! Fills a template, part by part.
+ghost use Rattle.std.specs.Prelude.{◌≡◌, true, List, map, slice_get, reverse, IfOk, IfErr, OnOk};
+ghost use Rattle.tt.specs.Forest.{end, leaf as leaf_of, size};
+ghost use Rattle.tt.specs.Building.{alone};
+ghost use Rattle.tt.specs.Siblings.{leaves};
+ghost use Rattle.tt.specs.Stored.{IsWithinLimits};
+ghost use Rattle.tt.specs.Types.TtFault.TheVariants.{Memory};
+ghost use Rattle.tt.specs.Views.{trees_of};
+ghost use Rattle.mbe_matcher.specs.Bindings.{Binding as Bindings};
+ghost use Rattle.mbe_matcher.specs.Grouping.{binding_by};
+ghost use Rattle.mbe_matcher.specs.Marks.{note_of};
+ghost use Rattle.mbe_matcher.specs.Stepping.{where_of};
+ghost use Rattle.mbe_rules.specs.declared.taken.Taken.{Taken};
+ghost use Rattle.mbe_rules.specs.Transcribing.{transcribed, trees_used, trees_transcribed};
+ghost use Rattle.mbe_rules.specs.Parts.{bit_of, begin, close};
+ghost use Rattle.mbe_rules.specs.Enclosing.{enclosed_between, enclosed, as_piece};
+ghost use Rattle.mbe_rules.specs.Results.{IsTranscribed, IsTranscribeError};
+ghost use Rattle.mbe_rules.specs.Rounds.{AreTaken, binding_in, dones};
+ghost use Rattle.mbe_rules.specs.Standing.{bound_here, Grows, IsWant, Enters, Leaves, StepsTo, StopsAt};
+ghost use Rattle.mbe_rules.specs.Wholes.{are_whole, whole_of};
+
+use crate::counting::{rounds_by, scan};
+use crate::enclose::is_enclosed;
+use crate::parts::Part;
+use crate::taken::{Round, Seen, Taken, fragment_of, seen_in, taken_by};
+use crate::transcribe_error::TranscribeError;
+use mbe_matcher::{Binder, Binding};
+use mbe_pattern::{Fragment, Tail};
+use std::alloc::Global;
+use tt::{
+    Delimiter, DelimiterKind, Leaf, Span, TokenTreesView, TopSubtree, TopSubtreeBuilder, TtFault,
+};
+
+/// The trees written so far, the rounds under way, and the close spans of the open subtrees, the innermost last.
+#[derive(Drop)]
+pub(crate) struct Transcriber {
+    pub(crate) builder: TopSubtreeBuilder,
+    pub(crate) rounds: Vec<Round>,
+    pub(crate) closes: Vec<Span>,
+}
+
+// Returns the trees that are bound to the variable of that index.
+fn trees_of<'i>(taken: &[Taken<'i>], number: usize, rounds: &[Round]) -> TokenTreesView<'i>
+    ensures { (binding : Bindings) → AreTaken binding taken.now → trees_of result ≡ trees_used (slice_get (binding_in (dones rounds.now) binding) number) }
+{
+    let Seen::Trees(trees) = seen_in(taken, number, rounds) else {
+        return TokenTreesView::empty();
+    };
+    trees
+}
+
+impl Transcriber {
+    // Writes the trees. Their last token does not form one token with what follows.
+    fn append(&mut self, trees: TokenTreesView<'_>) -> Result<(), TtFault>
+        ensures ok { OnOk result (Grows (alone (trees_of trees.entry)) self.old self.new) }
+        ensures err { IfErr result (IsWant (size (alone (trees_of trees.entry))) self.old) }
+    {
+        self.builder.extend_with_tt_alone(trees)
+    }
+
+    // Writes the trees in an opaque subtree with these spans.
+    fn enclose_between(
+        &mut self,
+        trees: TokenTreesView<'_>,
+        first: Span,
+        last: Span,
+    ) -> Result<(), TtFault>
+        ensures ok { OnOk result (Grows (enclosed_between first last (alone (trees_of trees.entry))) self.old self.new) }
+        ensures err { IfErr result (IsWant (size (enclosed_between first last (alone (trees_of trees.entry)))) self.old) }
+    {
+        self.builder.open(DelimiterKind::InvisibleOpaque, first)?;
+        self.builder.extend_with_tt_alone(trees)?;
+        self.builder.close(last)
+    }
+
+    // Writes the trees in an opaque subtree with the spans of their first and last token.
+    fn enclose(&mut self, trees: TokenTreesView<'_>) -> Result<(), TtFault>
+        ensures ok { OnOk result (Grows (enclosed (trees_of trees.entry)) self.old self.new) }
+        ensures err { IfErr result (IsWant (size (enclosed (trees_of trees.entry))) self.old) }
+    {
+        match (trees.first_span(), trees.last_span()) {
+            (Some(first), Some(last)) => self.enclose_between(trees, first, last),
+            _ => self.append(trees),
+        }
+    }
+
+    // Writes what a fragment took.
+    fn write(
+        &mut self,
+        fragment: Option<Fragment>,
+        trees: TokenTreesView<'_>,
+    ) -> Result<(), TtFault>
+        ensures ok { OnOk result (Grows (as_piece fragment (trees_of trees.entry)) self.old self.new) }
+        ensures err { IfErr result (IsWant (size (as_piece fragment (trees_of trees.entry))) self.old) }
+    {
+        if is_enclosed(fragment, trees) {
+            self.enclose(trees)
+        } else {
+            self.append(trees)
+        }
+    }
+
+    // Writes what is bound to the variable of that index.
+    fn place(&mut self, taken: &[Taken<'_>], number: usize) -> Result<(), TtFault>
+        ensures ok { OnOk result ((binding : Bindings) → AreTaken binding taken.now → Grows (trees_transcribed (slice_get (bound_here binding (reverse self.old.rounds.items)) number)) self.old self.new) }
+        ensures err { IfErr result (λ fault. (binding : Bindings) → AreTaken binding taken.now → IsWant (size (trees_transcribed (slice_get (bound_here binding (reverse self.old.rounds.items)) number))) self.old fault) }
+    {
+        let trees = trees_of(taken, number, &self.rounds);
+        self.write(fragment_of(taken, number), trees)
+    }
+
+    // Writes a token.
+    fn push(&mut self, leaf: &Leaf) -> Result<(), TtFault>
+        ensures ok { OnOk result (Grows (leaf_of leaf.now end) self.old self.new) }
+        ensures err { IfErr result (IsWant 1 self.old) }
+    {
+        let leaf = leaf.clone()?;
+        self.builder.push(leaf)?;
+        Ok(())
+    }
+
+    // Opens a subtree.
+    fn enter(&mut self, delimiter: &Delimiter) -> Result<(), TtFault>
+        ensures ok { OnOk result (Enters delimiter.now self.old self.new) }
+        ensures err { IfErr result (IsWant 1 self.old) }
+    {
+        self.closes.push(delimiter.close)?;
+        self.builder.open(delimiter.kind, delimiter.open_span)
+    }
+
+    // Closes a subtree, if one is open.
+    fn leave(&mut self) -> Result<(), TtFault>
+        ensures ok { OnOk result (Leaves self.old self.new) }
+        ensures err { IfErr result (λ fault. fault ≡ Memory) }
+    {
+        let Some(close) = self.closes.pop() else {
+            return Ok(());
+        };
+        if self.builder.is_open() {
+            self.builder.close(close)?;
+        }
+        Ok(())
+    }
+
+    // Begins a repetition whose body starts with that part. Returns the next part.
+    fn begin(
+        &mut self,
+        parts: &[Part],
+        taken: &[Taken<'_>],
+        at: usize,
+        body: usize,
+    ) -> Result<usize, TranscribeError>
+        ensures ok { IfOk result (StepsTo parts.now taken.now (begin at) body self.old self.new) }
+        ensures err { IfErr result (StopsAt parts.now taken.now (begin at) body self.old) }
+    {
+        let scanned = scan(parts, taken, &self.rounds, body);
+        let count = rounds_by(at, scanned.kind, scanned.count)?;
+        if count == 0 {
+            return Ok(scanned.behind);
+        }
+        self.rounds.push(Round {
+            body,
+            done: 0,
+            last: count - 1,
+        })?;
+        Ok(body)
+    }
+
+    // Writes a separator.
+    fn separate(&mut self, separator: &[Leaf]) -> Result<(), TtFault>
+        ensures ok { OnOk result (Grows (leaves separator.now) self.old self.new) }
+        ensures err { IfErr result (IsWant (size (leaves separator.now)) self.old) }
+    {
+        for leaf in separator {
+            self.push(leaf)?;
+        }
+        Ok(())
+    }
+
+    // Ends a round of the innermost repetition; the part `behind` follows it. Returns the next part.
+    fn close(
+        &mut self,
+        parts: &[Part],
+        tail: &Tail,
+        behind: usize,
+    ) -> Result<usize, TranscribeError>
+        ensures ok { IfOk result (λ next. (taken : List Taken) → StepsTo parts.now taken (close tail.now.separator.items tail.now.kind) behind self.old self.new next) }
+        ensures err { IfErr result (λ error. (taken : List Taken) → StopsAt parts.now taken (close tail.now.separator.items tail.now.kind) behind self.old error) }
+    {
+        let Some(round) = self.rounds.pop() else {
+            return Ok(behind);
+        };
+        if round.done >= round.last {
+            return Ok(behind);
+        }
+        self.separate(&tail.separator)?;
+        self.rounds.push(Round {
+            body: round.body,
+            done: round.done + 1,
+            last: round.last,
+        })?;
+        Ok(round.body)
+    }
+
+    // Fills a part; the part `behind` follows it. Returns the next part.
+    fn step(
+        &mut self,
+        parts: &[Part],
+        taken: &[Taken<'_>],
+        part: &Part,
+        behind: usize,
+    ) -> Result<usize, TranscribeError>
+        ensures ok { IfOk result (StepsTo parts.now taken.now (bit_of part.now) behind self.old self.new) }
+        ensures err { IfErr result (StopsAt parts.now taken.now (bit_of part.now) behind self.old) }
+    {
+        match part {
+            Part::Use(_, number) => self.place(taken, *number)?,
+            Part::Token(leaf) => self.push(leaf)?,
+            Part::Enter(delimiter) => self.enter(delimiter)?,
+            Part::Leave => self.leave()?,
+            Part::Begin(at) => return self.begin(parts, taken, *at, behind),
+            Part::Close(tail) => return self.close(parts, tail, behind),
+        }
+        Ok(behind)
+    }
+}
+
+/// Returns the template of these parts under that delimiter, filled with what is bound to the variables.
+///
+/// The binding is dropped as soon as it is no longer read, before the written trees are packed.
+pub(crate) fn transcribed(
+    alloc: Global,
+    parts: &[Part],
+    binders: &[Binder],
+    binding: Binding<'_>,
+    delimiter: Delimiter,
+) -> Result<TopSubtree, TranscribeError>
+    requires { are_whole parts.now ≡ true }
+    ensures ok { IfOk result (IsTranscribed delimiter (transcribed (whole_of parts.now) (binding_by (map where_of binders.now) (map note_of binding.entry.marks.items)))) }
+    ensures limits { IfOk result (λ tree. IsWithinLimits tree) }
+    ensures err { IfErr result (IsTranscribeError delimiter (transcribed (whole_of parts.now) (binding_by (map where_of binders.now) (map note_of binding.entry.marks.items)))) }
+{
+    let taken = taken_by(alloc, binders, &binding)?;
+    drop(binding);
+    let mut transcriber = Transcriber {
+        builder: TopSubtreeBuilder::new(alloc, delimiter)?,
+        rounds: Vec::new(alloc),
+        closes: Vec::new(alloc),
+    };
+    let mut next = 0;
+    while let Some(part) = parts.get(next) {
+        next = transcriber.step(parts, &taken, part, next + 1)?;
+    }
+    drop(taken);
+    Ok(transcriber.builder.build()?)
+}
