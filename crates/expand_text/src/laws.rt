@@ -3,6 +3,7 @@ ghost use Rattle.std.specs.Prelude.{◌≡◌, ℕ, [], List, codes, string_byte
 ghost use Rattle.tt.specs.Forest.{Root};
 ghost use Rattle.expand_text.specs.Expansion.{IsExpanded};
 ghost use Rattle.expand_text.specs.Lacking.{Lacks};
+ghost use Rattle.expand_text.specs.Limits.{KeepLimits};
 ghost use Rattle.expand_text.specs.declared.options.ExpandOptions.{ExpandOptions};
 ghost use Rattle.expand_text.specs.declared.text.Expanded.{Expanded};
 ghost use Rattle.syntax_edit.specs.Places.{text_part};
@@ -13,4 +14,12 @@ pub fn unchanged()
     ensures { (options : ExpandOptions) → (source : List ℕ) → (it : Expanded) → IsExpanded options source it
         → ((tree : Root) → IsParse text_part source tree → Lacks (codes "macro_rules") tree.children)
         → (string_bytes it.text ≡ source) × (it.findings.items ≡ []) }
+{}
+
+/// States that a text has only one expansion: any two have the same text and the same findings. This holds if no finding names an exceeded
+/// limit of trees, because if a tree exceeds several limits, any one of them may be named.
+pub fn one_answer()
+    ensures { (options : ExpandOptions) → (source : List ℕ) → (it other : Expanded) → IsExpanded options source it → IsExpanded options source other
+        → KeepLimits it.findings.items → KeepLimits other.findings.items
+        → (string_bytes it.text ≡ string_bytes other.text) × (it.findings.items ≡ other.findings.items) }
 {}

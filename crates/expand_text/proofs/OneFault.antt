@@ -1,0 +1,108 @@
+-- A definition is read in one way, and the input of a call has one fault, if no finding names a limit of trees.
+use Rattle.std.proofs.Common.{◌≡◌, ◌≢◌, ℕ, zero, suc, Bool, true, false, List, None, Some, inl, inr, refl, ap, ap₂, sym, subst, ◌∙◌, true≢false}
+use Rattle.tt.specs.Forest.{Forest, Root}
+use Rattle.tt.specs.Span.{start_of}
+use Rattle.expand_items.specs.Items.{Definition, Call}
+use Rattle.expand_text.specs.declared.fault.MacroFault.{MacroFault}
+use Rattle.expand_text.specs.declared.fault.MacroFault.TheVariants as wrong
+use Rattle.expand_text.specs.Contexts.{Config, Context, asks_for, with_macro, with_finding}
+use Rattle.expand_text.specs.Limits.{names_limit, KeepLimits}
+use Rattle.expand_text.specs.Macros.{macro_of, IsDefinitionFault, found_in, IsDefined, IsReadIf, IsRead, IsInputFault, IsCallFault}
+use Rattle.expand_text.specs.Places.{byte_at, definition_byte}
+use Rattle.expand_text.specs.Roots.{rooted}
+use Rattle.expand_text.proofs.KeptLimits.{keep_first}
+use Rattle.expand_text.proofs.OneExpansion.{one_expansion, no_error, one_error}
+use Rattle.expand_text.proofs.OneMacro.{one_spelled, no_rules_error, one_rules_error}
+use Rattle.mbe_rules.specs.Arms.{Arm}
+use Rattle.mbe_rules.specs.ArmFaults.{IsRulesError}
+use Rattle.mbe_rules.specs.Expansions.{IsExpansion}
+use Rattle.mbe_rules.specs.declared.macro_rules.Expansion.TheVariants as expansion
+use Rattle.mbe_rules.specs.declared.rules_error.ArmFault.TheVariants as arm_fault
+use Rattle.mbe_rules.specs.declared.rules_error.RulesError.{RulesError}
+
+-- A definition's fault that names no limit is one of its arms.
+arms_wrong : (it : Definition) (trees : Forest) (at : ℕ) (found : MacroFault) → IsDefinitionFault it trees at found → names_limit found ≡ false
+    → (why : RulesError) × IsRulesError trees why × (why.fault ≢ arm_fault.Memory) × (at ≡ definition_byte trees why (start_of it.delimiter.close.range)) × (found ≡ wrong.Definition why)
+arms_wrong it trees at (wrong.Definition why) h no = (why, h.0, h.1, h.2, refl)
+arms_wrong it trees at (wrong.TooLarge why) h no = absurd (true≢false no)
+arms_wrong it trees at found h no = absurd h
+
+module _ (it : Definition) (trees : Forest) (before : Context) where
+  -- The finding of a definition names no limit.
+  limit_kept : (at : ℕ) (fault : MacroFault) (after : Context) → after ≡ with_macro (macro_of it None) (with_finding (found_in it at fault) before) → KeepLimits after.findings
+      → names_limit fault ≡ false
+  limit_kept at fault after is keep = (keep_first before.findings (found_in it at fault) (subst (λ context. KeepLimits context.findings) is keep)).1
+
+  -- A definition makes one thing known.
+  one_defined : (a b : Context) → IsDefined it trees before a → IsDefined it trees before b → KeepLimits a.findings → KeepLimits b.findings → a ≡ b
+  one_defined a b (inl (arms, within, spells, is)) (inl (others, fits, again, was)) x y =
+      is ∙ ap (λ all. with_macro (macro_of it (Some all)) before) (one_spelled trees arms others spells again) ∙ sym was
+  one_defined a b (inl (arms, within, spells, is)) (inr (at, fault, bad, was)) x y =
+      let why = arms_wrong it trees at fault bad (limit_kept at fault b was y) in
+      absurd (no_rules_error trees arms why.0 spells why.1 why.2)
+  one_defined a b (inr (at, fault, bad, is)) (inl (arms, within, spells, was)) x y =
+      let why = arms_wrong it trees at fault bad (limit_kept at fault a is x) in
+      absurd (no_rules_error trees arms why.0 spells why.1 why.2)
+  one_defined a b (inr (at, fault, bad, is)) (inr (place, other, worse, was)) x y =
+      let why = arms_wrong it trees at fault bad (limit_kept at fault a is x) in
+      let that = arms_wrong it trees place other worse (limit_kept place other b was y) in
+      let same = one_rules_error trees why.0 that.0 why.1 that.1 why.2 that.2 in
+      is
+      ∙ ap₂ (λ n found. with_macro (macro_of it None) (with_finding (found_in it n found) before))
+      (why.3 ∙ ap (λ w. definition_byte trees w (start_of it.delimiter.close.range)) same ∙ sym that.3)
+      (why.4 ∙ ap wrong.Definition same ∙ sym that.4)
+      ∙ sym was
+
+-- A definition is read in one way.
+pub one_read : (config : Config) (it : Definition) (before a b : Context) → IsRead config it before a → IsRead config it before b → KeepLimits a.findings → KeepLimits b.findings → a ≡ b
+one_read config it before a b = by (asks_for config.only it.name.sym)
+  where
+    by : (asked : Bool) → IsReadIf asked config.root it before a → IsReadIf asked config.root it before b → KeepLimits a.findings → KeepLimits b.findings → a ≡ b
+    by false is was x y = is ∙ sym was
+    by true is was x y = one_defined it (rooted config.root it.arms) before a b is was x y
+
+module _ (arms : List Arm) (it : Call) where
+  -- Arms make one tree of a call.
+  pub one_tree : (a b : Root) → IsExpansion arms 0 0 it.input (expansion.Tree a) → IsExpansion arms 0 0 it.input (expansion.Tree b) → a ≡ b
+  one_tree a b h k =
+      let same = one_expansion arms 0 0 it.input (expansion.Tree a) (expansion.Tree b) h k in
+      cc same
+
+  -- If they make a tree, the input has no fault.
+  pub no_fault : (tree : Root) (at : ℕ) (found : MacroFault) → IsExpansion arms 0 0 it.input (expansion.Tree tree) → IsInputFault arms it at found → names_limit found ≡ false → ⊥
+  no_fault tree at wrong.NoMatch h k no = cc (one_expansion arms 0 0 it.input (expansion.Tree tree) (expansion.NoMatch k.0) h k.1)
+  no_fault tree at (wrong.Ambiguous n) h k no = cc (one_expansion arms 0 0 it.input (expansion.Tree tree) (expansion.Ambiguous n) h k.0)
+  no_fault tree at (wrong.Expansion why) h k no = no_error arms 0 0 it.input (expansion.Tree tree) why h k.0 no
+  no_fault tree at found h k no = k
+
+  -- An input has one fault.
+  one_input : (at place : ℕ) (found other : MacroFault) → IsInputFault arms it at found → IsInputFault arms it place other → names_limit found ≡ false → names_limit other ≡ false
+      → (at ≡ place) × (found ≡ other)
+  one_input at place wrong.NoMatch wrong.NoMatch h k no none =
+      let both = one_expansion arms 0 0 it.input (expansion.NoMatch h.0) (expansion.NoMatch k.0) h.1 k.1 in
+      let same : h.0 ≡ k.0 = cc both in
+      (h.2 ∙ ap (λ n. byte_at it.input n (start_of it.delimiter.close.range)) same ∙ sym k.2, refl)
+  one_input at place wrong.NoMatch (wrong.Ambiguous m) h k no none =
+      absurd (cc (one_expansion arms 0 0 it.input (expansion.NoMatch h.0) (expansion.Ambiguous m) h.1 k.0))
+  one_input at place wrong.NoMatch (wrong.Expansion why) h k no none = absurd (no_error arms 0 0 it.input (expansion.NoMatch h.0) why h.1 k.0 none)
+  one_input at place wrong.NoMatch other h k no none = absurd k
+  one_input at place (wrong.Ambiguous n) wrong.NoMatch h k no none =
+      absurd (cc (one_expansion arms 0 0 it.input (expansion.Ambiguous n) (expansion.NoMatch k.0) h.0 k.1))
+  one_input at place (wrong.Ambiguous n) (wrong.Ambiguous m) h k no none =
+      let both = one_expansion arms 0 0 it.input (expansion.Ambiguous n) (expansion.Ambiguous m) h.0 k.0 in
+      let same : n ≡ m = cc both in
+      (h.1 ∙ sym k.1, ap wrong.Ambiguous same)
+  one_input at place (wrong.Ambiguous n) (wrong.Expansion why) h k no none = absurd (no_error arms 0 0 it.input (expansion.Ambiguous n) why h.0 k.0 none)
+  one_input at place (wrong.Ambiguous n) other h k no none = absurd k
+  one_input at place (wrong.Expansion why) wrong.NoMatch h k no none = absurd (no_error arms 0 0 it.input (expansion.NoMatch k.0) why k.1 h.0 no)
+  one_input at place (wrong.Expansion why) (wrong.Ambiguous m) h k no none = absurd (no_error arms 0 0 it.input (expansion.Ambiguous m) why k.0 h.0 no)
+  one_input at place (wrong.Expansion why) (wrong.Expansion that) h k no none =
+      (h.2 ∙ sym k.2, ap wrong.Expansion (one_error arms 0 it.input why that h.0 k.0 no none))
+  one_input at place (wrong.Expansion why) other h k no none = absurd k
+  one_input at place found other h k no none = absurd h
+
+  -- A call has one fault.
+  pub one_fault : (limit at place : ℕ) (found other : MacroFault) → IsCallFault limit arms it at found → IsCallFault limit arms it place other
+      → names_limit found ≡ false → names_limit other ≡ false → (at ≡ place) × (found ≡ other)
+  one_fault zero at place found other h k no none = (h.1 ∙ sym k.1, h.0 ∙ sym k.0)
+  one_fault (suc limit) at place found other h k no none = one_input at place found other h k no none

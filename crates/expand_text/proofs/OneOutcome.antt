@@ -1,0 +1,149 @@
+-- Trees expand to one thing, if no finding names a limit of trees.
+use Rattle.std.proofs.Common.{◌≡◌, ◌⊎◌, ◌-◌, ℕ, zero, suc, Bool, true, false, List, None, Some, inl, inr, refl, ap, ap₂, sym, subst, subst₂, ◌∙◌}
+use Rattle.tt.specs.Forest.{Forest, Root, leaf, node}
+use Rattle.tt.specs.Span.{start_of}
+use Rattle.expand_items.specs.declared.position.Position.{Position}
+use Rattle.expand_items.specs.Items.{Call, defines, calls, other}
+use Rattle.expand_items.specs.Positions.{keeps_macros}
+use Rattle.expand_text.specs.declared.fault.MacroFault.{MacroFault}
+use Rattle.expand_text.specs.CallSites.{PutAs, IsKept}
+use Rattle.expand_text.specs.Contexts.{Config, Context, with_finding}
+use Rattle.expand_text.specs.Limits.{names_limit, KeepLimits}
+use Rattle.expand_text.specs.Macros.{IsCallFault, MayBePut, called_by, arms_of, found_of}
+use Rattle.expand_text.specs.Meaning.{ExpandsTo, ends, on_leaf, on_node, on_definition, on_other_call, into_other_call, into_attributes, on_faulty_call, on_call, on_kept_call, context_after, begun_by, site_in, begin_in, becomes_in, stays_in}
+use Rattle.expand_text.specs.Outcomes.{Outcome, passes, enters, stays, trees_left}
+use Rattle.expand_text.specs.Scopes.{Macro}
+use Rattle.expand_text.proofs.Beginning.{plain_first, end_first, item_first, Leaves, IsWrong, Changes, Stays, Tries, goes_out, begins_by, begins_call}
+use Rattle.expand_text.proofs.KeptLimits.{keep_first, keep_inside, keep_before}
+use Rattle.expand_text.proofs.OneFault.{one_read, one_tree, no_fault, one_fault}
+use Rattle.expand_text.proofs.OneKept.{one_kept, never_kept}
+use Rattle.expand_text.proofs.OnePlacing.{one_put}
+use Rattle.mbe_pattern.specs.Units.{front_trees}
+use Rattle.mbe_rules.specs.Arms.{Arm}
+use Rattle.mbe_rules.specs.Expansions.{IsExpansion}
+use Rattle.mbe_rules.specs.declared.macro_rules.Expansion.TheVariants as expansion
+
+-- The same is known before.
+moved : {config : Config} {in_text : Bool} {limit plain : ℕ} {position : Position} {a b after : Context} {trees : Forest} {outcome : Outcome} → a ≡ b
+    → ExpandsTo config in_text limit position plain b trees after outcome → ExpandsTo config in_text limit position plain a trees after outcome
+moved {config = config} {in_text = in_text} {limit = limit} {plain = plain} {position = position} {after = after} {trees = trees} {outcome = outcome} same it =
+    subst (λ c. ExpandsTo config in_text limit position plain c trees after outcome) (sym same) it
+
+-- A macro that a call names is one.
+one_called : (config : Config) (context : Context) (it : Call) (a b : Macro) → called_by config context.macros it ≡ Some a → called_by config context.macros it ≡ Some b → a ≡ b
+one_called config context it a b is was =
+    let both : Some a ≡ Some b = sym is ∙ was in
+    cc both
+
+-- The same finding makes the same known.
+same_found : (it : Call) (context : Context) (a b : Macro) (at place : ℕ) (found wrong : MacroFault) → a ≡ b → (at ≡ place) × (found ≡ wrong)
+    → with_finding (found_of it a at found) context ≡ with_finding (found_of it b place wrong) context
+same_found it context a b at place found wrong macro same =
+    ap (λ m. with_finding (found_of it m at found) context) macro ∙ ap₂ (λ n f. with_finding (found_of it b n f) context) same.0 same.1
+
+module _ (config : Config) (in_text : Bool) (position : Position) (context after : Context) (outcome : Outcome) (arms : List Arm) (it : Call) (trees : Forest) where
+  -- If a call has a fault, it is not expanded.
+  wrong_only : (limit at : ℕ) (fault : MacroFault) → IsCallFault limit arms it at fault → names_limit fault ≡ false
+      → IsWrong config in_text limit position context after outcome arms it trees ⊎ Tries config in_text limit position context after outcome limit arms it trees
+      → IsWrong config in_text limit position context after outcome arms it trees
+  wrong_only limit at fault bad no (inl so) = so
+  wrong_only zero at fault bad no (inr so) = absurd so
+  wrong_only (suc left) at fault bad no (inr so) = absurd (no_fault arms it so.0 at fault so.3 bad no)
+
+  -- If a call is expanded, it has no fault.
+  tries_only : (left : ℕ) (tree : Root) → IsExpansion arms 0 0 it.input (expansion.Tree tree) → KeepLimits after.findings
+      → IsWrong config in_text (suc left) position context after outcome arms it trees ⊎ Tries config in_text (suc left) position context after outcome (suc left) arms it trees
+      → Tries config in_text (suc left) position context after outcome (suc left) arms it trees
+  tries_only left tree makes keep (inl so) =
+      absurd (no_fault arms it tree so.1 so.2 makes so.5 (keep_first context.findings (found_of it so.0 so.1 so.2) (keep_before so.6 keep)).1)
+  tries_only left tree makes keep (inr so) = so
+
+  module _ (limit left : ℕ) (inside : Context) (held : Outcome) where
+    -- The findings of the expansion of a call name no limit.
+    keep_held : KeepLimits after.findings
+        → Changes config in_text limit position context after outcome left it trees inside held ⊎ Stays config in_text limit position context after outcome left it trees inside held
+        → KeepLimits inside.findings
+    keep_held keep (inl so) = keep_before so.4 keep
+    keep_held keep (inr so) = (keep_first inside.findings (found_of it so.0 so.1 so.2) (keep_before so.6 keep)).0
+
+    -- A call that may be replaced is.
+    changes_only : (put : Forest) → PutAs (site_in position it trees) (trees_left held) (Some put) → MayBePut in_text it.delimiter put → KeepLimits after.findings
+        → Changes config in_text limit position context after outcome left it trees inside held ⊎ Stays config in_text limit position context after outcome left it trees inside held
+        → Changes config in_text limit position context after outcome left it trees inside held
+    changes_only put fits may keep (inl so) = so
+    changes_only put fits may keep (inr so) =
+        absurd (never_kept (site_in position it trees) (trees_left held) in_text put (start_of (begin_in it trees).range) so.1 so.2 so.5 fits may
+        (keep_first inside.findings (found_of it so.0 so.1 so.2) (keep_before so.6 keep)).1)
+
+    -- A call that has a reason to stay does.
+    stays_only : (at : ℕ) (fault : MacroFault) → IsKept in_text (site_in position it trees) (trees_left held) (start_of (begin_in it trees).range) at fault → names_limit fault ≡ false
+        → Changes config in_text limit position context after outcome left it trees inside held ⊎ Stays config in_text limit position context after outcome left it trees inside held
+        → Stays config in_text limit position context after outcome left it trees inside held
+    stays_only at fault kept no (inl so) = absurd (never_kept (site_in position it trees) (trees_left held) in_text so.0 (start_of (begin_in it trees).range) at fault kept so.2 so.3 no)
+    stays_only at fault kept no (inr so) = so
+
+-- Trees expand to one thing, and one thing is known then.
+pub one_outcome : {config : Config} {in_text : Bool} {limit plain : ℕ} {position : Position} {context after again : Context} {trees : Forest} {outcome that : Outcome}
+    → ExpandsTo config in_text limit position plain context trees after outcome → ExpandsTo config in_text limit position plain context trees again that
+    → KeepLimits after.findings → KeepLimits again.findings → (after ≡ again) × (outcome ≡ that)
+one_outcome {config = config} (ends {plain = plain} {position = position} {context = context}) second x y =
+    let go = begins_by second other (end_first config context position plain) in
+    (sym go.0, sym go.1)
+one_outcome {config = config} (on_leaf {plain = plain} {position = position} {context = context} {it = it} {rest = rest} is behind) second x y =
+    let go = begins_by second other (plain_first config context position plain (leaf it rest) is) in
+    let same = one_outcome behind go.1 x y in
+    (same.0, ap (passes it) same.1 ∙ sym go.2)
+one_outcome {config = config} (on_node {plain = plain} {position = position} {context = context} {inside = inside} {delimiter = delimiter} {children = children} {rest = rest} is within behind) second x y =
+    let go = begins_by second other (plain_first config context position plain (node delimiter children rest) is) in
+    let kept = keeps_macros delimiter.kind position in
+    let one = one_outcome within go.3 (keep_inside kept context inside (keep_before behind x)) (keep_inside kept context go.0 (keep_before go.4 y)) in
+    let same = one_outcome behind (moved (ap (context_after kept context) one.0) go.4) x y in
+    (same.0, ap₂ (enters delimiter) one.1 same.1 ∙ sym go.5)
+one_outcome {config = config} (on_definition {position = position} {context = context} {it = it} {trees = trees} inside going is read behind) second x y =
+    let go = begins_by second (defines it) (item_first config context position trees (defines it) going is) in
+    let known = one_read config it context inside go.0 read go.2 (keep_before behind x) (keep_before go.3 y) in
+    let same = one_outcome behind (moved known go.3) x y in
+    (same.0, ap (stays (front_trees it.len trees)) same.1 ∙ sym go.4)
+one_outcome {config = config} {in_text = in_text} {limit = limit} {again = again} {that = that} (on_other_call {position = position} {context = context} {it = it} {trees = trees} going is bare none not_into behind) second x y =
+    let go = subst₂ (λ n b. Leaves config in_text limit position context again that n b it trees) bare not_into (begins_call second it None going is none) in
+    let same = one_outcome behind go.1 x y in
+    (same.0, ap (stays (front_trees it.len trees)) same.1 ∙ sym go.2)
+one_outcome {config = config} {in_text = in_text} {limit = limit} {again = again} {that = that} (into_other_call {position = position} {context = context} {it = it} {trees = trees} going is bare none into behind) second x y =
+    let go = subst₂ (λ n b. Leaves config in_text limit position context again that n b it trees) bare into (begins_call second it None going is none) in
+    one_outcome behind go x y
+one_outcome {config = config} {in_text = in_text} {limit = limit} {again = again} {that = that} (into_attributes {position = position} {context = context} {it = it} {trees = trees} going is some none behind) second x y =
+    let go = goes_out config in_text limit position context again that it.attributes config.everywhere it trees some (begins_call second it None going is none) in
+    one_outcome behind go x y
+one_outcome {config = config} {in_text = in_text} {limit = limit} {again = again} {that = that} (on_faulty_call {position = position} {context = context} {it = it} {macro = macro} {arms = arms} {trees = trees} at fault going is called expands bad behind) second x y =
+    let no = (keep_first context.findings (found_of it macro at fault) (keep_before behind x)).1 in
+    let go = wrong_only config in_text position context again that arms it trees limit at fault bad no (begins_call second it (Some arms) going is (ap arms_of called ∙ expands)) in
+    let none = (keep_first context.findings (found_of it go.0 go.1 go.2) (keep_before go.6 y)).1 in
+    let known = same_found it context macro go.0 at go.1 fault go.2 (one_called config context it macro go.0 called go.4) (one_fault arms it limit at go.1 fault go.2 bad go.5 no none) in
+    let same = one_outcome behind (moved known go.6) x y in
+    (same.0, ap (stays (front_trees it.len trees)) same.1 ∙ sym go.7)
+one_outcome {config = config} {in_text = in_text} {again = again} {that = that} (on_call {limit = left} {position = position} {context = context} {inside = inside} {it = it} {arms = arms} {trees = trees} {held = held} tree put going is expands makes within fits may behind) second x y =
+    let go = tries_only config in_text position context again that arms it trees left tree makes y (begins_call second it (Some arms) going is expands) in
+    let filled = one_tree arms it tree go.0 makes go.3 in
+    let held_there = subst (λ t. ExpandsTo config false left (begun_by position it trees) 0 context t.children go.1 go.2) (sym filled) go.4 in
+    let one = one_outcome within held_there (keep_before behind x) (keep_held config in_text position context again that arms it trees (suc left) left go.1 go.2 y go.5) in
+    let so =
+    changes_only config in_text position context again that arms it trees (suc left) left inside held put fits may y
+    (subst₂ (λ i h. Changes config in_text (suc left) position context again that left it trees i h ⊎ Stays config in_text (suc left) position context again that left it trees i h) (sym one.0) (sym one.1) go.5) in
+    let both = one_put (site_in position it trees) (trees_left held) (Some put) (Some so.0) fits so.2 in
+    let placed : put ≡ so.0 = cc both in
+    let same = one_outcome behind so.4 x y in
+    (same.0, ap₂ (becomes_in position it trees) placed same.1 ∙ sym so.5)
+one_outcome {config = config} {in_text = in_text} {again = again} {that = that} (on_kept_call {limit = left} {position = position} {context = context} {inside = inside} {it = it} {macro = macro} {arms = arms} {trees = trees} {held = held} tree at fault going is called expands makes within kept behind) second x y =
+    let go = tries_only config in_text position context again that arms it trees left tree makes y (begins_call second it (Some arms) going is (ap arms_of called ∙ expands)) in
+    let filled = one_tree arms it tree go.0 makes go.3 in
+    let held_there = subst (λ t. ExpandsTo config false left (begun_by position it trees) 0 context t.children go.1 go.2) (sym filled) go.4 in
+    let first = keep_first inside.findings (found_of it macro at fault) (keep_before behind x) in
+    let one = one_outcome within held_there first.0 (keep_held config in_text position context again that arms it trees (suc left) left go.1 go.2 y go.5) in
+    let so =
+    stays_only config in_text position context again that arms it trees (suc left) left inside held at fault kept first.1
+    (subst₂ (λ i h. Changes config in_text (suc left) position context again that left it trees i h ⊎ Stays config in_text (suc left) position context again that left it trees i h) (sym one.0) (sym one.1) go.5) in
+    let none = (keep_first inside.findings (found_of it so.0 so.1 so.2) (keep_before so.6 y)).1 in
+    let reason = one_kept (site_in position it trees) (trees_left held) in_text (start_of (begin_in it trees).range) at so.1 fault so.2 kept so.5 first.1 none in
+    let known = same_found it inside macro so.0 at so.1 fault so.2 (one_called config context it macro so.0 called so.4) reason in
+    let same = one_outcome behind (moved known so.6) x y in
+    (same.0, ap (stays_in position it trees) same.1 ∙ sym so.7)

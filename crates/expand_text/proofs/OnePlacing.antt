@@ -1,0 +1,76 @@
+-- An expansion is put into its place in one way.
+use Rattle.std.proofs.Common.{◌≡◌, ℕ, zero, suc, Bool, true, false, List, ◌∷◌, Option, None, Some, option_map, refl, ap, ap₂, sym, subst, ◌∙◌, true≢false}
+use Rattle.tt.specs.Forest.{Forest}
+use Rattle.tt.specs.Gluing.{after_trees}
+use Rattle.tt.specs.Types.Delimiter.{Delimiter}
+use Rattle.expand_items.specs.declared.part.Part.{Part}
+use Rattle.expand_items.specs.declared.position.Siblings.{Siblings}
+use Rattle.expand_items.specs.Attributes.{conditions_of}
+use Rattle.expand_items.specs.Parts.{or_zero, Takes, item_part, statement_part, IsPart, item, no_item, statement, no_statement, AreParts, ends, stops, goes_on}
+use Rattle.expand_items.specs.Positions.{is_items}
+use Rattle.expand_items.specs.Spreads.{spread_if, AreUnder}
+use Rattle.expand_text.specs.CallSites.{CallSite, PutUnder, PutAs}
+use Rattle.mbe_matcher.proofs.GrammarTaken.{reach_alone}
+use Rattle.mbe_matcher.specs.GrammarReach.{grammar_reach}
+use Rattle.mbe_pattern.specs.declared.pattern.GrammarFragment.{GrammarFragment}
+use Rattle.mbe_pattern.specs.declared.pattern.GrammarFragment.TheVariants as fragment
+
+-- A fragment takes one number of trees.
+taken_is : (which : GrammarFragment) (trees : Forest) (taken : ℕ) → Takes which trees taken → taken ≡ or_zero (grammar_reach which trees)
+taken_is which trees taken (count, reaches, is) = is ∙ ap or_zero (reach_alone which trees count reaches)
+
+-- the part of so many trees of an item, or else of a statement
+abbrev part_of : (item_len : ℕ) → (are_items : Bool) → (statement_len : ℕ) → Forest → Option Part
+part_of (suc n) are_items m trees = Some (item_part (suc n))
+part_of zero true m trees = None
+part_of zero false zero trees = None
+part_of zero false (suc m) trees = Some (statement_part (suc m) trees)
+
+-- the part that comes first
+abbrev part_at : Siblings → Forest → Option Part
+part_at its trees = part_of (or_zero (grammar_reach fragment.Item trees)) (is_items its) (or_zero (grammar_reach fragment.Stmt trees)) trees
+
+-- What comes first is that part.
+part_is : {its : Siblings} {trees : Forest} {part : Option Part} → IsPart its trees part → part ≡ part_at its trees
+part_is (item {its = its} {trees = trees} {more = more} is) =
+    ap (λ n. part_of n (is_items its) (or_zero (grammar_reach fragment.Stmt trees)) trees) (taken_is fragment.Item trees (suc more) is)
+part_is (no_item {its = its} {trees = trees} are is) =
+    ap₂ (λ n b. part_of n b (or_zero (grammar_reach fragment.Stmt trees)) trees) (taken_is fragment.Item trees zero is) (sym are)
+part_is (statement {its = its} {trees = trees} {more = more} are is found) =
+    ap₂ (λ n m. part_of n false m trees) (taken_is fragment.Item trees zero is) (taken_is fragment.Stmt trees (suc more) found)
+    ∙ ap (λ b. part_of (or_zero (grammar_reach fragment.Item trees)) b (or_zero (grammar_reach fragment.Stmt trees)) trees) (sym are)
+part_is (no_statement {its = its} {trees = trees} are is none) =
+    ap₂ (λ n m. part_of n false m trees) (taken_is fragment.Item trees zero is) (taken_is fragment.Stmt trees zero none)
+    ∙ ap (λ b. part_of (or_zero (grammar_reach fragment.Item trees)) b (or_zero (grammar_reach fragment.Stmt trees)) trees) (sym are)
+
+-- So it is one part.
+one_part : {its : Siblings} {trees : Forest} {a b : Option Part} → IsPart its trees a → IsPart its trees b → a ≡ b
+one_part h k = part_is h ∙ sym (part_is k)
+
+-- Trees are split into parts in one way.
+one_split : {its : Siblings} {trees : Forest} {a b : Option (List Part)} → AreParts its trees a → AreParts its trees b → a ≡ b
+one_split ends ends = refl
+one_split ends (stops some part) = absurd (true≢false some)
+one_split ends (goes_on some part others) = absurd (true≢false some)
+one_split (stops none part) ends = absurd (true≢false none)
+one_split (stops none part) (stops some other) = refl
+one_split (stops none part) (goes_on {part = it} some other others) = absurd (cc (one_part part other))
+one_split (goes_on none part others) ends = absurd (true≢false none)
+one_split (goes_on {part = it} none part others) (stops some other) = absurd (cc (one_part other part))
+one_split {its = its} {trees = trees} (goes_on {part = it} none part others) (goes_on {part = that} {others = more} some other behind) =
+    let both : Some it ≡ Some that = one_part part other in
+    let same : it ≡ that = cc both in
+    ap₂ (λ p ps. option_map (λ parts. p ∷ parts) ps) same (one_split others (subst (λ p. AreParts its (after_trees p.len trees) more) (sym same) behind))
+
+-- Trees are put under conditions in one way.
+one_under : (its : Siblings) (braces : Delimiter) (conditions trees : Forest) (a b : Option Forest) → AreUnder its braces conditions trees a → AreUnder its braces conditions trees b → a ≡ b
+one_under its braces conditions trees a b (parts, are, is) (others, again, was) =
+    is ∙ ap (λ ps. spread_if braces conditions ps trees) (one_split are again) ∙ sym was
+
+-- An expansion becomes one thing in its place.
+pub one_put : (it : CallSite) (trees : Forest) (a b : Option Forest) → PutAs it trees a → PutAs it trees b → a ≡ b
+one_put it trees a b = by it.len
+  where
+    by : (len : ℕ) → PutUnder len it trees a → PutUnder len it trees b → a ≡ b
+    by zero x y = x ∙ sym y
+    by (suc more) x y = one_under it.siblings it.delimiter (conditions_of it.attributes) trees a b x.1 y.1
