@@ -1,19 +1,19 @@
 -- What the macros of a text are, and what calls of them expand to.
+pub mod CallSites
 pub mod Calling
-pub mod Coming
+pub mod Contexts
 pub mod Defining
 pub mod Expanding
 pub mod Expansion
 pub mod Findings
-pub mod Knowing
 pub mod Lacking
 pub mod LastPlaces
 pub mod Macros
+pub mod Meaning
 pub mod Outcomes
 pub mod Passing
 pub mod Places
 pub mod Reading
 pub mod Roots
 pub mod Scopes
-pub mod Standing
 pub mod Walks
