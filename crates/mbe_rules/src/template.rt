@@ -15,7 +15,7 @@ use crate::parse::parse;
 use crate::parts::Part;
 use crate::transcribe::transcribed;
 use crate::transcribe_error::TranscribeError;
-use crate::validation::fault_of;
+use crate::validate::fault_of;
 use mbe_matcher::{Binder, Binding};
 use std::alloc::Global;
 use tt::{Delimiter, TopSubtree, TtIter};
