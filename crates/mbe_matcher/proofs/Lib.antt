@@ -1,10 +1,9 @@
 pub mod Adding
 pub mod BindRounds
 pub mod Binds
+pub mod ClosureSteps
+pub mod CompileSteps
 pub mod Compiling
-pub mod ParseLevels
-pub mod ParseSteps
-pub mod ParseWhole
 pub mod Decompiling
 pub mod DecompilingRounds
 pub mod EndSteps
@@ -19,16 +18,17 @@ pub mod Leading
 pub mod LeafSteps
 pub mod LevelSteps
 pub mod Levelling
-pub mod CompileSteps
 pub mod Logs
 pub mod OneReading
+pub mod ParseLevels
+pub mod ParseSteps
+pub mod ParseWhole
 pub mod PathsBack
 pub mod Ranked
 pub mod Reaching
 pub mod ReadingSteps
 pub mod Results
 mod Rows
-pub mod ClosureSteps
 pub mod Standing
 pub mod Stands
 pub mod Starting

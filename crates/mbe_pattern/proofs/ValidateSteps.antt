@@ -8,8 +8,8 @@ use Rattle.mbe_pattern.specs.declared.error.PatternError.{PatternError}
 use Rattle.mbe_pattern.specs.declared.error.PatternError.TheVariants as error
 use Rattle.mbe_pattern.specs.declared.first.First.{First}
 use Rattle.mbe_pattern.specs.declared.first.First.TheVariants as first
-use Rattle.mbe_pattern.specs.declared.validate.Level.{Level}
-use Rattle.mbe_pattern.specs.declared.validate.Opened.{Opened}
+use Rattle.mbe_pattern.specs.declared.validation.Level.{Level}
+use Rattle.mbe_pattern.specs.declared.validation.Opened.{Opened}
 use Rattle.mbe_pattern.specs.declared.pattern.RepeatKind.{RepeatKind}
 use Rattle.mbe_pattern.specs.Faults.{or_else, names_with, names_behind, name_fault, separator_fault, empty_fault, fault_behind, pattern_fault, IsPatternError}
 use Rattle.mbe_pattern.specs.Validating.{IsFirst, LevelLeft, level_left, levels_left, State, fault_at_end, is_open_behind, level_of, levels_behind, opened_with, with_level, stepped}

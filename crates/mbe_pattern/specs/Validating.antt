@@ -5,9 +5,9 @@ use Rattle.tt.specs.Types.Leaf.{Leaf}
 use Rattle.mbe_pattern.specs.declared.error.PatternError.{PatternError}
 use Rattle.mbe_pattern.specs.declared.first.First.{First}
 use Rattle.mbe_pattern.specs.declared.first.First.TheVariants as first
-use Rattle.mbe_pattern.specs.declared.validate.Validation.{Validation}
-use Rattle.mbe_pattern.specs.declared.validate.Level.{Level}
-use Rattle.mbe_pattern.specs.declared.validate.Opened.{Opened}
+use Rattle.mbe_pattern.specs.declared.validation.Validation.{Validation}
+use Rattle.mbe_pattern.specs.declared.validation.Level.{Level}
+use Rattle.mbe_pattern.specs.declared.validation.Opened.{Opened}
 use Rattle.mbe_pattern.specs.declared.pattern.Fragment.{Fragment}
 use Rattle.mbe_pattern.specs.declared.pattern.RepeatKind.{RepeatKind}
 use Rattle.mbe_pattern.specs.Faults.{or_else, names_with, name_fault, separator_fault, empty_fault}

@@ -15,7 +15,7 @@ mod leaves;
 mod parts;
 mod pattern;
 mod units;
-mod validate;
+mod validation;
 
 pub use dollar::{Tail, is_crate_in, is_dollar, repetition_in};
 pub use error::PatternError;
@@ -24,4 +24,4 @@ pub use leaves::{is_same_leaf, passes_leaf};
 pub use parts::{Part, next_part};
 pub use pattern::{Fragment, GrammarFragment, RepeatKind, Variable};
 pub use units::{is_at_punct, is_at_word, unit_size};
-pub use validate::validate;
+pub use validation::validate;

@@ -101,7 +101,7 @@ impl Transcriber {
     }
 
     // Writes what is bound to the variable of that index.
-    fn place(&mut self, taken: &[Taken<'_>], number: usize) -> Result<(), TtFault>
+    fn transcribe_variable(&mut self, taken: &[Taken<'_>], number: usize) -> Result<(), TtFault>
         ensures ok { OnOk result ((binding : Bindings) → AreTaken binding taken.now → Grows (trees_transcribed (slice_get (bound_here binding (reverse self.old.rounds.items)) number)) self.old self.new) }
         ensures err { IfErr result (λ fault. (binding : Bindings) → AreTaken binding taken.now → IsWant (size (trees_transcribed (slice_get (bound_here binding (reverse self.old.rounds.items)) number))) self.old fault) }
     {
@@ -214,7 +214,7 @@ impl Transcriber {
         ensures err { IfErr result (StopsAt parts.now taken.now (bit_of part.now) behind self.old) }
     {
         match part {
-            Part::Use(_, number) => self.place(taken, *number)?,
+            Part::Use(_, number) => self.transcribe_variable(taken, *number)?,
             Part::Token(leaf) => self.push(leaf)?,
             Part::Enter(delimiter) => self.enter(delimiter)?,
             Part::Leave => self.leave()?,

@@ -6,17 +6,17 @@ use Rattle.mbe_rules.specs.Standing.{IsAt, bits_from}
 use Rattle.mbe_rules.proofs.Stepping.{use_steps, use_stops, token_steps, token_stops, enter_steps, enter_stops, leave_steps}
 use Rattle.mbe_rules.proofs.transcribe.Transcriber.step.Goals as goal
 
-pub returns-in_err-place-in-Use-clause-err : goal.returns-in_err-place-in-Use-clause-err
-returns-in_err-place-in-Use-clause-err c =
+pub returns-in_err-transcribe_variable-in-Use-clause-err : goal.returns-in_err-transcribe_variable-in-Use-clause-err
+returns-in_err-transcribe_variable-in-Use-clause-err c =
     let old = c.args.self.now in
     let bits = map bit_of c.args.parts.now in
     let left = bits_from c.args.parts.now c.args.behind in
-    let fault = c.in_err-place-in-Use.field-0.0 in
+    let fault = c.in_err-transcribe_variable-in-Use.field-0.0 in
     let part : c.args.part.now ≡ part.Use c.in-Use.field-0 c.in-Use.number = search rules in
     let failed : c.from_residual.result ≡ Err (Tree fault) = search rules in
     rw failed
     (λ whole levels are is.
-    use_stops bits whole levels left old c.in-Use.field-0 c.in-Use.number fault (subst (λ p. IsAt bits whole levels old (bit_of p ∷ left)) part is) (c.in_err-place-in-Use.ensures.err whole are))
+    use_stops bits whole levels left old c.in-Use.field-0 c.in-Use.number fault (subst (λ p. IsAt bits whole levels old (bit_of p ∷ left)) part is) (c.in_err-transcribe_variable-in-Use.ensures.err whole are))
 
 pub returns-in_err-push-in-Token-clause-err : goal.returns-in_err-push-in-Token-clause-err
 returns-in_err-push-in-Token-clause-err c =
@@ -42,14 +42,14 @@ returns-in_err-enter-in-Enter-clause-err c =
     (λ whole levels are is.
     enter_stops bits whole levels left old c.in-Enter.delimiter fault (subst (λ p. IsAt bits whole levels old (bit_of p ∷ left)) part is) c.in_err-enter-in-Enter.ensures.err)
 
-pub returns-in_ok-place-in-Use-clause-ok : goal.returns-in_ok-place-in-Use-clause-ok
-returns-in_ok-place-in-Use-clause-ok c whole levels are is =
+pub returns-in_ok-transcribe_variable-in-Use-clause-ok : goal.returns-in_ok-transcribe_variable-in-Use-clause-ok
+returns-in_ok-transcribe_variable-in-Use-clause-ok c whole levels are is =
     let old = c.args.self.now in
     let bits = map bit_of c.args.parts.now in
     let left = bits_from c.args.parts.now c.args.behind in
     let part : c.args.part.now ≡ part.Use c.in-Use.field-0 c.in-Use.number = search rules in
-    use_steps bits whole levels left old c.place.new.self c.in-Use.field-0 c.in-Use.number (subst (λ p. IsAt bits whole levels old (bit_of p ∷ left)) part is)
-    (c.in_ok-place-in-Use.ensures.ok whole are)
+    use_steps bits whole levels left old c.transcribe_variable.new.self c.in-Use.field-0 c.in-Use.number (subst (λ p. IsAt bits whole levels old (bit_of p ∷ left)) part is)
+    (c.in_ok-transcribe_variable-in-Use.ensures.ok whole are)
 
 pub returns-in_ok-push-in-Token-clause-ok : goal.returns-in_ok-push-in-Token-clause-ok
 returns-in_ok-push-in-Token-clause-ok c whole levels are is =

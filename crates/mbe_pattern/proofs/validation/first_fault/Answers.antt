@@ -3,7 +3,7 @@ use Rattle.tt.specs.Iters.{rest_of}
 use Rattle.mbe_pattern.specs.Validating.{level_left, levels_left, State, state_of, level_of, stepped, with_level}
 use Rattle.mbe_pattern.specs.Placed.{placed_until}
 use Rattle.mbe_pattern.proofs.ValidateSteps.{fault_left, levels_last, validated_step}
-use Rattle.mbe_pattern.proofs.validate.first_fault.Goals as goal
+use Rattle.mbe_pattern.proofs.validation.first_fault.Goals as goal
 
 pub loop-level-preserved : goal.loop-level-preserved
 loop-level-preserved c =

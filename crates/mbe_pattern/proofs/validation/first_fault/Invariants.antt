@@ -4,7 +4,7 @@ use Rattle.tt.specs.Iters.{rest_of}
 use Rattle.mbe_pattern.specs.Faults.{pattern_fault}
 use Rattle.mbe_pattern.specs.Validating.{levels_left, state_of}
 use Rattle.mbe_pattern.proofs.ValidateSteps.{fault_left, work_of}
-use Rattle.mbe_pattern.proofs.validate.first_fault.Given as goal
+use Rattle.mbe_pattern.proofs.validation.first_fault.Given as goal
 
 abbrev pub invariant-loop-level : goal.invariant-loop-level
 invariant-loop-level l = fault_left (state_of l.validated) ≡ pattern_fault (rest_of l.fn.trees)

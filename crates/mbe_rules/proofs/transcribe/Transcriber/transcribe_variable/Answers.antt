@@ -9,7 +9,7 @@ use Rattle.mbe_rules.specs.Rounds.{binding_in, dones}
 use Rattle.mbe_rules.specs.Standing.{Grows, IsWant, bound_here}
 use Rattle.mbe_rules.proofs.Growing.{on_ok, err_so}
 use Rattle.mbe_rules.proofs.Seeing.{fragment_here}
-use Rattle.mbe_rules.proofs.transcribe.Transcriber.place.Goals as goal
+use Rattle.mbe_rules.proofs.transcribe.Transcriber.transcribe_variable.Goals as goal
 
 pub returns-clause-ok : goal.returns-clause-ok
 returns-clause-ok c =
