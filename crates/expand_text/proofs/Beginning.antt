@@ -1,5 +1,5 @@
 -- How trees expand, by what comes first.
-use Rattle.std.proofs.Common.{◌≡◌, ◌⊎◌, ◌<◌, ◌-◌, ℕ, zero, suc, Bool, true, false, List, Option, None, Some, cond, inl, inr, refl, ap, sym, subst, ◌∙◌, arith}
+use Rattle.std.proofs.Common.{◌≡◌, ◌⊎◌, ◌<◌, ◌-◌, ℕ, zero, suc, Bool, true, false, List, Option, None, Some, cond, inl, inr, refl, ap, sym, subst, subst₂, ◌∙◌, arith}
 use Rattle.tt.specs.Forest.{Forest, Root, end, leaf, node}
 use Rattle.tt.specs.Gluing.{after_trees}
 use Rattle.tt.specs.Span.{start_of}
@@ -130,29 +130,53 @@ module _ (config : Config) (in_text : Bool) (limit : ℕ) (position : Position) 
   goes_out zero everywhere it trees some behind = absurd (omega (arith, some))
   goes_out (suc more) everywhere it trees some behind = behind
 
+  -- The item that comes first is known.
+  comes : (plain : ℕ) (trees : Forest) (item : Item) → first_item config context position plain trees ≡ item → Goes plain item trees
+      → Goes plain (first_item config context position plain trees) trees
+  comes plain trees item is goes = subst (λ i. Goes plain i trees) (sym is) goes
+
+  -- It is a call, and its arms are known.
+  calls_by : (it : Call) (arms : Option (List Arm)) (trees : Forest) → context.is_over ≡ false → item_at config.root position trees ≡ calls it
+      → arms_of (called_by config context.macros it) ≡ arms → Calls arms it trees → Goes zero (first_item config context position zero trees) trees
+  calls_by it arms trees going is expands goes =
+      comes zero trees (calls it) (item_first config context position trees (calls it) going is) (subst (λ a. Calls a it trees) (sym expands) goes)
+
+  -- It has no attributes, and such calls are entered or not.
+  bare_by : (everywhere : Bool) (it : Call) (trees : Forest) → it.attributes ≡ 0 → config.everywhere ≡ everywhere → Leaves zero everywhere it trees
+      → Leaves it.attributes config.everywhere it trees
+  bare_by everywhere it trees bare is goes = subst₂ (λ n b. Leaves n b it trees) (sym bare) (sym is) goes
+
 -- Trees expand as what comes first says.
 begins : {config : Config} {in_text : Bool} {limit plain : ℕ} {position : Position} {context after : Context} {trees : Forest} {outcome : Outcome}
     → ExpandsTo config in_text limit position plain context trees after outcome
     → Goes config in_text limit position context after outcome plain (first_item config context position plain trees) trees
-begins {config = config} (ends {plain = plain} {position = position} {context = context}) = rw (end_first config context position plain) (refl, refl)
-begins {config = config} (on_leaf {plain = plain} {position = position} {context = context} {it = it} {rest = rest} {others = others} is behind) =
-    rw (plain_first config context position plain (leaf it rest) is) (others, behind, refl)
-begins {config = config} (on_node {plain = plain} {position = position} {context = context} {inside = inside} {delimiter = delimiter} {children = children} {rest = rest} {held = held} {others = others} is within behind) =
-    rw (plain_first config context position plain (node delimiter children rest) is) (inside, held, others, within, behind, refl)
-begins {config = config} (on_definition {position = position} {context = context} {it = it} {trees = trees} {others = others} inside going is read behind) =
-    rw (item_first config context position trees (defines it) going is) (inside, others, read, behind, refl)
-begins {config = config} (on_other_call {position = position} {context = context} {it = it} {trees = trees} {others = others} going is bare none not_into behind) =
-    rw (item_first config context position trees (calls it) going is, none, bare, not_into) (others, behind, refl)
-begins {config = config} (into_other_call {position = position} {context = context} {it = it} {trees = trees} going is bare none into behind) =
-    rw (item_first config context position trees (calls it) going is, none, bare, into) behind
-begins {config = config} {in_text = in_text} {limit = limit} {outcome = outcome} (into_attributes {position = position} {context = context} {after = after} {it = it} {trees = trees} going is some none behind) =
-    rw (item_first config context position trees (calls it) going is, none) (goes_in config in_text limit position context after outcome it.attributes config.everywhere it trees some behind)
-begins {config = config} (on_faulty_call {position = position} {context = context} {it = it} {macro = macro} {trees = trees} {others = others} at fault going is called expands bad behind) =
-    rw (item_first config context position trees (calls it) going is, ap arms_of called ∙ expands) (inl (macro, at, fault, others, called, bad, behind, refl))
-begins {config = config} (on_call {position = position} {context = context} {inside = inside} {it = it} {trees = trees} {held = held} {others = others} tree put going is expands makes within so may behind) =
-    rw (item_first config context position trees (calls it) going is, expands) (inr (tree, inside, held, makes, within, inl (put, others, so, may, behind, refl)))
-begins {config = config} (on_kept_call {position = position} {context = context} {inside = inside} {it = it} {macro = macro} {trees = trees} {held = held} {others = others} tree at fault going is called expands makes within kept behind) =
-    rw (item_first config context position trees (calls it) going is, ap arms_of called ∙ expands)
+begins {config = config} (ends {in_text = in_text} {limit = limit} {plain = plain} {position = position} {context = context}) =
+    comes config in_text limit position context context nothing plain end other (end_first config context position plain) (refl, refl)
+begins {config = config} (on_leaf {in_text = in_text} {limit = limit} {plain = plain} {position = position} {context = context} {after = after} {it = it} {rest = rest} {others = others} is behind) =
+    comes config in_text limit position context after (passes it others) plain (leaf it rest) other (plain_first config context position plain (leaf it rest) is) (others, behind, refl)
+begins {config = config} (on_node {in_text = in_text} {limit = limit} {plain = plain} {position = position} {context = context} {inside = inside} {after = after} {delimiter = delimiter} {children = children} {rest = rest} {held = held} {others = others} is within behind) =
+    comes config in_text limit position context after (enters delimiter held others) plain (node delimiter children rest) other (plain_first config context position plain (node delimiter children rest) is)
+    (inside, held, others, within, behind, refl)
+begins {config = config} (on_definition {in_text = in_text} {limit = limit} {position = position} {context = context} {after = after} {it = it} {trees = trees} {others = others} inside going is read behind) =
+    comes config in_text limit position context after (stays (front_trees it.len trees) others) zero trees (defines it) (item_first config context position trees (defines it) going is)
+    (inside, others, read, behind, refl)
+begins {config = config} (on_other_call {in_text = in_text} {limit = limit} {position = position} {context = context} {after = after} {it = it} {trees = trees} {others = others} going is bare none not_into behind) =
+    let outcome = stays (front_trees it.len trees) others in
+    calls_by config in_text limit position context after outcome it None trees going is none
+    (bare_by config in_text limit position context after outcome false it trees bare not_into (others, behind, refl))
+begins {config = config} (into_other_call {in_text = in_text} {limit = limit} {position = position} {context = context} {after = after} {it = it} {trees = trees} {others = others} going is bare none into behind) =
+    calls_by config in_text limit position context after others it None trees going is none (bare_by config in_text limit position context after others true it trees bare into behind)
+begins {config = config} (into_attributes {in_text = in_text} {limit = limit} {position = position} {context = context} {after = after} {it = it} {trees = trees} {others = others} going is some none behind) =
+    calls_by config in_text limit position context after others it None trees going is none
+    (goes_in config in_text limit position context after others it.attributes config.everywhere it trees some behind)
+begins {config = config} (on_faulty_call {in_text = in_text} {limit = limit} {position = position} {context = context} {after = after} {it = it} {macro = macro} {arms = arms} {trees = trees} {others = others} at fault going is called expands bad behind) =
+    calls_by config in_text limit position context after (stays (front_trees it.len trees) others) it (Some arms) trees going is (ap arms_of called ∙ expands)
+    (inl (macro, at, fault, others, called, bad, behind, refl))
+begins {config = config} (on_call {in_text = in_text} {limit = left} {position = position} {context = context} {inside = inside} {after = after} {it = it} {arms = arms} {trees = trees} {held = held} {others = others} tree put going is expands makes within so may behind) =
+    calls_by config in_text (suc left) position context after (becomes_in position it trees put others) it (Some arms) trees going is expands
+    (inr (tree, inside, held, makes, within, inl (put, others, so, may, behind, refl)))
+begins {config = config} (on_kept_call {in_text = in_text} {limit = left} {position = position} {context = context} {inside = inside} {after = after} {it = it} {macro = macro} {arms = arms} {trees = trees} {held = held} {others = others} tree at fault going is called expands makes within kept behind) =
+    calls_by config in_text (suc left) position context after (stays_in position it trees others) it (Some arms) trees going is (ap arms_of called ∙ expands)
     (inr (tree, inside, held, makes, within, inr (macro, at, fault, others, called, kept, behind, refl)))
 
 -- The item that comes first is known.

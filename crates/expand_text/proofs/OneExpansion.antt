@@ -1,6 +1,6 @@
 -- Arms make one thing of an input: a tree, no match, an ambiguity, or an error that names no limit of trees.
-use Rattle.std.proofs.Common.{◌≡◌, ℕ, suc, true, false, List, [], ◌∷◌, None, Some, inl, inr, max, refl, ap, ap₂, sym, subst, ◌∙◌, arith, true≢false}
-use Rattle.tt.specs.Forest.{Forest, Root}
+use Rattle.std.proofs.Common.{◌≡◌, ℕ, suc, true, false, List, [], ◌∷◌, Some, inl, inr, max, refl, ap, ap₂, sym, subst, ◌∙◌, arith, true≢false}
+use Rattle.tt.specs.Forest.{Forest}
 use Rattle.tt.specs.TreeFault.{under}
 use Rattle.expand_text.specs.Limits.{is_limit}
 use Rattle.mbe_matcher.specs.Fronts.{StopsAt}
@@ -37,9 +37,9 @@ expand_error arm why = record { arm = arm; fault = why }
 -- An arm that is not filled reads the input in one way, and its template has a fault.
 refused : (arm : Arm) (input : Forest) (why : TranscribeError) → is_limit why ≡ false → IsRefusal arm input why
     → (reading : Reading) × (found : TranscribeFault) × IsReadBy arm.pattern input reading × ((written arm reading).fault ≡ Some found) × (why ≡ error_of found)
-refused arm input (error.LengthsDiffer at) no (reading, read, wrong) = (reading, lengths_differ at, read, wrong.0, refl)
-refused arm input (error.NoRound at) no (reading, read, wrong) = (reading, no_round at, read, wrong.0, refl)
-refused arm input (error.Tree why) no h = absurd (true≢false no)
+refused arm input (error.LengthsDiffer at) free (reading, read, wrong) = (reading, lengths_differ at, read, wrong.0, refl)
+refused arm input (error.NoRound at) free (reading, read, wrong) = (reading, no_round at, read, wrong.0, refl)
+refused arm input (error.Tree why) free h = absurd (true≢false free)
 
 -- Arms expand an input to one thing.
 pub one_expansion : (arms : List Arm) (number farthest : ℕ) (input : Forest) (a b : Expansion) → IsExpansion arms number farthest input a → IsExpansion arms number farthest input b → a ≡ b
@@ -70,34 +70,34 @@ one_expansion (arm ∷ others) number farthest input (expansion.Tree s) (expansi
 -- Arms that expand an input give no error.
 pub no_error : (arms : List Arm) (number farthest : ℕ) (input : Forest) (a : Expansion) (b : ExpandError) → IsExpansion arms number farthest input a → IsExpandError arms number input b
     → is_limit b.fault ≡ false → ⊥
-no_error [] number farthest input a b h k no = k
-no_error (arm ∷ others) number farthest input a b (inl (at, none, h)) (inl (again, k)) no = no_error others (suc number) (max farthest at) input a b h k no
-no_error (arm ∷ others) number farthest input a b (inl (at, none, h)) (inr (is, k)) no =
-    let it = refused arm input b.fault no k in
+no_error [] number farthest input a b h k free = k
+no_error (arm ∷ others) number farthest input a b (inl (at, none, h)) (inl (again, k)) free = no_error others (suc number) (max farthest at) input a b h k free
+no_error (arm ∷ others) number farthest input a b (inl (at, none, h)) (inr (is, k)) free =
+    let it = refused arm input b.fault free k in
     none.0 it.0 it.2.holds
-no_error (arm ∷ others) number farthest input (expansion.NoMatch x) b (inr h) k no = h
-no_error (arm ∷ others) number farthest input (expansion.Ambiguous n) b (inr h) (inl (none, k)) no = none h.1.one h.1.one_holds
-no_error (arm ∷ others) number farthest input (expansion.Ambiguous n) b (inr h) (inr (is, k)) no =
-    let it = refused arm input b.fault no k in
+no_error (arm ∷ others) number farthest input (expansion.NoMatch x) b (inr h) k free = h
+no_error (arm ∷ others) number farthest input (expansion.Ambiguous n) b (inr h) (inl (none, k)) free = none h.1.one h.1.one_holds
+no_error (arm ∷ others) number farthest input (expansion.Ambiguous n) b (inr h) (inr (is, k)) free =
+    let it = refused arm input b.fault free k in
     not_both arm.pattern input it.0 it.2 h.1
-no_error (arm ∷ others) number farthest input (expansion.Tree t) b (inr (reading, read, filled)) (inl (none, k)) no = none reading read.holds
-no_error (arm ∷ others) number farthest input (expansion.Tree t) b (inr (reading, read, filled)) (inr (is, k)) no =
-    let it = refused arm input b.fault no k in
+no_error (arm ∷ others) number farthest input (expansion.Tree t) b (inr (reading, read, filled)) (inl (none, k)) free = none reading read.holds
+no_error (arm ∷ others) number farthest input (expansion.Tree t) b (inr (reading, read, filled)) (inr (is, k)) free =
+    let it = refused arm input b.fault free k in
     cc (sym filled.sound ∙ ap (λ r. (written arm r).fault) (one_reading arm.pattern input reading it.0 read it.2) ∙ it.3)
 
 -- Arms give one error.
 pub one_error : (arms : List Arm) (number : ℕ) (input : Forest) (a b : ExpandError) → IsExpandError arms number input a → IsExpandError arms number input b
     → is_limit a.fault ≡ false → is_limit b.fault ≡ false → a ≡ b
-one_error [] number input a b h k no none = absurd h
-one_error (arm ∷ others) number input a b (inl (x, h)) (inl (y, k)) no none = one_error others (suc number) input a b h k no none
-one_error (arm ∷ others) number input a b (inl (x, h)) (inr (was, k)) no none =
+one_error [] number input a b h k free none = absurd h
+one_error (arm ∷ others) number input a b (inl (x, h)) (inl (y, k)) free none = one_error others (suc number) input a b h k free none
+one_error (arm ∷ others) number input a b (inl (x, h)) (inr (was, k)) free none =
     let it = refused arm input b.fault none k in
     absurd (x it.0 it.2.holds)
-one_error (arm ∷ others) number input a b (inr (is, h)) (inl (y, k)) no none =
-    let it = refused arm input a.fault no h in
+one_error (arm ∷ others) number input a b (inr (is, h)) (inl (y, k)) free none =
+    let it = refused arm input a.fault free h in
     absurd (y it.0 it.2.holds)
-one_error (arm ∷ others) number input a b (inr (is, h)) (inr (was, k)) no none =
-    let it = refused arm input a.fault no h in
+one_error (arm ∷ others) number input a b (inr (is, h)) (inr (was, k)) free none =
+    let it = refused arm input a.fault free h in
     let other = refused arm input b.fault none k in
     let same : Some it.1 ≡ Some other.1 = sym it.3 ∙ ap (λ r. (written arm r).fault) (one_reading arm.pattern input it.0 other.0 it.2 other.2) ∙ other.3 in
     let found : it.1 ≡ other.1 = cc same in

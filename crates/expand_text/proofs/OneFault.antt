@@ -23,9 +23,9 @@ use Rattle.mbe_rules.specs.declared.rules_error.RulesError.{RulesError}
 -- A definition's fault that names no limit is one of its arms.
 arms_wrong : (it : Definition) (trees : Forest) (at : ℕ) (found : MacroFault) → IsDefinitionFault it trees at found → names_limit found ≡ false
     → (why : RulesError) × IsRulesError trees why × (why.fault ≢ arm_fault.Memory) × (at ≡ definition_byte trees why (start_of it.delimiter.close.range)) × (found ≡ wrong.Definition why)
-arms_wrong it trees at (wrong.Definition why) h no = (why, h.0, h.1, h.2, refl)
-arms_wrong it trees at (wrong.TooLarge why) h no = absurd (true≢false no)
-arms_wrong it trees at found h no = absurd h
+arms_wrong it trees at (wrong.Definition why) h free = (why, h.0, h.1, h.2, refl)
+arms_wrong it trees at (wrong.TooLarge why) h free = absurd (true≢false free)
+arms_wrong it trees at found h free = absurd h
 
 module _ (it : Definition) (trees : Forest) (before : Context) where
   -- The finding of a definition names no limit.
@@ -70,39 +70,39 @@ module _ (arms : List Arm) (it : Call) where
 
   -- If they make a tree, the input has no fault.
   pub no_fault : (tree : Root) (at : ℕ) (found : MacroFault) → IsExpansion arms 0 0 it.input (expansion.Tree tree) → IsInputFault arms it at found → names_limit found ≡ false → ⊥
-  no_fault tree at wrong.NoMatch h k no = cc (one_expansion arms 0 0 it.input (expansion.Tree tree) (expansion.NoMatch k.0) h k.1)
-  no_fault tree at (wrong.Ambiguous n) h k no = cc (one_expansion arms 0 0 it.input (expansion.Tree tree) (expansion.Ambiguous n) h k.0)
-  no_fault tree at (wrong.Expansion why) h k no = no_error arms 0 0 it.input (expansion.Tree tree) why h k.0 no
-  no_fault tree at found h k no = k
+  no_fault tree at wrong.NoMatch h k free = cc (one_expansion arms 0 0 it.input (expansion.Tree tree) (expansion.NoMatch k.0) h k.1)
+  no_fault tree at (wrong.Ambiguous n) h k free = cc (one_expansion arms 0 0 it.input (expansion.Tree tree) (expansion.Ambiguous n) h k.0)
+  no_fault tree at (wrong.Expansion why) h k free = no_error arms 0 0 it.input (expansion.Tree tree) why h k.0 free
+  no_fault tree at found h k free = k
 
   -- An input has one fault.
   one_input : (at place : ℕ) (found other : MacroFault) → IsInputFault arms it at found → IsInputFault arms it place other → names_limit found ≡ false → names_limit other ≡ false
       → (at ≡ place) × (found ≡ other)
-  one_input at place wrong.NoMatch wrong.NoMatch h k no none =
+  one_input at place wrong.NoMatch wrong.NoMatch h k free none =
       let both = one_expansion arms 0 0 it.input (expansion.NoMatch h.0) (expansion.NoMatch k.0) h.1 k.1 in
       let same : h.0 ≡ k.0 = cc both in
       (h.2 ∙ ap (λ n. byte_at it.input n (start_of it.delimiter.close.range)) same ∙ sym k.2, refl)
-  one_input at place wrong.NoMatch (wrong.Ambiguous m) h k no none =
+  one_input at place wrong.NoMatch (wrong.Ambiguous m) h k free none =
       absurd (cc (one_expansion arms 0 0 it.input (expansion.NoMatch h.0) (expansion.Ambiguous m) h.1 k.0))
-  one_input at place wrong.NoMatch (wrong.Expansion why) h k no none = absurd (no_error arms 0 0 it.input (expansion.NoMatch h.0) why h.1 k.0 none)
-  one_input at place wrong.NoMatch other h k no none = absurd k
-  one_input at place (wrong.Ambiguous n) wrong.NoMatch h k no none =
+  one_input at place wrong.NoMatch (wrong.Expansion why) h k free none = absurd (no_error arms 0 0 it.input (expansion.NoMatch h.0) why h.1 k.0 none)
+  one_input at place wrong.NoMatch other h k free none = absurd k
+  one_input at place (wrong.Ambiguous n) wrong.NoMatch h k free none =
       absurd (cc (one_expansion arms 0 0 it.input (expansion.Ambiguous n) (expansion.NoMatch k.0) h.0 k.1))
-  one_input at place (wrong.Ambiguous n) (wrong.Ambiguous m) h k no none =
+  one_input at place (wrong.Ambiguous n) (wrong.Ambiguous m) h k free none =
       let both = one_expansion arms 0 0 it.input (expansion.Ambiguous n) (expansion.Ambiguous m) h.0 k.0 in
       let same : n ≡ m = cc both in
       (h.1 ∙ sym k.1, ap wrong.Ambiguous same)
-  one_input at place (wrong.Ambiguous n) (wrong.Expansion why) h k no none = absurd (no_error arms 0 0 it.input (expansion.Ambiguous n) why h.0 k.0 none)
-  one_input at place (wrong.Ambiguous n) other h k no none = absurd k
-  one_input at place (wrong.Expansion why) wrong.NoMatch h k no none = absurd (no_error arms 0 0 it.input (expansion.NoMatch k.0) why k.1 h.0 no)
-  one_input at place (wrong.Expansion why) (wrong.Ambiguous m) h k no none = absurd (no_error arms 0 0 it.input (expansion.Ambiguous m) why k.0 h.0 no)
-  one_input at place (wrong.Expansion why) (wrong.Expansion that) h k no none =
-      (h.2 ∙ sym k.2, ap wrong.Expansion (one_error arms 0 it.input why that h.0 k.0 no none))
-  one_input at place (wrong.Expansion why) other h k no none = absurd k
-  one_input at place found other h k no none = absurd h
+  one_input at place (wrong.Ambiguous n) (wrong.Expansion why) h k free none = absurd (no_error arms 0 0 it.input (expansion.Ambiguous n) why h.0 k.0 none)
+  one_input at place (wrong.Ambiguous n) other h k free none = absurd k
+  one_input at place (wrong.Expansion why) wrong.NoMatch h k free none = absurd (no_error arms 0 0 it.input (expansion.NoMatch k.0) why k.1 h.0 free)
+  one_input at place (wrong.Expansion why) (wrong.Ambiguous m) h k free none = absurd (no_error arms 0 0 it.input (expansion.Ambiguous m) why k.0 h.0 free)
+  one_input at place (wrong.Expansion why) (wrong.Expansion that) h k free none =
+      (h.2 ∙ sym k.2, ap wrong.Expansion (one_error arms 0 it.input why that h.0 k.0 free none))
+  one_input at place (wrong.Expansion why) other h k free none = absurd k
+  one_input at place found other h k free none = absurd h
 
   -- A call has one fault.
   pub one_fault : (limit at place : ℕ) (found other : MacroFault) → IsCallFault limit arms it at found → IsCallFault limit arms it place other
       → names_limit found ≡ false → names_limit other ≡ false → (at ≡ place) × (found ≡ other)
-  one_fault zero at place found other h k no none = (h.1 ∙ sym k.1, h.0 ∙ sym k.0)
-  one_fault (suc limit) at place found other h k no none = one_input at place found other h k no none
+  one_fault zero at place found other h k free none = (h.1 ∙ sym k.1, h.0 ∙ sym k.0)
+  one_fault (suc limit) at place found other h k free none = one_input at place found other h k free none

@@ -15,58 +15,58 @@ use Rattle.syntax_unparse.specs.declared.fault.WriteFault.TheVariants as unwritt
 -- An expansion that fits is not written for one reason.
 one_unwritten : (call : Delimiter) (put : Forest) (begin at place : ℕ) (found other : MacroFault) → IsUnwritten call put begin at found → IsUnwritten call put begin place other
     → names_limit found ≡ false → names_limit other ≡ false → (at ≡ place) × (found ≡ other)
-one_unwritten call put begin at place (wrong.TooLarge why) other h k no none = absurd (true≢false no)
-one_unwritten call put begin at place wrong.TooLong (wrong.TooLarge why) h k no none = absurd (true≢false none)
-one_unwritten call put begin at place wrong.TooLong wrong.TooLong h k no none = (h.2 ∙ sym k.2, refl)
-one_unwritten call put begin at place wrong.TooLong wrong.NotWritable h k no none =
+one_unwritten call put begin at place (wrong.TooLarge why) other h k free none = absurd (true≢false free)
+one_unwritten call put begin at place wrong.TooLong (wrong.TooLarge why) h k free none = absurd (true≢false none)
+one_unwritten call put begin at place wrong.TooLong wrong.TooLong h k free none = (h.2 ∙ sym k.2, refl)
+one_unwritten call put begin at place wrong.TooLong wrong.NotWritable h k free none =
     absurd (cc (one_fault put unwritten.TooLong (unwritten.NotWritable k.1) h.1 k.2 (λ e. cc e) (λ e. cc e)))
-one_unwritten call put begin at place wrong.TooLong other h k no none = absurd k
-one_unwritten call put begin at place wrong.NotWritable (wrong.TooLarge why) h k no none = absurd (true≢false none)
-one_unwritten call put begin at place wrong.NotWritable wrong.TooLong h k no none =
+one_unwritten call put begin at place wrong.TooLong other h k free none = absurd k
+one_unwritten call put begin at place wrong.NotWritable (wrong.TooLarge why) h k free none = absurd (true≢false none)
+one_unwritten call put begin at place wrong.NotWritable wrong.TooLong h k free none =
     absurd (cc (one_fault put (unwritten.NotWritable h.1) unwritten.TooLong h.2 k.1 (λ e. cc e) (λ e. cc e)))
-one_unwritten call put begin at place wrong.NotWritable wrong.NotWritable h k no none =
+one_unwritten call put begin at place wrong.NotWritable wrong.NotWritable h k free none =
     let both = one_fault put (unwritten.NotWritable h.1) (unwritten.NotWritable k.1) h.2 k.2 (λ e. cc e) (λ e. cc e) in
     let same : h.1 ≡ k.1 = cc both in
     (h.3 ∙ ap (λ n. byte_at put n begin) same ∙ sym k.3, refl)
-one_unwritten call put begin at place wrong.NotWritable other h k no none = absurd k
-one_unwritten call put begin at place found other h k no none = absurd h
+one_unwritten call put begin at place wrong.NotWritable other h k free none = absurd k
+one_unwritten call put begin at place found other h k free none = absurd h
 
 -- If it may be put into the text, there is no such reason.
 no_unwritten : (call : Delimiter) (put : Forest) (begin at : ℕ) (found : MacroFault) → MayBePut true call put → IsUnwritten call put begin at found → names_limit found ≡ false → ⊥
-no_unwritten call put begin at (wrong.TooLarge why) may h no = true≢false no
-no_unwritten call put begin at wrong.TooLong may h no = cc (no_fault put unwritten.TooLong may.1 may.2 h.1)
-no_unwritten call put begin at wrong.NotWritable may h no = cc (no_fault put (unwritten.NotWritable h.1) may.1 may.2 h.2)
-no_unwritten call put begin at found may h no = h
+no_unwritten call put begin at (wrong.TooLarge why) may h free = true≢false free
+no_unwritten call put begin at wrong.TooLong may h free = cc (no_fault put unwritten.TooLong may.1 may.2 h.1)
+no_unwritten call put begin at wrong.NotWritable may h free = cc (no_fault put (unwritten.NotWritable h.1) may.1 may.2 h.2)
+no_unwritten call put begin at found may h free = h
 
 module _ (it : CallSite) (trees : Forest) where
   -- What does not fit its place, and not for a limit, is under conditions.
   conditional : (found : MacroFault) → IsMisplaced it trees found → names_limit found ≡ false → (found ≡ wrong.Conditional) × PutAs it trees None
-  conditional found (inl h) no = h
-  conditional found (inr h) no = absurd (by it.len found h no)
+  conditional found (inl h) free = h
+  conditional found (inr h) free = absurd (by it.len found h free)
     where
       by : (len : ℕ) (found : MacroFault) → IsTooLarge len it trees found → names_limit found ≡ false → ⊥
-      by zero found h no = h
-      by (suc more) (wrong.TooLarge why) h no = true≢false no
-      by (suc more) found h no = h
+      by zero found h free = h
+      by (suc more) (wrong.TooLarge why) h free = true≢false free
+      by (suc more) found h free = h
 
   -- A call stays for one reason.
   pub one_kept : (in_text : Bool) (begin at place : ℕ) (found other : MacroFault) → IsKept in_text it trees begin at found → IsKept in_text it trees begin place other
       → names_limit found ≡ false → names_limit other ≡ false → (at ≡ place) × (found ≡ other)
-  one_kept in_text begin at place found other (inl (x, is)) (inl (y, was)) no none = (is ∙ sym was, (conditional found x no).0 ∙ sym (conditional other y none).0)
-  one_kept in_text begin at place found other (inl (x, is)) (inr (text, put, so, y)) no none =
-      absurd (cc (one_put it trees None (Some put) (conditional found x no).1 so))
-  one_kept in_text begin at place found other (inr (text, put, so, x)) (inl (y, was)) no none =
+  one_kept in_text begin at place found other (inl (x, is)) (inl (y, was)) free none = (is ∙ sym was, (conditional found x free).0 ∙ sym (conditional other y none).0)
+  one_kept in_text begin at place found other (inl (x, is)) (inr (text, put, so, y)) free none =
+      absurd (cc (one_put it trees None (Some put) (conditional found x free).1 so))
+  one_kept in_text begin at place found other (inr (text, put, so, x)) (inl (y, was)) free none =
       absurd (cc (one_put it trees None (Some put) (conditional other y none).1 so))
-  one_kept in_text begin at place found other (inr (text, put, so, x)) (inr (again, that, thus, y)) no none =
+  one_kept in_text begin at place found other (inr (text, put, so, x)) (inr (again, that, thus, y)) free none =
       let both = one_put it trees (Some put) (Some that) so thus in
       let same : put ≡ that = cc both in
-      one_unwritten it.delimiter put begin at place found other x (subst (λ p. IsUnwritten it.delimiter p begin place other) (sym same) y) no none
+      one_unwritten it.delimiter put begin at place found other x (subst (λ p. IsUnwritten it.delimiter p begin place other) (sym same) y) free none
 
   -- A call that may be replaced does not stay.
   pub never_kept : (in_text : Bool) (put : Forest) (begin at : ℕ) (found : MacroFault) → IsKept in_text it trees begin at found → PutAs it trees (Some put)
       → MayBePut in_text it.delimiter put → names_limit found ≡ false → ⊥
-  never_kept in_text put begin at found (inl (x, is)) so may no = cc (one_put it trees None (Some put) (conditional found x no).1 so)
-  never_kept in_text put begin at found (inr (text, that, thus, x)) so may no =
+  never_kept in_text put begin at found (inl (x, is)) so may free = cc (one_put it trees None (Some put) (conditional found x free).1 so)
+  never_kept in_text put begin at found (inr (text, that, thus, x)) so may free =
       let both = one_put it trees (Some that) (Some put) thus so in
       let same : that ≡ put = cc both in
-      no_unwritten it.delimiter put begin at found (subst (λ b. MayBePut b it.delimiter put) text may) (subst (λ p. IsUnwritten it.delimiter p begin at found) same x) no
+      no_unwritten it.delimiter put begin at found (subst (λ b. MayBePut b it.delimiter put) text may) (subst (λ p. IsUnwritten it.delimiter p begin at found) same x) free

@@ -1,9 +1,9 @@
 -- Trees expand to one thing, if no finding names a limit of trees.
-use Rattle.std.proofs.Common.{◌≡◌, ◌⊎◌, ◌-◌, ℕ, zero, suc, Bool, true, false, List, None, Some, inl, inr, refl, ap, ap₂, sym, subst, subst₂, ◌∙◌}
+use Rattle.std.proofs.Common.{◌≡◌, ◌⊎◌, ℕ, zero, suc, Bool, false, List, None, Some, inl, inr, ap, ap₂, sym, subst, subst₂, ◌∙◌}
 use Rattle.tt.specs.Forest.{Forest, Root, leaf, node}
 use Rattle.tt.specs.Span.{start_of}
 use Rattle.expand_items.specs.declared.position.Position.{Position}
-use Rattle.expand_items.specs.Items.{Call, defines, calls, other}
+use Rattle.expand_items.specs.Items.{Call, defines, other}
 use Rattle.expand_items.specs.Positions.{keeps_macros}
 use Rattle.expand_text.specs.declared.fault.MacroFault.{MacroFault}
 use Rattle.expand_text.specs.CallSites.{PutAs, IsKept}
@@ -46,9 +46,9 @@ module _ (config : Config) (in_text : Bool) (position : Position) (context after
   wrong_only : (limit at : ℕ) (fault : MacroFault) → IsCallFault limit arms it at fault → names_limit fault ≡ false
       → IsWrong config in_text limit position context after outcome arms it trees ⊎ Tries config in_text limit position context after outcome limit arms it trees
       → IsWrong config in_text limit position context after outcome arms it trees
-  wrong_only limit at fault bad no (inl so) = so
-  wrong_only zero at fault bad no (inr so) = absurd so
-  wrong_only (suc left) at fault bad no (inr so) = absurd (no_fault arms it so.0 at fault so.3 bad no)
+  wrong_only limit at fault bad free (inl so) = so
+  wrong_only zero at fault bad free (inr so) = absurd so
+  wrong_only (suc left) at fault bad free (inr so) = absurd (no_fault arms it so.0 at fault so.3 bad free)
 
   -- If a call is expanded, it has no fault.
   tries_only : (left : ℕ) (tree : Root) → IsExpansion arms 0 0 it.input (expansion.Tree tree) → KeepLimits after.findings
@@ -79,8 +79,8 @@ module _ (config : Config) (in_text : Bool) (position : Position) (context after
     stays_only : (at : ℕ) (fault : MacroFault) → IsKept in_text (site_in position it trees) (trees_left held) (start_of (begin_in it trees).range) at fault → names_limit fault ≡ false
         → Changes config in_text limit position context after outcome left it trees inside held ⊎ Stays config in_text limit position context after outcome left it trees inside held
         → Stays config in_text limit position context after outcome left it trees inside held
-    stays_only at fault kept no (inl so) = absurd (never_kept (site_in position it trees) (trees_left held) in_text so.0 (start_of (begin_in it trees).range) at fault kept so.2 so.3 no)
-    stays_only at fault kept no (inr so) = so
+    stays_only at fault kept free (inl so) = absurd (never_kept (site_in position it trees) (trees_left held) in_text so.0 (start_of (begin_in it trees).range) at fault kept so.2 so.3 free)
+    stays_only at fault kept free (inr so) = so
 
 -- Trees expand to one thing, and one thing is known then.
 pub one_outcome : {config : Config} {in_text : Bool} {limit plain : ℕ} {position : Position} {context after again : Context} {trees : Forest} {outcome that : Outcome}
@@ -115,10 +115,10 @@ one_outcome {config = config} {in_text = in_text} {limit = limit} {again = again
     let go = goes_out config in_text limit position context again that it.attributes config.everywhere it trees some (begins_call second it None going is none) in
     one_outcome behind go x y
 one_outcome {config = config} {in_text = in_text} {limit = limit} {again = again} {that = that} (on_faulty_call {position = position} {context = context} {it = it} {macro = macro} {arms = arms} {trees = trees} at fault going is called expands bad behind) second x y =
-    let no = (keep_first context.findings (found_of it macro at fault) (keep_before behind x)).1 in
-    let go = wrong_only config in_text position context again that arms it trees limit at fault bad no (begins_call second it (Some arms) going is (ap arms_of called ∙ expands)) in
+    let free = (keep_first context.findings (found_of it macro at fault) (keep_before behind x)).1 in
+    let go = wrong_only config in_text position context again that arms it trees limit at fault bad free (begins_call second it (Some arms) going is (ap arms_of called ∙ expands)) in
     let none = (keep_first context.findings (found_of it go.0 go.1 go.2) (keep_before go.6 y)).1 in
-    let known = same_found it context macro go.0 at go.1 fault go.2 (one_called config context it macro go.0 called go.4) (one_fault arms it limit at go.1 fault go.2 bad go.5 no none) in
+    let known = same_found it context macro go.0 at go.1 fault go.2 (one_called config context it macro go.0 called go.4) (one_fault arms it limit at go.1 fault go.2 bad go.5 free none) in
     let same = one_outcome behind (moved known go.6) x y in
     (same.0, ap (stays (front_trees it.len trees)) same.1 ∙ sym go.7)
 one_outcome {config = config} {in_text = in_text} {again = again} {that = that} (on_call {limit = left} {position = position} {context = context} {inside = inside} {it = it} {arms = arms} {trees = trees} {held = held} tree put going is expands makes within fits may behind) second x y =
