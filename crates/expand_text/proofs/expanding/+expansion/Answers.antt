@@ -266,7 +266,7 @@ expand_invocation-returns-clause-open t c =
 
 pub pass_call-returns-in_ok-extend_with_tt-2-clause-open : goal.pass_call-returns-in_ok-extend_with_tt-2-clause-open
 pass_call-returns-in_ok-extend_with_tt-2-clause-open t c =
-    ap (λ s. depth s.stack) c.in_ok-extend_with_tt-2.ensures.ok ∙ depth_append (trees_of c.call.result) c.place.new.builder.stack ∙ c.in_ok-fault.ensures.open
+    ap (λ s. depth s.stack) c.in_ok-extend_with_tt-2.ensures.ok ∙ depth_append (trees_of c.call.result) c.expand_invocation.new.builder.stack ∙ c.in_ok-fault.ensures.open
     ∙ ap (λ s. depth s.stack) c.in_ok-extend_with_tt.ensures.ok ∙ depth_append (trees_of c.attributes.result) c.args.builder.now.stack
 
 pub pass_call-returns-in_ok-extend_with_tt-2-clause-passed : goal.pass_call-returns-in_ok-extend_with_tt-2-clause-passed
@@ -275,7 +275,7 @@ pass_call-returns-in_ok-extend_with_tt-2-clause-passed t c before is =
     let fault = c.in-Some.fault in
     let old : Stack = c.args.builder.now.stack in
     let opened : Stack = c.extend_with_tt.new.self.stack in
-    let placed : Stack = c.place.new.builder.stack in
+    let placed : Stack = c.expand_invocation.new.builder.stack in
     let whole : Forest = trees_of it.whole in
     let (now, context, put) = c.in_ok-fault.ensures.placed before is in
     let (misplaced, same) = subst (λ m. IsAdded (site_of it) (trees_left put.outcome) m opened placed) c.in-Some.is put.added in

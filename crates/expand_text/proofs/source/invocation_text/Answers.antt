@@ -15,7 +15,7 @@ pub returns-in-Some : goal.returns-in-Some
 returns-in-Some c before is =
     let it = c.args.invocation.now in
     let (after, ready, put) = c.in_ok-fault.ensures.placed before is in
-    let (misplaced, same) = subst (λ m. IsAdded (site_of it) (trees_left put.outcome) m c.in_ok-builder.builder.stack c.place.new.builder.stack) c.in-Some.is put.added in
+    let (misplaced, same) = subst (λ m. IsAdded (site_of it) (trees_left put.outcome) m c.in_ok-builder.builder.stack c.expand_invocation.new.builder.stack) c.in-Some.is put.added in
     (after, ready, record { outcome = put.outcome; expands_to = put.expands_to; text = inl (misplaced, c.start_of-begin.ensures) })
 
 pub returns-in-Err : goal.returns-in-Err
@@ -23,10 +23,10 @@ returns-in-Err c before is =
     let it = c.args.invocation.now in
     let why = c.in-Err.refused.fault in
     let (after, ready, put) = c.in_ok-fault.ensures.placed before is in
-    let (trees, so, added) = subst (λ m. IsAdded (site_of it) (trees_left put.outcome) m c.in_ok-builder.builder.stack c.place.new.builder.stack) c.in-None.is put.added in
-    let whole : built c.place.new.builder ≡ tree_of it.delimiter trees =
-    built_alone (record it.delimiter { kind = Invisible }) c.in_ok-builder.builder c.place.new.builder trees c.in_ok-builder.ensures.ok c.in_ok-fault.ensures.top added in
-    let past : IsTreeFault (built c.place.new.builder) why = search rules in
+    let (trees, so, added) = subst (λ m. IsAdded (site_of it) (trees_left put.outcome) m c.in_ok-builder.builder.stack c.expand_invocation.new.builder.stack) c.in-None.is put.added in
+    let whole : built c.expand_invocation.new.builder ≡ tree_of it.delimiter trees =
+    built_alone (record it.delimiter { kind = Invisible }) c.in_ok-builder.builder c.expand_invocation.new.builder trees c.in_ok-builder.ensures.ok c.in_ok-fault.ensures.top added in
+    let past : IsTreeFault (built c.expand_invocation.new.builder) why = search rules in
     let no_memory : why ≢ limit.Memory = search rules in (
       after,
       ready,
@@ -41,9 +41,9 @@ pub returns-in_ok-write_tree-in-Ok : goal.returns-in_ok-write_tree-in-Ok
 returns-in_ok-write_tree-in-Ok c before is =
     let it = c.args.invocation.now in
     let (after, ready, put) = c.in_ok-fault.ensures.placed before is in
-    let (trees, so, added) = subst (λ m. IsAdded (site_of it) (trees_left put.outcome) m c.in_ok-builder.builder.stack c.place.new.builder.stack) c.in-None.is put.added in
-    let whole : built c.place.new.builder ≡ tree_of it.delimiter trees =
-    built_alone (record it.delimiter { kind = Invisible }) c.in_ok-builder.builder c.place.new.builder trees c.in_ok-builder.ensures.ok c.in_ok-fault.ensures.top added in
+    let (trees, so, added) = subst (λ m. IsAdded (site_of it) (trees_left put.outcome) m c.in_ok-builder.builder.stack c.expand_invocation.new.builder.stack) c.in-None.is put.added in
+    let whole : built c.expand_invocation.new.builder ≡ tree_of it.delimiter trees =
+    built_alone (record it.delimiter { kind = Invisible }) c.in_ok-builder.builder c.expand_invocation.new.builder trees c.in_ok-builder.ensures.ok c.in_ok-fault.ensures.top added in
     let children = ap (λ r. r.children) (c.in-Ok.ensures.ok ∙ whole) in
     let text = subst (λ f. IsTextOf it.delimiter f c.start_of-begin.result c.in_ok-write_tree-in-Ok.field-0) children c.in_ok-write_tree-in-Ok.ensures in
     (after, ready, record { outcome = put.outcome; expands_to = put.expands_to; text = call_text (site_of it) (trees_left put.outcome) trees _ c.in_ok-write_tree-in-Ok.field-0 so (subst (λ n. IsTextOf it.delimiter trees n c.in_ok-write_tree-in-Ok.field-0) c.start_of-begin.ensures text) })
