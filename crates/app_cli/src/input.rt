@@ -20,6 +20,11 @@ impl<'a> Input<'a> {
         }
     }
 
+    /// Returns the path of the file, or `None` for standard input.
+    pub fn path(&self) -> Option<&'a str> {
+        self.path
+    }
+
     /// Returns the name in diagnostics.
     pub fn name(&self) -> &'a str {
         self.path.unwrap_or("<stdin>")

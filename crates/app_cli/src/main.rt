@@ -18,6 +18,7 @@ mod style;
 mod syntax_error;
 mod token_lines;
 mod tree_lines;
+mod whole_file;
 
 use std::process::ExitCode;
 

@@ -2,8 +2,8 @@
 use crate::failure::Failure;
 use crate::input::Input;
 use crate::tree_lines::tree_of;
+use crate::whole_file::{is_same_file, write_whole};
 use std::fmt::Display;
-use std::fs;
 use std::io::Write;
 use syntax_unparse::rust_text;
 use tt_bytes::{from_bytes, to_bytes};
@@ -16,9 +16,13 @@ fn of_file(rt: &HostRuntime, name: &str, what: impl Display + Drop) -> Failure {
     }
 }
 
-/// Writes the tree of a text as one piece of bytes into a file. Does not touch the file if the text has no tree.
+/// Writes the tree of a text as one piece of bytes into a file. The file stays as it was if the text has no tree, if it is the input
+/// itself, or if not all bytes can be written.
 pub fn pack(rt: &HostRuntime, input: Input<'_>, out: &str) -> Result<(), Failure> {
     let alloc = rt.alloc();
+    if input.path().is_some_and(|path| is_same_file(rt, path, out)) {
+        return Err(of_file(rt, out, "this is the input, so it is not written"));
+    }
     let bytes = input.bytes(rt)?;
     let text = input.text(rt, bytes.as_slice())?;
     let tree = tree_of(rt, input.name(), text)?;
@@ -26,12 +30,12 @@ pub fn pack(rt: &HostRuntime, input: Input<'_>, out: &str) -> Result<(), Failure
         Ok(piece) => piece,
         Err(fault) => return Err(of_file(rt, input.name(), fault)),
     };
-    match fs::write(rt, out, piece.as_slice()) {
-        Ok(()) => Ok(()),
-        Err(error) => {
+    match write_whole(rt, out, piece.as_slice()) {
+        Err(Failure::Stream(error)) => {
             let message = format!(in alloc; "couldn't write {out}: {error}")?;
             Err(Failure::from_message(rt, message.as_str()))
         }
+        written => written,
     }
 }
 
