@@ -1,9 +1,9 @@
 #!/usr/bin/env python3
 """The program `cuvolemin` over files: files.py PROGRAM
 
-Each command over each file of examples/rust, and over files, pipes and arguments that are made here. What must be written
-stands beside the examples, or is worked out here from how the text was made. A line is printed for each thing that is tried,
-`ok NAME` or `FAILED NAME: WHY`; the status is 1 where one failed.
+It tries each command on each file of examples/rust, and on files, pipes and arguments that it makes. The expected output is a
+file beside the example, or follows from how the text was made. It prints a line for each trial, `ok NAME` or
+`FAILED NAME: WHY`; the status is 1 if one failed.
 """
 import pathlib
 import re
@@ -39,7 +39,7 @@ def try_tokens(files, example):
 
 
 def try_tree(files, example):
-    """Its tree is the one that stands beside it."""
+    """Compares its tree with the file beside it."""
     expected = example.with_suffix(".tree").read_bytes()
     files.gives(expected, "tree", str(example))
     files.gives(expected, "tree", "-", given=example.read_bytes())
@@ -47,7 +47,7 @@ def try_tree(files, example):
 
 
 def try_pieces(files, example):
-    """It is packed, and what comes back is the text beside it, and reads as the same tree."""
+    """Packs it, unpacks it, and compares the text with the file beside it, and the tree of that text."""
     piece = str(files.room / "piece")
     pathlib.Path(piece).unlink(missing_ok=True)
     files.gives(b"", "pack", str(example), "-o", piece)
@@ -60,7 +60,7 @@ def try_pieces(files, example):
 
 
 def try_fault(files, example):
-    """What is told of it stands beside it, and nothing is packed."""
+    """Compares the diagnostic with the file beside it; `pack` writes nothing."""
     told = example.with_suffix(".err").read_text(encoding="utf-8")
     files.tells(told.replace("FILE", str(example)), "tree", str(example))
     files.tells(told.replace("FILE", "<stdin>"), "tree", given=example.read_bytes())
@@ -90,7 +90,7 @@ def try_unreadable(files):
     status, written, told = files.run("tokens", "/proc/self/mem")
     wants("the run", (status, written), (1, b""))
     if not told.startswith(b"error: couldn't read /proc/self/mem: "):
-        raise Wrong(f"it is told: {told[:200]}")
+        raise Wrong(f"the diagnostic is: {told[:200]}")
 
 
 def try_empty(files):
@@ -104,7 +104,7 @@ def try_empty(files):
 
 
 def try_no_utf8(files):
-    """Bytes that are no UTF-8, of which the first is told."""
+    """Bytes that are not UTF-8: the diagnostic has the place of the first."""
     for bytes_, at in ((b"fn \xff", 3), ("é".encode() + b"\xe6\x97", 2), (b"\x80", 0), (b"\xef\xbb\xbf\xff", 3)):
         name = files.made("bytes", bytes_)
         for words in (("tokens", name), ("tree", name), ("pack", name, "-o", "/no/out")):
@@ -119,11 +119,11 @@ def try_mark(files):
     twice = files.made("mark", b"\xef\xbb\xbf\xef\xbb\xbf)")
     status, _, told = files.run("tree", twice)
     wants("the status", status, 1)
-    wants("what is told", told.split(b"\n")[:2], [b"error: unknown character", f" --> {twice}:1:1".encode()])
+    wants("the diagnostic", told.split(b"\n")[:2], [b"error: unknown character", f" --> {twice}:1:1".encode()])
 
 
 def try_faults(files):
-    """What is told of faults, with their marks: at the end, behind tabs, behind characters that are wide or have no width."""
+    """Diagnostics of faults, with their marks: at the end, behind tabs, behind characters that are wide or have no width."""
     for text, line, column, mark, message in (
         ("a ]", 1, 3, "  ^", "unopened ']'"),
         ("'", 1, 1, "^", "unterminated literal"),
@@ -153,18 +153,18 @@ def try_bad_pieces(files):
         status, written, told = files.run("unpack", "-", given=whole[:end])
         wants("a piece that was cut", (status, written), (1, b""))
         if not told.startswith(b"error: <stdin>: ") or told.count(b"\n") != 1:
-            raise Wrong(f"of a piece that was cut it is told: {told[:200]}")
+            raise Wrong(f"the diagnostic of a piece that was cut is: {told[:200]}")
 
 
 # ---- files that are written
 
 def new_files(files):
-    """The names of files that a run left beside those that it was given."""
+    """The names of new files that a run left behind."""
     return [path.name for path in files.room.iterdir() if ".new" in path.name]
 
 
 def try_limited(files):
-    """A file that cannot be written whole, since it may have ten bytes: it stays as it was."""
+    """A file that may have only ten bytes cannot be written whole: it stays as it was."""
     def limits():
         signal.signal(signal.SIGXFSZ, signal.SIG_IGN)
         resource.setrlimit(resource.RLIMIT_FSIZE, (10, 10))
@@ -178,7 +178,7 @@ def try_limited(files):
 
 
 def try_own_input(files):
-    """A file that is read is not written, by whatever path."""
+    """The program does not write over its own input, whatever path leads there."""
     name = files.made("own.rs", b"fn main() {}")
     link = files.room / "own_link"
     link.symlink_to(name)
@@ -188,7 +188,7 @@ def try_own_input(files):
 
 
 def try_replaced(files):
-    """A link stays, and its target is replaced and keeps its permissions; a new file of an earlier run is not touched."""
+    """A link stays; its target is replaced and keeps its permissions. A file of an earlier run stays too."""
     piece = files.room / "piece"
     files.gives(b"", "pack", "-", "-o", str(piece), given=b"fn main() {}")
     target = pathlib.Path(files.made("target", b"old"))
@@ -206,7 +206,7 @@ def try_replaced(files):
 
 
 def try_device(files):
-    """A pipe is written to."""
+    """The program writes to a pipe as it is."""
     piece = files.room / "piece"
     files.gives(b"", "pack", "-", "-o", str(piece), given=b"fn main() {}")
     files.gives(piece.read_bytes(), "pack", "-", "-o", "/dev/stdout", given=b"fn main() {}")
@@ -215,17 +215,17 @@ def try_device(files):
 # ---- arguments and pipes
 
 def try_help(files):
-    """`--help` tells each command, of the program and of a command."""
+    """`--help` of the program names each command, and that of a command its usage."""
     status, written, told = files.run("--help")
     wants("the run", (status, told), (0, b""))
     for word in (b"Usage: cuvolemin", b"expand", b"check", b"tokens", b"tree", b"unpack", b"--version"):
         if word not in written:
-            raise Wrong(f"{word} is not told")
+            raise Wrong(f"--help does not name {word}")
     for command in ("expand", "check", "tokens", "tree", "pack", "unpack"):
         status, written, told = files.run(command, "--help")
         wants("the run", (status, told), (0, b""))
         if f"Usage: cuvolemin {command}".encode() not in written:
-            raise Wrong(f"the usage of {command} is not told")
+            raise Wrong(f"--help of {command} does not print its usage")
 
 
 def try_version(files):
@@ -247,19 +247,19 @@ def try_mistakes(files):
 
 
 def try_closed_pipe(files):
-    """Who closes the pipe has read enough: nothing is told."""
+    """A reader that closes the pipe has read enough: the program prints no diagnostic."""
     first, told = files.reads_some("tokens", given=b"a " * WORDS)
     wants("the first line", first.split(b"\n")[0], b'0..1 Ident "a"')
-    wants("what is told", told, b"")
+    wants("the diagnostic", told, b"")
     first, told = files.reads_some("tree", given=b"(" * DEPTH + b")" * DEPTH)
     wants("the first line", first.split(b"\n")[0], f"SUBTREE () 1:1..1:2 1:{2 * DEPTH}..1:{2 * DEPTH + 1}".encode())
-    wants("what is told", told, b"")
+    wants("the diagnostic", told, b"")
 
 
 # ---- long and deep texts
 
 def try_deep(files):
-    """Brackets that stand in one another: their tokens, their piece, and where one is left open."""
+    """Nested brackets: their tokens, their piece, and the diagnostic if one is left open."""
     text = b"(" * DEPTH + b")" * DEPTH
     name = files.made("deep", text)
     opens = "".join(f'{at}..{at + 1} OpenParen "("\n' for at in range(DEPTH))
@@ -291,7 +291,7 @@ def try_long(files):
     files.gives(lines.encode(), "tree", given="é\n".encode() * WORDS)
 
 
-# What is tried of an example, by the ending of what stands beside it.
+# The trials of an example, by the ending of a file beside it.
 OF_EXAMPLES = (
     (".tokens", "tokens", try_tokens),
     (".err", "fault", try_fault),
@@ -301,7 +301,7 @@ OF_EXAMPLES = (
 
 
 def tried_examples(files):
-    """What is tried of each example, by its name. Nothing stands beside no text, and no text is tried in no way."""
+    """The trials of each example, by name. Each file belongs to a text, and each text has a trial."""
     for example in sorted(EXAMPLES.glob("*.rs")):
         of_it = [
             (f"{what} of {example.name}", lambda example=example, try_one=try_one: try_one(files, example))

@@ -1,4 +1,4 @@
-"""A program that is run over files, and what a run may be refused for."""
+"""Runs a program on files, and raises `Wrong` if a run did something else than expected."""
 import os
 import pathlib
 import subprocess
@@ -9,7 +9,7 @@ FIRST_BYTES = 300
 
 
 class Wrong(Exception):
-    """What a run did, and should not have."""
+    """A run did something that it should not do."""
 
 
 def wants(what, found, expected):
@@ -39,30 +39,30 @@ class Files:
         return done.returncode, done.stdout, done.stderr
 
     def started(self, *words, stderr, environment):
-        """A run that is begun, with a stream for what it tells, and some variables more."""
+        """Starts a run, with a stream for its diagnostics and more variables of the environment."""
         return subprocess.Popen(
             [self.program, *words],
             stdin=subprocess.PIPE, stdout=subprocess.PIPE, stderr=stderr, env={**os.environ, **environment},
         )
 
     def gives(self, expected, *words, given=b""):
-        """Refuses a run that does not write just that, with status 0."""
+        """Refuses a run that does not write exactly these bytes, with status 0."""
         wants("the run", self.run(*words, given=given), (0, expected, b""))
 
     def tells(self, expected, *words, given=b""):
-        """Refuses a run that does not tell just that, with status 1."""
+        """Refuses a run whose diagnostics are not exactly these, with status 1."""
         wants("the run", self.run(*words, given=given), (1, b"", expected.encode()))
 
     def mistake(self, *words):
-        """Refuses a run that does not tell of a mistake in the arguments."""
+        """Refuses a run that does not report a mistake in the arguments."""
         status, written, told = self.run(*words)
         wants("the status", status, 2)
         wants("what is written", written, b"")
         if b"cuvolemin" not in told or b"Usage:" not in told:
-            raise Wrong(f"the usage is not told: {told[:200]}")
+            raise Wrong(f"the usage is missing: {told[:200]}")
 
     def reads_some(self, *words, given):
-        """The first bytes that a run writes, and what it tells where the pipe is closed then."""
+        """The first bytes that a run writes, and its diagnostics if the pipe is closed then."""
         name = self.made("given", given)
         started = subprocess.Popen([self.program, *words, name], stdout=subprocess.PIPE, stderr=subprocess.PIPE)
         first = started.stdout.read(FIRST_BYTES)
