@@ -212,6 +212,8 @@ test_told test.Text it e = text_told it e
 test_told test.Number it e = number_told it e
 test_told test.Delimited it e = delimited_told it e
 test_told test.Opaque it e = opaque_told it e
+test_told (test.Holding kind name) it e = same_told it (unit.Subtree kind) e
+test_told (test.OpaqueHolding name) it e = opaque_told it e
 test_told test.BinaryOperator it e = among_told
     (codes "+-*/%^&|<>") (codes "<<" ∷ codes ">>" ∷ codes "==" ∷ codes "!=" ∷ codes "<=" ∷ codes ">=" ∷ codes "&&" ∷ codes "||" ∷ []) [] (begins test.BinaryOperator) refl refl refl it e
 test_told test.AssignmentOperator it e = among_told

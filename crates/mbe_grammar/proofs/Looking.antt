@@ -16,8 +16,8 @@ use Rattle.mbe_grammar.specs.declared.test.Test.TheVariants as test
 use Rattle.mbe_grammar.specs.Kinds.{kind_of}
 use Rattle.mbe_grammar.specs.Known.{glance_at, glance_in, fails_in, idles_in, fails_of, idles_of, begins, always_passes, is_within, is_right_rule, are_right}
 use Rattle.mbe_grammar.specs.Parses.{Answering, Holds, ParsesIn}
-use Rattle.mbe_grammar.specs.Positions.{Position, takes, behind}
-use Rattle.mbe_grammar.specs.Tests.{passes, taken_size}
+use Rattle.mbe_grammar.specs.Positions.{Position, takes, behind, held_by, noted}
+use Rattle.mbe_grammar.specs.Tests.{named, passes, taken_size}
 use Rattle.mbe_grammar.specs.Units.{first_unit}
 use Rattle.mbe_grammar.proofs.Agreeing.{Agrees, UnitsTaken, units_taken}
 use Rattle.mbe_grammar.proofs.BeginsTold.{begins_told}
@@ -69,14 +69,16 @@ always_told (Some (rule.Unit test.Text)) from e = absurd (no_bit (kind_of (first
 always_told (Some (rule.Unit test.Number)) from e = absurd (no_bit (kind_of (first_unit from.rest)) e)
 always_told (Some (rule.Unit test.Delimited)) from e = absurd (no_bit (kind_of (first_unit from.rest)) e)
 always_told (Some (rule.Unit test.Opaque)) from e = absurd (no_bit (kind_of (first_unit from.rest)) e)
+always_told (Some (rule.Unit (test.Holding kind name))) from e = absurd (no_bit (kind_of (first_unit from.rest)) e)
+always_told (Some (rule.Unit (test.OpaqueHolding name))) from e = absurd (no_bit (kind_of (first_unit from.rest)) e)
 always_told (Some (rule.Unit test.BinaryOperator)) from e = absurd (no_bit (kind_of (first_unit from.rest)) e)
 always_told (Some (rule.Unit test.AssignmentOperator)) from e = absurd (no_bit (kind_of (first_unit from.rest)) e)
 always_told (Some (rule.Unit test.BeginsExpression)) from e = absurd (no_bit (kind_of (first_unit from.rest)) e)
 
 -- what passes a test is taken, and what does not pass is not
 taken_of : (wanted : Test) (from : Position) (b : Bool) → passes wanted (first_unit from.rest) ≡ b
-    → takes wanted from ≡ cond b (Some (behind (taken_size wanted (first_unit from.rest)) from)) None
-taken_of wanted from b e = ap (λ (c : Bool). cond c (Some (behind (taken_size wanted (first_unit from.rest)) from)) None) e
+    → takes wanted from ≡ cond b (Some (noted (held_by (named wanted) from.rest) (behind (taken_size wanted (first_unit from.rest)) from))) None
+taken_of wanted from b e = ap (λ (c : Bool). cond c (Some (noted (held_by (named wanted) from.rest) (behind (taken_size wanted (first_unit from.rest)) from))) None) e
 
 module _ (known : List Known) (rules : List Rule) (right : are_right known rules 0 rules ≡ true) where
   right_at : (at : ℕ) → RightIn known rules at (slice_get rules at)

@@ -1,5 +1,5 @@
 -- The machine's answer by Rust's table is how far a fragment reaches.
-use Rattle.std.proofs.Common.{◌≡◌, ℕ, List, Some, None, subst}
+use Rattle.std.proofs.Common.{◌≡◌, ℕ, List, [], Some, None, subst}
 use Rattle.std.specs.Prelude.{Option}
 use Rattle.tt.specs.Forest.{Forest}
 use Rattle.mbe_grammar.specs.declared.rule.Rule.{Rule}
@@ -23,13 +23,15 @@ answered which trees answer h =
 -- It ends at a place.
 pub reached : (which : GrammarFragment) (trees : Forest) (to : Position) → Parses rust_rules (start (name_of which)) (first_position trees) (Some to)
     → Reaches which trees (Some to.passed)
-reached which trees to h =
-    subst (λ (p : Position). Answers stands (stands (name_of which)) (first_position trees) (Some p))
-    (counted trees to (parsed_behind rust_rules (start (name_of which)) (first_position trees) (Some to) h)) (answered which trees (Some to) h)
+reached which trees to h = (
+  to.taken,
+  subst (λ (p : Position). Answers stands (stands (name_of which)) (first_position trees) (Some p))
+      (counted trees to (parsed_behind rust_rules (start (name_of which)) (first_position trees) (Some to) h)) (answered which trees (Some to) h),
+)
 
 -- It fails.
 pub failed : (which : GrammarFragment) (trees : Forest) → Parses rust_rules (start (name_of which)) (first_position trees) None → Reaches which trees None
-failed which trees h = answered which trees None h
+failed which trees h = ([], answered which trees None h)
 
 -- An answer carries over if everything is equal.
 pub carried : (rules others : List Rule) (at there : ℕ) (from place : Position) (answer found : Option Position) → rules ≡ others → at ≡ there → from ≡ place

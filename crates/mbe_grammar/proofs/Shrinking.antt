@@ -12,8 +12,8 @@ use Rattle.mbe_grammar.specs.declared.test.Test.{Test}
 use Rattle.mbe_grammar.specs.declared.test.Test.TheVariants as test
 use Rattle.mbe_grammar.specs.declared.unit.Unit.{Unit}
 use Rattle.mbe_grammar.specs.declared.unit.Unit.TheVariants as unit
-use Rattle.mbe_grammar.specs.Positions.{Position, behind, takes}
-use Rattle.mbe_grammar.specs.Tests.{passes, taken_size}
+use Rattle.mbe_grammar.specs.Positions.{Position, behind, held_by, noted, takes}
+use Rattle.mbe_grammar.specs.Tests.{named, passes, taken_size}
 use Rattle.mbe_grammar.specs.Units.{unit_of_puncts, first_unit, size_of_unit}
 use Rattle.mbe_pattern.proofs.Passing.{after_less}
 use Rattle.mbe_pattern.proofs.PartSteps.{unit_length}
@@ -42,6 +42,8 @@ taken_full test.Text of = unit_full of
 taken_full test.Number of = unit_full of
 taken_full test.Delimited of = unit_full of
 taken_full test.Opaque of = unit_full of
+taken_full (test.Holding kind name) of = unit_full of
+taken_full (test.OpaqueHolding name) of = unit_full of
 taken_full test.BinaryOperator of = unit_full of
 taken_full test.AssignmentOperator of = unit_full of
 taken_full test.BeginsExpression of = unit_full of
@@ -156,6 +158,8 @@ taken_fits test.Text trees e = whole trees (passing_some test.Text trees e)
 taken_fits test.Number trees e = whole trees (passing_some test.Number trees e)
 taken_fits test.Delimited trees e = whole trees (passing_some test.Delimited trees e)
 taken_fits test.Opaque trees e = whole trees (passing_some test.Opaque trees e)
+taken_fits (test.Holding kind name) trees e = whole trees (passing_some (test.Holding kind name) trees e)
+taken_fits (test.OpaqueHolding name) trees e = whole trees (passing_some (test.OpaqueHolding name) trees e)
 taken_fits test.BinaryOperator trees e = whole trees (passing_some test.BinaryOperator trees e)
 taken_fits test.AssignmentOperator trees e = whole trees (passing_some test.AssignmentOperator trees e)
 taken_fits test.BeginsExpression trees e = whole trees (passing_some test.BeginsExpression trees e)
@@ -168,10 +172,10 @@ size_left from = size from.rest
 pub takes_shrinks : (it : Test) (from to : Position) → takes it from ≡ Some to → size_left to < size_left from
 takes_shrinks it from to e = by (passes it (first_unit from.rest)) refl e
   where
-    by : (b : Bool) → passes it (first_unit from.rest) ≡ b → cond b (Some (behind (taken_size it (first_unit from.rest)) from)) None ≡ Some to
+    by : (b : Bool) → passes it (first_unit from.rest) ≡ b → cond b (Some (noted (held_by (named it) from.rest) (behind (taken_size it (first_unit from.rest)) from))) None ≡ Some to
         → size_left to < size_left from
     by true f g =
-        let same : behind (taken_size it (first_unit from.rest)) from ≡ to = cc g in
+        let same : noted (held_by (named it) from.rest) (behind (taken_size it (first_unit from.rest)) from) ≡ to = cc g in
         let full = taken_full it (first_unit from.rest) in
         let fits = taken_fits it from.rest f in
         subst (λ (p : Position). size p.rest < size from.rest) same (omega (arith, fits, full.1))

@@ -9,6 +9,7 @@ use Rattle.mbe_grammar.specs.declared.rule.Rule.{Rule}
 use Rattle.mbe_grammar.specs.declared.rule.Rule.TheVariants as rule
 use Rattle.mbe_grammar.specs.declared.test.Test.{Test}
 use Rattle.mbe_grammar.specs.declared.test.Test.TheVariants as test
+use Rattle.mbe_grammar.specs.declared.unit.Unit.TheVariants as unit
 use Rattle.mbe_grammar.specs.Kinds.{kind_of, kind_of_char}
 use Rattle.mbe_grammar.specs.Positions.{Position}
 use Rattle.mbe_grammar.specs.Units.{first_unit}
@@ -66,6 +67,8 @@ begins test.Text = bits (2 ∷ [])
 begins test.Number = bits (2 ∷ [])
 begins test.Delimited = bits (3 ∷ 4 ∷ 5 ∷ [])
 begins test.Opaque = bits (6 ∷ [])
+begins (test.Holding kind name) = 2 ^ (kind_of (unit.Subtree kind) % 64)
+begins (test.OpaqueHolding name) = bits (6 ∷ [])
 begins test.BinaryOperator = bits_of (codes "+-*/%^&|<>=!")
 begins test.AssignmentOperator = bits_of (codes "=+-*/%^&|<>")
 begins test.BeginsExpression = bit_or (bits (1 ∷ 2 ∷ 3 ∷ 5 ∷ 6 ∷ [])) (bit_or (bits first_words) (bits_of (codes "!-*|&<#.:")))

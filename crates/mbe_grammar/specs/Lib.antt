@@ -1,4 +1,5 @@
 -- Parsing expressions over trees, and Rust's grammar as a table of them.
+pub mod Contents
 pub mod Expressions
 pub mod Fragments
 pub mod Good

@@ -1,5 +1,5 @@
 -- Which units pass a test.
-use Rattle.std.specs.Prelude.{◌==◌, ◌||◌, not, ℕ, Bool, true, false, List, [], ◌∷◌, codes, bytes_eq}
+use Rattle.std.specs.Prelude.{◌==◌, ◌||◌, not, ℕ, Bool, true, false, Option, None, Some, List, [], ◌∷◌, codes, bytes_eq}
 use Rattle.std.specs.List.{list_any}
 use Rattle.tt.specs.Types.DelimiterKind.{DelimiterKind}
 use Rattle.tt.specs.Types.DelimiterKind.TheVariants as delimiter
@@ -110,6 +110,8 @@ passes_test test.Text it = is_literal_of is_text_kind it
 passes_test test.Number it = is_literal_of is_number_kind it
 passes_test test.Delimited it = is_subtree_of (λ kind. not (is_opaque_kind kind)) it
 passes_test test.Opaque it = is_subtree_of is_opaque_kind it
+passes_test (test.Holding kind name) it = same_unit it (unit.Subtree kind)
+passes_test (test.OpaqueHolding name) it = is_subtree_of is_opaque_kind it
 passes_test test.BinaryOperator it = is_binary_operator it
 passes_test test.AssignmentOperator it = is_assignment_operator it
 passes_test test.BeginsExpression it = may_begin_expression it
@@ -123,3 +125,9 @@ passes wanted it = passes_test wanted it
 abbrev pub taken_size : Test → Unit → ℕ
 taken_size (test.Front char) it = 1
 taken_size _ it = size_of_unit it
+
+-- the index of the expression that the trees of the subtree must be, for a test that names one
+abbrev pub named : Test → Option ℕ
+named (test.Holding kind name) = Some name
+named (test.OpaqueHolding name) = Some name
+named _ = None

@@ -49,7 +49,8 @@ pub fn reach(
     ensures { IfOk result (λ count. Reaches fragment (rest_of trees.entry) count) }
 {
     let from = Place::first(trees.remaining());
-    match parse(alloc, rust_table(), start_of(fragment), from)? {
+    let mut log = Vec::new(alloc);
+    match parse(alloc, rust_table(), start_of(fragment), from, &mut log)? {
         Some(place) => Ok(Some(place.passed())),
         None => Ok(None),
     }

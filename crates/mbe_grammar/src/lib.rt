@@ -3,8 +3,12 @@
 //! docs/GRAMMAR.md is the source of the table. `checks/lay_out_grammar.py` makes `src/rust.rt`, `src/rust_marks.rt`, `src/rust_known.rt`,
 //! `specs/Names.antt`, `specs/Rust.antt` and `proofs/RustLaid.antt` from it. `reach` runs the machine of parsing expressions on the
 //! siblings, with a stack of the rules that are under way. It does not look into subtrees.
+//!
+//! A table may name the contents of a subtree. Then the machine adds the subtree to a log, and cuts the log back if a choice fails. `are`
+//! reads each entry of the log by its name, without recursion. Rust's table names no contents.
 #![tactic(auto)]
 
+mod contents;
 mod fragments;
 mod kind;
 mod known;
@@ -16,16 +20,19 @@ mod rust;
 mod rust_known;
 mod rust_marks;
 mod table;
+mod taken;
 mod test;
 mod unit;
 mod words;
 
+pub use contents::are;
 pub use fragments::reach;
 pub use known::Known;
 pub use machine::parse;
 pub use place::Place;
 pub use rule::{Mark, Rule};
 pub use table::Table;
+pub use taken::Taken;
 pub use test::Test;
 pub use unit::Unit;
 pub use words::Word;

@@ -1,7 +1,8 @@
 //! A place among trees, and the unit at that place.
 ghost use Rattle.std.specs.Coded.{Coded-set};
-ghost use Rattle.std.specs.Prelude.{◌≡◌, ◌+◌, ◌<◌, ◌≤◌, ◌^◌};
+ghost use Rattle.std.specs.Prelude.{◌≡◌, ◌+◌, ◌++◌, ◌<◌, ◌≤◌, ◌^◌, [], map, IfOk};
 ghost use Rattle.tt.specs.Forest.{size};
+ghost use Rattle.tt.specs.Siblings.{is_end};
 ghost use Rattle.tt.specs.Moves.{after_tree};
 ghost use Rattle.tt.specs.Views.{trees_of};
 ghost use Rattle.tt_base.specs.Unflat.{forest_code};
@@ -9,10 +10,12 @@ ghost use Rattle.mbe_grammar.specs.Kinds.{kind_of};
 ghost use Rattle.mbe_grammar.specs.Units.{first_unit};
 
 use crate::known::{Glance, Known, look};
+use crate::taken::Taken;
 use crate::test::Test;
 use crate::unit::Unit;
 use mbe_pattern::pass;
-use tt::TokenTreesView;
+use std::alloc::AllocError;
+use tt::{TokenTreesView, TtElement};
 
 /// A place among trees: the trees that are left, those after the first of them, the first unit, and how many trees were passed.
 #[derive(Clone, Copy)]
@@ -32,9 +35,10 @@ pub struct Place<'t> {
 impl<'t> Place<'t> {
     ghost use Rattle.tt.specs.Gluing.{after_trees};
     ghost use Rattle.mbe_grammar.specs.Known.{glance_at};
-    ghost use Rattle.mbe_grammar.specs.Places.{position_of};
-    ghost use Rattle.mbe_grammar.specs.Positions.{first_position, behind, takes};
-    ghost use Rattle.mbe_grammar.specs.Running.{answer_at};
+    ghost use Rattle.mbe_grammar.specs.Places.{held_of, position_of};
+    ghost use Rattle.mbe_grammar.specs.Positions.{first_position, held_by, takes};
+    ghost use Rattle.mbe_grammar.specs.Tests.{named};
+    ghost use Rattle.mbe_grammar.specs.Running.{answer_at, Extends};
 
     // Returns the place before these trees, after that many passed ones.
     fn before(rest: TokenTreesView<'t>, passed: usize) -> Place<'t>
@@ -55,7 +59,7 @@ impl<'t> Place<'t> {
 
     /// Returns the place before all of these trees.
     pub fn first(rest: TokenTreesView<'t>) -> Place<'t>
-        ensures { position_of result ≡ first_position (trees_of rest.entry) }
+        ensures { position_of [] result ≡ first_position (trees_of rest.entry) }
     {
         Place::before(rest, 0)
     }
@@ -63,14 +67,14 @@ impl<'t> Place<'t> {
     /// Returns what the expression at that index of a table does here.
     #[inline(always)]
     pub(crate) fn glance(&self, known: &[Known], at: usize) -> Glance
-        ensures { result ≡ glance_at known.now at (position_of self.now) }
+        ensures { result ≡ glance_at known.now at (position_of [] self.now) }
     {
         look(known, at, self.kind)
     }
 
     /// Returns how many trees were passed.
     pub fn passed(self) -> usize
-        ensures { result ≡ (position_of self.entry).passed }
+        ensures { result ≡ self.entry.passed }
     {
         self.passed
     }
@@ -79,21 +83,49 @@ impl<'t> Place<'t> {
     fn moved(&self, count: usize) -> Place<'t>
         requires some { 0 < count }
         requires within { count + size (after_trees count (trees_of self.now.rest)) ≤ size (trees_of self.now.rest) }
-        ensures { position_of result ≡ behind count (position_of self.now) }
+        ensures passed { result.passed ≡ self.now.passed + count }
+        ensures rest { trees_of result.rest ≡ after_trees count (trees_of self.now.rest) }
     {
         let mut trees = self.behind.iter();
         pass(&mut trees, count - 1);
         Place::before(trees.remaining(), self.passed + count)
     }
 
-    /// Takes the first unit if it passes the test. Returns whether it does.
-    pub fn take(&mut self, test: Test) -> bool
-        ensures { answer_at (position_of self.new) result ≡ takes test (position_of self.old) }
+    // Adds the first tree to the log if it is a subtree and the test has a name.
+    #[inline(always)]
+    fn note(&self, test: Test, log: &mut Vec<Taken<'t>>) -> Result<(), AllocError>
+        ensures noted { IfOk result (λ _. map held_of log.new.items ≡ map held_of log.old.items ++ held_by (named test) (trees_of self.now.rest)) }
+        ensures more { IfOk result (λ _. Extends log.old.items log.new.items) }
+    {
+        if let Some(name) = test.named() {
+            if let Some(TtElement::Subtree(_, children)) = self.rest.iter().next() {
+                log.push(Taken {
+                    trees: children.remaining(),
+                    name,
+                })?;
+            }
+        }
+        Ok(())
+    }
+
+    /// Takes the first unit if it passes the test, and adds it to the log if the test has a name. Returns whether it passes.
+    #[inline(always)]
+    pub fn take(&mut self, test: Test, log: &mut Vec<Taken<'t>>) -> Result<bool, AllocError>
+        ensures answer { IfOk result (λ passes. answer_at (position_of log.new.items self.new) passes ≡ takes test (position_of log.old.items self.old)) }
+        ensures more { IfOk result (λ _. Extends log.old.items log.new.items) }
     {
         let passes = test.passes(self.unit);
         if passes {
+            self.note(test, log)?;
             *self = self.moved(test.taken_size(self.unit));
         }
-        passes
+        Ok(passes)
+    }
+
+    /// Returns whether no tree is left.
+    pub fn is_at_end(self) -> bool
+        ensures { result ≡ is_end (trees_of self.entry.rest) }
+    {
+        self.rest.is_empty()
     }
 }

@@ -1,6 +1,6 @@
 //! Which units pass a test.
 ghost use Rattle.std.specs.Prelude.{◌≡◌, not};
-ghost use Rattle.mbe_grammar.specs.Tests.{is_literal, is_text_kind, is_number_kind, is_opaque_kind, is_first_kind, has_front, is_binary_operator, is_assignment_operator, are_first_puncts, may_begin_expression, is_word, is_literal_of, is_subtree_of, passes_test, passes, taken_size};
+ghost use Rattle.mbe_grammar.specs.Tests.{is_literal, is_text_kind, is_number_kind, is_opaque_kind, is_first_kind, has_front, is_binary_operator, is_assignment_operator, are_first_puncts, may_begin_expression, is_word, is_literal_of, is_subtree_of, passes_test, passes, taken_size, named};
 ghost use Rattle.mbe_grammar.specs.Words.{is_reserved, is_path_segment, is_truth_value, begins_expression};
 
 use crate::unit::Unit;
@@ -29,6 +29,10 @@ pub enum Test {
     Delimited,
     /// A subtree whose delimiters are not printed.
     Opaque,
+    /// A subtree of that kind. The log names the expression, by its index, that its trees must be.
+    Holding(DelimiterKind, usize),
+    /// A subtree whose delimiters are not printed. The log names the expression, by its index, that its trees must be.
+    OpaqueHolding(usize),
     /// An operator between two operands.
     BinaryOperator,
     /// An operator that assigns.
@@ -192,10 +196,22 @@ impl Test {
             (Test::Number, Unit::Literal(kind)) => is_number_kind(kind),
             (Test::Delimited, Unit::Subtree(kind)) => !is_opaque_kind(kind),
             (Test::Opaque, Unit::Subtree(kind)) => is_opaque_kind(kind),
+            (Test::Holding(kind, _), _) => unit == Unit::Subtree(kind),
+            (Test::OpaqueHolding(_), Unit::Subtree(kind)) => is_opaque_kind(kind),
             (Test::BinaryOperator, _) => unit.is_binary_operator(),
             (Test::AssignmentOperator, _) => unit.is_assignment_operator(),
             (Test::BeginsExpression, _) => unit.may_begin_expression(),
             _ => false,
+        }
+    }
+
+    /// Returns the index of the expression that the trees of the subtree must be, for a test that names one.
+    pub fn named(self) -> Option<usize>
+        ensures { result ≡ named self }
+    {
+        match self {
+            Test::Holding(_, name) | Test::OpaqueHolding(name) => Some(name),
+            _ => None,
         }
     }
 

@@ -1,10 +1,9 @@
 -- What is passed and what is left still fit together.
-use Rattle.std.proofs.Common.{◌≡◌, ◌+◌, ◌-◌, ◌<◌, ◌^◌, ℕ, zero, suc, sym, subst, ap, ap₂, ◌∙◌, arith}
+use Rattle.std.proofs.Common.{◌≡◌, ◌+◌, ◌-◌, ◌<◌, ◌^◌, ℕ, zero, suc, sym, subst, ap, ◌∙◌, arith}
 use Rattle.tt.specs.Forest.{Forest, size}
 use Rattle.tt.specs.Gluing.{after_trees}
 use Rattle.tt.specs.Moves.{after_tree}
 use Rattle.tt.specs.Views.{trees_of}
-use Rattle.mbe_grammar.specs.Positions.{Position}
 use Rattle.mbe_grammar.proofs.place.Place.moved.Goals as goal
 
 -- The trees after some are those after the rest of them, once the first is passed.
@@ -13,10 +12,6 @@ behind_first zero trees h = absurd (omega (arith, h))
 behind_first (suc count) trees h =
     let less : suc count - 1 ≡ count = omega arith in
     ap (λ n. after_trees n (after_tree trees)) less
-
--- a place
-abbrev place_at : (passed : ℕ) (rest : Forest) → Position
-place_at passed rest = record { passed = passed; rest = rest }
 
 -- What is left comes after that many trees.
 abbrev Left : (count : ℕ) (all left : Forest) → Type 0
@@ -36,4 +31,4 @@ returns c =
     let left : Left c.args.count all (trees_of c.remaining.result) =
     c.remaining.ensures ∙ c.pass.ensures.rest ∙ ap (after_trees (c.args.count - 1)) (c.iter-trees.ensures ∙ c.args.self.now.is_behind)
     ∙ behind_first c.args.count all c.requires.some in
-    ap₂ place_at c.before-2.ensures.passed (c.before-2.ensures.rest ∙ left)
+    record { passed = c.before-2.ensures.passed; rest = c.before-2.ensures.rest ∙ left }
