@@ -2,6 +2,8 @@ pub mod Agreeing
 pub mod BeginsTold
 pub mod Behind
 pub mod Bits
+pub mod Deriving
+pub mod Draining
 pub mod EachWord
 pub mod FragmentAnswers
 pub mod KindsTold
@@ -10,13 +12,14 @@ pub mod Log
 pub mod Looking
 pub mod Marks
 pub mod NothingKnown
+pub mod Noting
 pub mod OneAnswer
+pub mod OneDerivation
+pub mod Plain
 pub mod Reached
 pub mod Reaching
-pub mod Reading
 pub mod RustLaid
 pub mod Shrinking
-pub mod Starting
 pub mod Stepping
 pub mod Steps
 pub mod Total

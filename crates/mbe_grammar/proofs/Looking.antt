@@ -6,7 +6,8 @@ use Rattle.std.proofs.lemmas.Nat.Bits.{bit_at-zero}
 use Rattle.std.proofs.lemmas.Option.{slice_get_past}
 use Rattle.std.specs.Int.{bit_at}
 use Rattle.std.specs.Int.RustNames.{bit_and, bit_or}
-use Rattle.std.specs.Prelude.{◌⊎◌, ◌%◌, ◌==◌, slice_get, Option, nat_lt}
+use Rattle.std.specs.Prelude.{◌⊎◌, ◌%◌, ◌==◌, slice_get, Option, option_map, nat_lt}
+use Rattle.tt.specs.Forest.{Forest}
 use Rattle.mbe_grammar.specs.declared.known.Glance.TheVariants as glance
 use Rattle.mbe_grammar.specs.declared.known.Known.{Known}
 use Rattle.mbe_grammar.specs.declared.rule.Rule.{Rule}
@@ -16,13 +17,14 @@ use Rattle.mbe_grammar.specs.declared.test.Test.TheVariants as test
 use Rattle.mbe_grammar.specs.Kinds.{kind_of}
 use Rattle.mbe_grammar.specs.Known.{glance_at, glance_in, fails_in, idles_in, fails_of, idles_of, begins, always_passes, is_within, is_right_rule, are_right}
 use Rattle.mbe_grammar.specs.Parses.{Answering, Holds, ParsesIn}
-use Rattle.mbe_grammar.specs.Positions.{Position, takes, behind, held_by, noted}
-use Rattle.mbe_grammar.specs.Tests.{named, passes, taken_size}
+use Rattle.mbe_grammar.specs.Positions.{Position, enters, taken, takes, opened, closed}
+use Rattle.mbe_grammar.specs.Tests.{passes}
 use Rattle.mbe_grammar.specs.Units.{first_unit}
 use Rattle.mbe_grammar.proofs.Agreeing.{Agrees, UnitsTaken, units_taken}
 use Rattle.mbe_grammar.proofs.BeginsTold.{begins_told}
 use Rattle.mbe_grammar.proofs.Bits.{of_both, of_one, of_outer, of_nothing, of_apart}
 use Rattle.mbe_grammar.proofs.KindsTold.{IsOf, segment_of_kind}
+use Rattle.mbe_grammar.proofs.Noting.{noted_rest, closed_opened}
 use Rattle.mbe_grammar.proofs.Marks.{left_true, right_true}
 
 -- what is known is right if there is an expression; otherwise nothing is known
@@ -76,11 +78,10 @@ always_told (Some (rule.Unit test.AssignmentOperator)) from e = absurd (no_bit (
 always_told (Some (rule.Unit test.BeginsExpression)) from e = absurd (no_bit (kind_of (first_unit from.rest)) e)
 
 -- what passes a test is taken, and what does not pass is not
-taken_of : (wanted : Test) (from : Position) (b : Bool) → passes wanted (first_unit from.rest) ≡ b
-    → takes wanted from ≡ cond b (Some (noted (held_by (named wanted) from.rest) (behind (taken_size wanted (first_unit from.rest)) from))) None
-taken_of wanted from b e = ap (λ (c : Bool). cond c (Some (noted (held_by (named wanted) from.rest) (behind (taken_size wanted (first_unit from.rest)) from))) None) e
+taken_of : (noting : Bool) (wanted : Test) (from : Position) (b : Bool) → passes wanted (first_unit from.rest) ≡ b → takes noting wanted from ≡ cond b (Some (taken noting wanted from)) None
+taken_of noting wanted from b e = ap (λ (c : Bool). cond c (Some (taken noting wanted from)) None) e
 
-module _ (known : List Known) (rules : List Rule) (right : are_right known rules 0 rules ≡ true) where
+module _ (noting : Bool) (known : List Known) (rules : List Rule) (right : are_right known rules 0 rules ≡ true) where
   right_at : (at : ℕ) → RightIn known rules at (slice_get rules at)
   right_at at =
       let same : 0 + at ≡ at = omega arith in
@@ -105,19 +106,19 @@ module _ (known : List Known) (rules : List Rule) (right : are_right known rules
     λ f. absurd (no_bit (kind_of (first_unit from.rest)) (subst (λ it. IsOf (idles_in it) (kind_of (first_unit from.rest))) e f)),
   )
 
-  unit_fails : (wanted : Test) (from : Position) (fails : ℕ) → (bit_and fails (begins wanted) == 0) ≡ true → IsOf fails (kind_of (first_unit from.rest)) → takes wanted from ≡ None
+  unit_fails : (wanted : Test) (from : Position) (fails : ℕ) → (bit_and fails (begins wanted) == 0) ≡ true → IsOf fails (kind_of (first_unit from.rest)) → takes noting wanted from ≡ None
   unit_fails wanted from fails g f = by (passes wanted (first_unit from.rest)) refl
     where
-      by : (b : Bool) → passes wanted (first_unit from.rest) ≡ b → takes wanted from ≡ None
+      by : (b : Bool) → passes wanted (first_unit from.rest) ≡ b → takes noting wanted from ≡ None
       by true e = absurd (of_apart fails (begins wanted) (kind_of (first_unit from.rest) % 64) g f (begins_told wanted (first_unit from.rest) e))
-      by false e = taken_of wanted from false e
+      by false e = taken_of noting wanted from false e
 
   -- the same place after a part that takes nothing
   same_place : (from middle : Position) → Some middle ≡ Some from → from ≡ middle
   same_place from middle e = cc e
 
   sequence_fails : (P : Answering) → TellsOf P → (first second : ℕ) (from : Position) (answer : Option Position)
-      → Holds takes P 0 (Some (rule.Sequence first second)) from answer
+      → Holds noting P 0 (Some (rule.Sequence first second)) from answer
       → (FailsHere first from ⊎ (IdlesHere first from × FailsHere second from)) → answer ≡ None
   sequence_fails P f first second from answer (inl h) how = h.1
   sequence_fails P f first second from answer (inr h) (inl k) = absurd (cc ((f first from (Some h.0) h.1).0 k))
@@ -126,19 +127,19 @@ module _ (known : List Known) (rules : List Rule) (right : are_right known rules
       (f second from answer (subst (λ m. P second m answer) (sym same) h.2)).0 k.1
 
   sequence_idles : (P : Answering) → TellsOf P → (first second : ℕ) (from : Position) (answer : Option Position)
-      → Holds takes P 0 (Some (rule.Sequence first second)) from answer → IdlesHere first from → IdlesHere second from → answer ≡ Some from
+      → Holds noting P 0 (Some (rule.Sequence first second)) from answer → IdlesHere first from → IdlesHere second from → answer ≡ Some from
   sequence_idles P f first second from answer (inl h) one two = absurd (cc ((f first from None h.0).1 one))
   sequence_idles P f first second from answer (inr h) one two =
       let same : from ≡ h.0 = same_place from h.0 ((f first from (Some h.0) h.1).1 one) in
       (f second from answer (subst (λ m. P second m answer) (sym same) h.2)).1 two
 
   choice_fails : (P : Answering) → TellsOf P → (first other : ℕ) (from : Position) (answer : Option Position)
-      → Holds takes P 0 (Some (rule.Choice first other)) from answer → FailsHere first from → FailsHere other from → answer ≡ None
+      → Holds noting P 0 (Some (rule.Choice first other)) from answer → FailsHere first from → FailsHere other from → answer ≡ None
   choice_fails P f first other from answer (inl h) one two = (f other from answer h.1).0 two
   choice_fails P f first other from answer (inr h) one two = absurd (cc ((f first from (Some h.0) h.1).0 one))
 
   choice_idles : (P : Answering) → TellsOf P → (first other : ℕ) (from : Position) (answer : Option Position)
-      → Holds takes P 0 (Some (rule.Choice first other)) from answer
+      → Holds noting P 0 (Some (rule.Choice first other)) from answer
       → (IdlesHere first from ⊎ (FailsHere first from × IdlesHere other from)) → answer ≡ Some from
   choice_idles P f first other from answer (inl h) (inl k) = absurd (cc ((f first from None h.0).1 k))
   choice_idles P f first other from answer (inl h) (inr k) = (f other from answer h.1).1 k.1
@@ -146,26 +147,26 @@ module _ (known : List Known) (rules : List Rule) (right : are_right known rules
   choice_idles P f first other from answer (inr h) (inr k) = absurd (cc ((f first from (Some h.0) h.1).0 k.0))
 
   many_idles : (P : Answering) → TellsOf P → (at part : ℕ) (from : Position) (answer : Option Position)
-      → Holds takes P at (Some (rule.ZeroOrMore part)) from answer → FailsHere part from → answer ≡ Some from
+      → Holds noting P at (Some (rule.ZeroOrMore part)) from answer → FailsHere part from → answer ≡ Some from
   many_idles P f at part from answer (inl h) k = h.1
   many_idles P f at part from answer (inr h) k = absurd (cc ((f part from (Some h.0) h.1).0 k))
 
-  not_fails : (P : Answering) → TellsOf P → UnitsTaken takes rules P → (part : ℕ) (from : Position) (answer : Option Position)
-      → Holds takes P 0 (Some (rule.Not part)) from answer
+  not_fails : (P : Answering) → TellsOf P → UnitsTaken noting rules P → (part : ℕ) (from : Position) (answer : Option Position)
+      → Holds noting P 0 (Some (rule.Not part)) from answer
       → (IdlesHere part from ⊎ IsOf (always_passes (slice_get rules part)) (kind_of (first_unit from.rest))) → answer ≡ None
   not_fails P f u part from answer (inr h) how = h.2
   not_fails P f u part from answer (inl h) (inl k) = absurd (cc ((f part from None h.0).1 k))
   not_fails P f u part from answer (inl h) (inr k) =
       let it = always_told (slice_get rules part) from k in
-      absurd (cc (u part from None it.0 it.1 h.0 ∙ taken_of it.0 from true it.2))
+      absurd (cc (u part from None it.0 it.1 h.0 ∙ taken_of noting it.0 from true it.2))
 
   not_idles : (P : Answering) → TellsOf P → (part : ℕ) (from : Position) (answer : Option Position)
-      → Holds takes P 0 (Some (rule.Not part)) from answer → FailsHere part from → answer ≡ Some from
+      → Holds noting P 0 (Some (rule.Not part)) from answer → FailsHere part from → answer ≡ Some from
   not_idles P f part from answer (inl h) k = h.1
   not_idles P f part from answer (inr h) k = absurd (cc ((f part from (Some h.0) h.1).0 k))
 
-  told_by : (P : Answering) → TellsOf P → UnitsTaken takes rules P
-      → (at : ℕ) (from : Position) (answer : Option Position) (it : Option Rule) → RightIn known rules at it → Holds takes P at it from answer → Told at from answer
+  told_by : (P : Answering) → TellsOf P → UnitsTaken noting rules P
+      → (at : ℕ) (from : Position) (answer : Option Position) (it : Option Rule) → RightIn known rules at it → Holds noting P at it from answer → Told at from answer
   told_by P f u at from answer None g h = not_known at from answer g
   told_by P f u at from answer (Some rule.Empty) g h = (λ k. absurd (of_nothing (fails_of known at) (kind_of (first_unit from.rest) % 64) g k), λ k. h)
   told_by P f u at from answer (Some (rule.Unit wanted)) g h = (
@@ -176,7 +177,14 @@ module _ (known : List Known) (rules : List Rule) (right : are_right known rules
       let k = kind_of (first_unit from.rest) % 64 in
       let a : is_within (fails_of known at) (fails_of known other) ≡ true = left_true _ (is_within (idles_of known at) (idles_of known other)) g in
       let b : is_within (idles_of known at) (idles_of known other) ≡ true = right_true (is_within (fails_of known at) (fails_of known other)) _ g in
-      (λ e. (f other from answer h).0 (of_outer (fails_of known at) (fails_of known other) k a e), λ e. (f other from answer h).1 (of_outer (idles_of known at) (idles_of known other) k b e))
+      let same : from.rest ≡ (opened noting at from).rest = sym (noted_rest noting (enters at ∷ []) from) in
+      let it = f other (opened noting at from) h.0 h.1 in (
+        λ e. h.2 ∙ ap (option_map (closed noting (length from.log)))
+            (it.0 (subst (λ (t : Forest). IsOf (fails_of known other) (kind_of (first_unit t))) same (of_outer (fails_of known at) (fails_of known other) k a e))),
+        λ e. h.2 ∙ ap (option_map (closed noting (length from.log)))
+            (it.1 (subst (λ (t : Forest). IsOf (idles_of known other) (kind_of (first_unit t))) same (of_outer (idles_of known at) (idles_of known other) k b e)))
+            ∙ ap Some (closed_opened noting at from),
+      )
   told_by P f u at from answer (Some (rule.Sequence first second)) g h =
       let k = kind_of (first_unit from.rest) % 64 in
       let fs = bit_and (idles_of known first) (fails_of known second) in
@@ -218,9 +226,9 @@ module _ (known : List Known) (rules : List Rule) (right : are_right known rules
       )
 
   -- Each derivation gives this answer.
-  told : (depth : ℕ) → TellsOf (ParsesIn takes rules depth)
+  told : (depth : ℕ) → TellsOf (ParsesIn noting rules depth)
   told zero at from answer h = absurd h
-  told (suc depth) at from answer h = told_by (ParsesIn takes rules depth) (told depth) (units_taken takes rules depth) at from answer (slice_get rules at) (right_at at) h
+  told (suc depth) at from answer h = told_by (ParsesIn noting rules depth) (told depth) (units_taken noting rules depth) at from answer (slice_get rules at) (right_at at) h
 
   agrees_by : (it : Option Known) (kind : ℕ) (from : Position) (answer : Option Position) → (bit_at (fails_in it) kind ≡ 1 → answer ≡ None) → (bit_at (idles_in it) kind ≡ 1 → answer ≡ Some from)
       → Agrees (glance_in it kind) from answer
@@ -233,6 +241,6 @@ module _ (known : List Known) (rules : List Rule) (right : are_right known rules
       by false false p q = tt
 
   -- So a look agrees with the answer.
-  pub agrees : (depth at : ℕ) (from : Position) (answer : Option Position) → ParsesIn takes rules depth at from answer → Agrees (glance_at known at from) from answer
+  pub agrees : (depth at : ℕ) (from : Position) (answer : Option Position) → ParsesIn noting rules depth at from answer → Agrees (glance_at known at from) from answer
   agrees depth at from answer h =
       let it = told depth at from answer h in agrees_by (slice_get known at) (kind_of (first_unit from.rest) % 64) from answer it.0 it.1

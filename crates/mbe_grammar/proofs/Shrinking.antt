@@ -12,9 +12,10 @@ use Rattle.mbe_grammar.specs.declared.test.Test.{Test}
 use Rattle.mbe_grammar.specs.declared.test.Test.TheVariants as test
 use Rattle.mbe_grammar.specs.declared.unit.Unit.{Unit}
 use Rattle.mbe_grammar.specs.declared.unit.Unit.TheVariants as unit
-use Rattle.mbe_grammar.specs.Positions.{Position, behind, held_by, noted, takes}
+use Rattle.mbe_grammar.specs.Positions.{Position, behind, count_of, entry_of, taken, takes}
 use Rattle.mbe_grammar.specs.Tests.{named, passes, taken_size}
 use Rattle.mbe_grammar.specs.Units.{unit_of_puncts, first_unit, size_of_unit}
+use Rattle.mbe_grammar.proofs.Noting.{noted_rest}
 use Rattle.mbe_pattern.proofs.Passing.{after_less}
 use Rattle.mbe_pattern.proofs.PartSteps.{unit_length}
 use Rattle.mbe_pattern.specs.Units.{quote, is_at_ident, unit_from, unit_size, front_leaves}
@@ -169,14 +170,15 @@ abbrev pub size_left : Position → ℕ
 size_left from = size from.rest
 
 -- A unit that is taken leaves less.
-pub takes_shrinks : (it : Test) (from to : Position) → takes it from ≡ Some to → size_left to < size_left from
-takes_shrinks it from to e = by (passes it (first_unit from.rest)) refl e
+pub takes_shrinks : (noting : Bool) (it : Test) (from to : Position) → takes noting it from ≡ Some to → size_left to < size_left from
+takes_shrinks noting it from to e = by (passes it (first_unit from.rest)) refl e
   where
-    by : (b : Bool) → passes it (first_unit from.rest) ≡ b → cond b (Some (noted (held_by (named it) from.rest) (behind (taken_size it (first_unit from.rest)) from))) None ≡ Some to
-        → size_left to < size_left from
+    by : (b : Bool) → passes it (first_unit from.rest) ≡ b → cond b (Some (taken noting it from)) None ≡ Some to → size_left to < size_left from
     by true f g =
-        let same : noted (held_by (named it) from.rest) (behind (taken_size it (first_unit from.rest)) from) ≡ to = cc g in
+        let same : taken noting it from ≡ to = cc g in
+        let left : (taken noting it from).rest ≡ after_trees (count_of it from.rest) from.rest =
+        noted_rest noting (entry_of (named it) (count_of it from.rest) from.rest ∷ []) (behind (count_of it from.rest) from) in
         let full = taken_full it (first_unit from.rest) in
         let fits = taken_fits it from.rest f in
-        subst (λ (p : Position). size p.rest < size from.rest) same (omega (arith, fits, full.1))
+        subst (λ (p : Position). size p.rest < size from.rest) same (subst (λ (t : Forest). size t < size from.rest) (sym left) (omega (arith, fits, full.1)))
     by false f g = absurd (cc g)

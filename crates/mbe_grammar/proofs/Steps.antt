@@ -1,39 +1,38 @@
 -- The machine goes through each derivation, and stops once.
-use Rattle.std.proofs.Common.{◌≡◌, inl, inr, ℕ, suc, zero, List, [], ◌∷◌, Some, None, refl, sym, subst, ap, ◌∙◌}
-use Rattle.std.specs.Prelude.{slice_get, Option}
+use Rattle.std.proofs.Common.{◌≡◌, inl, inr, ℕ, suc, zero, Bool, true, false, List, [], ◌∷◌, length, Some, None, refl, sym, subst, ap, ◌∙◌}
+use Rattle.std.specs.Prelude.{slice_get, Option, option_map}
 use Rattle.mbe_grammar.specs.declared.known.Glance.{Glance}
 use Rattle.mbe_grammar.specs.declared.known.Glance.TheVariants as glance
 use Rattle.mbe_grammar.specs.declared.rule.Rule.{Rule}
 use Rattle.mbe_grammar.specs.declared.rule.Rule.TheVariants as rule
-use Rattle.mbe_grammar.specs.declared.test.Test.{Test}
-use Rattle.mbe_grammar.specs.Machine.{Frame, State, Begun, awaited, within, begun_behind, begun_sequence_open, begun_sequence, begun_first, begun_choice, begun_repetition, begun_not, begun_open, begun_by, begun, resumed, Ends}
+use Rattle.mbe_grammar.specs.Machine.{Frame, State, Begun, awaited, within, begun_name, begun_behind, begun_sequence_open, begun_sequence, begun_first, begun_choice, begun_repetition, begun_not, begun_open, begun_by, begun, resumed, Ends}
 use Rattle.mbe_grammar.specs.Machine as machine
 use Rattle.mbe_grammar.specs.Parses.{Answering, Holds, ParsesIn}
-use Rattle.mbe_grammar.specs.Positions.{Position}
+use Rattle.mbe_grammar.specs.Positions.{Position, takes, opened, closed}
 use Rattle.mbe_grammar.proofs.Agreeing.{Agrees, AgreesWith, UnitsTaken, units_taken}
 
-module _ (takes : Test → Position → Option Position) (looks : ℕ → Position → Glance) (rules : List Rule) where
+module _ (noting : Bool) (looks : ℕ → Position → Glance) (rules : List Rule) where
   -- the machine ends from this beginning, while these frames wait
   abbrev Goes : Begun → List Frame → (final : Option Position) → Type 0
-  Goes begun frames final = (all : ℕ) × Ends takes looks rules all begun.state (awaited begun.waiting frames) final
+  Goes begun frames final = (all : ℕ) × Ends noting looks rules all begun.state (awaited begun.waiting frames) final
 
   -- the machine ends from there on after that many steps
   abbrev EndsFrom : State → List Frame → (steps : ℕ) → (final : Option Position) → Type 0
-  EndsFrom state frames steps final = Ends takes looks rules steps state frames final
+  EndsFrom state frames steps final = Ends noting looks rules steps state frames final
 
   -- From an expression that has an answer, the machine ends as it does from the answer.
   abbrev pub Leads : (P : Answering) → Type 0
   Leads P = (at : ℕ) (from : Position) (answer : Option Position) → P at from answer → (frames : List Frame) (steps : ℕ) (final : Option Position)
-      → EndsFrom (machine.answered answer) frames steps final → (all : ℕ) × Ends takes looks rules all (machine.reading at from) frames final
+      → EndsFrom (machine.answered answer) frames steps final → (all : ℕ) × Ends noting looks rules all (machine.reading at from) frames final
 
-  module _ (P : Answering) (f : Leads P) (agree : AgreesWith takes rules looks P) (taken : UnitsTaken takes rules P) where
+  module _ (P : Answering) (f : Leads P) (agree : AgreesWith noting rules looks P) (taken : UnitsTaken noting rules P) where
     answers : (answer found : Option Position) → answer ≡ found → (frames : List Frame) (steps : ℕ) (final : Option Position) → EndsFrom (machine.answered answer) frames steps final
         → EndsFrom (machine.answered found) frames steps final
     answers answer found e frames steps final ends = subst (λ a. EndsFrom (machine.answered a) frames steps final) e ends
 
     -- a sequence whose first part fails
     fails_open : (first second : ℕ) (from : Position) (it : Option Rule) → slice_get rules first ≡ it → P first from None → (frames : List Frame) (steps : ℕ) (final : Option Position)
-        → EndsFrom (machine.answered None) frames steps final → Goes (begun_sequence_open takes first second from it) frames final
+        → EndsFrom (machine.answered None) frames steps final → Goes (begun_sequence_open noting first second from it) frames final
     fails_open first second from (Some (rule.Unit wanted)) is h frames steps final e =
         subst (λ a. Goes (begun_behind second a) frames final) (taken first from None wanted is h) (steps, e)
     fails_open first second from None is h frames steps final e = f first from None h (machine.in_sequence second ∷ frames) (suc steps) final e
@@ -45,14 +44,14 @@ module _ (takes : Test → Position → Option Position) (looks : ℕ → Positi
     fails_open first second from (Some (rule.Not x)) is h frames steps final e = f first from None h (machine.in_sequence second ∷ frames) (suc steps) final e
 
     first_fails : (first second : ℕ) (from : Position) (look : Glance) → Agrees look from None → P first from None → (frames : List Frame) (steps : ℕ) (final : Option Position)
-        → EndsFrom (machine.answered None) frames steps final → Goes (begun_sequence takes first second from (slice_get rules first) look) frames final
+        → EndsFrom (machine.answered None) frames steps final → Goes (begun_sequence noting first second from (slice_get rules first) look) frames final
     first_fails first second from glance.Fails a h frames steps final e = (steps, e)
     first_fails first second from glance.Idles a h frames steps final e = absurd (cc a)
     first_fails first second from glance.Open a h frames steps final e = fails_open first second from (slice_get rules first) refl h frames steps final e
 
     -- a sequence whose first part takes trees up to a place
     takes_open : (first second : ℕ) (from middle : Position) (it : Option Rule) → slice_get rules first ≡ it → P first from (Some middle) → (frames : List Frame) (steps : ℕ) (final : Option Position)
-        → EndsFrom (machine.reading second middle) frames steps final → Goes (begun_sequence_open takes first second from it) frames final
+        → EndsFrom (machine.reading second middle) frames steps final → Goes (begun_sequence_open noting first second from it) frames final
     takes_open first second from middle (Some (rule.Unit wanted)) is h frames steps final e =
         subst (λ a. Goes (begun_behind second a) frames final) (taken first from (Some middle) wanted is h) (steps, e)
     takes_open first second from middle None is h frames steps final e = f first from (Some middle) h (machine.in_sequence second ∷ frames) (suc steps) final e
@@ -64,7 +63,7 @@ module _ (takes : Test → Position → Option Position) (looks : ℕ → Positi
     takes_open first second from middle (Some (rule.Not x)) is h frames steps final e = f first from (Some middle) h (machine.in_sequence second ∷ frames) (suc steps) final e
 
     first_takes : (first second : ℕ) (from middle : Position) (look : Glance) → Agrees look from (Some middle) → P first from (Some middle) → (frames : List Frame) (steps : ℕ) (final : Option Position)
-        → EndsFrom (machine.reading second middle) frames steps final → Goes (begun_sequence takes first second from (slice_get rules first) look) frames final
+        → EndsFrom (machine.reading second middle) frames steps final → Goes (begun_sequence noting first second from (slice_get rules first) look) frames final
     first_takes first second from middle glance.Fails a h frames steps final e = absurd (cc a)
     first_takes first second from middle glance.Idles a h frames steps final e =
         let same : middle ≡ from = cc a in
@@ -130,12 +129,24 @@ module _ (takes : Test → Position → Option Position) (looks : ℕ → Positi
     not_failed part from to glance.Idles a h frames steps final e = (steps, e)
     not_failed part from to glance.Open a h frames steps final e = f part from (Some to) h (machine.in_not from ∷ frames) (suc steps) final e
 
-    leads_open : (at : ℕ) (from : Position) (answer : Option Position) (it : Option Rule) → Holds takes P at it from answer → (frames : List Frame) (steps : ℕ) (final : Option Position)
-        → EndsFrom (machine.answered answer) frames steps final → Goes (begun_open takes looks rules at from it) frames final
+    -- the expression of a name
+    named : (b : Bool) (at other : ℕ) (from : Position) (answer found : Option Position) → P other (opened b at from) found → answer ≡ option_map (closed b (length from.log)) found
+        → (frames : List Frame) (steps : ℕ) (final : Option Position) → EndsFrom (machine.answered answer) frames steps final → Goes (begun_name b at other from) frames final
+    named true at other from answer None h is frames steps final e =
+        f other (opened true at from) None h (machine.in_name (length from.log) ∷ frames) (suc steps) final (answers answer None is frames steps final e)
+    named true at other from answer (Some to) h is frames steps final e =
+        f other (opened true at from) (Some to) h (machine.in_name (length from.log) ∷ frames) (suc steps) final
+        (answers answer (Some (closed true (length from.log) to)) is frames steps final e)
+    named false at other from answer None h is frames steps final e = f other from None h frames steps final (answers answer None is frames steps final e)
+    named false at other from answer (Some to) h is frames steps final e = f other from (Some to) h frames steps final (answers answer (Some to) is frames steps final e)
+
+    leads_open : (at : ℕ) (from : Position) (answer : Option Position) (it : Option Rule) → Holds noting P at it from answer → (frames : List Frame) (steps : ℕ) (final : Option Position)
+        → EndsFrom (machine.answered answer) frames steps final → Goes (begun_open noting looks rules at from it) frames final
     leads_open at from answer None h frames steps final e = (steps, answers answer None h frames steps final e)
     leads_open at from answer (Some rule.Empty) h frames steps final e = (steps, answers answer (Some from) h frames steps final e)
-    leads_open at from answer (Some (rule.Unit wanted)) h frames steps final e = (steps, answers answer (takes wanted from) h frames steps final e)
-    leads_open at from answer (Some (rule.Name other)) h frames steps final e = f other from answer h frames steps final e
+    leads_open at from answer (Some (rule.Unit wanted)) h frames steps final e = (steps, answers answer (takes noting wanted from) h frames steps final e)
+    leads_open at from answer (Some (rule.Name other)) h frames steps final e =
+        named noting at other from answer h.0 h.1 h.2 frames steps final e
     leads_open at from answer (Some (rule.Sequence first second)) (inl h) frames steps final e =
         first_fails first second from (looks first from) (agree first from None h.0) h.0 frames steps final (answers answer None h.1 frames steps final e)
     leads_open at from answer (Some (rule.Sequence first second)) (inr h) frames steps final e =
@@ -156,26 +167,26 @@ module _ (takes : Test → Position → Option Position) (looks : ℕ → Positi
     leads_open at from answer (Some (rule.Not part)) (inr h) frames steps final e =
         not_failed part from h.0 (looks part from) (agree part from (Some h.0) h.1) h.1 frames steps final (answers answer None h.2 frames steps final e)
 
-    leads_by : (at : ℕ) (from : Position) (answer : Option Position) (look : Glance) → Agrees look from answer → Holds takes P at (slice_get rules at) from answer → (frames : List Frame) (steps : ℕ) (final : Option Position)
-        → EndsFrom (machine.answered answer) frames steps final → Goes (begun_by look from (begun_open takes looks rules at from (slice_get rules at))) frames final
+    leads_by : (at : ℕ) (from : Position) (answer : Option Position) (look : Glance) → Agrees look from answer → Holds noting P at (slice_get rules at) from answer → (frames : List Frame) (steps : ℕ) (final : Option Position)
+        → EndsFrom (machine.answered answer) frames steps final → Goes (begun_by look from (begun_open noting looks rules at from (slice_get rules at))) frames final
     leads_by at from answer glance.Fails a h frames steps final e = (steps, answers answer None a frames steps final e)
     leads_by at from answer glance.Idles a h frames steps final e = (steps, answers answer (Some from) a frames steps final e)
     leads_by at from answer glance.Open a h frames steps final e = leads_open at from answer (slice_get rules at) h frames steps final e
 
-  module _ (agree : (depth : ℕ) → AgreesWith takes rules looks (ParsesIn takes rules depth)) where
-    pub leads : (depth : ℕ) → Leads (ParsesIn takes rules depth)
+  module _ (agree : (depth : ℕ) → AgreesWith noting rules looks (ParsesIn noting rules depth)) where
+    pub leads : (depth : ℕ) → Leads (ParsesIn noting rules depth)
     leads zero at from answer h frames steps final e = absurd h
     leads (suc depth) at from answer h frames steps final e =
-        let it = leads_by (ParsesIn takes rules depth) (leads depth) (agree depth) (units_taken takes rules depth) at from answer (looks at from) (agree (suc depth) at from answer h) h frames steps final e in
+        let it = leads_by (ParsesIn noting rules depth) (leads depth) (agree depth) (units_taken noting rules depth) at from answer (looks at from) (agree (suc depth) at from answer h) h frames steps final e in
         (suc it.0, it.1)
 
   -- The machine stops only once, after one number of steps.
   pub one_end : (n m : ℕ) (at : State) (frames : List Frame) (answer other : Option Position)
-      → Ends takes looks rules n at frames answer → Ends takes looks rules m at frames other → (n ≡ m) × (answer ≡ other)
+      → Ends noting looks rules n at frames answer → Ends noting looks rules m at frames other → (n ≡ m) × (answer ≡ other)
   one_end zero m (machine.reading at from) frames answer other h k = absurd h
   one_end (suc n) zero (machine.reading at from) frames answer other h k = absurd k
   one_end (suc n) (suc m) (machine.reading at from) frames answer other h k =
-      let it = one_end n m (begun takes looks rules at from).state (awaited (begun takes looks rules at from).waiting frames) answer other h k in
+      let it = one_end n m (begun noting looks rules at from).state (awaited (begun noting looks rules at from).waiting frames) answer other h k in
       (ap suc it.0, it.1)
   one_end zero zero (machine.answered found) [] answer other h k = (refl, sym h ∙ k)
   one_end zero (suc m) (machine.answered found) [] answer other h k = absurd k

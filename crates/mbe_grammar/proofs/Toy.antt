@@ -1,19 +1,23 @@
--- Answers of a small table, by computation.
-use Rattle.std.proofs.Common.{inl, inr, List, [], ◌∷◌, Some, refl}
+-- Answers and derivations by a small table, by computation.
+use Rattle.std.proofs.Common.{inl, inr, true, false, List, [], ◌∷◌, ◌++◌, None, Some, refl}
 use Rattle.tt.specs.Forest.{Forest, end, node}
 use Rattle.tt.specs.Types.DelimiterKind.TheVariants as delimiter
 use Rattle.tt.specs.Types.Span.{Span}
+use Rattle.mbe_grammar.specs.declared.event.Event.{Event}
+use Rattle.mbe_grammar.specs.declared.event.Event.TheVariants as event
 use Rattle.mbe_grammar.specs.declared.rule.Rule.{Rule}
 use Rattle.mbe_grammar.specs.declared.rule.Rule.TheVariants as rule
 use Rattle.mbe_grammar.specs.declared.test.Test.TheVariants as test
-use Rattle.mbe_grammar.specs.Contents.{AreIn}
+use Rattle.mbe_grammar.specs.Derivations.{DerivesIn, RefusesIn}
 use Rattle.mbe_grammar.specs.Parses.{ParsesIn, Parses}
-use Rattle.mbe_grammar.specs.Positions.{Position, first_position, takes}
+use Rattle.mbe_grammar.specs.Positions.{Entry, Position, enters, leaves, holds, first_position}
 
--- 0: a block in braces; 1: the contents of a block, which are blocks; 2: two blocks; 3: two blocks, or else one;
--- 4: no block comes next; 5: no block comes next, or one
+-- 0: the name of blocks; 1: blocks; 2: a block in braces, which contains blocks; 3: two blocks; 4: two blocks, or else one; 5: no block comes
+-- next; 6: no block comes next, or one; 7: the name of a block that contains 9; 8: that block; 9: the name of what begins with no block
 abbrev toy : List Rule
-toy = rule.Unit (test.Holding delimiter.Brace 1) ∷ rule.ZeroOrMore 0 ∷ rule.Sequence 0 0 ∷ rule.Choice 2 0 ∷ rule.Not 0 ∷ rule.Choice 4 0 ∷ []
+toy =
+    rule.Name 1 ∷ rule.ZeroOrMore 2 ∷ rule.Unit (test.Holding delimiter.Brace 0) ∷ rule.Sequence 2 2 ∷ rule.Choice 3 2 ∷ rule.Not 2 ∷ rule.Choice 5 2
+    ∷ rule.Name 8 ∷ rule.Unit (test.Holding delimiter.Brace 9) ∷ rule.Name 5 ∷ []
 
 module _ (span : Span) where
   abbrev block : Forest → Forest → Forest
@@ -23,29 +27,63 @@ module _ (span : Span) where
   abbrev nested : Forest
   nested = block (block end end) end
 
-  -- the place after it, with the log
-  abbrev behind_it : Position
-  behind_it = record { passed = 1; rest = end; taken = record { trees = block end end; name = 1 } ∷ [] }
+  -- the place after one tree, with that log
+  abbrev behind_one : List Entry → Position
+  behind_one log = record { passed = 1; rest = end; log = log }
 
   -- The log has no entry for what the first part of the choice took before it failed.
-  chosen : ParsesIn takes toy 4 3 (first_position nested) (Some behind_it)
-  chosen = inl (inr (behind_it, refl, refl), refl)
+  chosen : ParsesIn true toy 4 4 (first_position nested) (Some (behind_one (holds (block end end) 0 ∷ [])))
+  chosen = inl (inr (behind_one (holds (block end end) 0 ∷ []), refl, refl), refl)
 
   -- Neither for what a negation read.
-  looked : ParsesIn takes toy 4 5 (first_position nested) (Some behind_it)
-  looked = inl (inr (behind_it, refl, refl), refl)
+  looked : ParsesIn true toy 4 6 (first_position nested) (Some (behind_one (holds (block end end) 0 ∷ [])))
+  looked = inl (inr (behind_one (holds (block end end) 0 ∷ []), refl, refl), refl)
 
-  -- No trees are blocks.
-  empty : AreIn toy 1 1 end
+  -- Nothing is noted if that is not wanted.
+  silent : ParsesIn false toy 4 6 (first_position nested) (Some (behind_one []))
+  silent = inl (inr (behind_one [], refl, refl), refl)
+
+  -- No trees are blocks. The name took nothing, so there is no event.
+  empty : DerivesIn toy 1 0 end []
   unfolding Parses
-  empty = (first_position end, (2, inl (refl, refl)), refl, tt)
+  empty = (first_position end, (3, (Some (record { passed = 0; rest = end; log = enters 0 ∷ [] }), inl (refl, refl), refl)), refl, refl)
+
+  -- the place in a block, and the place after the name
+  abbrev within : Forest → Position
+  within trees = behind_one (enters 0 ∷ holds trees 0 ∷ [])
+
+  abbrev after : Forest → Position
+  after trees = behind_one (enters 0 ∷ holds trees 0 ∷ leaves ∷ [])
+
+  -- A block is blocks.
+  one : DerivesIn toy 2 0 (block end end) (event.Enter 0 ∷ event.Open ∷ event.Close ∷ event.Leave ∷ [])
+  unfolding Parses
+  one = (
+    after end,
+    (4, (Some (within end), inr (within end, refl, inl (refl, refl)), refl)),
+    refl,
+    (event.Open ∷ event.Close ∷ event.Leave ∷ [], ([], event.Leave ∷ [], empty, ([], refl, refl), refl), refl),
+  )
 
   -- A block that contains a block is blocks.
-  whole : AreIn toy 3 1 nested
+  whole : DerivesIn toy 3 0 nested (event.Enter 0 ∷ event.Open ∷ event.Enter 0 ∷ event.Open ∷ event.Close ∷ event.Leave ∷ event.Close ∷ event.Leave ∷ [])
   unfolding Parses
   whole = (
-    behind_it,
-    (3, inr (behind_it, refl, inl (refl, refl))),
+    after (block end end),
+    (4, (Some (within (block end end)), inr (within (block end end), refl, inl (refl, refl)), refl)),
     refl,
-    ((record { passed = 1; rest = end; taken = record { trees = end; name = 1 } ∷ [] }, (3, inr (record { passed = 1; rest = end; taken = record { trees = end; name = 1 } ∷ [] }, refl, inl (refl, refl))), refl, (empty, tt)), tt),
+    (
+      event.Open ∷ event.Enter 0 ∷ event.Open ∷ event.Close ∷ event.Leave ∷ event.Close ∷ event.Leave ∷ [],
+      (event.Enter 0 ∷ event.Open ∷ event.Close ∷ event.Leave ∷ [], event.Leave ∷ [], one, ([], refl, refl), refl),
+      refl,
+    ),
+  )
+
+  -- A block that must contain no block is refused at its contents.
+  refused : RefusesIn toy 2 7 nested (record { trees = block end end; name = 9 })
+  unfolding Parses
+  refused = inr (
+    behind_one (enters 7 ∷ holds (block end end) 9 ∷ leaves ∷ []),
+    (2, (Some (behind_one (enters 7 ∷ holds (block end end) 9 ∷ [])), refl, refl)),
+    inl (inl ((3, (None, inr (record { passed = 1; rest = end; log = enters 9 ∷ holds end 0 ∷ [] }, refl, refl), refl)), refl)),
   )

@@ -1,13 +1,13 @@
 -- Parsing expressions as they are written, and what they take.
-use Rattle.std.specs.Prelude.{◌≡◌, ◌⊎◌, ℕ, zero, suc, List, [], ◌∷◌, Option, None, Some}
+use Rattle.std.specs.Prelude.{◌≡◌, ◌⊎◌, ℕ, zero, suc, Bool, List, [], ◌∷◌, length, Option, None, Some, option_map}
 use Rattle.tt.specs.Types.DelimiterKind.{DelimiterKind}
 use Rattle.mbe_grammar.specs.declared.test.Test.{Test}
 use Rattle.mbe_grammar.specs.declared.test.Test.TheVariants as test
 use Rattle.mbe_grammar.specs.declared.unit.Unit.{Unit}
 use Rattle.mbe_grammar.specs.declared.unit.Unit.TheVariants as unit_of
 use Rattle.mbe_grammar.specs.declared.words.Word.{Word}
-use Rattle.mbe_grammar.specs.Names.{Name}
-use Rattle.mbe_grammar.specs.Positions.{Position, takes}
+use Rattle.mbe_grammar.specs.Names.{Name, start}
+use Rattle.mbe_grammar.specs.Positions.{Position, takes, opened, closed}
 
 -- a parsing expression: nothing, a unit that passes a test, the expression of a name, a sequence, a choice (the other part only if the
 -- first fails), a repetition (as often as possible), and a negation (only if the part fails)
@@ -78,26 +78,27 @@ abbrev pub front : (chars : List ℕ) → Expression
 front [] = never nothing
 front (char ∷ others) = unit (test.Front char)
 
--- the expression has this answer by a derivation that is not deeper, with these expressions for the names; the answer
--- is where it ends, or none if it fails
-abbrev pub AnswersIn : (Name → Expression) → (depth : ℕ) → Expression → (from : Position) → (answer : Option Position) → Type 0
-AnswersIn stands zero it from answer = ⊥
-AnswersIn stands (suc depth) nothing from answer = answer ≡ Some from
-AnswersIn stands (suc depth) (unit wanted) from answer = answer ≡ takes wanted from
-AnswersIn stands (suc depth) (name n) from answer = AnswersIn stands depth (stands n) from answer
-AnswersIn stands (suc depth) (sequence first second) from answer =
-    (AnswersIn stands depth first from None × (answer ≡ None))
-    ⊎ ((middle : Position) × AnswersIn stands depth first from (Some middle) × AnswersIn stands depth second middle answer)
-AnswersIn stands (suc depth) (choice first other) from answer =
-    (AnswersIn stands depth first from None × AnswersIn stands depth other from answer)
-    ⊎ ((to : Position) × AnswersIn stands depth first from (Some to) × (answer ≡ Some to))
-AnswersIn stands (suc depth) (many part) from answer =
-    (AnswersIn stands depth part from None × (answer ≡ Some from))
-    ⊎ ((middle : Position) × AnswersIn stands depth part from (Some middle) × AnswersIn stands depth (many part) middle answer)
-AnswersIn stands (suc depth) (never part) from answer =
-    (AnswersIn stands depth part from None × (answer ≡ Some from))
-    ⊎ ((to : Position) × AnswersIn stands depth part from (Some to) × (answer ≡ None))
+-- the expression has this answer by a derivation that is not deeper, with these expressions for the names; the answer is where it ends,
+-- or none if it fails. `noting` says whether what is taken goes to the log
+abbrev pub AnswersIn : (noting : Bool) → (Name → Expression) → (depth : ℕ) → Expression → (from : Position) → (answer : Option Position) → Type 0
+AnswersIn noting stands zero it from answer = ⊥
+AnswersIn noting stands (suc depth) nothing from answer = answer ≡ Some from
+AnswersIn noting stands (suc depth) (unit wanted) from answer = answer ≡ takes noting wanted from
+AnswersIn noting stands (suc depth) (name n) from answer =
+    (found : Option Position) × AnswersIn noting stands depth (stands n) (opened noting (start n) from) found × (answer ≡ option_map (closed noting (length from.log)) found)
+AnswersIn noting stands (suc depth) (sequence first second) from answer =
+    (AnswersIn noting stands depth first from None × (answer ≡ None))
+    ⊎ ((middle : Position) × AnswersIn noting stands depth first from (Some middle) × AnswersIn noting stands depth second middle answer)
+AnswersIn noting stands (suc depth) (choice first other) from answer =
+    (AnswersIn noting stands depth first from None × AnswersIn noting stands depth other from answer)
+    ⊎ ((to : Position) × AnswersIn noting stands depth first from (Some to) × (answer ≡ Some to))
+AnswersIn noting stands (suc depth) (many part) from answer =
+    (AnswersIn noting stands depth part from None × (answer ≡ Some from))
+    ⊎ ((middle : Position) × AnswersIn noting stands depth part from (Some middle) × AnswersIn noting stands depth (many part) middle answer)
+AnswersIn noting stands (suc depth) (never part) from answer =
+    (AnswersIn noting stands depth part from None × (answer ≡ Some from))
+    ⊎ ((to : Position) × AnswersIn noting stands depth part from (Some to) × (answer ≡ None))
 
 -- the expression has this answer
-unfoldable pub Answers : (Name → Expression) → Expression → (from : Position) → (answer : Option Position) → Type 0
-Answers stands it from answer = (depth : ℕ) × AnswersIn stands depth it from answer
+unfoldable pub Answers : (noting : Bool) → (Name → Expression) → Expression → (from : Position) → (answer : Option Position) → Type 0
+Answers noting stands it from answer = (depth : ℕ) × AnswersIn noting stands depth it from answer

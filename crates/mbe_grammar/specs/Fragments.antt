@@ -1,9 +1,9 @@
 -- How far a fragment of Rust's grammar reaches.
-use Rattle.std.specs.Prelude.{ℕ, List, Option, option_map}
+use Rattle.std.specs.Prelude.{false, ℕ, Option, option_map}
 use Rattle.tt.specs.Forest.{Forest}
 use Rattle.mbe_grammar.specs.Expressions.{Answers}
 use Rattle.mbe_grammar.specs.Names.{Name, expression, expression_2021_fragment, type, pattern_fragment, pattern_param_fragment, type_path, statement, item, meta}
-use Rattle.mbe_grammar.specs.Positions.{Held, first_position, behind, noted}
+use Rattle.mbe_grammar.specs.Positions.{first_position, behind}
 use Rattle.mbe_grammar.specs.Rust.{stands}
 use Rattle.mbe_pattern.specs.declared.pattern.GrammarFragment.{GrammarFragment}
 use Rattle.mbe_pattern.specs.declared.pattern.GrammarFragment.TheVariants as fragment
@@ -20,7 +20,6 @@ name_of fragment.Stmt = statement
 name_of fragment.Item = item
 name_of fragment.Meta = meta
 
--- the fragment takes `count` of these trees from the first on, or none if they do not begin with such a fragment; with some log
+-- the fragment takes `count` of these trees from the first on, or none if they do not begin with such a fragment
 abbrev pub Reaches : GrammarFragment → (trees : Forest) → (count : Option ℕ) → Type 0
-Reaches which trees count =
-    (log : List Held) × Answers stands (stands (name_of which)) (first_position trees) (option_map (λ n. noted log (behind n (first_position trees))) count)
+Reaches which trees count = Answers false stands (stands (name_of which)) (first_position trees) (option_map (λ n. behind n (first_position trees)) count)

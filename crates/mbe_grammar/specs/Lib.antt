@@ -1,5 +1,6 @@
 -- Parsing expressions over trees, and Rust's grammar as a table of them.
-pub mod Contents
+pub mod Derivations
+pub mod Deriving
 pub mod Expressions
 pub mod Fragments
 pub mod Good

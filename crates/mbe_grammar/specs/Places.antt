@@ -1,14 +1,18 @@
 -- What a place of the machine is.
 use Rattle.std.specs.Prelude.{List, map}
 use Rattle.tt.specs.Views.{trees_of}
+use Rattle.mbe_grammar.specs.declared.entry.Entry.{Entry as Noted}
+use Rattle.mbe_grammar.specs.declared.entry.Entry.TheVariants as noted
 use Rattle.mbe_grammar.specs.declared.place.Place.{Place}
-use Rattle.mbe_grammar.specs.declared.taken.Taken.{Taken}
-use Rattle.mbe_grammar.specs.Positions.{Held, Position}
+use Rattle.mbe_grammar.specs.Positions.{Entry, Position, enters, leaves, takes_unit, holds}
 
 -- the entry of the log
-abbrev pub held_of : Taken → Held
-held_of it = record { trees = trees_of it.trees; name = it.name }
+abbrev pub entry : Noted → Entry
+entry (noted.Enter name) = enters name
+entry noted.Leave = leaves
+entry (noted.Unit count) = takes_unit count
+entry (noted.Holds trees name) = holds (trees_of trees) name
 
 -- the place among trees, with this log
-abbrev pub position_of : (log : List Taken) → Place → Position
-position_of log place = record { passed = place.passed; rest = trees_of place.rest; taken = map held_of log }
+abbrev pub position_of : (log : List Noted) → Place → Position
+position_of log place = record { passed = place.passed; rest = trees_of place.rest; log = map entry log }

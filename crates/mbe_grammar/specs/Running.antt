@@ -1,5 +1,6 @@
 -- The running machine, in the terms of its definitions.
 use Rattle.std.specs.Prelude.{◌≡◌, ◌≤◌, ℕ, Bool, true, false, List, [], ◌∷◌, take, length, Option, None, Some, option_map}
+use Rattle.mbe_grammar.specs.declared.entry.Entry.{Entry}
 use Rattle.mbe_grammar.specs.declared.machine.Begun.{Begun}
 use Rattle.mbe_grammar.specs.declared.machine.Frame.{Frame}
 use Rattle.mbe_grammar.specs.declared.machine.Frame.TheVariants as frame
@@ -10,7 +11,6 @@ use Rattle.mbe_grammar.specs.declared.machine.State.{State}
 use Rattle.mbe_grammar.specs.declared.machine.State.TheVariants as state
 use Rattle.mbe_grammar.specs.declared.machine.Waiting.{Waiting}
 use Rattle.mbe_grammar.specs.declared.machine.Waiting.TheVariants as waiting
-use Rattle.mbe_grammar.specs.declared.taken.Taken.{Taken}
 use Rattle.mbe_grammar.specs.Machine as machine
 use Rattle.mbe_grammar.specs.Places.{position_of}
 use Rattle.mbe_grammar.specs.Positions.{Position}
@@ -26,32 +26,40 @@ state_at here (state.Reading at) = machine.reading at here
 state_at here (state.Answered ends) = machine.answered (answer_at here ends)
 
 -- a place to return to, with the log cut to the length that it had there
-abbrev pub kept_at : (log : List Taken) → Kept → Position
+abbrev pub kept_at : (log : List Entry) → Kept → Position
 kept_at log kept = position_of (take kept.taken log) kept.place
 
 -- what waits
-abbrev pub frame_of : (log : List Taken) → Frame → machine.Frame
+abbrev pub frame_of : (log : List Entry) → Frame → machine.Frame
+frame_of log (frame.InName since) = machine.in_name since
 frame_of log (frame.InSequence second) = machine.in_sequence second
 frame_of log (frame.InChoice other kept) = machine.in_choice other (kept_at log kept)
 frame_of log (frame.InRepetition at kept) = machine.in_repetition at (kept_at log kept)
 frame_of log (frame.InNot kept) = machine.in_not (kept_at log kept)
 
--- the length of the log when the frame began to wait; that of now if the frame does not restore it
+-- the length of the log when the frame began to wait; that of now if the frame does not cut it back
 abbrev pub room_of : (now : ℕ) → Frame → ℕ
+room_of now (frame.InName since) = since
 room_of now (frame.InSequence second) = now
 room_of now (frame.InChoice other kept) = kept.taken
 room_of now (frame.InRepetition at kept) = kept.taken
 room_of now (frame.InNot kept) = kept.taken
 
+-- the length of the log when that began to wait, which has that length now
+abbrev pub waiting_room : (now : ℕ) → Waiting → ℕ
+waiting_room now (waiting.InName since) = since
+waiting_room now _ = now
+
 -- the log when the frame began to wait
-abbrev pub left_in : (log : List Taken) → Frame → List Taken
+abbrev pub left_in : (log : List Entry) → Frame → List Entry
+left_in log (frame.InName since) = take since log
 left_in log (frame.InSequence second) = log
 left_in log (frame.InChoice other kept) = take kept.taken log
 left_in log (frame.InRepetition at kept) = take kept.taken log
 left_in log (frame.InNot kept) = take kept.taken log
 
 -- all that waits, the newest first; each frame with the log of its time
-abbrev pub frames_of : (log : List Taken) → List Frame → List machine.Frame
+abbrev pub frames_of : (log : List Entry) → List Frame → List machine.Frame
 frames_of log [] = []
 frames_of log (frame ∷ older) = frame_of log frame ∷ frames_of (left_in log frame) older
 
@@ -61,11 +69,12 @@ HasRoom now [] = Unit {0}
 HasRoom now (frame ∷ older) = (room_of now frame ≤ now) × HasRoom (room_of now frame) older
 
 -- the old log is the front of the new one
-abbrev pub Extends : (old new : List Taken) → Type 0
+abbrev pub Extends : (old new : List Entry) → Type 0
 Extends old new = take (length old) new ≡ old
 
 -- what begins to wait there
 abbrev pub waiting_at : (here : Position) → Waiting → machine.Frame
+waiting_at here (waiting.InName since) = machine.in_name since
 waiting_at here (waiting.InSequence second) = machine.in_sequence second
 waiting_at here (waiting.InChoice other) = machine.in_choice other here
 waiting_at here (waiting.InRepetition at) = machine.in_repetition at here

@@ -8,7 +8,9 @@
 //! reads each entry of the log by its name, without recursion. Rust's table names no contents.
 #![tactic(auto)]
 
-mod contents;
+mod derivation;
+mod entry;
+mod event;
 mod fragments;
 mod kind;
 mod known;
@@ -20,19 +22,19 @@ mod rust;
 mod rust_known;
 mod rust_marks;
 mod table;
-mod taken;
 mod test;
 mod unit;
 mod words;
 
-pub use contents::are;
+pub use derivation::{Derived, derive};
+pub use entry::Entry;
+pub use event::{Event, Level};
 pub use fragments::reach;
 pub use known::Known;
 pub use machine::parse;
 pub use place::Place;
 pub use rule::{Mark, Rule};
 pub use table::Table;
-pub use taken::Taken;
 pub use test::Test;
 pub use unit::Unit;
 pub use words::Word;

@@ -1,17 +1,17 @@
 //! The machine: what it does next, and what waits for the answer.
-ghost use Rattle.std.specs.Prelude.{◌≡◌, ◌≤◌, reverse, length, slice_get, take, IfOk, option_map};
+ghost use Rattle.std.specs.Prelude.{◌≡◌, ◌≤◌, true, reverse, length, slice_get, take, IfOk, option_map};
 ghost use Rattle.mbe_grammar.specs.Known.{glance_at};
-ghost use Rattle.mbe_grammar.specs.Machine.{resumed, begun_sequence_open, begun_sequence, begun_first, begun_choice, begun_repetition, begun_not, begun_open, begun, IsStep};
+ghost use Rattle.mbe_grammar.specs.Machine.{resumed, begun_name, begun_sequence_open, begun_sequence, begun_first, begun_choice, begun_repetition, begun_not, begun_open, begun, IsStep};
 ghost use Rattle.mbe_grammar.specs.Parses.{Parses};
 ghost use Rattle.mbe_grammar.specs.Places.{position_of};
-ghost use Rattle.mbe_grammar.specs.Positions.{takes};
-ghost use Rattle.mbe_grammar.specs.Running.{answer_at, state_at, kept_at, frame_of, room_of, left_in, frames_of, HasRoom, Extends, waiting_at, begun_at, next_at};
+ghost use Rattle.mbe_grammar.specs.Positions.{closed};
+ghost use Rattle.mbe_grammar.specs.Running.{answer_at, state_at, kept_at, frame_of, room_of, waiting_room, left_in, frames_of, HasRoom, Extends, waiting_at, begun_at, next_at};
 
+use crate::entry::Entry;
 use crate::known::Glance;
 use crate::place::Place;
 use crate::rule::Rule;
 use crate::table::Table;
-use crate::taken::Taken;
 use std::alloc::{AllocError, Global};
 
 /// What the machine does next at its place.
@@ -33,6 +33,8 @@ pub(crate) struct Kept<'t> {
 /// What waits for the answer of a part.
 #[derive(Clone, Copy)]
 pub(crate) enum Frame<'t> {
+    /// A name waits for the end of its expression; the log had that length before it.
+    InName(usize),
     /// A sequence waits to read its second part.
     InSequence(usize),
     /// A choice waits to try its other part from that place on.
@@ -46,6 +48,8 @@ pub(crate) enum Frame<'t> {
 /// A frame without its place, which is the machine's place.
 #[derive(Clone, Copy)]
 pub(crate) enum Waiting {
+    /// A name waits for the end of its expression; the log had that length before it.
+    InName(usize),
     /// A sequence waits to read its second part.
     InSequence(usize),
     /// A choice waits to try its other part.
@@ -72,7 +76,7 @@ pub(crate) enum Next {
 
 // Keeps this place and the length of the log.
 #[inline(always)]
-fn keep<'t>(here: &Place<'t>, log: &Vec<Taken<'t>>) -> Kept<'t>
+fn keep<'t>(here: &Place<'t>, log: &Vec<Entry<'t>>) -> Kept<'t>
     ensures at { kept_at log.now.items result ≡ position_of log.now.items here.now }
     ensures taken { result.taken ≡ length log.now.items }
 {
@@ -85,11 +89,12 @@ fn keep<'t>(here: &Place<'t>, log: &Vec<Taken<'t>>) -> Kept<'t>
 impl Waiting {
     // Returns the frame, with the machine's place.
     #[inline(always)]
-    fn frame<'t>(self, here: &Place<'t>, log: &Vec<Taken<'t>>) -> Frame<'t>
+    fn frame<'t>(self, here: &Place<'t>, log: &Vec<Entry<'t>>) -> Frame<'t>
         ensures frame { frame_of log.now.items result ≡ waiting_at (position_of log.now.items here.now) self }
-        ensures room { room_of (length log.now.items) result ≡ length log.now.items }
+        ensures room { room_of (length log.now.items) result ≡ waiting_room (length log.now.items) self }
     {
         match self {
+            Waiting::InName(since) => Frame::InName(since),
             Waiting::InSequence(second) => Frame::InSequence(second),
             Waiting::InChoice(other) => Frame::InChoice(other, keep(here, log)),
             Waiting::InRepetition(at) => Frame::InRepetition(at, keep(here, log)),
@@ -100,7 +105,7 @@ impl Waiting {
 
 // Returns to a place that was kept, and cuts the log back.
 #[inline(always)]
-fn come_back<'t>(kept: Kept<'t>, here: &mut Place<'t>, log: &mut Vec<Taken<'t>>)
+fn come_back<'t>(kept: Kept<'t>, here: &mut Place<'t>, log: &mut Vec<Entry<'t>>)
     ensures at { position_of log.new.items here.new ≡ kept_at log.old.items kept.entry }
     ensures log { log.new.items ≡ take kept.entry.taken log.old.items }
 {
@@ -108,14 +113,40 @@ fn come_back<'t>(kept: Kept<'t>, here: &mut Place<'t>, log: &mut Vec<Taken<'t>>)
     log.truncate(kept.taken);
 }
 
+// Ends the expression of a name before which the log had that length. A name that took nothing leaves no entry.
+#[inline(always)]
+fn close<'t>(since: usize, log: &mut Vec<Entry<'t>>) -> Result<(), AllocError>
+    requires room { since ≤ length log.now.items }
+    ensures closed { (here : Place) → IfOk result (λ _. position_of log.new.items here ≡ closed true since (position_of log.old.items here)) }
+    ensures log { IfOk result (λ _. Extends (take since log.old.items) log.new.items) }
+{
+    if log.len() - since == 1 {
+        log.truncate(since);
+        Ok(())
+    } else {
+        log.push(Entry::Leave)?;
+        Ok(())
+    }
+}
+
 // Returns what is next after an answer to a waiting frame.
 #[inline(always)]
-fn resume<'t>(frame: Frame<'t>, ends: bool, here: &mut Place<'t>, log: &mut Vec<Taken<'t>>) -> State
+fn resume<'t>(
+    frame: Frame<'t>,
+    ends: bool,
+    here: &mut Place<'t>,
+    log: &mut Vec<Entry<'t>>,
+) -> Result<State, AllocError>
     requires room { room_of (length log.now.items) frame ≤ length log.now.items }
-    ensures state { state_at (position_of log.new.items here.new) result ≡ resumed (frame_of log.old.items frame.entry) (answer_at (position_of log.old.items here.old) ends) }
-    ensures log { Extends (left_in log.old.items frame.entry) log.new.items }
+    ensures state { IfOk result (λ state. state_at (position_of log.new.items here.new) state ≡ resumed (frame_of log.old.items frame.entry) (answer_at (position_of log.old.items here.old) ends)) }
+    ensures log { IfOk result (λ _. Extends (left_in log.old.items frame.entry) log.new.items) }
 {
-    match (frame, ends) {
+    Ok(match (frame, ends) {
+        (Frame::InName(_), false) => State::Answered(false),
+        (Frame::InName(since), true) => {
+            close(since, log)?;
+            State::Answered(true)
+        }
         (Frame::InSequence(_), false) => State::Answered(false),
         (Frame::InSequence(second), true) => State::Reading(second),
         (Frame::InChoice(other, kept), false) => {
@@ -136,7 +167,7 @@ fn resume<'t>(frame: Frame<'t>, ends: bool, here: &mut Place<'t>, log: &mut Vec<
             log.truncate(kept.taken);
             State::Answered(false)
         }
-    }
+    })
 }
 
 // Returns an answer; nothing waits.
@@ -175,21 +206,42 @@ fn within(part: usize, waiting: Waiting) -> Begun
     }
 }
 
+// Begins the expression of a name; the name waits for its end only if entries are noted.
+#[inline(always)]
+fn begin_name<'t>(
+    noting: bool,
+    at: usize,
+    other: usize,
+    here: &Place<'t>,
+    log: &mut Vec<Entry<'t>>,
+) -> Result<Begun, AllocError>
+    ensures begun { IfOk result (λ it. begun_at (position_of log.new.items here.now) it ≡ begun_name noting at other (position_of log.old.items here.now)) }
+    ensures log { IfOk result (λ _. Extends log.old.items log.new.items) }
+{
+    if !noting {
+        return Ok(alone(other));
+    }
+    let since = log.len();
+    log.push(Entry::Enter(at))?;
+    Ok(within(other, Waiting::InName(since)))
+}
+
 // Begins a sequence if nothing is known of its first part.
 #[inline(always)]
 fn begin_sequence_open<'t>(
+    noting: bool,
     rules: &[Rule],
     first: usize,
     second: usize,
     here: &mut Place<'t>,
-    log: &mut Vec<Taken<'t>>,
+    log: &mut Vec<Entry<'t>>,
 ) -> Result<Begun, AllocError>
-    ensures begun { IfOk result (λ it. begun_at (position_of log.new.items here.new) it ≡ begun_sequence_open takes first second (position_of log.old.items here.old) (slice_get rules.now first)) }
+    ensures begun { IfOk result (λ it. begun_at (position_of log.new.items here.new) it ≡ begun_sequence_open noting first second (position_of log.old.items here.old) (slice_get rules.now first)) }
     ensures log { IfOk result (λ _. Extends log.old.items log.new.items) }
 {
     match rules.get(first) {
         Some(Rule::Unit(test)) => {
-            if here.take(*test, log)? {
+            if here.take(noting, *test, log)? {
                 Ok(alone(second))
             } else {
                 Ok(at_once(false))
@@ -202,19 +254,20 @@ fn begin_sequence_open<'t>(
 // Begins a sequence.
 #[inline(always)]
 fn begin_sequence<'t>(
+    noting: bool,
     table: Table<'_>,
     first: usize,
     second: usize,
     here: &mut Place<'t>,
-    log: &mut Vec<Taken<'t>>,
+    log: &mut Vec<Entry<'t>>,
 ) -> Result<Begun, AllocError>
-    ensures begun { IfOk result (λ it. begun_at (position_of log.new.items here.new) it ≡ begun_sequence takes first second (position_of log.old.items here.old) (slice_get table.entry.rules.now first) (glance_at table.entry.known.now first (position_of log.old.items here.old))) }
+    ensures begun { IfOk result (λ it. begun_at (position_of log.new.items here.new) it ≡ begun_sequence noting first second (position_of log.old.items here.old) (slice_get table.entry.rules.now first) (glance_at table.entry.known.now first (position_of log.old.items here.old))) }
     ensures log { IfOk result (λ _. Extends log.old.items log.new.items) }
 {
     match here.glance(table.known, first) {
         Glance::Fails => Ok(at_once(false)),
         Glance::Idles => Ok(alone(second)),
-        Glance::Open => begin_sequence_open(table.rules, first, second, here, log),
+        Glance::Open => begin_sequence_open(noting, table.rules, first, second, here, log),
     }
 }
 
@@ -225,7 +278,7 @@ fn begin_first<'t>(
     first: usize,
     other: usize,
     here: &Place<'t>,
-    log: &Vec<Taken<'t>>,
+    log: &Vec<Entry<'t>>,
 ) -> Begun
     ensures begun { begun_at (position_of log.now.items here.now) result ≡ begun_first first other (position_of log.now.items here.now) (glance_at table.entry.known.now other (position_of log.now.items here.now)) }
 {
@@ -242,7 +295,7 @@ fn begin_choice<'t>(
     first: usize,
     other: usize,
     here: &Place<'t>,
-    log: &Vec<Taken<'t>>,
+    log: &Vec<Entry<'t>>,
 ) -> Begun
     ensures begun { begun_at (position_of log.now.items here.now) result ≡ begun_choice first other (position_of log.now.items here.now) (glance_at table.entry.known.now first (position_of log.now.items here.now)) (glance_at table.entry.known.now other (position_of log.now.items here.now)) }
 {
@@ -260,7 +313,7 @@ fn begin_repetition<'t>(
     at: usize,
     part: usize,
     here: &Place<'t>,
-    log: &Vec<Taken<'t>>,
+    log: &Vec<Entry<'t>>,
 ) -> Begun
     ensures begun { begun_at (position_of log.now.items here.now) result ≡ begun_repetition at part (position_of log.now.items here.now) (glance_at table.entry.known.now part (position_of log.now.items here.now)) }
 {
@@ -272,7 +325,7 @@ fn begin_repetition<'t>(
 
 // Begins a negation.
 #[inline(always)]
-fn begin_not<'t>(table: Table<'_>, part: usize, here: &Place<'t>, log: &Vec<Taken<'t>>) -> Begun
+fn begin_not<'t>(table: Table<'_>, part: usize, here: &Place<'t>, log: &Vec<Entry<'t>>) -> Begun
     ensures begun { begun_at (position_of log.now.items here.now) result ≡ begun_not part (position_of log.now.items here.now) (glance_at table.entry.known.now part (position_of log.now.items here.now)) }
 {
     match here.glance(table.known, part) {
@@ -285,12 +338,13 @@ fn begin_not<'t>(table: Table<'_>, part: usize, here: &Place<'t>, log: &Vec<Take
 // Begins an expression of which nothing is known.
 #[inline(always)]
 fn begin_open<'t>(
+    noting: bool,
     table: Table<'_>,
     at: usize,
     here: &mut Place<'t>,
-    log: &mut Vec<Taken<'t>>,
+    log: &mut Vec<Entry<'t>>,
 ) -> Result<Begun, AllocError>
-    ensures begun { IfOk result (λ it. begun_at (position_of log.new.items here.new) it ≡ begun_open takes (glance_at table.entry.known.now) table.entry.rules.now at (position_of log.old.items here.old) (slice_get table.entry.rules.now at)) }
+    ensures begun { IfOk result (λ it. begun_at (position_of log.new.items here.new) it ≡ begun_open noting (glance_at table.entry.known.now) table.entry.rules.now at (position_of log.old.items here.old) (slice_get table.entry.rules.now at)) }
     ensures log { IfOk result (λ _. Extends log.old.items log.new.items) }
 {
     let Some(rule) = table.rules.get(at) else {
@@ -298,9 +352,9 @@ fn begin_open<'t>(
     };
     match *rule {
         Rule::Empty => Ok(at_once(true)),
-        Rule::Unit(test) => Ok(at_once(here.take(test, log)?)),
-        Rule::Name(other) => Ok(alone(other)),
-        Rule::Sequence(first, second) => begin_sequence(table, first, second, here, log),
+        Rule::Unit(test) => Ok(at_once(here.take(noting, test, log)?)),
+        Rule::Name(other) => begin_name(noting, at, other, here, log),
+        Rule::Sequence(first, second) => begin_sequence(noting, table, first, second, here, log),
         Rule::Choice(first, other) => Ok(begin_choice(table, first, other, here, log)),
         Rule::ZeroOrMore(part) => Ok(begin_repetition(table, at, part, here, log)),
         Rule::Not(part) => Ok(begin_not(table, part, here, log)),
@@ -310,37 +364,39 @@ fn begin_open<'t>(
 // Begins an expression.
 #[inline(always)]
 fn begin<'t>(
+    noting: bool,
     table: Table<'_>,
     at: usize,
     here: &mut Place<'t>,
-    log: &mut Vec<Taken<'t>>,
+    log: &mut Vec<Entry<'t>>,
 ) -> Result<Begun, AllocError>
-    ensures begun { IfOk result (λ it. begun_at (position_of log.new.items here.new) it ≡ begun takes (glance_at table.entry.known.now) table.entry.rules.now at (position_of log.old.items here.old)) }
+    ensures begun { IfOk result (λ it. begun_at (position_of log.new.items here.new) it ≡ begun noting (glance_at table.entry.known.now) table.entry.rules.now at (position_of log.old.items here.old)) }
     ensures log { IfOk result (λ _. Extends log.old.items log.new.items) }
 {
     match here.glance(table.known, at) {
         Glance::Fails => Ok(at_once(false)),
         Glance::Idles => Ok(at_once(true)),
-        Glance::Open => begin_open(table, at, here, log),
+        Glance::Open => begin_open(noting, table, at, here, log),
     }
 }
 
 // Does one step of the machine.
 #[inline(always)]
-fn step<'t>(
+pub(crate) fn step<'t>(
+    noting: bool,
     table: Table<'_>,
     state: State,
     here: &mut Place<'t>,
-    log: &mut Vec<Taken<'t>>,
+    log: &mut Vec<Entry<'t>>,
     frames: &mut Vec<Frame<'t>>,
 ) -> Result<Next, AllocError>
     requires room { HasRoom (length log.now.items) (reverse frames.now.items) }
-    ensures step { IfOk result (λ next. IsStep takes (glance_at table.entry.known.now) table.entry.rules.now (state_at (position_of log.old.items here.old) state) (frames_of log.old.items (reverse frames.old.items)) (next_at (position_of log.new.items here.new) next) (frames_of log.new.items (reverse frames.new.items))) }
+    ensures step { IfOk result (λ next. IsStep noting (glance_at table.entry.known.now) table.entry.rules.now (state_at (position_of log.old.items here.old) state) (frames_of log.old.items (reverse frames.old.items)) (next_at (position_of log.new.items here.new) next) (frames_of log.new.items (reverse frames.new.items))) }
     ensures room { IfOk result (λ _. HasRoom (length log.new.items) (reverse frames.new.items)) }
 {
     match state {
         State::Reading(at) => {
-            let Begun { state, waiting } = begin(table, at, here, log)?;
+            let Begun { state, waiting } = begin(noting, table, at, here, log)?;
             if let Some(it) = waiting {
                 frames.push(it.frame(here, log))?;
             }
@@ -348,27 +404,29 @@ fn step<'t>(
         }
         State::Answered(ends) => match frames.pop() {
             None => Ok(Next::Ends(ends)),
-            Some(frame) => Ok(Next::Goes(resume(frame, ends, here, log))),
+            Some(frame) => Ok(Next::Goes(resume(frame, ends, here, log)?)),
         },
     }
 }
 
-/// Reads the expression at that index of the table. Returns the place where it ends, if it does not fail; then each subtree that it took
-/// by a name was added to the log, in order. Fails only if memory runs out.
+/// Reads the expression at that index of the table. Returns the place where it ends, if it does not fail. If `noting`, then each name, each
+/// unit and each subtree that it took was added to the log, in order. Fails only if memory runs out.
+#[inline]
 pub fn parse<'t>(
     alloc: Global,
+    noting: bool,
     table: Table<'_>,
     at: usize,
     from: Place<'t>,
-    log: &mut Vec<Taken<'t>>,
+    log: &mut Vec<Entry<'t>>,
 ) -> Result<Option<Place<'t>>, AllocError>
-    ensures { IfOk result (λ answer. Parses table.entry.rules.now at (position_of log.old.items from.entry) (option_map (position_of log.new.items) answer)) }
+    ensures { IfOk result (λ answer. Parses noting table.entry.rules.now at (position_of log.old.items from.entry) (option_map (position_of log.new.items) answer)) }
 {
     let mut frames = Vec::new(alloc);
     let mut here = from;
     let mut state = State::Reading(at);
     loop {
-        match step(table, state, &mut here, log, &mut frames)? {
+        match step(noting, table, state, &mut here, log, &mut frames)? {
             Next::Goes(next) => state = next,
             Next::Ends(ends) => return Ok(if ends { Some(here) } else { None }),
         }

@@ -1,6 +1,6 @@
 //! A place among trees, and the unit at that place.
 ghost use Rattle.std.specs.Coded.{Coded-set};
-ghost use Rattle.std.specs.Prelude.{◌≡◌, ◌+◌, ◌++◌, ◌<◌, ◌≤◌, ◌^◌, [], map, IfOk};
+ghost use Rattle.std.specs.Prelude.{◌≡◌, ◌+◌, ◌++◌, ◌∷◌, ◌<◌, ◌≤◌, ◌^◌, [], map, IfOk};
 ghost use Rattle.tt.specs.Forest.{size};
 ghost use Rattle.tt.specs.Siblings.{is_end};
 ghost use Rattle.tt.specs.Moves.{after_tree};
@@ -9,8 +9,8 @@ ghost use Rattle.tt_base.specs.Unflat.{forest_code};
 ghost use Rattle.mbe_grammar.specs.Kinds.{kind_of};
 ghost use Rattle.mbe_grammar.specs.Units.{first_unit};
 
+use crate::entry::Entry;
 use crate::known::{Glance, Known, look};
-use crate::taken::Taken;
 use crate::test::Test;
 use crate::unit::Unit;
 use mbe_pattern::pass;
@@ -35,8 +35,8 @@ pub struct Place<'t> {
 impl<'t> Place<'t> {
     ghost use Rattle.tt.specs.Gluing.{after_trees};
     ghost use Rattle.mbe_grammar.specs.Known.{glance_at};
-    ghost use Rattle.mbe_grammar.specs.Places.{held_of, position_of};
-    ghost use Rattle.mbe_grammar.specs.Positions.{first_position, held_by, takes};
+    ghost use Rattle.mbe_grammar.specs.Places.{entry, position_of};
+    ghost use Rattle.mbe_grammar.specs.Positions.{first_position, entry_of, takes};
     ghost use Rattle.mbe_grammar.specs.Tests.{named};
     ghost use Rattle.mbe_grammar.specs.Running.{answer_at, Extends};
 
@@ -91,33 +91,36 @@ impl<'t> Place<'t> {
         Place::before(trees.remaining(), self.passed + count)
     }
 
-    // Adds the first tree to the log if it is a subtree and the test has a name.
+    // Adds the entry of a unit of that many trees to the log.
     #[inline(always)]
-    fn note(&self, test: Test, log: &mut Vec<Taken<'t>>) -> Result<(), AllocError>
-        ensures noted { IfOk result (λ _. map held_of log.new.items ≡ map held_of log.old.items ++ held_by (named test) (trees_of self.now.rest)) }
+    fn note(&self, test: Test, count: usize, log: &mut Vec<Entry<'t>>) -> Result<(), AllocError>
+        ensures noted { IfOk result (λ _. map entry log.new.items ≡ map entry log.old.items ++ entry_of (named test) count (trees_of self.now.rest) ∷ []) }
         ensures more { IfOk result (λ _. Extends log.old.items log.new.items) }
     {
         if let Some(name) = test.named() {
             if let Some(TtElement::Subtree(_, children)) = self.rest.iter().next() {
-                log.push(Taken {
-                    trees: children.remaining(),
-                    name,
-                })?;
+                log.push(Entry::Holds(children.remaining(), name))?;
+                return Ok(());
             }
         }
+        log.push(Entry::Unit(count))?;
         Ok(())
     }
 
-    /// Takes the first unit if it passes the test, and adds it to the log if the test has a name. Returns whether it passes.
+    /// Takes the first unit if it passes the test, and adds its entry to the log if `noting`. Returns whether it passes. Fails only if
+    /// memory runs out.
     #[inline(always)]
-    pub fn take(&mut self, test: Test, log: &mut Vec<Taken<'t>>) -> Result<bool, AllocError>
-        ensures answer { IfOk result (λ passes. answer_at (position_of log.new.items self.new) passes ≡ takes test (position_of log.old.items self.old)) }
+    pub fn take(&mut self, noting: bool, test: Test, log: &mut Vec<Entry<'t>>) -> Result<bool, AllocError>
+        ensures answer { IfOk result (λ passes. answer_at (position_of log.new.items self.new) passes ≡ takes noting test (position_of log.old.items self.old)) }
         ensures more { IfOk result (λ _. Extends log.old.items log.new.items) }
     {
         let passes = test.passes(self.unit);
         if passes {
-            self.note(test, log)?;
-            *self = self.moved(test.taken_size(self.unit));
+            let count = test.taken_size(self.unit);
+            if noting {
+                self.note(test, count, log)?;
+            }
+            *self = self.moved(count);
         }
         Ok(passes)
     }

@@ -13,5 +13,5 @@ moved-requires-clause-within c =
     let trees = trees_of c.args.self.now.rest in
     let is : c.args.self.now.unit ≡ first_unit trees = c.args.self.now.stands_first in
     let yes : passes c.args.test (first_unit trees) ≡ true = subst (λ u. passes c.args.test u ≡ true) is (sym c.passes-passes.ensures ∙ c.if-passes.true) in
-    let count : c.taken_size.result ≡ taken_size c.args.test (first_unit trees) = c.taken_size.ensures ∙ ap (taken_size c.args.test) is in
+    let count : c.taken_size-count.result ≡ taken_size c.args.test (first_unit trees) = c.taken_size-count.ensures ∙ ap (taken_size c.args.test) is in
     subst (λ n. n + size (after_trees n trees) ≤ size trees) (sym count) (taken_fits c.args.test trees yes)

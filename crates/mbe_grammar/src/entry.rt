@@ -1,0 +1,15 @@
+//! The log of what the machine takes.
+use tt::TokenTreesView;
+
+/// An entry of the log.
+#[derive(Clone, Copy)]
+pub enum Entry<'t> {
+    /// The expression at that index of the table begins.
+    Enter(usize),
+    /// The expression that began last ends.
+    Leave,
+    /// A unit of that many trees was taken.
+    Unit(usize),
+    /// A subtree was taken. Its trees must be the expression at that index.
+    Holds(TokenTreesView<'t>, usize),
+}
