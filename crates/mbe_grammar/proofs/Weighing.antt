@@ -36,6 +36,7 @@ held_light (test.OpaqueHolding name) (leaf it rest) e = plain (test.OpaqueHoldin
 held_light (test.OpaqueHolding name) (node delimiter children rest) e = omega arith
 held_light (test.Is it) trees e = plain (test.Is it) trees e
 held_light (test.Front char) trees e = plain (test.Front char) trees e
+held_light test.Any trees e = plain test.Any trees e
 held_light test.Name trees e = plain test.Name trees e
 held_light test.PathSegment trees e = plain test.PathSegment trees e
 held_light test.TruthValue trees e = plain test.TruthValue trees e

@@ -6,7 +6,7 @@ use Rattle.mbe_grammar.specs.declared.test.Test.TheVariants as test
 use Rattle.mbe_grammar.specs.declared.unit.Unit.{Unit}
 use Rattle.mbe_grammar.specs.declared.unit.Unit.TheVariants as unit_of
 use Rattle.mbe_grammar.specs.declared.words.Word.{Word}
-use Rattle.mbe_grammar.specs.Names.{Name}
+use Rattle.mbe_grammar.specs.Names.{Name, start}
 use Rattle.mbe_grammar.specs.Positions.{Position, takes}
 
 -- a parsing expression: nothing, a unit that passes a test, the expression of a name, a sequence, a choice (the other part only if the
@@ -61,6 +61,18 @@ lifetime = unit (test.Is unit_of.Lifetime)
 -- a subtree of that kind
 abbrev pub subtree : DelimiterKind → Expression
 subtree kind = unit (test.Is (unit_of.Subtree kind))
+
+-- a subtree of that kind, whose trees must be the expression of that name
+abbrev pub holding : DelimiterKind → Name → Expression
+holding kind n = unit (test.Holding kind (start n))
+
+-- a subtree without printed delimiters, whose trees must be the expression of that name
+abbrev pub opaque_holding : Name → Expression
+opaque_holding n = unit (test.OpaqueHolding (start n))
+
+-- no tree is left
+abbrev pub at_end : Expression
+at_end = never (unit test.Any)
 
 -- the unit of these characters
 abbrev pub unit_of_chars : List ℕ → Unit

@@ -5,7 +5,7 @@ use Rattle.mbe_grammar.specs.declared.rule.Rule.TheVariants as rule
 use Rattle.mbe_grammar.specs.Expressions.{Expression, nothing, unit, name, sequence, choice, many, never}
 use Rattle.mbe_grammar.specs.Names.{Name}
 
--- a part is at that index: a name, if its expression begins there; anything else, if it is laid out there
+-- a part is at that index: a name, if its rule is there; anything else, if it is laid out there
 abbrev pub IsThere : (starts : Name → ℕ) → Expression → (at : ℕ) → (is_laid : Type 0) → Type 0
 IsThere starts (name n) at is_laid = at ≡ starts n
 IsThere starts _ at is_laid = is_laid
@@ -25,6 +25,7 @@ IsLaid rules starts (many part) at =
     (one : ℕ) × (slice_get rules at ≡ Some (rule.ZeroOrMore one)) × IsThere starts part one (IsLaid rules starts part one)
 IsLaid rules starts (never part) at = (one : ℕ) × (slice_get rules at ≡ Some (rule.Not one)) × IsThere starts part one (IsLaid rules starts part one)
 
--- the expression of each name is laid out at the name's start
+-- each name has a rule at its start, which refers to its expression
 abbrev pub AreLaid : List Rule → (starts : Name → ℕ) → (stands : Name → Expression) → Type 0
-AreLaid rules starts stands = (n : Name) → IsLaid rules starts (stands n) (starts n)
+AreLaid rules starts stands = (n : Name) →
+    (body : ℕ) × (slice_get rules (starts n) ≡ Some (rule.Name body)) × IsThere starts (stands n) body (IsLaid rules starts (stands n) body)

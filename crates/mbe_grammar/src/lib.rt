@@ -1,7 +1,7 @@
 //! How many trees a fragment of Rust's grammar takes, by a table of parsing expressions.
 //!
 //! docs/GRAMMAR.md is the source of the table. `checks/lay_out_grammar.py` makes `src/rust.rt`, `src/rust_marks.rt`, `src/rust_known.rt`,
-//! `specs/Names.antt`, `specs/Rust.antt` and `proofs/RustLaid.antt` from it. `reach` runs the machine of parsing expressions on the
+//! `src/rust_names.rt`, `specs/Names.antt`, `specs/Rust.antt` and `proofs/RustLaid.antt` from it. `reach` runs the machine of parsing expressions on the
 //! siblings, with a stack of the rules that are under way. It does not look into subtrees.
 //!
 //! A table may name the contents of a subtree. Then the machine adds the subtree to a log, and cuts the log back if a choice fails. `are`
@@ -19,6 +19,7 @@ mod rule;
 mod rust;
 mod rust_known;
 mod rust_marks;
+mod rust_names;
 mod table;
 mod taken;
 mod test;

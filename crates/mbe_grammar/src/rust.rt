@@ -1,4 +1,4 @@
-//! Rust's grammar as one table of rules, laid out name by name. docs/GRAMMAR.md says what each name means, and
+//! Rust's grammar as one table of rules, laid out name by name: the rule of a name, and then those of its expression. docs/GRAMMAR.md says what each name means, and
 //! `checks/lay_out_grammar.py` makes this file of it.
 use crate::rule::Rule;
 use crate::test::Test;
@@ -19,6 +19,8 @@ macro_rules! rule {
     (lifetime) => { Rule::Unit(Test::Is(Unit::Lifetime)) };
     (subtree $kind:ident) => { Rule::Unit(Test::Is(Unit::Subtree(DelimiterKind::$kind))) };
     (unit $test:ident) => { Rule::Unit(Test::$test) };
+    (holding $kind:ident $name:literal) => { Rule::Unit(Test::Holding(DelimiterKind::$kind, $name)) };
+    (opaque_holding $name:literal) => { Rule::Unit(Test::OpaqueHolding($name)) };
     (name $other:literal) => { Rule::Name($other) };
     (sequence $first:literal $second:literal) => { Rule::Sequence($first, $second) };
     (choice $first:literal $other:literal) => { Rule::Choice($first, $other) };
@@ -32,298 +34,389 @@ macro_rules! rules {
 }
 
 /// Where `expression` is laid out.
-pub(crate) const EXPRESSION: usize = 360;
+pub(crate) const EXPRESSION: usize = 445;
 
 /// Where `expression_2021_fragment` is laid out.
-pub(crate) const EXPRESSION_2021_FRAGMENT: usize = 357;
+pub(crate) const EXPRESSION_2021_FRAGMENT: usize = 441;
 
 /// Where `type` is laid out.
-pub(crate) const TYPE: usize = 94;
+pub(crate) const TYPE: usize = 109;
 
 /// Where `pattern_fragment` is laid out.
-pub(crate) const PATTERN_FRAGMENT: usize = 244;
+pub(crate) const PATTERN_FRAGMENT: usize = 288;
 
 /// Where `pattern_param_fragment` is laid out.
-pub(crate) const PATTERN_PARAM_FRAGMENT: usize = 248;
+pub(crate) const PATTERN_PARAM_FRAGMENT: usize = 293;
 
 /// Where `type_path` is laid out.
 pub(crate) const TYPE_PATH: usize = 0;
 
 /// Where `statement` is laid out.
-pub(crate) const STATEMENT: usize = 632;
+pub(crate) const STATEMENT: usize = 861;
 
 /// Where `item` is laid out.
-pub(crate) const ITEM: usize = 664;
+pub(crate) const ITEM: usize = 890;
 
 /// Where `meta` is laid out.
-pub(crate) const META: usize = 622;
+pub(crate) const META: usize = 827;
+
+/// Where `items` is laid out.
+pub(crate) const ITEMS: usize = 887;
 
 /// The rules.
-pub(crate) static RULES: [Rule; 829] = rules! {
+pub(crate) static RULES: [Rule; 1175] = rules! {
     // type_path, from 0 on
-    (sequence 1 4) (choice 2 3) (sign ':' ':') (empty)
-    // type_path_segments, from 4 on
-    (sequence 14 5) (sequence 6 8) (many 7) (sequence 2 14) (never 9) (sequence 2 10) (never 11) (choice 12 13)
-    (subtree Brace) (sign '*')
-    // type_path_segment, from 14 on
-    (sequence 15 16) (unit PathSegment) (choice 17 18) (sequence 1 35) (choice 19 25) (sequence 1 20) (sequence 21 22)
-    (subtree Parenthesis) (choice 23 3) (sequence 24 135) (sign '-' '>') (never 26)
-    // less, from 26 on
-    (choice 27 28) (sign '<') (sequence 29 34) (never 30) (never 31) (choice 32 33) (sign '<' '<') (sign '<' '-') (front '<')
-    // generic_arguments, from 35 on
-    (sequence 26 36) (sequence 37 44) (choice 38 3) (sequence 45 39) (sequence 40 43) (many 41) (sequence 42 45) (sign ',')
-    (choice 42 3) (front '>')
-    // generic_argument, from 45 on
-    (choice 46 50) (sequence 47 48) (lifetime) (never 49) (never 60) (choice 51 59) (sequence 94 52) (sequence 53 48)
-    (choice 54 3) (choice 55 57) (sequence 56 61) (sign '=') (sequence 58 188) (sign ':') (sequence 63 48)
-    // generic_argument_end, from 60 on
-    (choice 42 44)
-    // generic_argument_value, from 61 on
-    (choice 62 63) (sequence 94 48)
-    // const_argument, from 63 on
-    (choice 12 64) (choice 65 69) (sequence 66 68) (choice 67 3) (sign '-') (unit Literal) (unit TruthValue)
-    // qualified_self, from 70 on
-    (sequence 26 71) (sequence 94 72) (sequence 73 76) (choice 74 3) (sequence 75 0) (word As) (sequence 44 2)
-    // expression_path, from 77 on
-    (choice 78 79) (sequence 70 80) (sequence 1 80)
-    // expression_path_segments, from 80 on
-    (sequence 85 81) (sequence 82 84) (many 83) (sequence 2 85) (never 2)
-    // expression_path_segment, from 85 on
-    (sequence 15 86) (choice 87 3) (choice 88 89) (sequence 2 35) (sequence 2 20)
-    // simple_path, from 90 on
-    (sequence 1 91) (sequence 15 92) (many 93) (sequence 2 15)
-    // type, from 94 on
-    (choice 95 105) (sequence 0 96) (choice 97 103) (sequence 98 99) (sign '!') (sequence 100 101) (unit Delimited)
-    (never 102) (front '+') (sequence 104 152) (never 98) (choice 106 113) (sequence 107 110) (choice 108 109) (word Dyn)
-    (word Impl) (choice 189 111) (sequence 112 101) (never 217) (choice 114 117) (sequence 47 115) (sequence 116 152)
-    (never 101) (choice 118 119) (sequence 21 152) (choice 120 123) (sequence 121 122) (sign '?') (sequence 0 152)
-    (choice 124 131) (sequence 125 126) (word For) (sequence 34 127) (sequence 233 128) (sequence 44 129) (choice 130 122)
-    (sequence 177 101) (choice 132 134) (sequence 70 133) (sequence 4 101) (sequence 157 101)
-    // type_no_bounds, from 135 on
-    (choice 136 139) (sequence 0 137) (choice 138 104) (sequence 98 100) (choice 157 140) (choice 21 141) (choice 142 145)
-    (sequence 107 143) (choice 144 112) (sequence 190 101) (choice 146 147) (sequence 70 4) (sequence 125 148)
-    (sequence 34 149) (sequence 233 150) (sequence 44 151) (choice 177 0)
-    // more_bounds, from 152 on
-    (sequence 153 155) (many 154) (sequence 102 190) (sequence 156 101) (choice 102 3)
-    // plain_type, from 157 on
-    (choice 98 158) (choice 166 159) (choice 160 161) (subtree Bracket) (choice 162 163) (word Underscore) (choice 171 164)
-    (choice 177 165) (unit Opaque)
-    // pointer_type, from 166 on
-    (sequence 13 167) (sequence 168 135) (choice 169 170) (word Const) (word Mut)
-    // reference_type, from 171 on
-    (sequence 172 173) (front '&') (sequence 174 175) (choice 47 3) (sequence 176 135) (choice 170 3)
-    // function_type, from 177 on
-    (sequence 178 180) (choice 179 3) (word Unsafe) (sequence 181 186) (choice 182 3) (sequence 183 184) (word Extern)
-    (choice 185 3) (unit Text) (sequence 187 20) (word Fn)
-    // bounds, from 188 on
-    (choice 189 3)
-    // some_bounds, from 189 on
-    (sequence 190 152)
-    // bound, from 190 on
-    (choice 47 191) (choice 21 192) (choice 193 202) (sequence 194 195) (word Use) (sequence 34 196) (sequence 197 44)
-    (choice 198 3) (sequence 240 199) (sequence 200 43) (many 201) (sequence 42 240) (sequence 203 204) (choice 230 3)
-    (sequence 205 213) (choice 206 3) (choice 207 209) (sequence 208 169) (sign '~') (choice 210 211) (sequence 160 169)
-    (choice 169 212) (word Async) (sequence 214 216) (choice 215 3) (choice 121 98) (sequence 203 0)
-    // begins_bound, from 217 on
-    (choice 47 218) (choice 21 219) (choice 160 220) (choice 194 221) (choice 125 222) (choice 208 223) (choice 169 224)
-    (choice 212 225) (choice 121 226) (choice 98 227) (choice 15 228) (choice 2 229) (choice 27 32)
-    // for_lifetimes, from 230 on
-    (sequence 125 231) (sequence 34 232) (sequence 233 44)
-    // lifetime_parameters, from 233 on
-    (choice 234 3) (sequence 238 235) (sequence 236 43) (many 237) (sequence 42 238)
-    // lifetime_parameter, from 238 on
-    (sequence 47 239) (choice 57 3)
-    // use_argument, from 240 on
-    (choice 47 241) (choice 242 243) (unit Name) (word SelfType)
-    // pattern_fragment, from 244 on
-    (sequence 245 249) (never 246) (choice 247 98) (sign '.' '.' '=')
-    // pattern_param_fragment, from 248 on
-    (sequence 245 264)
-    // pattern, from 249 on
-    (sequence 250 252) (choice 251 3) (front '|') (sequence 264 253) (sequence 254 258) (many 255) (sequence 251 256)
-    (sequence 257 264) (never 251) (never 259) (choice 260 261) (sign '|') (choice 262 263) (sign '|' '|') (sign '@')
-    // pattern_no_top_alt, from 264 on
-    (choice 265 266) (sequence 247 328) (choice 267 270) (sequence 268 269) (sign '.' '.') (choice 328 3) (choice 271 275)
-    (sequence 66 272) (sequence 273 274) (choice 68 69) (choice 319 3) (choice 332 276) (choice 162 277) (choice 98 278)
-    (choice 334 279) (choice 21 280) (choice 160 281) (choice 165 282) (choice 283 285) (sequence 284 292) (word Box)
-    (choice 286 289) (sequence 70 287) (sequence 80 288) (choice 319 330) (sequence 1 290) (sequence 80 291) (choice 138 288)
-    // pattern_without_range, from 292 on
-    (choice 293 295) (sequence 66 294) (sequence 273 323) (choice 332 296) (choice 162 297) (choice 98 298) (choice 334 299)
-    (choice 21 300) (choice 160 301) (choice 165 302) (choice 283 303) (choice 304 308) (sequence 70 305) (sequence 80 306)
-    (choice 21 307) (choice 12 323) (choice 309 312) (sequence 1 310) (sequence 80 311) (choice 138 306) (sequence 268 313)
-    (never 314) (choice 67 315) (choice 68 316) (choice 242 317) (choice 27 318) (choice 32 2)
-    // range_tail, from 319 on
-    (choice 320 267) (sequence 321 328) (choice 247 322) (sign '.' '.' '.')
-    // old_range_tail, from 323 on
-    (choice 324 325) (sequence 322 328) (never 326)
-    // range_operator, from 326 on
-    (choice 247 327) (choice 322 268)
-    // range_end, from 328 on
-    (choice 329 77) (sequence 66 273)
-    // fields, from 330 on
-    (choice 331 3) (choice 21 12)
-    // reference_pattern, from 332 on
-    (sequence 172 333) (sequence 176 292)
-    // identifier_pattern, from 334 on
-    (choice 335 340) (sequence 336 337) (word Ref) (sequence 176 338) (sequence 242 339) (choice 356 3) (choice 341 349)
-    (sequence 170 342) (sequence 343 345) (choice 344 3) (sequence 336 176) (sequence 242 346) (sequence 347 339) (never 348)
-    (choice 2 331) (sequence 242 350) (sequence 351 339) (never 352) (choice 2 353) (choice 138 354) (choice 21 355)
-    (choice 12 326)
-    // binding, from 356 on
-    (sequence 263 264)
-    // expression_2021_fragment, from 357 on
-    (sequence 358 360) (never 359) (choice 162 169)
-    // expression, from 360 on
-    (choice 376 361) (sequence 395 362) (sequence 363 366) (many 364) (sequence 365 360) (unit AssignmentOperator)
-    (sequence 367 368) (never 365) (choice 376 325)
-    // expression_before_block, from 369 on
-    (choice 384 370) (sequence 407 371) (sequence 372 374) (many 373) (sequence 365 369) (sequence 367 375) (choice 384 325)
-    // range, from 376 on
-    (choice 377 379) (sequence 247 378) (choice 376 395) (sequence 268 380) (choice 381 383) (sequence 382 378) (never 383)
-    (never 619)
-    // range_before_block, from 384 on
-    (choice 385 389) (sequence 247 386) (sequence 387 388) (never 12) (choice 384 407) (sequence 268 390) (choice 391 393)
-    (sequence 392 388) (never 393) (never 394) (unit BeginsExpression)
-    // operation, from 395 on
-    (sequence 396 397) (many 620) (sequence 417 398) (sequence 399 404) (many 400) (choice 401 403) (sequence 402 413)
-    (unit BinaryOperator) (sequence 75 135) (sequence 405 406) (never 402) (never 75)
-    // operation_before_block, from 407 on
-    (sequence 396 408) (sequence 431 409) (sequence 410 404) (many 411) (choice 412 403) (sequence 402 415)
-    // operand, from 413 on
-    (choice 376 414) (sequence 396 417)
-    // operand_before_block, from 415 on
-    (choice 384 416) (sequence 396 431)
-    // unary, from 417 on
-    (choice 418 425) (sequence 419 421) (never 420) (never 15) (sequence 528 422) (sequence 423 424) (many 448) (never 464)
-    (sequence 420 426) (choice 427 428) (sequence 440 413) (sequence 429 422) (choice 465 430) (choice 503 528)
-    // unary_before_block, from 431 on
-    (choice 432 434) (sequence 419 433) (sequence 537 422) (sequence 420 435) (choice 436 437) (sequence 440 415)
-    (sequence 438 422) (choice 471 439) (choice 517 537)
-    // unary_operator, from 440 on
-    (choice 67 441) (choice 98 442) (choice 13 443) (sequence 172 444) (choice 445 3) (choice 446 170) (sequence 447 168)
-    (word Raw)
-    // postfix, from 448 on
-    (choice 121 449) (choice 21 450) (choice 160 451) (sequence 452 453) (sign '.') (choice 454 455) (word Await)
-    (choice 456 463) (sequence 15 457) (choice 458 460) (sequence 2 459) (sequence 35 21) (never 461) (sequence 2 462)
-    (choice 26 21) (unit Number)
-    // bad_postfix, from 464 on
-    (choice 452 33)
-    // closure, from 465 on
-    (sequence 474 466) (choice 467 469) (sequence 24 468) (sequence 135 12) (sequence 470 360) (never 24)
-    // closure_before_block, from 471 on
-    (sequence 474 472) (choice 467 473) (sequence 470 369)
-    // closure_head, from 474 on
-    (sequence 203 475) (sequence 476 485) (choice 477 3) (sequence 169 478) (never 479) (never 480) (choice 481 482)
-    (word Static) (choice 483 484) (word Move) (choice 262 251) (sequence 486 487) (choice 481 3) (sequence 488 489)
-    (choice 212 3) (sequence 490 491) (choice 483 3) (choice 262 492) (sequence 251 493) (sequence 494 251) (choice 495 3)
-    (sequence 499 496) (sequence 497 43) (many 498) (sequence 42 499)
-    // closure_parameter, from 499 on
-    (sequence 396 500) (sequence 264 501) (choice 502 3) (sequence 58 94)
-    // jump, from 503 on
-    (choice 504 508) (sequence 505 506) (word Return) (choice 507 383) (sequence 382 360) (choice 509 512) (sequence 510 511)
-    (word Break) (sequence 174 506) (choice 513 515) (sequence 514 174) (word Continue) (sequence 516 506) (word Yield)
-    // jump_before_block, from 517 on
-    (choice 518 521) (sequence 505 519) (choice 520 383) (sequence 382 369) (choice 522 526) (sequence 510 523)
-    (sequence 174 524) (choice 525 393) (sequence 392 369) (choice 513 527) (sequence 516 519)
-    // primary, from 528 on
-    (choice 529 534) (sequence 1 530) (sequence 80 531) (choice 138 532) (sequence 104 533) (choice 12 3) (choice 543 535)
-    (sequence 70 536) (sequence 80 532)
-    // primary_before_block, from 537 on
-    (choice 538 540) (sequence 1 539) (sequence 80 137) (choice 543 541) (sequence 70 542) (sequence 80 104)
-    // basic, from 543 on
-    (choice 68 544) (choice 69 545) (choice 21 546) (choice 160 547) (choice 12 548) (choice 165 549) (choice 162 550)
-    // block_like, from 550 on
-    (choice 551 553) (sequence 552 12) (word Try) (choice 554 567) (sequence 555 556) (word If) (sequence 596 557)
-    (sequence 12 558) (sequence 559 566) (choice 560 3) (sequence 561 562) (word Else) (choice 12 563) (sequence 564 550)
-    (never 565) (never 555) (never 561) (choice 568 571) (sequence 569 570) (word Match) (sequence 369 12) (choice 572 573)
-    (sequence 179 12) (choice 574 579) (sequence 575 578) (choice 576 212) (sequence 488 577) (word Gen) (sequence 490 12)
-    (choice 580 581) (sequence 169 12) (choice 585 582) (sequence 47 583) (sequence 58 584) (choice 585 12)
-    // loop, from 585 on
-    (choice 586 588) (sequence 587 12) (word Loop) (choice 589 592) (sequence 590 591) (word While) (sequence 596 12)
-    (sequence 125 593) (sequence 249 594) (sequence 595 570) (word In)
-    // conditions, from 596 on
-    (sequence 601 597) (sequence 598 600) (many 599) (sequence 617 601) (never 617)
-    // one_condition, from 601 on
-    (choice 602 606) (sequence 603 604) (word Let) (sequence 249 605) (sequence 56 606)
-    // let_value, from 606 on
-    (sequence 396 607) (sequence 431 608) (sequence 609 612) (many 610) (choice 611 403) (sequence 600 412) (sequence 613 615)
-    (never 614) (sequence 600 402) (sequence 372 616) (choice 384 3)
-    // lazy_operator, from 617 on
-    (choice 618 262) (sign '&' '&')
-    // begins, from 619 on
-    (choice 12 394)
-    // attribute, from 620 on
-    (sequence 621 160) (sign '#')
-    // meta, from 622 on
-    (choice 623 624) (sequence 179 21) (sequence 90 625) (choice 626 3) (choice 100 627) (sequence 56 360)
-    // visibility, from 628 on
-    (choice 629 3) (sequence 630 631) (word Pub) (choice 21 3)
-    // statement, from 632 on
-    (choice 633 634) (sign ';') (choice 635 636) (sequence 396 644) (choice 637 643) (sequence 396 638) (sequence 639 666)
-    (never 640) (choice 641 642) (word Default) (word Safe) (choice 652 360)
-    // let_statement, from 644 on
-    (sequence 603 645) (sequence 249 646) (sequence 501 647) (choice 648 3) (sequence 56 649) (sequence 360 650)
-    (choice 651 3) (sequence 561 12)
-    // block_statement, from 652 on
-    (sequence 396 653) (sequence 654 662) (choice 12 655) (choice 656 659) (sequence 657 550) (never 658) (choice 212 577)
-    (sequence 1 660) (sequence 80 661) (sequence 98 12) (never 663) (choice 452 121)
-    // item, from 664 on
-    (sequence 396 665) (choice 666 682)
-    // declaration, from 666 on
-    (sequence 628 667) (choice 668 669) (sequence 641 669)
-    // item_kind, from 669 on
-    (choice 727 670) (choice 695 671) (choice 705 672) (choice 715 673) (choice 725 674) (choice 745 675) (choice 749 676)
-    (choice 752 677) (choice 762 678) (choice 768 679) (choice 773 680) (choice 775 681) (choice 789 686)
-    // macro_item, from 682 on
-    (sequence 90 683) (sequence 98 684) (choice 12 685) (sequence 100 633)
-    // macro_definition, from 686 on
-    (choice 687 691) (sequence 688 689) (word MacroRules) (sequence 98 690) (sequence 242 684) (sequence 692 693) (word Macro)
-    (sequence 242 694) (sequence 631 12)
-    // use_declaration, from 695 on
-    (sequence 194 696) (sequence 1 697) (sequence 698 633) (choice 12 699) (choice 13 700) (sequence 15 701) (sequence 92 702)
-    (choice 703 3) (choice 704 713) (sequence 2 11)
-    // extern_crate, from 705 on
-    (sequence 183 706) (sequence 707 708) (word Crate) (sequence 709 711) (choice 242 710) (word SelfValue) (sequence 712 633)
-    (choice 713 3)
-    // rename, from 713 on
-    (sequence 75 714) (choice 242 162)
-    // static_item, from 715 on
-    (sequence 716 718) (choice 717 3) (choice 179 642) (sequence 481 719) (sequence 176 720) (sequence 242 721)
-    (sequence 58 722) (sequence 94 723) (sequence 724 633) (choice 627 3)
-    // constant_item, from 725 on
-    (sequence 169 726) (sequence 714 721)
-    // function, from 727 on
-    (sequence 728 729) (many 740) (sequence 187 730) (sequence 242 731) (sequence 732 733) (choice 799 3) (sequence 21 734)
-    (sequence 735 737) (choice 736 3) (sequence 24 94) (sequence 738 739) (choice 818 3) (choice 12 633)
-    // function_qualifier, from 740 on
-    (choice 169 741) (choice 212 742) (choice 577 743) (choice 179 744) (choice 642 182)
-    // module_item, from 745 on
-    (sequence 178 746) (sequence 747 748) (word Mod) (sequence 242 739)
-    // extern_block, from 749 on
-    (sequence 178 750) (sequence 183 751) (sequence 184 12)
-    // type_alias, from 752 on
-    (sequence 753 754) (word Type) (sequence 242 755) (sequence 732 756) (sequence 239 757) (sequence 738 758)
-    (sequence 759 761) (choice 760 3) (sequence 56 94) (sequence 738 633)
-    // structure, from 762 on
-    (sequence 763 764) (word Struct) (sequence 242 765) (sequence 732 766) (choice 767 737) (sequence 21 761)
-    // enumeration, from 768 on
-    (sequence 769 770) (word Enum) (sequence 242 771) (sequence 732 772) (sequence 738 12)
-    // union, from 773 on
-    (sequence 774 770) (word Union)
-    // trait, from 775 on
-    (sequence 776 777) (choice 169 3) (sequence 178 778) (sequence 779 781) (choice 780 3) (word Auto) (sequence 782 783)
-    (word Trait) (sequence 242 784) (sequence 732 785) (choice 786 787) (sequence 239 772) (sequence 56 788)
-    (sequence 188 761)
-    // implementation, from 789 on
-    (sequence 178 790) (sequence 109 791) (sequence 732 792) (sequence 776 793) (sequence 794 796) (choice 795 94)
-    (sequence 98 94) (sequence 797 772) (choice 798 3) (sequence 125 94)
-    // generic_parameters, from 799 on
-    (sequence 27 800) (sequence 801 44) (choice 802 3) (sequence 806 803) (sequence 804 43) (many 805) (sequence 42 806)
-    // generic_parameter, from 806 on
-    (sequence 396 807) (choice 238 808) (choice 809 816) (sequence 169 810) (sequence 242 811) (sequence 58 812)
-    (sequence 94 813) (choice 814 3) (sequence 56 815) (choice 63 242) (sequence 242 817) (sequence 239 759)
-    // where_clause, from 818 on
-    (sequence 819 820) (word Where) (choice 821 3) (sequence 825 822) (sequence 823 43) (many 824) (sequence 42 825)
-    // where_predicate, from 825 on
-    (choice 826 827) (sequence 47 57) (sequence 203 828) (sequence 135 57)
+    (name 1) (sequence 2 5) (choice 3 4) (sign ':' ':') (empty)
+    // type_path_segments, from 5 on
+    (name 6) (sequence 16 7) (sequence 8 10) (many 9) (sequence 3 16) (never 11) (sequence 3 12) (never 13) (choice 14 15) (subtree Brace) (sign '*')
+    // type_path_segment, from 16 on
+    (name 17) (sequence 18 19) (unit PathSegment) (choice 20 21) (sequence 2 39) (choice 22 28) (sequence 2 23) (sequence 24 25) (holding Parenthesis 162)
+    (choice 26 4) (sequence 27 147) (sign '-' '>') (never 29)
+    // less, from 29 on
+    (name 30) (choice 31 32) (sign '<') (sequence 33 38) (never 34) (never 35) (choice 36 37) (sign '<' '<') (sign '<' '-') (front '<')
+    // generic_arguments, from 39 on
+    (name 40) (sequence 29 41) (sequence 42 49) (choice 43 4) (sequence 50 44) (sequence 45 48) (many 46) (sequence 47 50) (sign ',') (choice 47 4)
+    (front '>')
+    // generic_argument, from 50 on
+    (name 51) (choice 52 56) (sequence 53 54) (lifetime) (never 55) (never 66) (choice 57 65) (sequence 109 58) (sequence 59 54) (choice 60 4)
+    (choice 61 63) (sequence 62 68) (sign '=') (sequence 64 229) (sign ':') (sequence 71 54)
+    // generic_argument_end, from 66 on
+    (name 67) (choice 47 49)
+    // generic_argument_value, from 68 on
+    (name 69) (choice 70 71) (sequence 109 54)
+    // const_argument, from 71 on
+    (name 72) (choice 73 74) (holding Brace 850) (choice 75 79) (sequence 76 78) (choice 77 4) (sign '-') (unit Literal) (unit TruthValue)
+    // qualified_self, from 80 on
+    (name 81) (sequence 29 82) (sequence 109 83) (sequence 84 87) (choice 85 4) (sequence 86 0) (word As) (sequence 49 3)
+    // expression_path, from 88 on
+    (name 89) (choice 90 91) (sequence 80 92) (sequence 2 92)
+    // expression_path_segments, from 92 on
+    (name 93) (sequence 98 94) (sequence 95 97) (many 96) (sequence 3 98) (never 3)
+    // expression_path_segment, from 98 on
+    (name 99) (sequence 18 100) (choice 101 4) (choice 102 103) (sequence 3 39) (sequence 3 23)
+    // simple_path, from 104 on
+    (name 105) (sequence 2 106) (sequence 18 107) (many 108) (sequence 3 18)
+    // type, from 109 on
+    (name 110) (choice 111 121) (sequence 0 112) (choice 113 119) (sequence 114 115) (sign '!') (sequence 116 117) (unit Delimited) (never 118) (front '+')
+    (sequence 120 168) (never 114) (choice 122 129) (sequence 123 126) (choice 124 125) (word Dyn) (word Impl) (choice 231 127) (sequence 128 117)
+    (never 262) (choice 130 133) (sequence 53 131) (sequence 132 168) (never 117) (choice 134 135) (sequence 24 168) (choice 136 139) (sequence 137 138)
+    (sign '?') (sequence 0 168) (choice 140 143) (sequence 279 141) (choice 142 138) (sequence 202 117) (choice 144 146) (sequence 80 145) (sequence 5 117)
+    (sequence 174 117)
+    // type_no_bounds, from 147 on
+    (name 148) (choice 149 152) (sequence 0 150) (choice 151 120) (sequence 114 116) (choice 174 153) (choice 24 154) (choice 155 158) (sequence 123 156)
+    (choice 157 128) (sequence 233 117) (choice 159 160) (sequence 80 5) (sequence 279 161) (choice 202 0)
+    // types, from 162 on
+    (name 163) (many 164) (sequence 109 165) (choice 47 166) (never 167) (unit Any)
+    // more_bounds, from 168 on
+    (name 169) (sequence 170 172) (many 171) (sequence 118 233) (sequence 173 117) (choice 118 4)
+    // plain_type, from 174 on
+    (name 175) (choice 114 176) (choice 184 177) (choice 178 179) (holding Bracket 190) (choice 180 181) (word Underscore) (choice 195 182) (choice 202 183)
+    (opaque_holding 109)
+    // pointer_type, from 184 on
+    (name 185) (sequence 15 186) (sequence 187 147) (choice 188 189) (word Const) (word Mut)
+    // array_type, from 190 on
+    (name 191) (sequence 109 192) (choice 193 4) (sequence 194 445) (sign ';')
+    // reference_type, from 195 on
+    (name 196) (sequence 197 198) (front '&') (sequence 199 200) (choice 53 4) (sequence 201 147) (choice 189 4)
+    // function_type, from 202 on
+    (name 203) (sequence 204 206) (choice 205 4) (word Unsafe) (sequence 207 212) (choice 208 4) (sequence 209 210) (word Extern) (choice 211 4) (unit Text)
+    (sequence 213 214) (word Fn) (sequence 215 25) (holding Parenthesis 216)
+    // maybe_named_parameters, from 216 on
+    (name 217) (many 218) (sequence 219 165)
+    // maybe_named_parameter, from 219 on
+    (name 220) (sequence 221 222) (many 825) (choice 223 224) (sign '.' '.' '.') (sequence 225 109) (choice 226 4) (sequence 227 64) (choice 228 180)
+    (unit Name)
+    // bounds, from 229 on
+    (name 230) (choice 231 4)
+    // some_bounds, from 231 on
+    (name 232) (sequence 233 169)
+    // bound, from 233 on
+    (name 234) (choice 53 235) (choice 236 237) (holding Parenthesis 233) (choice 238 247) (sequence 239 240) (word Use) (sequence 38 241) (sequence 242 49)
+    (choice 243 4) (sequence 284 244) (sequence 245 48) (many 246) (sequence 47 284) (sequence 248 249) (choice 279 4) (sequence 250 0) (choice 137 251)
+    (choice 114 252) (sequence 253 259) (choice 254 4) (choice 255 257) (sequence 256 188) (sign '~') (choice 258 188) (holding Bracket 261) (choice 260 4)
+    (word Async)
+    // maybe_const, from 261 on
+    (name 188)
+    // begins_bound, from 262 on
+    (name 263) (choice 53 264) (choice 265 266) (subtree Parenthesis) (choice 267 268) (subtree Bracket) (choice 239 269) (choice 270 271) (word For)
+    (choice 256 272) (choice 188 273) (choice 260 274) (choice 137 275) (choice 114 276) (choice 18 277) (choice 3 278) (choice 31 36)
+    // for_lifetimes, from 279 on
+    (name 280) (sequence 270 1137)
+    // lifetime_parameter, from 281 on
+    (name 282) (sequence 53 283) (choice 63 4)
+    // use_argument, from 284 on
+    (name 285) (choice 53 286) (choice 228 287) (word SelfType)
+    // pattern_fragment, from 288 on
+    (name 289) (sequence 290 295) (never 291) (choice 292 114) (sign '.' '.' '=')
+    // pattern_param_fragment, from 293 on
+    (name 294) (sequence 290 311)
+    // pattern, from 295 on
+    (name 296) (sequence 297 299) (choice 298 4) (front '|') (sequence 311 300) (sequence 301 305) (many 302) (sequence 298 303) (sequence 304 311)
+    (never 298) (never 306) (choice 307 308) (sign '|') (choice 309 310) (sign '|' '|') (sign '@')
+    // pattern_no_top_alt, from 311 on
+    (name 312) (choice 313 314) (sequence 292 386) (choice 315 318) (sequence 316 317) (sign '.' '.') (choice 386 4) (choice 319 323) (sequence 76 320)
+    (sequence 321 322) (choice 78 79) (choice 375 4) (choice 413 324) (choice 180 325) (choice 114 326) (choice 416 327) (choice 328 329)
+    (holding Parenthesis 372) (choice 330 331) (holding Bracket 372) (choice 332 333) (opaque_holding 295) (choice 334 336) (sequence 335 343) (word Box)
+    (choice 337 340) (sequence 80 338) (sequence 92 339) (choice 375 389) (sequence 2 341) (sequence 92 342) (choice 151 339)
+    // pattern_without_range, from 343 on
+    (name 344) (choice 345 347) (sequence 76 346) (sequence 321 379) (choice 413 348) (choice 180 349) (choice 114 350) (choice 416 351) (choice 328 352)
+    (choice 330 353) (choice 332 354) (choice 334 355) (choice 356 361) (sequence 80 357) (sequence 92 358) (choice 328 359) (choice 360 379)
+    (holding Brace 392) (choice 362 365) (sequence 2 363) (sequence 92 364) (choice 151 358) (sequence 316 366) (never 367) (choice 77 368) (choice 78 369)
+    (choice 228 370) (choice 31 371) (choice 36 3)
+    // patterns, from 372 on
+    (name 373) (many 374) (sequence 295 165)
+    // range_tail, from 375 on
+    (name 376) (choice 377 315) (sequence 378 386) (choice 292 223)
+    // old_range_tail, from 379 on
+    (name 380) (choice 381 382) (sequence 223 386) (never 383)
+    // range_operator, from 383 on
+    (name 384) (choice 292 385) (choice 223 316)
+    // range_end, from 386 on
+    (name 387) (choice 388 88) (sequence 76 321)
+    // fields, from 389 on
+    (name 390) (choice 391 4) (choice 328 360)
+    // struct_pattern_elements, from 392 on
+    (name 393) (sequence 394 396) (many 395) (sequence 398 165) (choice 397 4) (sequence 221 316)
+    // struct_pattern_field, from 398 on
+    (name 399) (sequence 221 400) (choice 401 403) (sequence 410 402) (sequence 64 295)
+    // field_pattern, from 403 on
+    (name 404) (sequence 405 406) (choice 335 4) (sequence 407 409) (choice 408 4) (word Ref) (sequence 201 228)
+    // field_name, from 410 on
+    (name 411) (choice 228 412) (unit Number)
+    // reference_pattern, from 413 on
+    (name 414) (sequence 197 415) (sequence 201 343)
+    // identifier_pattern, from 416 on
+    (name 417) (choice 418 422) (sequence 408 419) (sequence 201 420) (sequence 228 421) (choice 439 4) (choice 423 432) (sequence 189 424)
+    (sequence 425 427) (choice 426 4) (sequence 408 201) (sequence 228 428) (sequence 429 421) (never 430) (choice 3 431) (choice 265 14) (sequence 228 433)
+    (sequence 434 421) (never 435) (choice 3 436) (choice 151 437) (choice 265 438) (choice 14 383)
+    // binding, from 439 on
+    (name 440) (sequence 310 311)
+    // expression_2021_fragment, from 441 on
+    (name 442) (sequence 443 445) (never 444) (choice 180 188)
+    // expression, from 445 on
+    (name 446) (choice 463 447) (sequence 484 448) (sequence 449 452) (many 450) (sequence 451 445) (unit AssignmentOperator) (sequence 453 454) (never 451)
+    (choice 463 382)
+    // expression_before_block, from 455 on
+    (name 456) (choice 472 457) (sequence 496 458) (sequence 459 461) (many 460) (sequence 451 455) (sequence 453 462) (choice 472 382)
+    // range, from 463 on
+    (name 464) (choice 465 467) (sequence 292 466) (choice 463 484) (sequence 316 468) (choice 469 471) (sequence 470 466) (never 471) (never 818)
+    // range_before_block, from 472 on
+    (name 473) (choice 474 478) (sequence 292 475) (sequence 476 477) (never 14) (choice 472 496) (sequence 316 479) (choice 480 482) (sequence 481 477)
+    (never 482) (never 483) (unit BeginsExpression)
+    // operation, from 484 on
+    (name 485) (sequence 221 486) (sequence 509 487) (sequence 488 493) (many 489) (choice 490 492) (sequence 491 503) (unit BinaryOperator)
+    (sequence 86 147) (sequence 494 495) (never 491) (never 86)
+    // operation_before_block, from 496 on
+    (name 497) (sequence 221 498) (sequence 524 499) (sequence 500 493) (many 501) (choice 502 492) (sequence 491 506)
+    // operand, from 503 on
+    (name 504) (choice 463 505) (sequence 221 509)
+    // operand_before_block, from 506 on
+    (name 507) (choice 472 508) (sequence 221 524)
+    // unary, from 509 on
+    (name 510) (choice 511 518) (sequence 512 514) (never 513) (never 18) (sequence 636 515) (sequence 516 517) (many 543) (never 561) (sequence 513 519)
+    (choice 520 521) (sequence 534 504) (sequence 522 515) (choice 563 523) (choice 605 636)
+    // unary_before_block, from 524 on
+    (name 525) (choice 526 528) (sequence 512 527) (sequence 648 515) (sequence 513 529) (choice 530 531) (sequence 534 507) (sequence 532 515)
+    (choice 571 533) (choice 624 648)
+    // unary_operator, from 534 on
+    (name 535) (choice 77 536) (choice 114 537) (choice 15 538) (sequence 197 539) (choice 540 4) (choice 541 189) (sequence 542 187) (word Raw)
+    // postfix, from 543 on
+    (name 544) (choice 137 545) (choice 546 547) (holding Parenthesis 665) (choice 548 549) (holding Bracket 445) (sequence 550 551) (sign '.')
+    (choice 552 553) (word Await) (choice 554 412) (sequence 18 555) (choice 556 558) (sequence 3 557) (sequence 39 546) (never 559) (sequence 3 560)
+    (choice 29 265)
+    // bad_postfix, from 561 on
+    (name 562) (choice 550 37)
+    // closure, from 563 on
+    (name 564) (sequence 575 565) (choice 566 569) (sequence 27 567) (sequence 147 568) (holding Brace 852) (sequence 570 445) (never 27)
+    // closure_before_block, from 571 on
+    (name 572) (sequence 575 573) (choice 566 574) (sequence 570 455)
+    // closure_head, from 575 on
+    (name 576) (sequence 248 577) (sequence 578 587) (choice 579 4) (sequence 188 580) (never 581) (never 582) (choice 583 584) (word Static)
+    (choice 585 586) (word Move) (choice 309 298) (sequence 588 589) (choice 583 4) (sequence 259 590) (sequence 591 592) (choice 585 4) (choice 309 593)
+    (sequence 298 594) (sequence 595 298) (choice 596 4) (sequence 600 597) (sequence 598 48) (many 599) (sequence 47 600)
+    // closure_parameter, from 600 on
+    (name 601) (sequence 221 602) (sequence 311 603) (choice 604 4) (sequence 64 109)
+    // jump, from 605 on
+    (name 606) (choice 607 615) (sequence 608 613) (choice 609 610) (word Return) (sequence 611 612) (word Do) (word Yeet) (choice 614 471)
+    (sequence 470 445) (choice 616 619) (sequence 617 618) (word Break) (sequence 199 613) (choice 620 622) (sequence 621 199) (word Continue)
+    (sequence 623 613) (word Yield)
+    // jump_before_block, from 624 on
+    (name 625) (choice 626 629) (sequence 608 627) (choice 628 471) (sequence 470 455) (choice 630 634) (sequence 617 631) (sequence 199 632)
+    (choice 633 482) (sequence 481 455) (choice 620 635) (sequence 623 627)
+    // primary, from 636 on
+    (name 637) (choice 656 638) (choice 639 645) (sequence 2 640) (sequence 92 641) (choice 151 642) (sequence 120 643) (choice 644 4) (holding Brace 674)
+    (choice 687 646) (sequence 80 647) (sequence 92 642)
+    // primary_before_block, from 648 on
+    (name 649) (choice 661 650) (choice 651 653) (sequence 2 652) (sequence 92 150) (choice 687 654) (sequence 80 655) (sequence 92 120)
+    // variable, from 656 on
+    (name 657) (sequence 18 658) (never 659) (choice 3 660) (choice 114 14)
+    // variable_before_block, from 661 on
+    (name 662) (sequence 18 663) (never 664) (choice 3 114)
+    // expressions, from 665 on
+    (name 666) (many 667) (sequence 445 165)
+    // array_elements, from 668 on
+    (name 669) (choice 670 4) (sequence 445 671) (choice 193 672) (choice 673 166) (sequence 47 665)
+    // struct_expression_fields, from 674 on
+    (name 675) (sequence 676 678) (many 677) (sequence 681 165) (choice 679 4) (sequence 316 680) (choice 445 4)
+    // struct_expression_field, from 681 on
+    (name 682) (sequence 221 683) (choice 684 686) (sequence 410 685) (sequence 64 445)
+    // field_value, from 686 on
+    (name 228)
+    // basic, from 687 on
+    (name 688) (choice 78 689) (choice 79 690) (choice 546 691) (choice 692 693) (holding Bracket 668) (choice 73 694) (choice 695 696) (opaque_holding 445)
+    (choice 180 697)
+    // block_like, from 697 on
+    (name 698) (choice 699 701) (sequence 700 73) (word Try) (choice 702 715) (sequence 703 704) (word If) (sequence 748 705) (sequence 568 706)
+    (sequence 707 714) (choice 708 4) (sequence 709 710) (word Else) (choice 568 711) (sequence 712 697) (never 713) (never 703) (never 709)
+    (choice 716 720) (sequence 717 718) (word Match) (sequence 455 719) (holding Brace 772) (choice 721 722) (sequence 205 73) (choice 723 728)
+    (sequence 724 727) (choice 725 260) (sequence 259 726) (word Gen) (sequence 591 73) (choice 729 730) (sequence 188 73) (choice 735 731)
+    (sequence 733 732) (choice 735 73)
+    // label, from 733 on
+    (name 734) (sequence 53 64)
+    // loop, from 735 on
+    (name 736) (choice 737 739) (sequence 738 73) (word Loop) (choice 740 743) (sequence 741 742) (word While) (sequence 748 73) (sequence 270 744)
+    (sequence 295 745) (sequence 746 747) (word In) (sequence 455 73)
+    // conditions, from 748 on
+    (name 749) (sequence 754 750) (sequence 751 753) (many 752) (sequence 815 754) (never 815)
+    // one_condition, from 754 on
+    (name 755) (choice 756 760) (sequence 757 758) (word Let) (sequence 295 759) (sequence 62 760)
+    // let_value, from 760 on
+    (name 761) (sequence 221 762) (sequence 524 763) (sequence 764 767) (many 765) (choice 766 492) (sequence 753 502) (sequence 768 770) (never 769)
+    (sequence 753 491) (sequence 459 771) (choice 472 4)
+    // match_arms, from 772 on
+    (name 773) (sequence 774 775) (many 820) (many 776)
+    // match_arm, from 776 on
+    (name 777) (sequence 221 778) (sequence 295 779) (sequence 780 782) (choice 781 4) (sequence 703 787) (sequence 783 784) (sign '=' '>') (choice 785 667)
+    (sequence 221 786) (sequence 807 48)
+    // guard, from 787 on
+    (name 788) (sequence 792 789) (sequence 790 753) (many 791) (sequence 815 792)
+    // guard_condition, from 792 on
+    (name 793) (choice 794 797) (sequence 757 795) (sequence 295 796) (sequence 62 797)
+    // guard_value, from 797 on
+    (name 798) (sequence 221 799) (sequence 509 800) (sequence 801 804) (many 802) (choice 803 492) (sequence 753 490) (sequence 768 805) (sequence 449 806)
+    (choice 463 4)
+    // expression_with_block, from 807 on
+    (name 808) (sequence 809 813) (choice 73 810) (sequence 811 697) (never 812) (choice 260 726) (never 814) (choice 550 137)
+    // lazy_operator, from 815 on
+    (name 816) (choice 817 309) (sign '&' '&')
+    // begins, from 818 on
+    (name 819) (choice 14 483)
+    // inner_attribute, from 820 on
+    (name 821) (sequence 822 823) (sign '#') (sequence 114 824) (holding Bracket 827)
+    // attribute, from 825 on
+    (name 826) (sequence 822 824)
+    // meta, from 827 on
+    (name 828) (choice 829 831) (sequence 205 830) (holding Parenthesis 831)
+    // plain_meta, from 831 on
+    (name 832) (sequence 104 833) (choice 834 4) (choice 116 835) (sequence 62 445)
+    // visibility, from 836 on
+    (name 837) (choice 838 4) (sequence 839 840) (word Pub) (choice 841 4) (holding Parenthesis 842)
+    // visibility_place, from 842 on
+    (name 843) (choice 844 845) (word Crate) (choice 846 847) (word SelfValue) (choice 848 849) (word Super) (sequence 746 104)
+    // block, from 850 on
+    (name 851) (sequence 774 852)
+    // statements, from 852 on
+    (name 853) (many 854) (choice 194 855) (choice 856 859) (sequence 221 857) (choice 858 875) (sequence 866 194) (sequence 445 860) (choice 194 166)
+    // statement, from 861 on
+    (name 862) (choice 194 863) (choice 864 445) (sequence 221 865) (choice 866 875)
+    // let_statement, from 866 on
+    (name 867) (sequence 757 868) (sequence 295 869) (sequence 603 870) (choice 871 4) (sequence 62 872) (sequence 445 873) (choice 874 4)
+    (sequence 709 568)
+    // closed_statement, from 875 on
+    (name 876) (choice 877 882) (sequence 878 893) (never 879) (choice 880 881) (word Default) (word Safe) (choice 807 883) (sequence 2 884)
+    (sequence 92 885) (sequence 114 886) (sequence 14 813)
+    // items, from 887 on
+    (name 888) (sequence 774 889) (many 890)
+    // item, from 890 on
+    (name 891) (sequence 221 892) (choice 893 912)
+    // declaration, from 893 on
+    (name 894) (choice 917 895) (sequence 836 896) (choice 897 898) (sequence 880 898)
+    // item_kind, from 898 on
+    (name 899) (choice 968 900) (choice 928 901) (choice 945 902) (choice 954 903) (choice 965 904) (choice 1012 905) (choice 1019 906) (choice 1033 907)
+    (choice 1044 908) (choice 1075 909) (choice 1092 910) (choice 1098 911) (choice 1114 922)
+    // macro_item, from 912 on
+    (name 913) (sequence 104 914) (sequence 114 915) (choice 14 916) (sequence 116 194)
+    // macro_rules, from 917 on
+    (name 918) (sequence 919 920) (word MacroRules) (sequence 114 921) (sequence 228 915)
+    // macro_definition, from 922 on
+    (name 923) (sequence 924 925) (word Macro) (sequence 228 926) (sequence 927 14) (choice 265 4)
+    // use_declaration, from 928 on
+    (name 929) (sequence 239 930) (sequence 934 194)
+    // use_trees, from 931 on
+    (name 932) (many 933) (sequence 934 165)
+    // use_tree, from 934 on
+    (name 935) (sequence 2 936) (choice 937 938) (holding Brace 931) (choice 15 939) (sequence 18 940) (sequence 107 941) (choice 942 4) (choice 943 952)
+    (sequence 3 944) (choice 937 15)
+    // extern_crate, from 945 on
+    (name 946) (sequence 209 947) (sequence 844 948) (sequence 949 950) (choice 228 846) (sequence 951 194) (choice 952 4)
+    // rename, from 952 on
+    (name 953) (sequence 86 227)
+    // static_item, from 954 on
+    (name 955) (sequence 956 958) (choice 957 4) (choice 205 881) (sequence 583 959) (sequence 201 960) (sequence 228 961) (sequence 64 962)
+    (sequence 109 963) (sequence 964 194) (choice 835 4)
+    // constant_item, from 965 on
+    (name 966) (sequence 188 967) (sequence 227 961)
+    // function, from 968 on
+    (name 969) (sequence 1005 970) (sequence 213 971) (sequence 228 972) (sequence 973 974) (choice 1137 4) (sequence 975 976) (holding Parenthesis 982)
+    (sequence 977 979) (choice 978 4) (sequence 27 109) (sequence 980 981) (choice 1158 4) (choice 73 194)
+    // function_parameters, from 982 on
+    (name 983) (sequence 984 987) (choice 985 4) (sequence 221 986) (sequence 989 165) (many 988) (sequence 997 165)
+    // self_parameter, from 989 on
+    (name 990) (sequence 991 97) (choice 992 995) (sequence 197 993) (sequence 199 994) (sequence 201 846) (sequence 201 996) (sequence 846 603)
+    // function_parameter, from 997 on
+    (name 998) (sequence 221 999) (choice 223 1000) (sequence 1001 1002) (never 989) (sequence 311 1003) (sequence 64 1004) (choice 223 109)
+    // function_qualifiers, from 1005 on
+    (name 1006) (sequence 1007 1008) (choice 188 4) (sequence 259 1009) (sequence 1010 1011) (choice 726 4) (sequence 956 207)
+    // module_item, from 1012 on
+    (name 1013) (sequence 204 1014) (sequence 1015 1016) (word Mod) (sequence 228 1017) (choice 1018 194) (holding Brace 887)
+    // extern_block, from 1019 on
+    (name 1020) (sequence 204 1021) (sequence 209 1022) (sequence 210 1023) (holding Brace 1024)
+    // external_items, from 1024 on
+    (name 1025) (sequence 774 1026) (many 1027)
+    // external_item, from 1027 on
+    (name 1028) (sequence 221 1029) (choice 1030 912) (sequence 836 1031) (choice 968 1032) (choice 954 1033)
+    // type_alias, from 1033 on
+    (name 1034) (sequence 1035 1036) (word Type) (sequence 228 1037) (sequence 973 1038) (sequence 283 1039) (sequence 980 1040) (sequence 1041 1043)
+    (choice 1042 4) (sequence 62 109) (sequence 980 194)
+    // structure, from 1044 on
+    (name 1045) (sequence 1046 1047) (word Struct) (sequence 228 1048) (sequence 973 1049) (choice 1050 1052) (sequence 1051 1043)
+    (holding Parenthesis 1062) (sequence 980 1053) (choice 1054 194) (holding Brace 1055)
+    // struct_fields, from 1055 on
+    (name 1056) (many 1057) (sequence 1058 165)
+    // struct_field, from 1058 on
+    (name 1059) (sequence 221 1060) (sequence 836 1061) (sequence 228 604)
+    // tuple_fields, from 1062 on
+    (name 1063) (many 1064) (sequence 1065 165)
+    // tuple_field, from 1065 on
+    (name 1066) (sequence 221 1067) (sequence 1068 109) (choice 1069 4) (sequence 839 1070) (choice 1071 4) (sequence 841 1072) (never 1073)
+    (choice 47 1074) (choice 118 166)
+    // enumeration, from 1075 on
+    (name 1076) (sequence 1077 1078) (word Enum) (sequence 228 1079) (sequence 973 1080) (sequence 980 1081) (holding Brace 1082)
+    // enum_variants, from 1082 on
+    (name 1083) (many 1084) (sequence 1085 165)
+    // enum_variant, from 1085 on
+    (name 1086) (sequence 221 1087) (sequence 836 1088) (sequence 228 1089) (sequence 1090 964) (choice 1091 4) (choice 1051 1054)
+    // union, from 1092 on
+    (name 1093) (sequence 1094 1095) (word Union) (sequence 228 1096) (sequence 973 1097) (sequence 980 1054)
+    // trait, from 1098 on
+    (name 1099) (sequence 1007 1100) (sequence 204 1101) (sequence 1102 1104) (choice 1103 4) (word Auto) (sequence 1105 1106) (word Trait)
+    (sequence 228 1107) (sequence 973 1108) (choice 1109 1112) (sequence 283 1110) (sequence 980 1111) (holding Brace 1126) (sequence 62 1113)
+    (sequence 229 1043)
+    // implementation, from 1114 on
+    (name 1115) (sequence 1007 1116) (sequence 204 1117) (sequence 125 1118) (sequence 973 1119) (sequence 1007 1120) (sequence 1121 1123) (choice 1122 109)
+    (sequence 114 109) (sequence 1124 1110) (choice 1125 4) (sequence 270 109)
+    // associated_items, from 1126 on
+    (name 1127) (sequence 774 1128) (many 1129)
+    // associated_item, from 1129 on
+    (name 1130) (sequence 221 1131) (choice 1132 912) (sequence 836 1133) (sequence 1134 1135) (choice 880 4) (choice 968 1136) (choice 965 1033)
+    // generic_parameters, from 1137 on
+    (name 1138) (sequence 31 1139) (sequence 1140 49) (choice 1141 4) (sequence 1145 1142) (sequence 1143 48) (many 1144) (sequence 47 1145)
+    // generic_parameter, from 1145 on
+    (name 1146) (sequence 221 1147) (choice 281 1148) (choice 1149 1156) (sequence 188 1150) (sequence 228 1151) (sequence 64 1152) (sequence 109 1153)
+    (choice 1154 4) (sequence 62 1155) (choice 71 228) (sequence 228 1157) (sequence 283 1041)
+    // where_clause, from 1158 on
+    (name 1159) (sequence 1160 1161) (word Where) (choice 1162 4) (sequence 1166 1163) (sequence 1164 48) (many 1165) (sequence 47 1166)
+    // where_predicate, from 1166 on
+    (name 1167) (choice 1168 1169) (sequence 53 63) (sequence 248 1170) (sequence 109 1171) (choice 63 1172) (sequence 1173 109) (choice 62 1174)
+    (sign '=' '=')
 };
