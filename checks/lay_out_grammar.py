@@ -301,8 +301,8 @@ def equation(left, text):
     return [line] if len(line) <= WIDTH else [f"{left} =", *filled(text.split(" "))]
 
 
-HEAD = """//! Rust's grammar as one table of rules, laid out name by name: the rule of a name, and then those of its expression. docs/GRAMMAR.md says what each name means, and
-//! `checks/lay_out_grammar.py` makes this file of it.
+HEAD = """//! Rust's grammar as one table of rules, laid out name by name: the rule of a name, and then those of its expression. docs/GRAMMAR.md says
+//! what each name means, and `checks/lay_out_grammar.py` makes this file of it.
 use crate::rule::Rule;
 use crate::test::Test;
 use crate::unit::Unit;

@@ -58,7 +58,7 @@ are_laid plain_type =
     one 175 refl (both 114 176 refl refl (both 184 177 refl refl (both 178 179 refl refl (both 180 181 refl refl (both 195 182 refl refl (both 202 183 refl
     refl refl))))))
 are_laid pointer_type = one 185 refl (both 15 186 refl refl (both 187 147 refl (both 188 189 refl refl refl) refl))
-are_laid array_type = one 191 refl (both 109 192 refl refl (both 193 4 refl (both 194 445 refl refl refl) refl))
+are_laid array_type = one 191 refl (both 109 192 refl refl (both 193 4 refl (both 194 449 refl refl refl) refl))
 are_laid reference_type =
     one 196 refl (both 197 198 refl refl (both 199 200 refl (both 53 4 refl refl refl) (both 201 147 refl (both 189 4 refl refl refl) refl)))
 are_laid function_type =
@@ -66,7 +66,7 @@ are_laid function_type =
     refl) (both 213 214 refl refl (both 215 25 refl refl (both 26 4 refl (both 27 147 refl refl refl) refl)))))
 are_laid maybe_named_parameters = one 217 refl (one 218 refl (both 219 165 refl refl (both 47 166 refl refl (one 167 refl refl))))
 are_laid maybe_named_parameter =
-    one 220 refl (both 221 222 refl (one 825 refl refl) (both 223 224 refl refl (both 225 109 refl (both 226 4 refl (both 227 64 refl (both 228 180 refl
+    one 220 refl (both 221 222 refl (one 829 refl refl) (both 223 224 refl refl (both 225 109 refl (both 226 4 refl (both 227 64 refl (both 228 180 refl
     refl refl) refl) refl) refl)))
 are_laid bounds = one 230 refl (both 231 4 refl refl refl)
 are_laid some_bounds =
@@ -74,7 +74,7 @@ are_laid some_bounds =
     118 refl refl))))
 are_laid bound =
     one 234 refl (both 53 235 refl refl (both 236 237 refl refl (both 238 247 refl (both 239 240 refl refl (both 38 241 refl refl (both 242 49 refl (both
-    243 4 refl (both 284 244 refl refl (both 245 48 refl (one 246 refl (both 47 284 refl refl refl)) (both 47 4 refl refl refl))) refl) refl))) (both 248
+    243 4 refl (both 288 244 refl refl (both 245 48 refl (one 246 refl (both 47 288 refl refl refl)) (both 47 4 refl refl refl))) refl) refl))) (both 248
     249 refl (both 279 4 refl refl refl) (both 250 0 refl (both 137 251 refl refl (both 114 252 refl refl (both 253 259 refl (both 254 4 refl (both 255 257
     refl (both 256 188 refl refl refl) (both 258 188 refl refl refl)) refl) (both 260 4 refl refl refl)))) refl)))))
 are_laid maybe_const = one 188 refl refl
@@ -82,284 +82,291 @@ are_laid begins_bound =
     one 263 refl (both 53 264 refl refl (both 265 266 refl refl (both 267 268 refl refl (both 239 269 refl refl (both 270 271 refl refl (both 256 272 refl
     refl (both 188 273 refl refl (both 260 274 refl refl (both 137 275 refl refl (both 114 276 refl refl (both 18 277 refl refl (both 3 278 refl refl (both
     31 36 refl refl refl)))))))))))))
-are_laid for_lifetimes = one 280 refl (both 270 1137 refl refl refl)
-are_laid lifetime_parameter = one 282 refl (both 53 283 refl refl (both 63 4 refl (both 64 229 refl refl refl) refl))
-are_laid use_argument = one 285 refl (both 53 286 refl refl (both 228 287 refl refl refl))
-are_laid pattern_fragment = one 289 refl (both 290 295 refl (one 291 refl (both 292 114 refl refl refl)) refl)
-are_laid pattern_param_fragment = one 294 refl (both 290 311 refl (one 291 refl (both 292 114 refl refl refl)) refl)
+are_laid for_lifetimes = one 280 refl (both 270 1147 refl refl refl)
+are_laid lifetime_parameter =
+    one 282 refl (both 53 283 refl refl (both 284 4 refl (both 64 285 refl refl (both 286 199 refl (one 287 refl (both 53 118 refl refl refl)) (both 53 4
+    refl refl refl))) refl))
+are_laid use_argument = one 289 refl (both 53 290 refl refl (both 228 291 refl refl refl))
+are_laid pattern_fragment = one 293 refl (both 294 299 refl (one 295 refl (both 296 114 refl refl refl)) refl)
+are_laid pattern_param_fragment = one 298 refl (both 294 315 refl (one 295 refl (both 296 114 refl refl refl)) refl)
 are_laid pattern =
-    one 296 refl (both 297 299 refl (both 298 4 refl refl refl) (both 311 300 refl refl (both 301 305 refl (one 302 refl (both 298 303 refl refl (both 304
-    311 refl (one 298 refl refl) refl))) (one 306 refl (both 307 308 refl refl (both 309 310 refl refl refl))))))
+    one 300 refl (both 301 303 refl (both 302 4 refl refl refl) (both 315 304 refl refl (both 305 309 refl (one 306 refl (both 302 307 refl refl (both 308
+    315 refl (one 302 refl refl) refl))) (one 310 refl (both 311 312 refl refl (both 313 314 refl refl refl))))))
 are_laid pattern_no_top_alt =
-    one 312 refl (both 313 314 refl (both 292 386 refl refl refl) (both 315 318 refl (both 316 317 refl refl (both 386 4 refl refl refl)) (both 319 323 refl
-    (both 76 320 refl (both 77 4 refl refl refl) (both 321 322 refl (both 78 79 refl refl refl) (both 375 4 refl refl refl))) (both 413 324 refl refl (both
-    180 325 refl refl (both 114 326 refl refl (both 416 327 refl refl (both 328 329 refl refl (both 330 331 refl refl (both 332 333 refl refl (both 334 336
-    refl (both 335 343 refl refl refl) (both 337 340 refl (both 80 338 refl refl (both 92 339 refl refl (both 375 389 refl refl refl))) (both 2 341 refl
-    (both 3 4 refl refl refl) (both 92 342 refl refl (both 151 339 refl (both 114 116 refl refl refl) (both 375 389 refl refl refl))))))))))))))))
+    one 316 refl (both 317 318 refl (both 296 390 refl refl refl) (both 319 322 refl (both 320 321 refl refl (both 390 4 refl refl refl)) (both 323 327 refl
+    (both 76 324 refl (both 77 4 refl refl refl) (both 325 326 refl (both 78 79 refl refl refl) (both 379 4 refl refl refl))) (both 417 328 refl refl (both
+    180 329 refl refl (both 114 330 refl refl (both 420 331 refl refl (both 332 333 refl refl (both 334 335 refl refl (both 336 337 refl refl (both 338 340
+    refl (both 339 347 refl refl refl) (both 341 344 refl (both 80 342 refl refl (both 92 343 refl refl (both 379 393 refl refl refl))) (both 2 345 refl
+    (both 3 4 refl refl refl) (both 92 346 refl refl (both 151 343 refl (both 114 116 refl refl refl) (both 379 393 refl refl refl))))))))))))))))
 are_laid pattern_without_range =
-    one 344 refl (both 345 347 refl (both 76 346 refl (both 77 4 refl refl refl) (both 321 379 refl (both 78 79 refl refl refl) refl)) (both 413 348 refl
-    refl (both 180 349 refl refl (both 114 350 refl refl (both 416 351 refl refl (both 328 352 refl refl (both 330 353 refl refl (both 332 354 refl refl
-    (both 334 355 refl (both 335 343 refl refl refl) (both 356 361 refl (both 80 357 refl refl (both 92 358 refl refl (both 328 359 refl refl (both 360 379
-    refl refl refl)))) (both 362 365 refl (both 2 363 refl (both 3 4 refl refl refl) (both 92 364 refl refl (both 151 358 refl (both 114 116 refl refl refl)
-    (both 328 359 refl refl (both 360 379 refl refl refl))))) (both 316 366 refl refl (one 367 refl (both 77 368 refl refl (both 78 369 refl refl (both 228
-    370 refl refl (both 31 371 refl refl (both 36 3 refl refl refl))))))))))))))))))
-are_laid patterns = one 373 refl (one 374 refl (both 295 165 refl refl (both 47 166 refl refl (one 167 refl refl))))
+    one 348 refl (both 349 351 refl (both 76 350 refl (both 77 4 refl refl refl) (both 325 383 refl (both 78 79 refl refl refl) refl)) (both 417 352 refl
+    refl (both 180 353 refl refl (both 114 354 refl refl (both 420 355 refl refl (both 332 356 refl refl (both 334 357 refl refl (both 336 358 refl refl
+    (both 338 359 refl (both 339 347 refl refl refl) (both 360 365 refl (both 80 361 refl refl (both 92 362 refl refl (both 332 363 refl refl (both 364 383
+    refl refl refl)))) (both 366 369 refl (both 2 367 refl (both 3 4 refl refl refl) (both 92 368 refl refl (both 151 362 refl (both 114 116 refl refl refl)
+    (both 332 363 refl refl (both 364 383 refl refl refl))))) (both 320 370 refl refl (one 371 refl (both 77 372 refl refl (both 78 373 refl refl (both 228
+    374 refl refl (both 31 375 refl refl (both 36 3 refl refl refl))))))))))))))))))
+are_laid patterns = one 377 refl (one 378 refl (both 299 165 refl refl (both 47 166 refl refl (one 167 refl refl))))
 are_laid range_tail =
-    one 376 refl (both 377 315 refl (both 378 386 refl (both 292 223 refl refl refl) refl) (both 316 317 refl refl (both 386 4 refl refl refl)))
-are_laid old_range_tail = one 380 refl (both 381 382 refl (both 223 386 refl refl refl) (one 383 refl refl))
-are_laid range_operator = one 384 refl (both 292 385 refl refl (both 223 316 refl refl refl))
-are_laid range_end = one 387 refl (both 388 88 refl (both 76 321 refl (both 77 4 refl refl refl) (both 78 79 refl refl refl)) refl)
-are_laid fields = one 390 refl (both 391 4 refl (both 328 360 refl refl refl) refl)
+    one 380 refl (both 381 319 refl (both 382 390 refl (both 296 223 refl refl refl) refl) (both 320 321 refl refl (both 390 4 refl refl refl)))
+are_laid old_range_tail = one 384 refl (both 385 386 refl (both 223 390 refl refl refl) (one 387 refl refl))
+are_laid range_operator = one 388 refl (both 296 389 refl refl (both 223 320 refl refl refl))
+are_laid range_end = one 391 refl (both 392 88 refl (both 76 325 refl (both 77 4 refl refl refl) (both 78 79 refl refl refl)) refl)
+are_laid fields = one 394 refl (both 395 4 refl (both 332 364 refl refl refl) refl)
 are_laid struct_pattern_elements =
-    one 393 refl (both 394 396 refl (one 395 refl (both 398 165 refl refl (both 47 166 refl refl (one 167 refl refl)))) (both 397 4 refl (both 221 316 refl
-    (one 825 refl refl) refl) refl))
+    one 397 refl (both 398 400 refl (one 399 refl (both 402 165 refl refl (both 47 166 refl refl (one 167 refl refl)))) (both 401 4 refl (both 221 320 refl
+    (one 829 refl refl) refl) refl))
 are_laid struct_pattern_field =
-    one 399 refl (both 221 400 refl (one 825 refl refl) (both 401 403 refl (both 410 402 refl refl (both 64 295 refl refl refl)) refl))
+    one 403 refl (both 221 404 refl (one 829 refl refl) (both 405 407 refl (both 414 406 refl refl (both 64 299 refl refl refl)) refl))
 are_laid field_pattern =
-    one 404 refl (both 405 406 refl (both 335 4 refl refl refl) (both 407 409 refl (both 408 4 refl refl refl) (both 201 228 refl (both 189 4 refl refl
+    one 408 refl (both 409 410 refl (both 339 4 refl refl refl) (both 411 413 refl (both 412 4 refl refl refl) (both 201 228 refl (both 189 4 refl refl
     refl) refl)))
-are_laid field_name = one 411 refl (both 228 412 refl refl refl)
-are_laid reference_pattern = one 414 refl (both 197 415 refl refl (both 201 343 refl (both 189 4 refl refl refl) refl))
+are_laid field_name = one 415 refl (both 228 416 refl refl refl)
+are_laid reference_pattern = one 418 refl (both 197 419 refl refl (both 201 347 refl (both 189 4 refl refl refl) refl))
 are_laid identifier_pattern =
-    one 417 refl (both 418 422 refl (both 408 419 refl refl (both 201 420 refl (both 189 4 refl refl refl) (both 228 421 refl refl (both 439 4 refl refl
-    refl)))) (both 423 432 refl (both 189 424 refl refl (both 425 427 refl (both 426 4 refl (both 408 201 refl refl (both 189 4 refl refl refl)) refl) (both
-    228 428 refl refl (both 429 421 refl (one 430 refl (both 3 431 refl refl (both 265 14 refl refl refl))) (both 439 4 refl refl refl))))) (both 228 433
-    refl refl (both 434 421 refl (one 435 refl (both 3 436 refl refl (both 151 437 refl (both 114 116 refl refl refl) (both 265 438 refl refl (both 14 383
-    refl refl refl))))) (both 439 4 refl refl refl)))))
-are_laid binding = one 440 refl (both 310 311 refl refl refl)
-are_laid expression_2021_fragment = one 442 refl (both 443 445 refl (one 444 refl (both 180 188 refl refl refl)) refl)
+    one 421 refl (both 422 426 refl (both 412 423 refl refl (both 201 424 refl (both 189 4 refl refl refl) (both 228 425 refl refl (both 443 4 refl refl
+    refl)))) (both 427 436 refl (both 189 428 refl refl (both 429 431 refl (both 430 4 refl (both 412 201 refl refl (both 189 4 refl refl refl)) refl) (both
+    228 432 refl refl (both 433 425 refl (one 434 refl (both 3 435 refl refl (both 265 14 refl refl refl))) (both 443 4 refl refl refl))))) (both 228 437
+    refl refl (both 438 425 refl (one 439 refl (both 3 440 refl refl (both 151 441 refl (both 114 116 refl refl refl) (both 265 442 refl refl (both 14 387
+    refl refl refl))))) (both 443 4 refl refl refl)))))
+are_laid binding = one 444 refl (both 314 315 refl refl refl)
+are_laid expression_2021_fragment = one 446 refl (both 447 449 refl (one 448 refl (both 180 188 refl refl refl)) refl)
 are_laid expression =
-    one 446 refl (both 463 447 refl refl (both 484 448 refl refl (both 449 452 refl (one 450 refl (both 451 445 refl refl refl)) (both 453 454 refl (one 451
-    refl refl) (both 463 382 refl refl (one 383 refl refl))))))
+    one 450 refl (both 467 451 refl refl (both 488 452 refl refl (both 453 456 refl (one 454 refl (both 455 449 refl refl refl)) (both 457 458 refl (one 455
+    refl refl) (both 467 386 refl refl (one 387 refl refl))))))
 are_laid expression_before_block =
-    one 456 refl (both 472 457 refl refl (both 496 458 refl refl (both 459 461 refl (one 460 refl (both 451 455 refl refl refl)) (both 453 462 refl (one 451
-    refl refl) (both 472 382 refl refl (one 383 refl refl))))))
+    one 460 refl (both 476 461 refl refl (both 500 462 refl refl (both 463 465 refl (one 464 refl (both 455 459 refl refl refl)) (both 457 466 refl (one 455
+    refl refl) (both 476 386 refl refl (one 387 refl refl))))))
 are_laid range =
-    one 464 refl (both 465 467 refl (both 292 466 refl refl (both 463 484 refl refl refl)) (both 316 468 refl refl (both 469 471 refl (both 470 466 refl
-    (one 471 refl (one 818 refl refl)) (both 463 484 refl refl refl)) (one 818 refl refl))))
+    one 468 refl (both 469 471 refl (both 296 470 refl refl (both 467 488 refl refl refl)) (both 320 472 refl refl (both 473 475 refl (both 474 470 refl
+    (one 475 refl (one 822 refl refl)) (both 467 488 refl refl refl)) (one 822 refl refl))))
 are_laid range_before_block =
-    one 473 refl (both 474 478 refl (both 292 475 refl refl (both 476 477 refl (one 14 refl refl) (both 472 496 refl refl refl))) (both 316 479 refl refl
-    (both 480 482 refl (both 481 477 refl (one 482 refl (one 483 refl refl)) (both 472 496 refl refl refl)) (one 483 refl refl))))
+    one 477 refl (both 478 482 refl (both 296 479 refl refl (both 480 481 refl (one 14 refl refl) (both 476 500 refl refl refl))) (both 320 483 refl refl
+    (both 484 486 refl (both 485 481 refl (one 486 refl (one 487 refl refl)) (both 476 500 refl refl refl)) (one 487 refl refl))))
 are_laid operation =
-    one 485 refl (both 221 486 refl (one 825 refl refl) (both 509 487 refl refl (both 488 493 refl (one 489 refl (both 490 492 refl (both 491 503 refl refl
-    refl) (both 86 147 refl refl refl))) (both 494 495 refl (one 491 refl refl) (one 86 refl refl)))))
+    one 489 refl (both 221 490 refl (one 829 refl refl) (both 513 491 refl refl (both 492 497 refl (one 493 refl (both 494 496 refl (both 495 507 refl refl
+    refl) (both 86 147 refl refl refl))) (both 498 499 refl (one 495 refl refl) (one 86 refl refl)))))
 are_laid operation_before_block =
-    one 497 refl (both 221 498 refl (one 825 refl refl) (both 524 499 refl refl (both 500 493 refl (one 501 refl (both 502 492 refl (both 491 506 refl refl
-    refl) (both 86 147 refl refl refl))) (both 494 495 refl (one 491 refl refl) (one 86 refl refl)))))
-are_laid operand = one 504 refl (both 463 505 refl refl (both 221 509 refl (one 825 refl refl) refl))
-are_laid operand_before_block = one 507 refl (both 472 508 refl refl (both 221 524 refl (one 825 refl refl) refl))
+    one 501 refl (both 221 502 refl (one 829 refl refl) (both 528 503 refl refl (both 504 497 refl (one 505 refl (both 506 496 refl (both 495 510 refl refl
+    refl) (both 86 147 refl refl refl))) (both 498 499 refl (one 495 refl refl) (one 86 refl refl)))))
+are_laid operand = one 508 refl (both 467 509 refl refl (both 221 513 refl (one 829 refl refl) refl))
+are_laid operand_before_block = one 511 refl (both 476 512 refl refl (both 221 528 refl (one 829 refl refl) refl))
 are_laid unary =
-    one 510 refl (both 511 518 refl (both 512 514 refl (one 513 refl (one 18 refl refl)) (both 636 515 refl refl (both 516 517 refl (one 543 refl refl) (one
-    561 refl refl)))) (both 513 519 refl (one 18 refl refl) (both 520 521 refl (both 534 504 refl refl (both 463 505 refl refl (both 221 509 refl (one 825
-    refl refl) refl))) (both 522 515 refl (both 563 523 refl refl (both 605 636 refl refl refl)) (both 516 517 refl (one 543 refl refl) (one 561 refl
+    one 514 refl (both 515 522 refl (both 516 518 refl (one 517 refl (one 18 refl refl)) (both 640 519 refl refl (both 520 521 refl (one 547 refl refl) (one
+    565 refl refl)))) (both 517 523 refl (one 18 refl refl) (both 524 525 refl (both 538 508 refl refl (both 467 509 refl refl (both 221 513 refl (one 829
+    refl refl) refl))) (both 526 519 refl (both 567 527 refl refl (both 609 640 refl refl refl)) (both 520 521 refl (one 547 refl refl) (one 565 refl
     refl))))))
 are_laid unary_before_block =
-    one 525 refl (both 526 528 refl (both 512 527 refl (one 513 refl (one 18 refl refl)) (both 648 515 refl refl (both 516 517 refl (one 543 refl refl) (one
-    561 refl refl)))) (both 513 529 refl (one 18 refl refl) (both 530 531 refl (both 534 507 refl refl (both 472 508 refl refl (both 221 524 refl (one 825
-    refl refl) refl))) (both 532 515 refl (both 571 533 refl refl (both 624 648 refl refl refl)) (both 516 517 refl (one 543 refl refl) (one 561 refl
+    one 529 refl (both 530 532 refl (both 516 531 refl (one 517 refl (one 18 refl refl)) (both 652 519 refl refl (both 520 521 refl (one 547 refl refl) (one
+    565 refl refl)))) (both 517 533 refl (one 18 refl refl) (both 534 535 refl (both 538 511 refl refl (both 476 512 refl refl (both 221 528 refl (one 829
+    refl refl) refl))) (both 536 519 refl (both 575 537 refl refl (both 628 652 refl refl refl)) (both 520 521 refl (one 547 refl refl) (one 565 refl
     refl))))))
 are_laid unary_operator =
-    one 535 refl (both 77 536 refl refl (both 114 537 refl refl (both 15 538 refl refl (both 197 539 refl refl (both 540 4 refl (both 541 189 refl (both 542
+    one 539 refl (both 77 540 refl refl (both 114 541 refl refl (both 15 542 refl refl (both 197 543 refl refl (both 544 4 refl (both 545 189 refl (both 546
     187 refl refl (both 188 189 refl refl refl)) refl) refl)))))
 are_laid postfix =
-    one 544 refl (both 137 545 refl refl (both 546 547 refl refl (both 548 549 refl refl (both 550 551 refl refl (both 552 553 refl refl (both 554 412 refl
-    (both 18 555 refl refl (both 556 558 refl (both 3 557 refl refl (both 39 546 refl refl refl)) (one 559 refl (both 3 560 refl refl (both 29 265 refl refl
+    one 548 refl (both 137 549 refl refl (both 550 551 refl refl (both 552 553 refl refl (both 554 555 refl refl (both 556 557 refl refl (both 558 416 refl
+    (both 18 559 refl refl (both 560 562 refl (both 3 561 refl refl (both 39 550 refl refl refl)) (one 563 refl (both 3 564 refl refl (both 29 265 refl refl
     refl))))) refl))))))
-are_laid bad_postfix = one 562 refl (both 550 37 refl refl refl)
+are_laid bad_postfix = one 566 refl (both 554 37 refl refl refl)
 are_laid closure =
-    one 564 refl (both 575 565 refl refl (both 566 569 refl (both 27 567 refl refl (both 147 568 refl refl refl)) (both 570 445 refl (one 27 refl refl)
+    one 568 refl (both 579 569 refl refl (both 570 573 refl (both 27 571 refl refl (both 147 572 refl refl refl)) (both 574 449 refl (one 27 refl refl)
     refl)))
 are_laid closure_before_block =
-    one 572 refl (both 575 573 refl refl (both 566 574 refl (both 27 567 refl refl (both 147 568 refl refl refl)) (both 570 455 refl (one 27 refl refl)
+    one 576 refl (both 579 577 refl refl (both 570 578 refl (both 27 571 refl refl (both 147 572 refl refl refl)) (both 574 459 refl (one 27 refl refl)
     refl)))
 are_laid closure_head =
-    one 576 refl (both 248 577 refl (both 279 4 refl refl refl) (both 578 587 refl (both 579 4 refl (both 188 580 refl refl (one 581 refl (one 582 refl
-    (both 583 584 refl refl (both 585 586 refl refl (both 309 298 refl refl refl)))))) refl) (both 588 589 refl (both 583 4 refl refl refl) (both 259 590
-    refl (both 260 4 refl refl refl) (both 591 592 refl (both 585 4 refl refl refl) (both 309 593 refl refl (both 298 594 refl refl (both 595 298 refl (both
-    596 4 refl (both 600 597 refl refl (both 598 48 refl (one 599 refl (both 47 600 refl refl refl)) (both 47 4 refl refl refl))) refl) refl))))))))
+    one 580 refl (both 248 581 refl (both 279 4 refl refl refl) (both 582 591 refl (both 583 4 refl (both 188 584 refl refl (one 585 refl (one 586 refl
+    (both 587 588 refl refl (both 589 590 refl refl (both 313 302 refl refl refl)))))) refl) (both 592 593 refl (both 587 4 refl refl refl) (both 259 594
+    refl (both 260 4 refl refl refl) (both 595 596 refl (both 589 4 refl refl refl) (both 313 597 refl refl (both 302 598 refl refl (both 599 302 refl (both
+    600 4 refl (both 604 601 refl refl (both 602 48 refl (one 603 refl (both 47 604 refl refl refl)) (both 47 4 refl refl refl))) refl) refl))))))))
 are_laid closure_parameter =
-    one 601 refl (both 221 602 refl (one 825 refl refl) (both 311 603 refl refl (both 604 4 refl (both 64 109 refl refl refl) refl)))
+    one 605 refl (both 221 606 refl (one 829 refl refl) (both 315 607 refl refl (both 608 4 refl (both 64 109 refl refl refl) refl)))
 are_laid jump =
-    one 606 refl (both 607 615 refl (both 608 613 refl (both 609 610 refl refl (both 611 612 refl refl refl)) (both 614 471 refl (both 470 445 refl (one 471
-    refl (one 818 refl refl)) refl) (one 818 refl refl))) (both 616 619 refl (both 617 618 refl refl (both 199 613 refl (both 53 4 refl refl refl) (both 614
-    471 refl (both 470 445 refl (one 471 refl (one 818 refl refl)) refl) (one 818 refl refl)))) (both 620 622 refl (both 621 199 refl refl (both 53 4 refl
-    refl refl)) (both 623 613 refl refl (both 614 471 refl (both 470 445 refl (one 471 refl (one 818 refl refl)) refl) (one 818 refl refl))))))
+    one 610 refl (both 611 619 refl (both 612 617 refl (both 613 614 refl refl (both 615 616 refl refl refl)) (both 618 475 refl (both 474 449 refl (one 475
+    refl (one 822 refl refl)) refl) (one 822 refl refl))) (both 620 623 refl (both 621 622 refl refl (both 199 617 refl (both 53 4 refl refl refl) (both 618
+    475 refl (both 474 449 refl (one 475 refl (one 822 refl refl)) refl) (one 822 refl refl)))) (both 624 626 refl (both 625 199 refl refl (both 53 4 refl
+    refl refl)) (both 627 617 refl refl (both 618 475 refl (both 474 449 refl (one 475 refl (one 822 refl refl)) refl) (one 822 refl refl))))))
 are_laid jump_before_block =
-    one 625 refl (both 626 629 refl (both 608 627 refl (both 609 610 refl refl (both 611 612 refl refl refl)) (both 628 471 refl (both 470 455 refl (one 471
-    refl (one 818 refl refl)) refl) (one 818 refl refl))) (both 630 634 refl (both 617 631 refl refl (both 199 632 refl (both 53 4 refl refl refl) (both 633
-    482 refl (both 481 455 refl (one 482 refl (one 483 refl refl)) refl) (one 483 refl refl)))) (both 620 635 refl (both 621 199 refl refl (both 53 4 refl
-    refl refl)) (both 623 627 refl refl (both 628 471 refl (both 470 455 refl (one 471 refl (one 818 refl refl)) refl) (one 818 refl refl))))))
+    one 629 refl (both 630 633 refl (both 612 631 refl (both 613 614 refl refl (both 615 616 refl refl refl)) (both 632 475 refl (both 474 459 refl (one 475
+    refl (one 822 refl refl)) refl) (one 822 refl refl))) (both 634 638 refl (both 621 635 refl refl (both 199 636 refl (both 53 4 refl refl refl) (both 637
+    486 refl (both 485 459 refl (one 486 refl (one 487 refl refl)) refl) (one 487 refl refl)))) (both 624 639 refl (both 625 199 refl refl (both 53 4 refl
+    refl refl)) (both 627 631 refl refl (both 632 475 refl (both 474 459 refl (one 475 refl (one 822 refl refl)) refl) (one 822 refl refl))))))
 are_laid primary =
-    one 637 refl (both 656 638 refl refl (both 639 645 refl (both 2 640 refl (both 3 4 refl refl refl) (both 92 641 refl refl (both 151 642 refl (both 114
-    116 refl refl refl) (both 120 643 refl (one 114 refl refl) (both 644 4 refl refl refl))))) (both 687 646 refl refl (both 80 647 refl refl (both 92 642
-    refl refl (both 120 643 refl (one 114 refl refl) (both 644 4 refl refl refl)))))))
+    one 641 refl (both 660 642 refl refl (both 643 649 refl (both 2 644 refl (both 3 4 refl refl refl) (both 92 645 refl refl (both 151 646 refl (both 114
+    116 refl refl refl) (both 120 647 refl (one 114 refl refl) (both 648 4 refl refl refl))))) (both 691 650 refl refl (both 80 651 refl refl (both 92 646
+    refl refl (both 120 647 refl (one 114 refl refl) (both 648 4 refl refl refl)))))))
 are_laid primary_before_block =
-    one 649 refl (both 661 650 refl refl (both 651 653 refl (both 2 652 refl (both 3 4 refl refl refl) (both 92 150 refl refl (both 151 120 refl (both 114
-    116 refl refl refl) (one 114 refl refl)))) (both 687 654 refl refl (both 80 655 refl refl (both 92 120 refl refl (one 114 refl refl))))))
-are_laid variable = one 657 refl (both 18 658 refl refl (one 659 refl (both 3 660 refl refl (both 114 14 refl refl refl))))
-are_laid variable_before_block = one 662 refl (both 18 663 refl refl (one 664 refl (both 3 114 refl refl refl)))
-are_laid expressions = one 666 refl (one 667 refl (both 445 165 refl refl (both 47 166 refl refl (one 167 refl refl))))
+    one 653 refl (both 665 654 refl refl (both 655 657 refl (both 2 656 refl (both 3 4 refl refl refl) (both 92 150 refl refl (both 151 120 refl (both 114
+    116 refl refl refl) (one 114 refl refl)))) (both 691 658 refl refl (both 80 659 refl refl (both 92 120 refl refl (one 114 refl refl))))))
+are_laid variable = one 661 refl (both 18 662 refl refl (one 663 refl (both 3 664 refl refl (both 114 14 refl refl refl))))
+are_laid variable_before_block = one 666 refl (both 18 667 refl refl (one 668 refl (both 3 114 refl refl refl)))
+are_laid expressions = one 670 refl (one 671 refl (both 449 165 refl refl (both 47 166 refl refl (one 167 refl refl))))
 are_laid array_elements =
-    one 669 refl (both 670 4 refl (both 445 671 refl refl (both 193 672 refl (both 194 445 refl refl refl) (both 673 166 refl (both 47 665 refl refl refl)
+    one 673 refl (both 674 4 refl (both 449 675 refl refl (both 193 676 refl (both 194 449 refl refl refl) (both 677 166 refl (both 47 669 refl refl refl)
     (one 167 refl refl)))) refl)
 are_laid struct_expression_fields =
-    one 675 refl (both 676 678 refl (one 677 refl (both 681 165 refl refl (both 47 166 refl refl (one 167 refl refl)))) (both 679 4 refl (both 316 680 refl
-    refl (both 445 4 refl refl refl)) refl))
+    one 679 refl (both 680 682 refl (one 681 refl (both 685 165 refl refl (both 47 166 refl refl (one 167 refl refl)))) (both 683 4 refl (both 320 684 refl
+    refl (both 449 4 refl refl refl)) refl))
 are_laid struct_expression_field =
-    one 682 refl (both 221 683 refl (one 825 refl refl) (both 684 686 refl (both 410 685 refl refl (both 64 445 refl refl refl)) refl))
+    one 686 refl (both 221 687 refl (one 829 refl refl) (both 688 690 refl (both 414 689 refl refl (both 64 449 refl refl refl)) refl))
 are_laid field_value = one 228 refl refl
 are_laid basic =
-    one 688 refl (both 78 689 refl refl (both 79 690 refl refl (both 546 691 refl refl (both 692 693 refl refl (both 73 694 refl refl (both 695 696 refl
-    refl (both 180 697 refl refl refl)))))))
+    one 692 refl (both 78 693 refl refl (both 79 694 refl refl (both 550 695 refl refl (both 696 697 refl refl (both 73 698 refl refl (both 699 700 refl
+    refl (both 180 701 refl refl refl)))))))
 are_laid block_like =
-    one 698 refl (both 699 701 refl (both 700 73 refl refl refl) (both 702 715 refl (both 703 704 refl refl (both 748 705 refl refl (both 568 706 refl refl
-    (both 707 714 refl (both 708 4 refl (both 709 710 refl refl (both 568 711 refl refl (both 712 697 refl (one 713 refl (one 703 refl refl)) refl))) refl)
-    (one 709 refl refl))))) (both 716 720 refl (both 717 718 refl refl (both 455 719 refl refl refl)) (both 721 722 refl (both 205 73 refl refl refl) (both
-    723 728 refl (both 724 727 refl (both 725 260 refl (both 259 726 refl (both 260 4 refl refl refl) refl) refl) (both 591 73 refl (both 585 4 refl refl
-    refl) refl)) (both 729 730 refl (both 188 73 refl refl refl) (both 735 731 refl refl (both 733 732 refl refl (both 735 73 refl refl refl)))))))))
-are_laid label = one 734 refl (both 53 64 refl refl refl)
+    one 702 refl (both 703 705 refl (both 704 73 refl refl refl) (both 706 719 refl (both 707 708 refl refl (both 752 709 refl refl (both 572 710 refl refl
+    (both 711 718 refl (both 712 4 refl (both 713 714 refl refl (both 572 715 refl refl (both 716 701 refl (one 717 refl (one 707 refl refl)) refl))) refl)
+    (one 713 refl refl))))) (both 720 724 refl (both 721 722 refl refl (both 459 723 refl refl refl)) (both 725 726 refl (both 205 73 refl refl refl) (both
+    727 732 refl (both 728 731 refl (both 729 260 refl (both 259 730 refl (both 260 4 refl refl refl) refl) refl) (both 595 73 refl (both 589 4 refl refl
+    refl) refl)) (both 733 734 refl (both 188 73 refl refl refl) (both 739 735 refl refl (both 737 736 refl refl (both 739 73 refl refl refl)))))))))
+are_laid label = one 738 refl (both 53 64 refl refl refl)
 are_laid loop =
-    one 736 refl (both 737 739 refl (both 738 73 refl refl refl) (both 740 743 refl (both 741 742 refl refl (both 748 73 refl refl refl)) (both 270 744 refl
-    refl (both 295 745 refl refl (both 746 747 refl refl (both 455 73 refl refl refl))))))
-are_laid conditions = one 749 refl (both 754 750 refl refl (both 751 753 refl (one 752 refl (both 815 754 refl refl refl)) (one 815 refl refl)))
-are_laid one_condition = one 755 refl (both 756 760 refl (both 757 758 refl refl (both 295 759 refl refl (both 62 760 refl refl refl))) refl)
+    one 740 refl (both 741 743 refl (both 742 73 refl refl refl) (both 744 747 refl (both 745 746 refl refl (both 752 73 refl refl refl)) (both 270 748 refl
+    refl (both 299 749 refl refl (both 750 751 refl refl (both 459 73 refl refl refl))))))
+are_laid conditions = one 753 refl (both 758 754 refl refl (both 755 757 refl (one 756 refl (both 819 758 refl refl refl)) (one 819 refl refl)))
+are_laid one_condition = one 759 refl (both 760 764 refl (both 761 762 refl refl (both 299 763 refl refl (both 62 764 refl refl refl))) refl)
 are_laid let_value =
-    one 761 refl (both 221 762 refl (one 825 refl refl) (both 524 763 refl refl (both 764 767 refl (one 765 refl (both 766 492 refl (both 753 502 refl (one
-    815 refl refl) (both 491 506 refl refl refl)) (both 86 147 refl refl refl))) (both 768 770 refl (one 769 refl (both 753 491 refl (one 815 refl refl)
-    refl)) (both 459 771 refl (one 460 refl (both 451 455 refl refl refl)) (both 472 4 refl refl refl))))))
-are_laid match_arms = one 773 refl (both 774 775 refl (one 820 refl refl) (one 776 refl refl))
+    one 765 refl (both 221 766 refl (one 829 refl refl) (both 528 767 refl refl (both 768 771 refl (one 769 refl (both 770 496 refl (both 757 506 refl (one
+    819 refl refl) (both 495 510 refl refl refl)) (both 86 147 refl refl refl))) (both 772 774 refl (one 773 refl (both 757 495 refl (one 819 refl refl)
+    refl)) (both 463 775 refl (one 464 refl (both 455 459 refl refl refl)) (both 476 4 refl refl refl))))))
+are_laid match_arms = one 777 refl (both 778 779 refl (one 824 refl refl) (one 780 refl refl))
 are_laid match_arm =
-    one 777 refl (both 221 778 refl (one 825 refl refl) (both 295 779 refl refl (both 780 782 refl (both 781 4 refl (both 703 787 refl refl refl) refl)
-    (both 783 784 refl refl (both 785 667 refl (both 221 786 refl (one 825 refl refl) (both 807 48 refl refl (both 47 4 refl refl refl))) (both 445 165 refl
+    one 781 refl (both 221 782 refl (one 829 refl refl) (both 299 783 refl refl (both 784 786 refl (both 785 4 refl (both 707 791 refl refl refl) refl)
+    (both 787 788 refl refl (both 789 671 refl (both 221 790 refl (one 829 refl refl) (both 811 48 refl refl (both 47 4 refl refl refl))) (both 449 165 refl
     refl (both 47 166 refl refl (one 167 refl refl))))))))
-are_laid guard = one 788 refl (both 792 789 refl refl (both 790 753 refl (one 791 refl (both 815 792 refl refl refl)) (one 815 refl refl)))
-are_laid guard_condition = one 793 refl (both 794 797 refl (both 757 795 refl refl (both 295 796 refl refl (both 62 797 refl refl refl))) refl)
+are_laid guard = one 792 refl (both 796 793 refl refl (both 794 757 refl (one 795 refl (both 819 796 refl refl refl)) (one 819 refl refl)))
+are_laid guard_condition = one 797 refl (both 798 801 refl (both 761 799 refl refl (both 299 800 refl refl (both 62 801 refl refl refl))) refl)
 are_laid guard_value =
-    one 798 refl (both 221 799 refl (one 825 refl refl) (both 509 800 refl refl (both 801 804 refl (one 802 refl (both 803 492 refl (both 753 490 refl (one
-    815 refl refl) (both 491 503 refl refl refl)) (both 86 147 refl refl refl))) (both 768 805 refl (one 769 refl (both 753 491 refl (one 815 refl refl)
-    refl)) (both 449 806 refl (one 450 refl (both 451 445 refl refl refl)) (both 463 4 refl refl refl))))))
+    one 802 refl (both 221 803 refl (one 829 refl refl) (both 513 804 refl refl (both 805 808 refl (one 806 refl (both 807 496 refl (both 757 494 refl (one
+    819 refl refl) (both 495 507 refl refl refl)) (both 86 147 refl refl refl))) (both 772 809 refl (one 773 refl (both 757 495 refl (one 819 refl refl)
+    refl)) (both 453 810 refl (one 454 refl (both 455 449 refl refl refl)) (both 467 4 refl refl refl))))))
 are_laid expression_with_block =
-    one 808 refl (both 809 813 refl (both 73 810 refl refl (both 811 697 refl (one 812 refl (both 260 726 refl refl refl)) refl)) (one 814 refl (both 550
+    one 812 refl (both 813 817 refl (both 73 814 refl refl (both 815 701 refl (one 816 refl (both 260 730 refl refl refl)) refl)) (one 818 refl (both 554
     137 refl refl refl)))
-are_laid lazy_operator = one 816 refl (both 817 309 refl refl refl)
-are_laid begins = one 819 refl (both 14 483 refl refl refl)
-are_laid inner_attribute = one 821 refl (both 822 823 refl refl (both 114 824 refl refl refl))
-are_laid attribute = one 826 refl (both 822 824 refl refl refl)
-are_laid meta = one 828 refl (both 829 831 refl (both 205 830 refl refl refl) refl)
-are_laid plain_meta = one 832 refl (both 104 833 refl refl (both 834 4 refl (both 116 835 refl refl (both 62 445 refl refl refl)) refl))
-are_laid visibility = one 837 refl (both 838 4 refl (both 839 840 refl refl (both 841 4 refl refl refl)) refl)
-are_laid visibility_place = one 843 refl (both 844 845 refl refl (both 846 847 refl refl (both 848 849 refl refl (both 746 104 refl refl refl))))
-are_laid block = one 851 refl (both 774 852 refl (one 820 refl refl) refl)
+are_laid lazy_operator = one 820 refl (both 821 313 refl refl refl)
+are_laid begins = one 823 refl (both 14 487 refl refl refl)
+are_laid inner_attribute = one 825 refl (both 826 827 refl refl (both 114 828 refl refl refl))
+are_laid attribute = one 830 refl (both 826 828 refl refl refl)
+are_laid meta = one 832 refl (both 833 835 refl (both 205 834 refl refl refl) refl)
+are_laid plain_meta = one 836 refl (both 104 837 refl refl (both 838 4 refl (both 116 839 refl refl (both 62 449 refl refl refl)) refl))
+are_laid visibility = one 841 refl (both 842 4 refl (both 843 844 refl refl (both 845 4 refl refl refl)) refl)
+are_laid visibility_place = one 847 refl (both 848 849 refl refl (both 850 851 refl refl (both 852 853 refl refl (both 750 104 refl refl refl))))
+are_laid block = one 855 refl (both 778 856 refl (one 824 refl refl) refl)
 are_laid statements =
-    one 853 refl (one 854 refl (both 194 855 refl refl (both 856 859 refl (both 221 857 refl (one 825 refl refl) (both 858 875 refl (both 866 194 refl refl
-    refl) refl)) (both 445 860 refl refl (both 194 166 refl refl (one 167 refl refl))))))
-are_laid statement = one 862 refl (both 194 863 refl refl (both 864 445 refl (both 221 865 refl (one 825 refl refl) (both 866 875 refl refl refl)) refl))
+    one 857 refl (one 858 refl (both 194 859 refl refl (both 860 863 refl (both 221 861 refl (one 829 refl refl) (both 862 880 refl (both 870 194 refl refl
+    refl) refl)) (both 449 864 refl refl (both 194 166 refl refl (one 167 refl refl))))))
+are_laid statement = one 866 refl (both 194 867 refl refl (both 868 449 refl (both 221 869 refl (one 829 refl refl) (both 870 880 refl refl refl)) refl))
 are_laid let_statement =
-    one 867 refl (both 757 868 refl refl (both 295 869 refl refl (both 603 870 refl (both 604 4 refl (both 64 109 refl refl refl) refl) (both 871 4 refl
-    (both 62 872 refl refl (both 445 873 refl refl (both 874 4 refl (both 709 568 refl refl refl) refl))) refl))))
+    one 871 refl (both 761 872 refl refl (both 315 873 refl refl (both 309 874 refl (one 310 refl (both 311 312 refl refl (both 313 314 refl refl refl)))
+    (both 607 875 refl (both 608 4 refl (both 64 109 refl refl refl) refl) (both 876 4 refl (both 62 877 refl refl (both 449 878 refl refl (both 879 4 refl
+    (both 713 572 refl refl refl) refl))) refl)))))
 are_laid closed_statement =
-    one 876 refl (both 877 882 refl (both 878 893 refl (one 879 refl (both 880 881 refl refl refl)) refl) (both 807 883 refl refl (both 2 884 refl (both 3 4
-    refl refl refl) (both 92 885 refl refl (both 114 886 refl refl (both 14 813 refl refl (one 814 refl (both 550 137 refl refl refl))))))))
-are_laid items = one 888 refl (both 774 889 refl (one 820 refl refl) (one 890 refl refl))
-are_laid item = one 891 refl (both 221 892 refl (one 825 refl refl) (both 893 912 refl refl refl))
-are_laid declaration = one 894 refl (both 917 895 refl refl (both 836 896 refl refl (both 897 898 refl (both 880 898 refl refl refl) refl)))
+    one 881 refl (both 882 887 refl (both 883 898 refl (one 884 refl (both 885 886 refl refl refl)) refl) (both 811 888 refl refl (both 2 889 refl (both 3 4
+    refl refl refl) (both 92 890 refl refl (both 114 891 refl refl (both 14 817 refl refl (one 818 refl (both 554 137 refl refl refl))))))))
+are_laid items = one 893 refl (both 778 894 refl (one 824 refl refl) (one 895 refl refl))
+are_laid item = one 896 refl (both 221 897 refl (one 829 refl refl) (both 898 920 refl refl refl))
+are_laid declaration =
+    one 899 refl (both 925 900 refl refl (both 840 901 refl refl (both 902 906 refl (both 885 903 refl refl (both 976 904 refl refl (both 973 905 refl refl
+    (both 1041 1123 refl refl refl)))) refl)))
 are_laid item_kind =
-    one 899 refl (both 968 900 refl refl (both 928 901 refl refl (both 945 902 refl refl (both 954 903 refl refl (both 965 904 refl refl (both 1012 905 refl
-    refl (both 1019 906 refl refl (both 1033 907 refl refl (both 1044 908 refl refl (both 1075 909 refl refl (both 1092 910 refl refl (both 1098 911 refl
-    refl (both 1114 922 refl refl refl)))))))))))))
-are_laid macro_item = one 913 refl (both 104 914 refl refl (both 114 915 refl refl (both 14 916 refl refl (both 116 194 refl refl refl))))
+    one 907 refl (both 976 908 refl refl (both 936 909 refl refl (both 953 910 refl refl (both 962 911 refl refl (both 973 912 refl refl (both 1020 913 refl
+    refl (both 1027 914 refl refl (both 1041 915 refl refl (both 1053 916 refl refl (both 1084 917 refl refl (both 1101 918 refl refl (both 1107 919 refl
+    refl (both 1123 930 refl refl refl)))))))))))))
+are_laid macro_item = one 921 refl (both 104 922 refl refl (both 114 923 refl refl (both 14 924 refl refl (both 116 194 refl refl refl))))
 are_laid macro_rules =
-    one 918 refl (both 919 920 refl refl (both 114 921 refl refl (both 228 915 refl refl (both 14 916 refl refl (both 116 194 refl refl refl)))))
-are_laid macro_definition = one 923 refl (both 924 925 refl refl (both 228 926 refl refl (both 927 14 refl (both 265 4 refl refl refl) refl)))
-are_laid use_declaration = one 929 refl (both 239 930 refl refl (both 934 194 refl refl refl))
-are_laid use_trees = one 932 refl (one 933 refl (both 934 165 refl refl (both 47 166 refl refl (one 167 refl refl))))
+    one 926 refl (both 927 928 refl refl (both 114 929 refl refl (both 228 923 refl refl (both 14 924 refl refl (both 116 194 refl refl refl)))))
+are_laid macro_definition = one 931 refl (both 932 933 refl refl (both 228 934 refl refl (both 935 14 refl (both 265 4 refl refl refl) refl)))
+are_laid use_declaration = one 937 refl (both 239 938 refl refl (both 942 194 refl refl refl))
+are_laid use_trees = one 940 refl (one 941 refl (both 942 165 refl refl (both 47 166 refl refl (one 167 refl refl))))
 are_laid use_tree =
-    one 935 refl (both 2 936 refl (both 3 4 refl refl refl) (both 937 938 refl refl (both 15 939 refl refl (both 18 940 refl refl (both 107 941 refl (one
-    108 refl (both 3 18 refl refl refl)) (both 942 4 refl (both 943 952 refl (both 3 944 refl refl (both 937 15 refl refl refl)) refl) refl))))))
+    one 943 refl (both 2 944 refl (both 3 4 refl refl refl) (both 945 946 refl refl (both 15 947 refl refl (both 18 948 refl refl (both 107 949 refl (one
+    108 refl (both 3 18 refl refl refl)) (both 950 4 refl (both 951 960 refl (both 3 952 refl refl (both 945 15 refl refl refl)) refl) refl))))))
 are_laid extern_crate =
-    one 946 refl (both 209 947 refl refl (both 844 948 refl refl (both 949 950 refl (both 228 846 refl refl refl) (both 951 194 refl (both 952 4 refl refl
+    one 954 refl (both 209 955 refl refl (both 848 956 refl refl (both 957 958 refl (both 228 850 refl refl refl) (both 959 194 refl (both 960 4 refl refl
     refl) refl))))
-are_laid rename = one 953 refl (both 86 227 refl refl (both 228 180 refl refl refl))
+are_laid rename = one 961 refl (both 86 227 refl refl (both 228 180 refl refl refl))
 are_laid static_item =
-    one 955 refl (both 956 958 refl (both 957 4 refl (both 205 881 refl refl refl) refl) (both 583 959 refl refl (both 201 960 refl (both 189 4 refl refl
-    refl) (both 228 961 refl refl (both 64 962 refl refl (both 109 963 refl refl (both 964 194 refl (both 835 4 refl (both 62 445 refl refl refl) refl)
+    one 963 refl (both 964 966 refl (both 965 4 refl (both 205 886 refl refl refl) refl) (both 587 967 refl refl (both 201 968 refl (both 189 4 refl refl
+    refl) (both 228 969 refl refl (both 64 970 refl refl (both 109 971 refl refl (both 972 194 refl (both 839 4 refl (both 62 449 refl refl refl) refl)
     refl)))))))
 are_laid constant_item =
-    one 966 refl (both 188 967 refl refl (both 227 961 refl (both 228 180 refl refl refl) (both 64 962 refl refl (both 109 963 refl refl (both 964 194 refl
-    (both 835 4 refl (both 62 445 refl refl refl) refl) refl)))))
+    one 974 refl (both 188 975 refl refl (both 227 969 refl (both 228 180 refl refl refl) (both 64 970 refl refl (both 109 971 refl refl (both 972 194 refl
+    (both 839 4 refl (both 62 449 refl refl refl) refl) refl)))))
 are_laid function =
-    one 969 refl (both 1005 970 refl refl (both 213 971 refl refl (both 228 972 refl refl (both 973 974 refl (both 1137 4 refl refl refl) (both 975 976 refl
-    refl (both 977 979 refl (both 978 4 refl (both 27 109 refl refl refl) refl) (both 980 981 refl (both 1158 4 refl refl refl) (both 73 194 refl refl
+    one 977 refl (both 1013 978 refl refl (both 213 979 refl refl (both 228 980 refl refl (both 981 982 refl (both 1147 4 refl refl refl) (both 983 984 refl
+    refl (both 985 987 refl (both 986 4 refl (both 27 109 refl refl refl) refl) (both 988 989 refl (both 1168 4 refl refl refl) (both 73 194 refl refl
     refl))))))))
 are_laid function_parameters =
-    one 983 refl (both 984 987 refl (both 985 4 refl (both 221 986 refl (one 825 refl refl) (both 989 165 refl refl (both 47 166 refl refl (one 167 refl
-    refl)))) refl) (one 988 refl (both 997 165 refl refl (both 47 166 refl refl (one 167 refl refl)))))
+    one 991 refl (both 992 995 refl (both 993 4 refl (both 221 994 refl (one 829 refl refl) (both 997 165 refl refl (both 47 166 refl refl (one 167 refl
+    refl)))) refl) (one 996 refl (both 1005 165 refl refl (both 47 166 refl refl (one 167 refl refl)))))
 are_laid self_parameter =
-    one 990 refl (both 991 97 refl (both 992 995 refl (both 197 993 refl refl (both 199 994 refl (both 53 4 refl refl refl) (both 201 846 refl (both 189 4
-    refl refl refl) refl))) (both 201 996 refl (both 189 4 refl refl refl) (both 846 603 refl refl (both 604 4 refl (both 64 109 refl refl refl) refl))))
+    one 998 refl (both 999 97 refl (both 1000 1003 refl (both 197 1001 refl refl (both 199 1002 refl (both 53 4 refl refl refl) (both 201 850 refl (both 189
+    4 refl refl refl) refl))) (both 201 1004 refl (both 189 4 refl refl refl) (both 850 607 refl refl (both 608 4 refl (both 64 109 refl refl refl) refl))))
     (one 3 refl refl))
 are_laid function_parameter =
-    one 998 refl (both 221 999 refl (one 825 refl refl) (both 223 1000 refl refl (both 1001 1002 refl (one 989 refl refl) (both 311 1003 refl refl (both 64
-    1004 refl refl (both 223 109 refl refl refl))))))
+    one 1006 refl (both 221 1007 refl (one 829 refl refl) (both 223 1008 refl refl (both 1009 1010 refl (one 997 refl refl) (both 315 1011 refl refl (both
+    64 1012 refl refl (both 223 109 refl refl refl))))))
 are_laid function_qualifiers =
-    one 1006 refl (both 1007 1008 refl (both 188 4 refl refl refl) (both 259 1009 refl (both 260 4 refl refl refl) (both 1010 1011 refl (both 726 4 refl
-    refl refl) (both 956 207 refl (both 957 4 refl (both 205 881 refl refl refl) refl) (both 208 4 refl (both 209 210 refl refl (both 211 4 refl refl refl))
+    one 1014 refl (both 1015 1016 refl (both 188 4 refl refl refl) (both 259 1017 refl (both 260 4 refl refl refl) (both 1018 1019 refl (both 730 4 refl
+    refl refl) (both 964 207 refl (both 965 4 refl (both 205 886 refl refl refl) refl) (both 208 4 refl (both 209 210 refl refl (both 211 4 refl refl refl))
     refl)))))
 are_laid module_item =
-    one 1013 refl (both 204 1014 refl (both 205 4 refl refl refl) (both 1015 1016 refl refl (both 228 1017 refl refl (both 1018 194 refl refl refl))))
+    one 1021 refl (both 204 1022 refl (both 205 4 refl refl refl) (both 1023 1024 refl refl (both 228 1025 refl refl (both 1026 194 refl refl refl))))
 are_laid extern_block =
-    one 1020 refl (both 204 1021 refl (both 205 4 refl refl refl) (both 209 1022 refl refl (both 210 1023 refl (both 211 4 refl refl refl) refl)))
-are_laid external_items = one 1025 refl (both 774 1026 refl (one 820 refl refl) (one 1027 refl refl))
+    one 1028 refl (both 204 1029 refl (both 205 4 refl refl refl) (both 209 1030 refl refl (both 210 1031 refl (both 211 4 refl refl refl) refl)))
+are_laid external_items = one 1033 refl (both 778 1034 refl (one 824 refl refl) (one 1035 refl refl))
 are_laid external_item =
-    one 1028 refl (both 221 1029 refl (one 825 refl refl) (both 1030 912 refl (both 836 1031 refl refl (both 968 1032 refl refl (both 954 1033 refl refl
+    one 1036 refl (both 221 1037 refl (one 829 refl refl) (both 1038 920 refl (both 840 1039 refl refl (both 976 1040 refl refl (both 962 1041 refl refl
     refl))) refl))
 are_laid type_alias =
-    one 1034 refl (both 1035 1036 refl refl (both 228 1037 refl refl (both 973 1038 refl (both 1137 4 refl refl refl) (both 283 1039 refl (both 63 4 refl
-    (both 64 229 refl refl refl) refl) (both 980 1040 refl (both 1158 4 refl refl refl) (both 1041 1043 refl (both 1042 4 refl (both 62 109 refl refl refl)
-    refl) (both 980 194 refl (both 1158 4 refl refl refl) refl)))))))
+    one 1042 refl (both 1043 1044 refl refl (both 228 1045 refl refl (both 981 1046 refl (both 1147 4 refl refl refl) (both 1047 1048 refl (both 63 4 refl
+    (both 64 229 refl refl refl) refl) (both 988 1049 refl (both 1168 4 refl refl refl) (both 1050 1052 refl (both 1051 4 refl (both 62 109 refl refl refl)
+    refl) (both 988 194 refl (both 1168 4 refl refl refl) refl)))))))
 are_laid structure =
-    one 1045 refl (both 1046 1047 refl refl (both 228 1048 refl refl (both 973 1049 refl (both 1137 4 refl refl refl) (both 1050 1052 refl (both 1051 1043
-    refl refl (both 980 194 refl (both 1158 4 refl refl refl) refl)) (both 980 1053 refl (both 1158 4 refl refl refl) (both 1054 194 refl refl refl))))))
-are_laid struct_fields = one 1056 refl (one 1057 refl (both 1058 165 refl refl (both 47 166 refl refl (one 167 refl refl))))
+    one 1054 refl (both 1055 1056 refl refl (both 228 1057 refl refl (both 981 1058 refl (both 1147 4 refl refl refl) (both 1059 1061 refl (both 1060 1052
+    refl refl (both 988 194 refl (both 1168 4 refl refl refl) refl)) (both 988 1062 refl (both 1168 4 refl refl refl) (both 1063 194 refl refl refl))))))
+are_laid struct_fields = one 1065 refl (one 1066 refl (both 1067 165 refl refl (both 47 166 refl refl (one 167 refl refl))))
 are_laid struct_field =
-    one 1059 refl (both 221 1060 refl (one 825 refl refl) (both 836 1061 refl refl (both 228 604 refl refl (both 64 109 refl refl refl))))
-are_laid tuple_fields = one 1063 refl (one 1064 refl (both 1065 165 refl refl (both 47 166 refl refl (one 167 refl refl))))
+    one 1068 refl (both 221 1069 refl (one 829 refl refl) (both 840 1070 refl refl (both 228 608 refl refl (both 64 109 refl refl refl))))
+are_laid tuple_fields = one 1072 refl (one 1073 refl (both 1074 165 refl refl (both 47 166 refl refl (one 167 refl refl))))
 are_laid tuple_field =
-    one 1066 refl (both 221 1067 refl (one 825 refl refl) (both 1068 109 refl (both 1069 4 refl (both 839 1070 refl refl (both 1071 4 refl (both 841 1072
-    refl refl (one 1073 refl (both 47 1074 refl refl (both 118 166 refl refl (one 167 refl refl))))) refl)) refl) refl))
+    one 1075 refl (both 221 1076 refl (one 829 refl refl) (both 1077 109 refl (both 1078 4 refl (both 843 1079 refl refl (both 1080 4 refl (both 845 1081
+    refl refl (one 1082 refl (both 47 1083 refl refl (both 118 166 refl refl (one 167 refl refl))))) refl)) refl) refl))
 are_laid enumeration =
-    one 1076 refl (both 1077 1078 refl refl (both 228 1079 refl refl (both 973 1080 refl (both 1137 4 refl refl refl) (both 980 1081 refl (both 1158 4 refl
+    one 1085 refl (both 1086 1087 refl refl (both 228 1088 refl refl (both 981 1089 refl (both 1147 4 refl refl refl) (both 988 1090 refl (both 1168 4 refl
     refl refl) refl))))
-are_laid enum_variants = one 1083 refl (one 1084 refl (both 1085 165 refl refl (both 47 166 refl refl (one 167 refl refl))))
+are_laid enum_variants = one 1092 refl (one 1093 refl (both 1094 165 refl refl (both 47 166 refl refl (one 167 refl refl))))
 are_laid enum_variant =
-    one 1086 refl (both 221 1087 refl (one 825 refl refl) (both 836 1088 refl refl (both 228 1089 refl refl (both 1090 964 refl (both 1091 4 refl (both 1051
-    1054 refl refl refl) refl) (both 835 4 refl (both 62 445 refl refl refl) refl)))))
+    one 1095 refl (both 221 1096 refl (one 829 refl refl) (both 840 1097 refl refl (both 228 1098 refl refl (both 1099 972 refl (both 1100 4 refl (both 1060
+    1063 refl refl refl) refl) (both 839 4 refl (both 62 449 refl refl refl) refl)))))
 are_laid union =
-    one 1093 refl (both 1094 1095 refl refl (both 228 1096 refl refl (both 973 1097 refl (both 1137 4 refl refl refl) (both 980 1054 refl (both 1158 4 refl
+    one 1102 refl (both 1103 1104 refl refl (both 228 1105 refl refl (both 981 1106 refl (both 1147 4 refl refl refl) (both 988 1063 refl (both 1168 4 refl
     refl refl) refl))))
 are_laid trait =
-    one 1099 refl (both 1007 1100 refl (both 188 4 refl refl refl) (both 204 1101 refl (both 205 4 refl refl refl) (both 1102 1104 refl (both 1103 4 refl
-    refl refl) (both 1105 1106 refl refl (both 228 1107 refl refl (both 973 1108 refl (both 1137 4 refl refl refl) (both 1109 1112 refl (both 283 1110 refl
-    (both 63 4 refl (both 64 229 refl refl refl) refl) (both 980 1111 refl (both 1158 4 refl refl refl) refl)) (both 62 1113 refl refl (both 229 1043 refl
-    refl (both 980 194 refl (both 1158 4 refl refl refl) refl))))))))))
+    one 1108 refl (both 1015 1109 refl (both 188 4 refl refl refl) (both 204 1110 refl (both 205 4 refl refl refl) (both 1111 1113 refl (both 1112 4 refl
+    refl refl) (both 1114 1115 refl refl (both 228 1116 refl refl (both 981 1117 refl (both 1147 4 refl refl refl) (both 1118 1121 refl (both 1047 1119 refl
+    (both 63 4 refl (both 64 229 refl refl refl) refl) (both 988 1120 refl (both 1168 4 refl refl refl) refl)) (both 62 1122 refl refl (both 229 1052 refl
+    refl (both 988 194 refl (both 1168 4 refl refl refl) refl))))))))))
 are_laid implementation =
-    one 1115 refl (both 1007 1116 refl (both 188 4 refl refl refl) (both 204 1117 refl (both 205 4 refl refl refl) (both 125 1118 refl refl (both 973 1119
-    refl (both 1137 4 refl refl refl) (both 1007 1120 refl (both 188 4 refl refl refl) (both 1121 1123 refl (both 1122 109 refl (both 114 109 refl refl
-    refl) refl) (both 1124 1110 refl (both 1125 4 refl (both 270 109 refl refl refl) refl) (both 980 1111 refl (both 1158 4 refl refl refl) refl))))))))
-are_laid associated_items = one 1127 refl (both 774 1128 refl (one 820 refl refl) (one 1129 refl refl))
+    one 1124 refl (both 1015 1125 refl (both 188 4 refl refl refl) (both 204 1126 refl (both 205 4 refl refl refl) (both 125 1127 refl refl (both 981 1128
+    refl (both 1147 4 refl refl refl) (both 1015 1129 refl (both 188 4 refl refl refl) (both 1130 1119 refl (both 1131 1134 refl (both 114 1132 refl refl
+    (both 109 1133 refl refl (both 270 109 refl refl refl))) (both 109 1135 refl refl (both 1133 4 refl (both 270 109 refl refl refl) refl))) (both 988 1120
+    refl (both 1168 4 refl refl refl) refl)))))))
+are_laid associated_items = one 1137 refl (both 778 1138 refl (one 824 refl refl) (one 1139 refl refl))
 are_laid associated_item =
-    one 1130 refl (both 221 1131 refl (one 825 refl refl) (both 1132 912 refl (both 836 1133 refl refl (both 1134 1135 refl (both 880 4 refl refl refl)
-    (both 968 1136 refl refl (both 965 1033 refl refl refl)))) refl))
+    one 1140 refl (both 221 1141 refl (one 829 refl refl) (both 1142 920 refl (both 840 1143 refl refl (both 1144 1145 refl (both 885 4 refl refl refl)
+    (both 976 1146 refl refl (both 973 1041 refl refl refl)))) refl))
 are_laid generic_parameters =
-    one 1138 refl (both 31 1139 refl refl (both 1140 49 refl (both 1141 4 refl (both 1145 1142 refl refl (both 1143 48 refl (one 1144 refl (both 47 1145
+    one 1148 refl (both 31 1149 refl refl (both 1150 49 refl (both 1151 4 refl (both 1155 1152 refl refl (both 1153 48 refl (one 1154 refl (both 47 1155
     refl refl refl)) (both 47 4 refl refl refl))) refl) refl))
 are_laid generic_parameter =
-    one 1146 refl (both 221 1147 refl (one 825 refl refl) (both 281 1148 refl refl (both 1149 1156 refl (both 188 1150 refl refl (both 228 1151 refl refl
-    (both 64 1152 refl refl (both 109 1153 refl refl (both 1154 4 refl (both 62 1155 refl refl (both 71 228 refl refl refl)) refl))))) (both 228 1157 refl
-    refl (both 283 1041 refl (both 63 4 refl (both 64 229 refl refl refl) refl) (both 1042 4 refl (both 62 109 refl refl refl) refl))))))
+    one 1156 refl (both 221 1157 refl (one 829 refl refl) (both 281 1158 refl refl (both 1159 1166 refl (both 188 1160 refl refl (both 228 1161 refl refl
+    (both 64 1162 refl refl (both 109 1163 refl refl (both 1164 4 refl (both 62 1165 refl refl (both 71 228 refl refl refl)) refl))))) (both 228 1167 refl
+    refl (both 1047 1050 refl (both 63 4 refl (both 64 229 refl refl refl) refl) (both 1051 4 refl (both 62 109 refl refl refl) refl))))))
 are_laid where_clause =
-    one 1159 refl (both 1160 1161 refl refl (both 1162 4 refl (both 1166 1163 refl refl (both 1164 48 refl (one 1165 refl (both 47 1166 refl refl refl))
+    one 1169 refl (both 1170 1171 refl refl (both 1172 4 refl (both 1176 1173 refl refl (both 1174 48 refl (one 1175 refl (both 47 1176 refl refl refl))
     (both 47 4 refl refl refl))) refl))
 are_laid where_predicate =
-    one 1167 refl (both 1168 1169 refl (both 53 63 refl refl (both 64 229 refl refl refl)) (both 248 1170 refl (both 279 4 refl refl refl) (both 109 1171
-    refl refl (both 63 1172 refl (both 64 229 refl refl refl) (both 1173 109 refl (both 62 1174 refl refl refl) refl)))))
+    one 1177 refl (both 1178 1179 refl (both 53 284 refl refl (both 64 285 refl refl (both 286 199 refl (one 287 refl (both 53 118 refl refl refl)) (both 53
+    4 refl refl refl)))) (both 248 1180 refl (both 279 4 refl refl refl) (both 109 1181 refl refl (both 63 1182 refl (both 64 229 refl refl refl) (both 1183
+    109 refl (both 62 1184 refl refl refl) refl)))))

@@ -75,7 +75,8 @@ stands begins_bound =
     one_of (lifetime ∷ subtree Parenthesis ∷ subtree Bracket ∷ word it.Use ∷ word it.For ∷ sign (codes "~") ∷ word it.Const ∷ word it.Async ∷ sign (codes
     "?") ∷ sign (codes "!") ∷ unit test.PathSegment ∷ sign (codes "::") ∷ sign (codes "<") ∷ sign (codes "<<") ∷ [])
 stands for_lifetimes = all_of (word it.For ∷ name generic_parameters ∷ [])
-stands lifetime_parameter = all_of (lifetime ∷ maybe (all_of (sign (codes ":") ∷ name bounds ∷ [])) ∷ [])
+stands lifetime_parameter =
+    all_of (lifetime ∷ maybe (all_of (sign (codes ":") ∷ many (all_of (lifetime ∷ front (codes "+") ∷ [])) ∷ maybe lifetime ∷ [])) ∷ [])
 stands use_argument = one_of (lifetime ∷ unit test.Name ∷ word it.SelfType ∷ [])
 stands pattern_fragment = all_of (never (one_of (sign (codes "..=") ∷ sign (codes "!") ∷ [])) ∷ name pattern ∷ [])
 stands pattern_param_fragment = all_of (never (one_of (sign (codes "..=") ∷ sign (codes "!") ∷ [])) ∷ name pattern_no_top_alt ∷ [])
@@ -247,15 +248,17 @@ stands statements =
 stands statement =
     one_of (sign (codes ";") ∷ all_of (many (name attribute) ∷ one_of (name let_statement ∷ name closed_statement ∷ []) ∷ []) ∷ name expression ∷ [])
 stands let_statement =
-    all_of (word it.Let ∷ name pattern ∷ maybe (all_of (sign (codes ":") ∷ name type ∷ [])) ∷ maybe (all_of (sign (codes "=") ∷ name expression ∷ maybe
-    (all_of (word it.Else ∷ holding Brace statements ∷ [])) ∷ [])) ∷ [])
+    all_of (word it.Let ∷ name pattern_no_top_alt ∷ never (one_of (sign (codes "|") ∷ sign (codes "||") ∷ sign (codes "@") ∷ [])) ∷ maybe (all_of (sign
+    (codes ":") ∷ name type ∷ [])) ∷ maybe (all_of (sign (codes "=") ∷ name expression ∷ maybe (all_of (word it.Else ∷ holding Brace statements ∷ [])) ∷
+    [])) ∷ [])
 stands closed_statement =
     one_of (all_of (never (one_of (word it.Default ∷ word it.Safe ∷ [])) ∷ name declaration ∷ []) ∷ name expression_with_block ∷ all_of (maybe (sign (codes
     "::")) ∷ name expression_path_segments ∷ sign (codes "!") ∷ subtree Brace ∷ never (one_of (sign (codes ".") ∷ sign (codes "?") ∷ [])) ∷ []) ∷ [])
 stands items = all_of (many (name inner_attribute) ∷ many (name item) ∷ [])
 stands item = all_of (many (name attribute) ∷ one_of (name declaration ∷ name macro_item ∷ []) ∷ [])
 stands declaration =
-    one_of (name macro_rules ∷ all_of (name visibility ∷ one_of (all_of (word it.Default ∷ name item_kind ∷ []) ∷ name item_kind ∷ []) ∷ []) ∷ [])
+    one_of (name macro_rules ∷ all_of (name visibility ∷ one_of (all_of (word it.Default ∷ one_of (name function ∷ name constant_item ∷ name type_alias ∷
+    name implementation ∷ []) ∷ []) ∷ name item_kind ∷ []) ∷ []) ∷ [])
 stands item_kind =
     one_of (name function ∷ name use_declaration ∷ name extern_crate ∷ name static_item ∷ name constant_item ∷ name module_item ∷ name extern_block ∷ name
     type_alias ∷ name structure ∷ name enumeration ∷ name union ∷ name trait ∷ name implementation ∷ name macro_definition ∷ [])
@@ -324,8 +327,8 @@ stands trait =
     (codes "=") ∷ name bounds ∷ maybe (name where_clause) ∷ sign (codes ";") ∷ []) ∷ []) ∷ [])
 stands implementation =
     all_of (maybe (word it.Const) ∷ maybe (word it.Unsafe) ∷ word it.Impl ∷ maybe (name generic_parameters) ∷ maybe (word it.Const) ∷ one_of (all_of (sign
-    (codes "!") ∷ name type ∷ []) ∷ name type ∷ []) ∷ maybe (all_of (word it.For ∷ name type ∷ [])) ∷ maybe (name where_clause) ∷ holding Brace
-    associated_items ∷ [])
+    (codes "!") ∷ name type ∷ word it.For ∷ name type ∷ []) ∷ all_of (name type ∷ maybe (all_of (word it.For ∷ name type ∷ [])) ∷ []) ∷ []) ∷ maybe (name
+    where_clause) ∷ holding Brace associated_items ∷ [])
 stands associated_items = all_of (many (name inner_attribute) ∷ many (name associated_item) ∷ [])
 stands associated_item =
     all_of (many (name attribute) ∷ one_of (all_of (name visibility ∷ maybe (word it.Default) ∷ one_of (name function ∷ name constant_item ∷ name type_alias
@@ -341,5 +344,6 @@ stands where_clause =
     all_of (word it.Where ∷ maybe (all_of (name where_predicate ∷ many (all_of (sign (codes ",") ∷ name where_predicate ∷ [])) ∷ maybe (sign (codes ",")) ∷
     [])) ∷ [])
 stands where_predicate =
-    one_of (all_of (lifetime ∷ sign (codes ":") ∷ name bounds ∷ []) ∷ all_of (maybe (name for_lifetimes) ∷ name type ∷ one_of (all_of (sign (codes ":") ∷
-    name bounds ∷ []) ∷ all_of (one_of (sign (codes "=") ∷ sign (codes "==") ∷ []) ∷ name type ∷ []) ∷ []) ∷ []) ∷ [])
+    one_of (all_of (lifetime ∷ sign (codes ":") ∷ many (all_of (lifetime ∷ front (codes "+") ∷ [])) ∷ maybe lifetime ∷ []) ∷ all_of (maybe (name
+    for_lifetimes) ∷ name type ∷ one_of (all_of (sign (codes ":") ∷ name bounds ∷ []) ∷ all_of (one_of (sign (codes "=") ∷ sign (codes "==") ∷ []) ∷ name
+    type ∷ []) ∷ []) ∷ []) ∷ [])
