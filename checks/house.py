@@ -20,7 +20,9 @@ CHECKS = TOP / "checks"
 MOST_LINES = 400
 
 # What checks/lay_out_grammar.py makes: tables.
-MADE = ("src/rust.rt", "src/rust_marks.rt", "src/rust_known.rt", "specs/Names.antt", "specs/Rust.antt", "proofs/RustLaid.antt")
+MADE = (
+    "src/rust.rt", "src/rust_marks.rt", "src/rust_known.rt", "src/rust_names.rt", "specs/Names.antt", "specs/Rust.antt",
+    "proofs/RustLaid.antt")
 
 # The crates whose public calls are made with memory refused, and the types of these calls.
 SWEPT_CRATES = ("tt_base", "tt_view", "tt", "tt_bytes", "syntax_parse", "syntax_unparse", "mbe_rule", "mbe_rules")

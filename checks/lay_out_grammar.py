@@ -3,9 +3,9 @@
 
 usage: checks/lay_out_grammar.py [CRATE], and then `rt fmt` in the crate. CRATE is the folder that it writes to: crates/mbe_grammar if none is given
 
-Each line of a block of that page is `name = expression   # section`. An expression becomes rules in a list, one for each part, where
-equal parts stand once; a mark of each rule says whether it may take nothing, and its rank; and it is known before which kinds of
-units it fails or takes nothing. Written are src/rust.rt, src/rust_known.rt, specs/Names.antt, specs/Rust.antt and proofs/RustLaid.antt.
+Each line of a block of that page is `name = expression   # section`. An expression becomes rules in a list: one for its name, and one
+for each part. Equal parts share a rule. A mark of each rule says whether it may take nothing, and its rank; and it is known before which
+kinds of units a rule fails or takes nothing. The script writes the files that `main` lists.
 """
 import pathlib
 import re
@@ -13,22 +13,25 @@ import sys
 
 TOP = pathlib.Path(__file__).resolve().parent.parent
 CRATE = pathlib.Path(sys.argv[1]) if len(sys.argv) > 1 else TOP / "crates/mbe_grammar"
-WIDTH = 126
+WIDTH = 156
 
 WORDS = {"self": "SelfValue", "Self": "SelfType", "_": "Underscore", "macro_rules": "MacroRules"}
 TESTS = {"IDENT": "Name", "SEGMENT": "PathSegment", "BOOL": "TruthValue", "LITERAL": "Literal", "TEXT": "Text", "NUMBER": "Number",
-         "DELIM": "Delimited", "OPAQUE": "Opaque", "BINARY": "BinaryOperator", "ASSIGN": "AssignmentOperator",
+         "DELIM": "Delimited", "OPAQUE": "Opaque", "ANY": "Any", "BINARY": "BinaryOperator", "ASSIGN": "AssignmentOperator",
          "BEGINS": "BeginsExpression"}
 SUBTREES = {"PAREN": "Parenthesis", "BRACK": "Bracket", "BRACE": "Brace"}
-FRAGMENTS = ["expression", "expression_2021_fragment", "type", "pattern_fragment", "pattern_param_fragment", "type_path", "statement",
-             "item", "meta"]
+# The names whose places the code names: those of fragments, and that of a file.
+NAMED = ["expression", "expression_2021_fragment", "type", "pattern_fragment", "pattern_param_fragment", "type_path", "statement",
+         "item", "meta", "items"]
+# Parts that have no parts.
+LEAVES = ("unit", "front", "test", "holds", "name", "empty")
 
 
 # The kinds of units: the first are those of no ident and no punct, as specs/Kinds.antt numbers them. These are the idents that
 # are of a kind with others, and then the puncts by their first character.
 END, LIFETIME, LITERAL, PAREN, BRACE, BRACK, OPAQUE, NAME, SOFT, ROOT, TRUTH = range(11)
 ALIKE = {
-    SOFT: "auto default macro_rules raw safe union", ROOT: "self Self super crate", TRUTH: "true false", 11: "as", 12: "async",
+    SOFT: "auto default macro_rules raw safe union yeet", ROOT: "self Self super crate", TRUTH: "true false", 11: "as", 12: "async",
     13: "box", 14: "break continue return yield", 15: "const", 16: "dyn", 17: "extern", 18: "fn", 19: "for", 20: "gen", 21: "if",
     22: "match", 23: "loop while", 24: "impl", 25: "let", 26: "move", 27: "mut", 28: "ref", 29: "static", 30: "try", 31: "_",
     32: "unsafe", 33: "enum struct trait type mod use pub macro", 34: "where", 35: "else in await do"}
@@ -41,7 +44,7 @@ class Parser:
     """One expression, from its words and signs."""
 
     def __init__(self, text):
-        self.words = re.findall(r"\^?'[^']+'|\w+|[()/*+?&!]", text)
+        self.words = re.findall(r"(?:PAREN|BRACK|BRACE|OPAQUE)\(\w+\)|\^?'[^']+'|\w+|[()/*+?&!]", text)
         self.at = 0
 
     def next_is(self, signs):
@@ -84,6 +87,10 @@ class Parser:
             return ("front", word[2:-1])
         if word == "EMPTY":
             return ("empty",)
+        if word == "END":
+            return ("never", ("test", "ANY"))
+        if "(" in word:
+            return ("holds", *word[:-1].split("("))
         return ("test", word) if word.isupper() else ("name", word)
 
 
@@ -103,7 +110,7 @@ def lines_of_page():
 def plain(part):
     """The same of two parts each, with none of the short forms."""
     kind = part[0]
-    if kind in ("unit", "front", "test", "name", "empty"):
+    if kind in LEAVES:
         return part
     if kind in ("choice", "sequence"):
         parts = [plain(it) for it in part[1]]
@@ -117,25 +124,31 @@ def plain(part):
 
 
 def laid(names):
-    """The rules, the place of each name's, where the rules of each name begin, and the place of each part. A name that is a part is
-    laid out where what it stands for is."""
-    rules, starts, begins, places = [], {}, {}, {}
+    """The rules, the place of each name, and the place of each part. The rule of a name has the place of its expression."""
+    rules, starts, places = [], {}, {}
 
     def place(part):
+        """The place of a part; a name as it is."""
+        if part[0] == "name":
+            return part
         if part not in places:
             at = places[part] = len(rules)
             rules.append(None)
-            parts = part[1:] if part[0] in ("choice", "sequence", "many", "never") else ()
-            rules[at] = (part[0], *[it if it[0] == "name" else place(it) for it in parts]) if parts else part
+            rules[at] = part if part[0] in LEAVES else (part[0], *map(place, part[1:]))
         return places[part]
 
+    def found(rule):
+        """The rule with the places of names."""
+        if rule[0] == "holds":
+            return (*rule[:2], starts[rule[2]])
+        return tuple(starts[it[1]] if isinstance(it, tuple) else it for it in rule)
+
     for name, (_, part) in names.items():
-        begins[name] = len(rules)
-        starts[name] = place(plain(part))
-    for name in names:
-        places[("name", name)] = starts[name]
-    whole = [("name", starts[rule[1]]) if rule[0] == "name" else rule for rule in rules]
-    return [tuple(places[it] if isinstance(it, tuple) else it for it in rule) for rule in whole], starts, begins, places
+        starts[name] = len(rules)
+        rules.append(None)
+        rules[starts[name]] = ("name", place(plain(part)))
+    places |= {("name", name): at for name, at in starts.items()}
+    return list(map(found, rules)), starts, places
 
 
 def marks_of(rules):
@@ -179,13 +192,14 @@ BEGINS = {
     "LITERAL": kinds_of([LITERAL]), "TEXT": kinds_of([LITERAL]), "NUMBER": kinds_of([LITERAL]),
     "DELIM": kinds_of([PAREN, BRACE, BRACK]), "OPAQUE": kinds_of([OPAQUE]), "BINARY": kinds_of_puncts("+-*/%^&|<>=!"),
     "ASSIGN": kinds_of_puncts("=+-*/%^&|<>"),
+    "ANY": ALL_KINDS & ~kinds_of([END]),
     "BEGINS": kinds_of([LIFETIME, LITERAL, PAREN, BRACK, OPAQUE, NAME, SOFT, ROOT, TRUTH, *map(WORD_KINDS.get, FIRST_WORDS)])
     | kinds_of_puncts("!-*|&<#.:")}
 
 
 def begins(kind, text):
     """The kinds of the units that pass a test."""
-    if kind == "test":
+    if kind in ("test", "holds"):
         return BEGINS[text]
     return kinds_of([WORD_KINDS[text] if re.match(r"\w", text) else CHAR_KINDS[text[0]]])
 
@@ -208,7 +222,7 @@ def known_of(rules):
             elif kind == "many":
                 new.append((0, fails[0]))
             elif kind == "never":
-                always = BEGINS["SEGMENT"] if rules[parts[0]] == ("test", "SEGMENT") else 0
+                always = BEGINS[rules[parts[0]][1]] if rules[parts[0]] in (("test", "SEGMENT"), ("test", "ANY")) else 0
                 new.append((idles[0] | always, fails[0]))
             else:
                 new.append((ALL_KINDS & ~begins(kind, parts[0]), 0))
@@ -217,11 +231,11 @@ def known_of(rules):
         known = new
 
 
-def filled(items, indent="    "):
+def filled(items, indent="    ", width=WIDTH):
     """The items on as few lines as they need."""
     lines = [indent[:-1]]
     for it in items:
-        if len(lines[-1]) + 1 + len(it) > WIDTH:
+        if len(lines[-1]) + 1 + len(it) > width:
             lines.append(indent[:-1])
         lines[-1] += " " + it
     return lines
@@ -243,6 +257,8 @@ def rule_text(rule):
         if parts[0] == "LIFETIME":
             return "(lifetime)"
         return f"(subtree {SUBTREES[parts[0]]})" if parts[0] in SUBTREES else f"(unit {TESTS[parts[0]]})"
+    if kind == "holds":
+        return f"(opaque_holding {parts[1]})" if parts[0] == "OPAQUE" else f"(holding {SUBTREES[parts[0]]} {parts[1]})"
     return "(" + " ".join([kind, *map(str, parts)]) + ")"
 
 
@@ -260,6 +276,10 @@ def expression_text(part, is_argument=False):
         if part[1] == "LIFETIME":
             return "lifetime"
         text = f"subtree {SUBTREES[part[1]]}" if part[1] in SUBTREES else f"unit test.{TESTS[part[1]]}"
+    elif kind == "holds":
+        text = f"opaque_holding {part[2]}" if part[1] == "OPAQUE" else f"holding {SUBTREES[part[1]]} {part[2]}"
+    elif part == ("never", ("test", "ANY")):
+        return "at_end"
     elif kind == "empty":
         return "nothing"
     else:
@@ -269,7 +289,7 @@ def expression_text(part, is_argument=False):
 
 def proof_text(part, places):
     """That the part is laid out: the places of its parts, and the same of each."""
-    if part[0] in ("unit", "front", "test", "name", "empty"):
+    if part[0] in LEAVES:
         return "refl"
     parts = part[1:]
     form = "(both" if len(parts) == 2 else "(one"
@@ -281,8 +301,8 @@ def equation(left, text):
     return [line] if len(line) <= WIDTH else [f"{left} =", *filled(text.split(" "))]
 
 
-HEAD = """//! Rust's grammar as one table of rules, laid out name by name. docs/GRAMMAR.md says what each name means, and
-//! `checks/lay_out_grammar.py` makes this file of it.
+HEAD = """//! Rust's grammar as one table of rules, laid out name by name: the rule of a name, and then those of its expression. docs/GRAMMAR.md says
+//! what each name means, and `checks/lay_out_grammar.py` makes this file of it.
 use crate::rule::Rule;
 use crate::test::Test;
 use crate::unit::Unit;
@@ -302,6 +322,8 @@ macro_rules! rule {
     (lifetime) => { Rule::Unit(Test::Is(Unit::Lifetime)) };
     (subtree $kind:ident) => { Rule::Unit(Test::Is(Unit::Subtree(DelimiterKind::$kind))) };
     (unit $test:ident) => { Rule::Unit(Test::$test) };
+    (holding $kind:ident $name:literal) => { Rule::Unit(Test::Holding(DelimiterKind::$kind, $name)) };
+    (opaque_holding $name:literal) => { Rule::Unit(Test::OpaqueHolding($name)) };
     (name $other:literal) => { Rule::Name($other) };
     (sequence $first:literal $second:literal) => { Rule::Sequence($first, $second) };
     (choice $first:literal $other:literal) => { Rule::Choice($first, $other) };
@@ -354,22 +376,32 @@ def code_of_known(rules):
             f"pub(crate) static KNOWN: [Known; {len(rules)}] = known! {{", *filled(known), "};"]
 
 
-def code(names, rules, starts, begins):
+def code(names, rules, starts):
     lines = HEAD.splitlines()
-    for name in FRAGMENTS:
+    for name in NAMED:
         lines += ["", f"/// Where `{name}` is laid out.", f"pub(crate) const {name.upper()}: usize = {starts[name]};"]
     lines += ["", "/// The rules.", f"pub(crate) static RULES: [Rule; {len(rules)}] = rules! {{"]
-    ends = [*list(begins.values())[1:], len(rules)]
+    ends = [*list(starts.values())[1:], len(rules)]
     for name, end in zip(names, ends):
-        lines += [f"    // {name}, from {begins[name]} on", *filled(map(rule_text, rules[begins[name]:end]))]
+        lines += [f"    // {name}, from {starts[name]} on", *filled(map(rule_text, rules[starts[name]:end]))]
     return [*lines, "};"]
+
+
+HEAD_OF_NAMES = """//! The names of Rust's grammar, in the order of the table. `checks/lay_out_grammar.py` makes this file."""
+
+
+def code_of_names(starts):
+    return [HEAD_OF_NAMES, "", "/// Where each name is laid out.", f"pub(crate) static STARTS: [usize; {len(starts)}] = [",
+            *filled(f"{at}," for at in starts.values()), "];",
+            "", "/// Each name.", f"pub(crate) static TEXTS: [&str; {len(starts)}] = [", *[f'    "{name}",' for name in starts], "];"]
 
 
 def definition_of_names(names, starts):
     return ["-- The names of Rust's grammar, and where each is laid out. Made by checks/lay_out_grammar.py.",
-            "use Rattle.std.specs.Prelude.{ℕ}", "",
+            "use Rattle.std.specs.Prelude.{ℕ, List, codes}", "",
             "-- the names, as docs/GRAMMAR.md has them", "pub data Name : Type 0 where", *[f"  {name} : Name" for name in names], "",
-            "-- the place of the expression of a name", "abbrev pub start : Name → ℕ", *[f"start {name} = {starts[name]}" for name in names]]
+            "-- where a name is laid out", "abbrev pub start : Name → ℕ", *[f"start {name} = {starts[name]}" for name in names], "",
+            "-- how a name is written", "abbrev pub text : Name → List ℕ", *[f'text {name} = codes "{name}"' for name in names]]
 
 
 def definition(names):
@@ -379,7 +411,7 @@ def definition(names):
              "use Rattle.mbe_grammar.specs.declared.test.Test.TheVariants as test",
              "use Rattle.mbe_grammar.specs.declared.words.Word.TheVariants as it",
              "use Rattle.mbe_grammar.specs.Expressions.{Expression, nothing, unit, name, many, never, maybe, ahead, all_of, one_of, word, "
-             "lifetime, subtree, sign, front}",
+             "lifetime, subtree, holding, opaque_holding, at_end, sign, front}",
              "use Rattle.mbe_grammar.specs.Names.{Name, " + ", ".join(names) + "}", "",
              "-- the expression of a name", "abbrev pub stands : Name → Expression"]
     for name, (_, part) in names.items():
@@ -387,7 +419,7 @@ def definition(names):
     return lines
 
 
-def proof(names, places):
+def proof(names, rules, starts, places):
     lines = ["-- The table lays out the expression of each name of Rust's grammar. Made by checks/lay_out_grammar.py.",
              "use Rattle.std.proofs.Common.{ℕ, refl}",
              "use Rattle.mbe_grammar.specs.declared.rust.TheConstants.{RULES}",
@@ -402,15 +434,23 @@ def proof(names, places):
              "one n e a = (n, e, a)", "",
              "pub are_laid : AreLaid RULES start stands"]
     for name, (_, part) in names.items():
-        lines += equation(f"are_laid {name}", proof_text(plain(part), places))
+        lines += equation(f"are_laid {name}", f"one {rules[starts[name]][1]} refl {proof_text(plain(part), places)}")
     return lines
 
 
 def main():
     names = lines_of_page()
-    rules, starts, begins, places = laid(names)
-    for path, lines in [("src/rust.rt", code(names, rules, starts, begins)), ("src/rust_marks.rt", code_of_marks(rules)), ("src/rust_known.rt", code_of_known(rules)), ("specs/Names.antt", definition_of_names(names, starts)),
-                        ("specs/Rust.antt", definition(names)), ("proofs/RustLaid.antt", proof(names, places))]:
+    rules, starts, places = laid(names)
+    made = {
+        "src/rust.rt": code(names, rules, starts),
+        "src/rust_marks.rt": code_of_marks(rules),
+        "src/rust_known.rt": code_of_known(rules),
+        "src/rust_names.rt": code_of_names(starts),
+        "specs/Names.antt": definition_of_names(names, starts),
+        "specs/Rust.antt": definition(names),
+        "proofs/RustLaid.antt": proof(names, rules, starts, places),
+    }
+    for path, lines in made.items():
         (CRATE / path).write_text("\n".join(lines) + "\n")
 
 

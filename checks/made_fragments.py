@@ -24,7 +24,7 @@ INSIDE = {
         "function_type": ["()", "(u8)"], "structure": ["()", "(u8)"], "bound": ["(a)"], "meta": ["(a)"], "type_path_segment": ["()", "(a)"],
     },
     "BRACK": {None: ["[a]", "[]"], "plain_type": ["[u8]", "[u8; 2]"], "attribute": ["[a]"], "bound": ["[const]"], "postfix": ["[a]"]},
-    "BRACE": {None: ["{}"], "use_declaration": ["{a}", "{}"], "primary": ["{}", "{a}"], "macro_definition": ["{() => {}}"]},
+    "BRACE": {None: ["{}"], "use_tree": ["{a}", "{}"], "primary": ["{}", "{a}"], "macro_rules": ["{() => {}}"]},
 }
 OTHERS = (
     "a b 1 \"s\" 'a self Self crate super _ true as async await break const continue dyn else enum extern fn for if impl in let loop match "
@@ -96,7 +96,7 @@ class Maker:
             most = 0 if depth > DEPTH else 1 if kind == "?" else 2
             rounds = max(int(kind == "+"), self.chance.choice([0, 0, self.chance.randint(0, most)]))
             return [word for _ in range(rounds) for word in self.part(inner, name, depth)]
-        return [self.word(kind, inner, name)] if inner != "EMPTY" else []
+        return [self.word(kind, inner, name)] if inner not in ("EMPTY", "END") else []
 
     def word(self, kind, wanted, name):
         """A unit."""

@@ -28,10 +28,10 @@ FAILS = -1
 
 
 class Reader:
-    """An expression of the table, read from its words and signs."""
+    """An expression of the table, read from its words and signs, without what subtrees contain."""
 
     def __init__(self, text):
-        self.words = re.findall(r"\^?'[^']+'|\w+|[()/*+?&!]", text)
+        self.words = re.findall(r"\^?'[^']+'|\w+|[()/*+?&!]", re.sub(r"(PAREN|BRACK|BRACE|OPAQUE)\(\w+\)", r"\1", text))
 
     def next_is(self, signs):
         """Whether one of these stands next."""
@@ -179,8 +179,8 @@ class Parse:
         """A unit, or the punct in front of one."""
         if wanted == "EMPTY":
             return at
-        if at == len(self.trees):
-            return FAILS
+        if at == len(self.trees) or wanted == "END":
+            return at if at == len(self.trees) and wanted == "END" else FAILS
         if kind == "front":
             tree = self.trees[at]
             return at + 1 if isinstance(tree, Punct) and tree.char == wanted else FAILS

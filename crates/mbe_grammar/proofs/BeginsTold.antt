@@ -14,6 +14,7 @@ use Rattle.mbe_grammar.specs.Kinds.{kind_of, kind_of_word, kind_of_char}
 use Rattle.mbe_grammar.specs.Known.{begins}
 use Rattle.mbe_grammar.specs.Tests.{same_unit, is_word, passes, passes_test, has_front, is_literal_of, is_subtree_of, is_opaque_kind, may_begin_expression, is_text_kind, is_number_kind, is_literal}
 use Rattle.mbe_grammar.specs.Words.{is_reserved, is_path_segment, is_truth_value, begins_expression}
+use Rattle.mbe_grammar.proofs.AnyUnit.{any_told}
 use Rattle.mbe_grammar.proofs.EachWord.{same_word}
 use Rattle.mbe_grammar.proofs.KindsTold.{IsOf, name_told, segment_told, truth_told, first_told, among_told}
 use Rattle.mbe_grammar.proofs.Marks.{left_true}
@@ -201,25 +202,26 @@ tested wanted (unit.TwoPuncts one two) e = e
 tested wanted (unit.ThreePuncts one two three) e = e
 tested wanted (unit.Subtree kind) e = e
 
-test_told : (wanted : Test) (it : Unit) → passes_test wanted it ≡ true → IsOf (begins wanted) (kind_of it)
-test_told (test.Is wanted) it e = same_told it wanted e
-test_told (test.Front char) it e = front_told char it e
-test_told test.Name it e = such_word (λ w. not (is_reserved w)) (begins test.Name) name_told it e
-test_told test.PathSegment it e = such_word is_path_segment (begins test.PathSegment) segment_told it e
-test_told test.TruthValue it e = such_word is_truth_value (begins test.TruthValue) truth_told it e
-test_told test.Literal it e = literal_told it e
-test_told test.Text it e = text_told it e
-test_told test.Number it e = number_told it e
-test_told test.Delimited it e = delimited_told it e
-test_told test.Opaque it e = opaque_told it e
-test_told (test.Holding kind name) it e = same_told it (unit.Subtree kind) e
-test_told (test.OpaqueHolding name) it e = opaque_told it e
-test_told test.BinaryOperator it e = among_told
+test_told : (wanted : Test) (it : Unit) → passes wanted it ≡ true → passes_test wanted it ≡ true → IsOf (begins wanted) (kind_of it)
+test_told (test.Is wanted) it p e = same_told it wanted e
+test_told (test.Front char) it p e = front_told char it e
+test_told test.Any it p e = any_told it p
+test_told test.Name it p e = such_word (λ w. not (is_reserved w)) (begins test.Name) name_told it e
+test_told test.PathSegment it p e = such_word is_path_segment (begins test.PathSegment) segment_told it e
+test_told test.TruthValue it p e = such_word is_truth_value (begins test.TruthValue) truth_told it e
+test_told test.Literal it p e = literal_told it e
+test_told test.Text it p e = text_told it e
+test_told test.Number it p e = number_told it e
+test_told test.Delimited it p e = delimited_told it e
+test_told test.Opaque it p e = opaque_told it e
+test_told (test.Holding kind name) it p e = same_told it (unit.Subtree kind) e
+test_told (test.OpaqueHolding name) it p e = opaque_told it e
+test_told test.BinaryOperator it p e = among_told
     (codes "+-*/%^&|<>") (codes "<<" ∷ codes ">>" ∷ codes "==" ∷ codes "!=" ∷ codes "<=" ∷ codes ">=" ∷ codes "&&" ∷ codes "||" ∷ []) [] (begins test.BinaryOperator) refl refl refl it e
-test_told test.AssignmentOperator it e = among_told
+test_told test.AssignmentOperator it p e = among_told
     (codes "=") (codes "+=" ∷ codes "-=" ∷ codes "*=" ∷ codes "/=" ∷ codes "%=" ∷ codes "^=" ∷ codes "&=" ∷ codes "|=" ∷ []) (codes "<<=" ∷ codes ">>=" ∷ []) (begins test.AssignmentOperator) refl refl refl it e
-test_told test.BeginsExpression it e = beginning_told it e
+test_told test.BeginsExpression it p e = beginning_told it e
 
 -- What passes has one of the kinds.
 pub begins_told : (wanted : Test) (it : Unit) → passes wanted it ≡ true → IsOf (begins wanted) (kind_of it)
-begins_told wanted it e = test_told wanted it (tested wanted it e)
+begins_told wanted it e = test_told wanted it e (tested wanted it e)

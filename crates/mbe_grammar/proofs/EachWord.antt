@@ -17,7 +17,7 @@ words =
     word.If ∷ word.Impl ∷ word.In ∷ word.Let ∷ word.Loop ∷ word.Macro ∷ word.Match ∷ word.Mod ∷ word.Move ∷ word.Mut ∷
     word.Pub ∷ word.Ref ∷ word.Return ∷ word.SelfValue ∷ word.SelfType ∷ word.Static ∷ word.Struct ∷ word.Super ∷
     word.Trait ∷ word.True ∷ word.Try ∷ word.Type ∷ word.Unsafe ∷ word.Use ∷ word.Where ∷ word.While ∷ word.Yield ∷
-    word.Underscore ∷ word.Auto ∷ word.Default ∷ word.MacroRules ∷ word.Raw ∷ word.Safe ∷ word.Union ∷ []
+    word.Underscore ∷ word.Auto ∷ word.Default ∷ word.MacroRules ∷ word.Raw ∷ word.Safe ∷ word.Union ∷ word.Yeet ∷ []
 
 -- the index of each
 place_in : (it : Word) → (n : ℕ) × (slice_get words n ≡ Some it)
@@ -74,6 +74,7 @@ place_in word.MacroRules = (49, refl)
 place_in word.Raw = (50, refl)
 place_in word.Safe = (51, refl)
 place_in word.Union = (52, refl)
+place_in word.Yeet = (53, refl)
 
 abbrev pub every : (Word → Bool) → List Word → Bool
 every fact [] = true

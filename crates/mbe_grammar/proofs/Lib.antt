@@ -1,4 +1,5 @@
 pub mod Agreeing
+pub mod AnyUnit
 pub mod BeginsTold
 pub mod Behind
 pub mod Bits

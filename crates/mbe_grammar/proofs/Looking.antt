@@ -21,6 +21,7 @@ use Rattle.mbe_grammar.specs.Positions.{Position, enters, taken, takes, opened, 
 use Rattle.mbe_grammar.specs.Tests.{passes}
 use Rattle.mbe_grammar.specs.Units.{first_unit}
 use Rattle.mbe_grammar.proofs.Agreeing.{Agrees, UnitsTaken, units_taken}
+use Rattle.mbe_grammar.proofs.AnyUnit.{any_of_kind}
 use Rattle.mbe_grammar.proofs.BeginsTold.{begins_told}
 use Rattle.mbe_grammar.proofs.Bits.{of_both, of_one, of_outer, of_nothing, of_apart}
 use Rattle.mbe_grammar.proofs.KindsTold.{IsOf, segment_of_kind}
@@ -62,6 +63,7 @@ always_told (Some (rule.Choice first other)) from e = absurd (no_bit (kind_of (f
 always_told (Some (rule.ZeroOrMore part)) from e = absurd (no_bit (kind_of (first_unit from.rest)) e)
 always_told (Some (rule.Not part)) from e = absurd (no_bit (kind_of (first_unit from.rest)) e)
 always_told (Some (rule.Unit test.PathSegment)) from e = (test.PathSegment, refl, segment_of_kind (first_unit from.rest) e)
+always_told (Some (rule.Unit test.Any)) from e = (test.Any, refl, any_of_kind (first_unit from.rest) e)
 always_told (Some (rule.Unit (test.Is it))) from e = absurd (no_bit (kind_of (first_unit from.rest)) e)
 always_told (Some (rule.Unit (test.Front char))) from e = absurd (no_bit (kind_of (first_unit from.rest)) e)
 always_told (Some (rule.Unit test.Name)) from e = absurd (no_bit (kind_of (first_unit from.rest)) e)

@@ -35,6 +35,7 @@ unit_full (unit.Subtree kind) = (0, refl)
 taken_full : (it : Test) (of : Unit) → (less : ℕ) × (taken_size it of ≡ suc less)
 taken_full (test.Front char) of = (0, refl)
 taken_full (test.Is wanted) of = unit_full of
+taken_full test.Any of = unit_full of
 taken_full test.Name of = unit_full of
 taken_full test.PathSegment of = unit_full of
 taken_full test.TruthValue of = unit_full of
@@ -151,6 +152,7 @@ taken_fits (test.Front char) end e = absurd (cc e)
 taken_fits (test.Front char) (leaf other rest) e = omega arith
 taken_fits (test.Front char) (node delimiter children rest) e = omega arith
 taken_fits (test.Is wanted) trees e = whole trees (passing_some (test.Is wanted) trees e)
+taken_fits test.Any trees e = whole trees (passing_some test.Any trees e)
 taken_fits test.Name trees e = whole trees (passing_some test.Name trees e)
 taken_fits test.PathSegment trees e = whole trees (passing_some test.PathSegment trees e)
 taken_fits test.TruthValue trees e = whole trees (passing_some test.TruthValue trees e)

@@ -58,6 +58,7 @@ entry_light (test.OpaqueHolding name) (leaf it rest) e = plain (test.OpaqueHoldi
 entry_light (test.OpaqueHolding name) (node delimiter children rest) e = omega arith
 entry_light (test.Is it) trees e = plain (test.Is it) trees e
 entry_light (test.Front char) trees e = plain (test.Front char) trees e
+entry_light test.Any trees e = plain test.Any trees e
 entry_light test.Name trees e = plain test.Name trees e
 entry_light test.PathSegment trees e = plain test.PathSegment trees e
 entry_light test.TruthValue trees e = plain test.TruthValue trees e

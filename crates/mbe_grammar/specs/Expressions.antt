@@ -62,6 +62,18 @@ lifetime = unit (test.Is unit_of.Lifetime)
 abbrev pub subtree : DelimiterKind → Expression
 subtree kind = unit (test.Is (unit_of.Subtree kind))
 
+-- a subtree of that kind, whose trees must be the expression of that name
+abbrev pub holding : DelimiterKind → Name → Expression
+holding kind n = unit (test.Holding kind (start n))
+
+-- a subtree without printed delimiters, whose trees must be the expression of that name
+abbrev pub opaque_holding : Name → Expression
+opaque_holding n = unit (test.OpaqueHolding (start n))
+
+-- no tree is left
+abbrev pub at_end : Expression
+at_end = never (unit test.Any)
+
 -- the unit of these characters
 abbrev pub unit_of_chars : List ℕ → Unit
 unit_of_chars [] = unit_of.End

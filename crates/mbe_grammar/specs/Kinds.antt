@@ -62,6 +62,7 @@ kind_of_word word.MacroRules = 8
 kind_of_word word.Raw = 8
 kind_of_word word.Safe = 8
 kind_of_word word.Union = 8
+kind_of_word word.Yeet = 8
 
 -- the kind of a punct that a table has, or the kind of one that it does not have
 abbrev pub kind_or_other : Option ℕ → ℕ

@@ -1,5 +1,5 @@
 -- What is known of a table's expressions before they are read, by the kind of the first unit.
-use Rattle.std.specs.Prelude.{◌%◌, ◌^◌, ℕ, suc, Bool, ◌&&◌, ◌==◌, nat_lt, List, [], ◌∷◌, length, Option, None, Some, slice_get, map, codes, if◌then◌else◌}
+use Rattle.std.specs.Prelude.{◌-◌, ◌%◌, ◌^◌, ℕ, suc, Bool, ◌&&◌, ◌==◌, nat_lt, List, [], ◌∷◌, length, Option, None, Some, slice_get, map, codes, if◌then◌else◌}
 use Rattle.std.specs.Int.{bit_at}
 use Rattle.std.specs.Int.RustNames.{bit_and, bit_or}
 use Rattle.mbe_grammar.specs.declared.known.Glance.{Glance}
@@ -55,10 +55,11 @@ bits_of chars = bits (map kind_of_char chars)
 abbrev pub first_words : List ℕ
 first_words = 7 ∷ 8 ∷ 9 ∷ 10 ∷ 12 ∷ 13 ∷ 14 ∷ 15 ∷ 19 ∷ 20 ∷ 21 ∷ 22 ∷ 23 ∷ 25 ∷ 26 ∷ 29 ∷ 30 ∷ 32 ∷ 35 ∷ []
 
--- the kinds of the units that pass a test
+-- the kinds of the units that pass a test; any unit has a kind other than 0, the end's
 abbrev pub begins : Test → ℕ
 begins (test.Is it) = 2 ^ (kind_of it % 64)
 begins (test.Front char) = 2 ^ (kind_of_char char % 64)
+begins test.Any = 2 ^ 64 - 2
 begins test.Name = bits (7 ∷ 8 ∷ [])
 begins test.PathSegment = bits (7 ∷ 8 ∷ 9 ∷ [])
 begins test.TruthValue = bits (10 ∷ [])
@@ -73,9 +74,10 @@ begins test.BinaryOperator = bits_of (codes "+-*/%^&|<>=!")
 begins test.AssignmentOperator = bits_of (codes "=+-*/%^&|<>")
 begins test.BeginsExpression = bit_or (bits (1 ∷ 2 ∷ 3 ∷ 5 ∷ 6 ∷ [])) (bit_or (bits first_words) (bits_of (codes "!-*|&<#.:")))
 
--- the kinds whose units all pass the rule's test; given only for the test of a path segment
+-- the kinds whose units all pass the rule's test; given only for two tests
 abbrev pub always_passes : Option Rule → ℕ
 always_passes (Some (rule.Unit test.PathSegment)) = begins test.PathSegment
+always_passes (Some (rule.Unit test.Any)) = begins test.Any
 always_passes _ = 0
 
 -- all bits of a number are those of another

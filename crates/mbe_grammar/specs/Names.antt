@@ -1,5 +1,5 @@
 -- The names of Rust's grammar, and where each is laid out. Made by checks/lay_out_grammar.py.
-use Rattle.std.specs.Prelude.{ℕ}
+use Rattle.std.specs.Prelude.{ℕ, List, codes}
 
 -- the names, as docs/GRAMMAR.md has them
 pub data Name : Type 0 where
@@ -19,17 +19,21 @@ pub data Name : Type 0 where
   simple_path : Name
   type : Name
   type_no_bounds : Name
+  types : Name
   more_bounds : Name
   plain_type : Name
   pointer_type : Name
+  array_type : Name
   reference_type : Name
   function_type : Name
+  maybe_named_parameters : Name
+  maybe_named_parameter : Name
   bounds : Name
   some_bounds : Name
   bound : Name
+  maybe_const : Name
   begins_bound : Name
   for_lifetimes : Name
-  lifetime_parameters : Name
   lifetime_parameter : Name
   use_argument : Name
   pattern_fragment : Name
@@ -37,11 +41,16 @@ pub data Name : Type 0 where
   pattern : Name
   pattern_no_top_alt : Name
   pattern_without_range : Name
+  patterns : Name
   range_tail : Name
   old_range_tail : Name
   range_operator : Name
   range_end : Name
   fields : Name
+  struct_pattern_elements : Name
+  struct_pattern_field : Name
+  field_pattern : Name
+  field_name : Name
   reference_pattern : Name
   identifier_pattern : Name
   binding : Name
@@ -67,146 +76,377 @@ pub data Name : Type 0 where
   jump_before_block : Name
   primary : Name
   primary_before_block : Name
+  variable : Name
+  variable_before_block : Name
+  expressions : Name
+  array_elements : Name
+  struct_expression_fields : Name
+  struct_expression_field : Name
+  field_value : Name
   basic : Name
   block_like : Name
+  label : Name
   loop : Name
   conditions : Name
   one_condition : Name
   let_value : Name
+  match_arms : Name
+  match_arm : Name
+  guard : Name
+  guard_condition : Name
+  guard_value : Name
+  expression_with_block : Name
   lazy_operator : Name
   begins : Name
+  inner_attribute : Name
   attribute : Name
   meta : Name
+  plain_meta : Name
   visibility : Name
+  visibility_place : Name
+  block : Name
+  statements : Name
   statement : Name
   let_statement : Name
-  block_statement : Name
+  closed_statement : Name
+  items : Name
   item : Name
   declaration : Name
   item_kind : Name
   macro_item : Name
+  macro_rules : Name
   macro_definition : Name
   use_declaration : Name
+  use_trees : Name
+  use_tree : Name
   extern_crate : Name
   rename : Name
   static_item : Name
   constant_item : Name
   function : Name
-  function_qualifier : Name
+  function_parameters : Name
+  self_parameter : Name
+  function_parameter : Name
+  function_qualifiers : Name
   module_item : Name
   extern_block : Name
+  external_items : Name
+  external_item : Name
   type_alias : Name
   structure : Name
+  struct_fields : Name
+  struct_field : Name
+  tuple_fields : Name
+  tuple_field : Name
   enumeration : Name
+  enum_variants : Name
+  enum_variant : Name
   union : Name
   trait : Name
   implementation : Name
+  associated_items : Name
+  associated_item : Name
   generic_parameters : Name
   generic_parameter : Name
   where_clause : Name
   where_predicate : Name
 
--- the place of the expression of a name
+-- where a name is laid out
 abbrev pub start : Name → ℕ
 start type_path = 0
-start type_path_segments = 4
-start type_path_segment = 14
-start less = 26
-start generic_arguments = 35
-start generic_argument = 45
-start generic_argument_end = 60
-start generic_argument_value = 61
-start const_argument = 63
-start qualified_self = 70
-start expression_path = 77
-start expression_path_segments = 80
-start expression_path_segment = 85
-start simple_path = 90
-start type = 94
-start type_no_bounds = 135
-start more_bounds = 152
-start plain_type = 157
-start pointer_type = 166
-start reference_type = 171
-start function_type = 177
-start bounds = 188
-start some_bounds = 189
-start bound = 190
-start begins_bound = 217
-start for_lifetimes = 230
-start lifetime_parameters = 233
-start lifetime_parameter = 238
-start use_argument = 240
-start pattern_fragment = 244
-start pattern_param_fragment = 248
-start pattern = 249
-start pattern_no_top_alt = 264
-start pattern_without_range = 292
-start range_tail = 319
-start old_range_tail = 323
-start range_operator = 326
-start range_end = 328
-start fields = 330
-start reference_pattern = 332
-start identifier_pattern = 334
-start binding = 356
-start expression_2021_fragment = 357
-start expression = 360
-start expression_before_block = 369
-start range = 376
-start range_before_block = 384
-start operation = 395
-start operation_before_block = 407
-start operand = 413
-start operand_before_block = 415
-start unary = 417
-start unary_before_block = 431
-start unary_operator = 440
-start postfix = 448
-start bad_postfix = 464
-start closure = 465
-start closure_before_block = 471
-start closure_head = 474
-start closure_parameter = 499
-start jump = 503
-start jump_before_block = 517
-start primary = 528
-start primary_before_block = 537
-start basic = 543
-start block_like = 550
-start loop = 585
-start conditions = 596
-start one_condition = 601
-start let_value = 606
-start lazy_operator = 617
-start begins = 619
-start attribute = 620
-start meta = 622
-start visibility = 628
-start statement = 632
-start let_statement = 644
-start block_statement = 652
-start item = 664
-start declaration = 666
-start item_kind = 669
-start macro_item = 682
-start macro_definition = 686
-start use_declaration = 695
-start extern_crate = 705
-start rename = 713
-start static_item = 715
-start constant_item = 725
-start function = 727
-start function_qualifier = 740
-start module_item = 745
-start extern_block = 749
-start type_alias = 752
-start structure = 762
-start enumeration = 768
-start union = 773
-start trait = 775
-start implementation = 789
-start generic_parameters = 799
-start generic_parameter = 806
-start where_clause = 818
-start where_predicate = 825
+start type_path_segments = 5
+start type_path_segment = 16
+start less = 29
+start generic_arguments = 39
+start generic_argument = 50
+start generic_argument_end = 66
+start generic_argument_value = 68
+start const_argument = 71
+start qualified_self = 80
+start expression_path = 88
+start expression_path_segments = 92
+start expression_path_segment = 98
+start simple_path = 104
+start type = 109
+start type_no_bounds = 147
+start types = 162
+start more_bounds = 168
+start plain_type = 174
+start pointer_type = 184
+start array_type = 190
+start reference_type = 195
+start function_type = 202
+start maybe_named_parameters = 216
+start maybe_named_parameter = 219
+start bounds = 229
+start some_bounds = 231
+start bound = 233
+start maybe_const = 261
+start begins_bound = 262
+start for_lifetimes = 279
+start lifetime_parameter = 281
+start use_argument = 288
+start pattern_fragment = 292
+start pattern_param_fragment = 297
+start pattern = 299
+start pattern_no_top_alt = 315
+start pattern_without_range = 347
+start patterns = 376
+start range_tail = 379
+start old_range_tail = 383
+start range_operator = 387
+start range_end = 390
+start fields = 393
+start struct_pattern_elements = 396
+start struct_pattern_field = 402
+start field_pattern = 407
+start field_name = 414
+start reference_pattern = 417
+start identifier_pattern = 420
+start binding = 443
+start expression_2021_fragment = 445
+start expression = 449
+start expression_before_block = 459
+start range = 467
+start range_before_block = 476
+start operation = 488
+start operation_before_block = 500
+start operand = 507
+start operand_before_block = 510
+start unary = 513
+start unary_before_block = 528
+start unary_operator = 538
+start postfix = 547
+start bad_postfix = 565
+start closure = 567
+start closure_before_block = 575
+start closure_head = 579
+start closure_parameter = 604
+start jump = 609
+start jump_before_block = 628
+start primary = 640
+start primary_before_block = 652
+start variable = 660
+start variable_before_block = 665
+start expressions = 669
+start array_elements = 672
+start struct_expression_fields = 678
+start struct_expression_field = 685
+start field_value = 690
+start basic = 691
+start block_like = 701
+start label = 737
+start loop = 739
+start conditions = 752
+start one_condition = 758
+start let_value = 764
+start match_arms = 776
+start match_arm = 780
+start guard = 791
+start guard_condition = 796
+start guard_value = 801
+start expression_with_block = 811
+start lazy_operator = 819
+start begins = 822
+start inner_attribute = 824
+start attribute = 829
+start meta = 831
+start plain_meta = 835
+start visibility = 840
+start visibility_place = 846
+start block = 854
+start statements = 856
+start statement = 865
+start let_statement = 870
+start closed_statement = 880
+start items = 892
+start item = 895
+start declaration = 898
+start item_kind = 906
+start macro_item = 920
+start macro_rules = 925
+start macro_definition = 930
+start use_declaration = 936
+start use_trees = 939
+start use_tree = 942
+start extern_crate = 953
+start rename = 960
+start static_item = 962
+start constant_item = 973
+start function = 976
+start function_parameters = 990
+start self_parameter = 997
+start function_parameter = 1005
+start function_qualifiers = 1013
+start module_item = 1020
+start extern_block = 1027
+start external_items = 1032
+start external_item = 1035
+start type_alias = 1041
+start structure = 1053
+start struct_fields = 1064
+start struct_field = 1067
+start tuple_fields = 1071
+start tuple_field = 1074
+start enumeration = 1084
+start enum_variants = 1091
+start enum_variant = 1094
+start union = 1101
+start trait = 1107
+start implementation = 1123
+start associated_items = 1136
+start associated_item = 1139
+start generic_parameters = 1147
+start generic_parameter = 1155
+start where_clause = 1168
+start where_predicate = 1176
+
+-- how a name is written
+abbrev pub text : Name → List ℕ
+text type_path = codes "type_path"
+text type_path_segments = codes "type_path_segments"
+text type_path_segment = codes "type_path_segment"
+text less = codes "less"
+text generic_arguments = codes "generic_arguments"
+text generic_argument = codes "generic_argument"
+text generic_argument_end = codes "generic_argument_end"
+text generic_argument_value = codes "generic_argument_value"
+text const_argument = codes "const_argument"
+text qualified_self = codes "qualified_self"
+text expression_path = codes "expression_path"
+text expression_path_segments = codes "expression_path_segments"
+text expression_path_segment = codes "expression_path_segment"
+text simple_path = codes "simple_path"
+text type = codes "type"
+text type_no_bounds = codes "type_no_bounds"
+text types = codes "types"
+text more_bounds = codes "more_bounds"
+text plain_type = codes "plain_type"
+text pointer_type = codes "pointer_type"
+text array_type = codes "array_type"
+text reference_type = codes "reference_type"
+text function_type = codes "function_type"
+text maybe_named_parameters = codes "maybe_named_parameters"
+text maybe_named_parameter = codes "maybe_named_parameter"
+text bounds = codes "bounds"
+text some_bounds = codes "some_bounds"
+text bound = codes "bound"
+text maybe_const = codes "maybe_const"
+text begins_bound = codes "begins_bound"
+text for_lifetimes = codes "for_lifetimes"
+text lifetime_parameter = codes "lifetime_parameter"
+text use_argument = codes "use_argument"
+text pattern_fragment = codes "pattern_fragment"
+text pattern_param_fragment = codes "pattern_param_fragment"
+text pattern = codes "pattern"
+text pattern_no_top_alt = codes "pattern_no_top_alt"
+text pattern_without_range = codes "pattern_without_range"
+text patterns = codes "patterns"
+text range_tail = codes "range_tail"
+text old_range_tail = codes "old_range_tail"
+text range_operator = codes "range_operator"
+text range_end = codes "range_end"
+text fields = codes "fields"
+text struct_pattern_elements = codes "struct_pattern_elements"
+text struct_pattern_field = codes "struct_pattern_field"
+text field_pattern = codes "field_pattern"
+text field_name = codes "field_name"
+text reference_pattern = codes "reference_pattern"
+text identifier_pattern = codes "identifier_pattern"
+text binding = codes "binding"
+text expression_2021_fragment = codes "expression_2021_fragment"
+text expression = codes "expression"
+text expression_before_block = codes "expression_before_block"
+text range = codes "range"
+text range_before_block = codes "range_before_block"
+text operation = codes "operation"
+text operation_before_block = codes "operation_before_block"
+text operand = codes "operand"
+text operand_before_block = codes "operand_before_block"
+text unary = codes "unary"
+text unary_before_block = codes "unary_before_block"
+text unary_operator = codes "unary_operator"
+text postfix = codes "postfix"
+text bad_postfix = codes "bad_postfix"
+text closure = codes "closure"
+text closure_before_block = codes "closure_before_block"
+text closure_head = codes "closure_head"
+text closure_parameter = codes "closure_parameter"
+text jump = codes "jump"
+text jump_before_block = codes "jump_before_block"
+text primary = codes "primary"
+text primary_before_block = codes "primary_before_block"
+text variable = codes "variable"
+text variable_before_block = codes "variable_before_block"
+text expressions = codes "expressions"
+text array_elements = codes "array_elements"
+text struct_expression_fields = codes "struct_expression_fields"
+text struct_expression_field = codes "struct_expression_field"
+text field_value = codes "field_value"
+text basic = codes "basic"
+text block_like = codes "block_like"
+text label = codes "label"
+text loop = codes "loop"
+text conditions = codes "conditions"
+text one_condition = codes "one_condition"
+text let_value = codes "let_value"
+text match_arms = codes "match_arms"
+text match_arm = codes "match_arm"
+text guard = codes "guard"
+text guard_condition = codes "guard_condition"
+text guard_value = codes "guard_value"
+text expression_with_block = codes "expression_with_block"
+text lazy_operator = codes "lazy_operator"
+text begins = codes "begins"
+text inner_attribute = codes "inner_attribute"
+text attribute = codes "attribute"
+text meta = codes "meta"
+text plain_meta = codes "plain_meta"
+text visibility = codes "visibility"
+text visibility_place = codes "visibility_place"
+text block = codes "block"
+text statements = codes "statements"
+text statement = codes "statement"
+text let_statement = codes "let_statement"
+text closed_statement = codes "closed_statement"
+text items = codes "items"
+text item = codes "item"
+text declaration = codes "declaration"
+text item_kind = codes "item_kind"
+text macro_item = codes "macro_item"
+text macro_rules = codes "macro_rules"
+text macro_definition = codes "macro_definition"
+text use_declaration = codes "use_declaration"
+text use_trees = codes "use_trees"
+text use_tree = codes "use_tree"
+text extern_crate = codes "extern_crate"
+text rename = codes "rename"
+text static_item = codes "static_item"
+text constant_item = codes "constant_item"
+text function = codes "function"
+text function_parameters = codes "function_parameters"
+text self_parameter = codes "self_parameter"
+text function_parameter = codes "function_parameter"
+text function_qualifiers = codes "function_qualifiers"
+text module_item = codes "module_item"
+text extern_block = codes "extern_block"
+text external_items = codes "external_items"
+text external_item = codes "external_item"
+text type_alias = codes "type_alias"
+text structure = codes "structure"
+text struct_fields = codes "struct_fields"
+text struct_field = codes "struct_field"
+text tuple_fields = codes "tuple_fields"
+text tuple_field = codes "tuple_field"
+text enumeration = codes "enumeration"
+text enum_variants = codes "enum_variants"
+text enum_variant = codes "enum_variant"
+text union = codes "union"
+text trait = codes "trait"
+text implementation = codes "implementation"
+text associated_items = codes "associated_items"
+text associated_item = codes "associated_item"
+text generic_parameters = codes "generic_parameters"
+text generic_parameter = codes "generic_parameter"
+text where_clause = codes "where_clause"
+text where_predicate = codes "where_predicate"

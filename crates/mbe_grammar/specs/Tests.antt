@@ -102,6 +102,7 @@ may_begin_expression it =
 abbrev pub passes_test : Test → Unit → Bool
 passes_test (test.Is wanted) it = same_unit it wanted
 passes_test (test.Front char) it = has_front char it
+passes_test test.Any it = true
 passes_test test.Name it = is_word (λ word. not (is_reserved word)) it
 passes_test test.PathSegment it = is_word is_path_segment it
 passes_test test.TruthValue it = is_word is_truth_value it

@@ -50,7 +50,8 @@ word_of_four text =
     if bytes_eq text (codes "safe") then word.Safe else (
     if bytes_eq text (codes "self") then word.SelfValue else (
     if bytes_eq text (codes "true") then word.True else (
-    if bytes_eq text (codes "type") then word.Type else word.Name)))))))))))
+    if bytes_eq text (codes "type") then word.Type else (
+    if bytes_eq text (codes "yeet") then word.Yeet else word.Name))))))))))))
 
 -- the word of five letters
 abbrev pub word_of_five : (text : List ℕ) → Word
@@ -126,6 +127,7 @@ is_reserved word.MacroRules = false
 is_reserved word.Raw = false
 is_reserved word.Safe = false
 is_reserved word.Union = false
+is_reserved word.Yeet = false
 is_reserved _ = true
 
 -- `self`, `Self`, `super` or `crate`

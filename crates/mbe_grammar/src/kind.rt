@@ -43,8 +43,13 @@ impl Word {
     {
         match self {
             Word::Name => 7,
-            Word::Auto | Word::Default | Word::MacroRules | Word::Raw | Word::Safe | Word::Union =>
-                8,
+            Word::Auto
+            | Word::Default
+            | Word::MacroRules
+            | Word::Raw
+            | Word::Safe
+            | Word::Union
+            | Word::Yeet => 8,
             Word::Crate | Word::SelfValue | Word::SelfType | Word::Super => 9,
             Word::False | Word::True => 10,
             Word::As => 11,

@@ -1,11 +1,11 @@
 //! How many trees a fragment of Rust's grammar takes, by a table of parsing expressions.
 //!
 //! docs/GRAMMAR.md is the source of the table. `checks/lay_out_grammar.py` makes `src/rust.rt`, `src/rust_marks.rt`, `src/rust_known.rt`,
-//! `specs/Names.antt`, `specs/Rust.antt` and `proofs/RustLaid.antt` from it. `reach` runs the machine of parsing expressions on the
-//! siblings, with a stack of the rules that are under way. It does not look into subtrees.
+//! `src/rust_names.rt`, `specs/Names.antt`, `specs/Rust.antt` and `proofs/RustLaid.antt` from it. `reach` runs the machine of parsing
+//! expressions on the siblings, with a stack of the rules that are under way. It does not look into subtrees.
 //!
 //! A table may name the contents of a subtree. Then the machine adds the subtree to a log, and cuts the log back if a choice fails. `are`
-//! reads each entry of the log by its name, without recursion. Rust's table names no contents.
+//! reads each entry of the log by its name, without recursion. Rust's table names the contents of brackets.
 #![tactic(auto)]
 
 mod derivation;
@@ -21,6 +21,7 @@ mod rule;
 mod rust;
 mod rust_known;
 mod rust_marks;
+mod rust_names;
 mod table;
 mod test;
 mod unit;

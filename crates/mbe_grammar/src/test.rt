@@ -13,6 +13,8 @@ pub enum Test {
     Is(Unit),
     /// A punct, or glued puncts that begin with it; only this first punct is taken.
     Front(char),
+    /// Any unit.
+    Any,
     /// An ident that is no keyword.
     Name,
     /// An ident that a path may contain: a name, `self`, `Self`, `super` or `crate`.
@@ -188,6 +190,7 @@ impl Test {
         match (self, unit) {
             (Test::Is(wanted), _) => unit == wanted,
             (Test::Front(char), _) => unit.has_front(char),
+            (Test::Any, _) => true,
             (Test::Name, Unit::Word(word)) => !word.is_reserved(),
             (Test::PathSegment, Unit::Word(word)) => word.is_path_segment(),
             (Test::TruthValue, Unit::Word(word)) => word.is_truth_value(),

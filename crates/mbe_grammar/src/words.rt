@@ -113,6 +113,8 @@ pub enum Word {
     Safe,
     /// `union`.
     Union,
+    /// `yeet`.
+    Yeet,
 }
 
 impl Word {
@@ -178,6 +180,7 @@ impl Word {
             "self" => Word::SelfValue,
             "true" => Word::True,
             "type" => Word::Type,
+            "yeet" => Word::Yeet,
             _ => Word::Name,
         }
     }
@@ -277,6 +280,7 @@ impl Word {
                 | Word::Raw
                 | Word::Safe
                 | Word::Union
+                | Word::Yeet
         )
     }
 
