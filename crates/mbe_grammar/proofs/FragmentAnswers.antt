@@ -1,5 +1,5 @@
 -- A fragment of Rust's grammar has one answer, and takes at least one tree.
-use Rattle.std.proofs.Common.{◌≡◌, ◌<◌, ◌+◌, ℕ, zero, suc, Some, None, refl, ap, arith}
+use Rattle.std.proofs.Common.{◌≡◌, ◌<◌, ◌+◌, ℕ, zero, suc, Some, None, refl, sym, ap, arith}
 use Rattle.std.specs.Prelude.{Option, option_map, false}
 use Rattle.tt.specs.Forest.{Forest, end, size}
 use Rattle.tt.specs.Gluing.{after_trees}

@@ -3,6 +3,7 @@ pub mod AnyUnit
 pub mod BeginsTold
 pub mod Behind
 pub mod Bits
+pub mod Closing
 pub mod Deriving
 pub mod Draining
 pub mod EachWord

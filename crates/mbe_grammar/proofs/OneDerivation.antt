@@ -110,12 +110,17 @@ module _ (rules : List Rule) where
   abbrev pub Judged : (name : ℕ) → Forest → Type 0
   Judged name trees = ((events : List Event) × Derives rules name trees events) ⊎ ((at : Place) × Refuses rules name trees at)
 
-  abbrev JudgedLog : List Entry → Type 0
-  JudgedLog log = ((events : List Event) × Spread (Derives rules) log events)
-      ⊎ ((stops : Type 0) (own : Place) → (at : Place) × StopsAt (Derives rules) (Refuses rules) stops own log at)
+  -- the same for the trees of each subtree of a log
+  abbrev JudgedLog : (stops : Type 0) (own : Place) → List Entry → Type 0
+  JudgedLog stops own log = ((events : List Event) × Spread (Derives rules) log events) ⊎ ((at : Place) × StopsAt (Derives rules) (Refuses rules) stops own log at)
 
-  module _ (good : IsGood rules) where
-    judged_log : (fuel : ℕ) → ((name : ℕ) (trees : Forest) → size trees < fuel → Judged name trees) → (log : List Entry) → log_weight log ≤ fuel → JudgedLog log
+  module _ (stops : Type 0) (own : Place) where
+    judged_here : (name : ℕ) (trees : Forest) (log : List Entry) → Judged name trees → JudgedLog stops own log → JudgedLog stops own (holds trees name ∷ log)
+    judged_here name trees log (inl h) (inl k) = inl (event.Open ∷ h.0 ++ event.Close ∷ k.0, (h.0, k.0, h.1, k.1, refl))
+    judged_here name trees log (inl h) (inr k) = inr (k.0, inr (h.0, h.1, k.1))
+    judged_here name trees log (inr h) k = inr (h.0, inl h.1)
+
+    judged_log : (fuel : ℕ) → ((name : ℕ) (trees : Forest) → size trees < fuel → Judged name trees) → (log : List Entry) → log_weight log ≤ fuel → JudgedLog stops own log
     judged_log fuel f [] few = inl ([], refl)
     judged_log fuel f (enters name ∷ log) few = elim (judged_log fuel f log few) [
       | inl k ↦ inl (event.Enter name ∷ k.0, (k.0, k.1, refl))
@@ -129,31 +134,31 @@ module _ (rules : List Rule) where
       | inl k ↦ inl (event.Token count ∷ k.0, (k.0, k.1, refl))
       | inr k ↦ inr k
     ]
-    judged_log fuel f (holds trees name ∷ log) few = by (f name trees (omega (arith, few))) (judged_log fuel f log (omega (arith, few)))
-      where
-        by : Judged name trees → JudgedLog log → JudgedLog (holds trees name ∷ log)
-        by (inl h) (inl k) = inl (event.Open ∷ h.0 ++ event.Close ∷ k.0, (h.0, k.0, h.1, k.1, refl))
-        by (inl h) (inr k) = inr (λ stops own. let it = k stops own in (it.0, inr (h.0, h.1, it.1)))
-        by (inr h) k = inr (λ stops own. (h.0, inl h.1))
+    judged_log fuel f (holds trees name ∷ log) few = judged_here name trees log (f name trees (omega (arith, few))) (judged_log fuel f log (omega (arith, few)))
 
-    judged_place : (name : ℕ) (trees : Forest) (to : Position) → Parses true rules name (first_position trees) (Some to) → (b : Bool) → is_end to.rest ≡ b → JudgedLog to.log → Judged name trees
-    judged_place name trees to p true e (inl k) = inl (k.0, derives rules name trees to k.0 p (ends_only rules to.rest e) k.1)
-    judged_place name trees to p false e (inl k) =
-        let own : Place = record { trees = trees; name = name } in
-        inr (own, refuses rules name trees to own p (own_stop rules (to.rest ≡ end → ⊥) own own to.log k.0 k.1 (goes_on_only rules to.rest e) refl))
-    judged_place name trees to p b e (inr k) =
-        let it = k (to.rest ≡ end → ⊥) (record { trees = trees; name = name }) in inr (it.0, refuses rules name trees to it.0 p it.1)
+  judged_place : (name : ℕ) (trees : Forest) (to : Position) → Parses true rules name (first_position trees) (Some to) → (b : Bool) → is_end to.rest ≡ b
+      → JudgedLog (to.rest ≡ end → ⊥) (record { trees = trees; name = name }) to.log → Judged name trees
+  judged_place name trees to p true e (inl k) = inl (k.0, derives rules name trees to k.0 p (ends_only rules to.rest e) k.1)
+  judged_place name trees to p false e (inl k) =
+      let own : Place = record { trees = trees; name = name } in
+      inr (own, refuses rules name trees to own p (own_stop rules (to.rest ≡ end → ⊥) own own to.log k.0 k.1 (goes_on_only rules to.rest e) refl))
+  judged_place name trees to p b e (inr k) = inr (k.0, refuses rules name trees to k.0 p k.1)
+
+  judged_answer : (fuel name : ℕ) (trees : Forest) → size trees < suc fuel → ((name : ℕ) (trees : Forest) → size trees < fuel → Judged name trees)
+      → (answer : Option Position) → Parses true rules name (first_position trees) answer → Judged name trees
+  judged_answer fuel name trees few f None p = inr (record { trees = trees; name = name }, refuses_failed rules name trees p)
+  judged_answer fuel name trees few f (Some to) p =
+      judged_place name trees to p (is_end to.rest) refl
+      (judged_log (to.rest ≡ end → ⊥) (record { trees = trees; name = name }) fuel f to.log (omega (arith, light rules name (first_position trees) (Some to) p, few)))
+
+  module _ (good : IsGood rules) where
+    answer_of : (name : ℕ) (trees : Forest) → (answer : Option Position) × Parses true rules name (first_position trees) answer
+    unfolding Parses
+    answer_of name trees = let it = has true rules good name (first_position trees) in (it.1, (it.0, it.2))
 
     judged_in : (fuel name : ℕ) (trees : Forest) → size trees < fuel → Judged name trees
-    unfolding Parses
     judged_in zero name trees few = absurd (omega (arith, few))
-    judged_in (suc fuel) name trees few = let it = has true rules good name (first_position trees) in by it.1 (it.0, it.2)
-      where
-        by : (answer : Option Position) → Parses true rules name (first_position trees) answer → Judged name trees
-        by None p = inr (record { trees = trees; name = name }, refuses_failed rules name trees p)
-        by (Some to) p =
-            judged_place name trees to p (is_end to.rest) refl
-            (judged_log fuel (judged_in fuel) to.log (omega (arith, light rules name (first_position trees) (Some to) p, few)))
+    judged_in (suc fuel) name trees few = let it = answer_of name trees in judged_answer fuel name trees few (judged_in fuel) it.0 it.1
 
     -- Trees have a derivation, or are refused somewhere.
     pub judged : (name : ℕ) (trees : Forest) → Judged name trees

@@ -44,10 +44,10 @@ returns-in_ok-resume-in-Some-pop-clause-step c =
     let less : c.args.frames.now.items ≡ c.pop.new.self.items ++ c.in-Some-pop.frame ∷ [] = search rules in
     let was : reverse c.args.frames.now.items ≡ c.in-Some-pop.frame ∷ reverse c.pop.new.self.items = ap reverse less ∙ pushed c.pop.new.self.items c.in-Some-pop.frame in
     pops c.args.noting (glance_at c.args.table.known.now) c.args.table.rules.now c.args.log.now.items c.resume.new.log.items c.args.here.now c.resume.new.here c.args.state c.in-Answered.ends c.in-Answered.is c.in-Some-pop.frame
-    (reverse c.args.frames.now.items) (reverse c.pop.new.self.items) was c.in_ok-resume.field-0 c.in_ok-resume.ensures.state c.in_ok-resume.ensures.log c.requires.room
+    (reverse c.args.frames.now.items) (reverse c.pop.new.self.items) was c.in_ok-resume-in-Some-pop.field-0 c.in_ok-resume-in-Some-pop.ensures.state c.in_ok-resume-in-Some-pop.ensures.log c.requires.room
 
 pub returns-in_ok-resume-in-Some-pop-clause-room : goal.returns-in_ok-resume-in-Some-pop-clause-room
 returns-in_ok-resume-in-Some-pop-clause-room c =
     let less : c.args.frames.now.items ≡ c.pop.new.self.items ++ c.in-Some-pop.frame ∷ [] = search rules in
     let was : reverse c.args.frames.now.items ≡ c.in-Some-pop.frame ∷ reverse c.pop.new.self.items = ap reverse less ∙ pushed c.pop.new.self.items c.in-Some-pop.frame in
-    room_popped c.args.log.now.items c.resume.new.log.items c.in-Some-pop.frame (reverse c.args.frames.now.items) (reverse c.pop.new.self.items) was c.in_ok-resume.ensures.log c.requires.room
+    room_popped c.args.log.now.items c.resume.new.log.items c.in-Some-pop.frame (reverse c.args.frames.now.items) (reverse c.pop.new.self.items) was c.in_ok-resume-in-Some-pop.ensures.log c.requires.room
