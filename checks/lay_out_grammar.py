@@ -378,8 +378,6 @@ def code_of_known(rules):
 
 def code(names, rules, starts):
     lines = HEAD.splitlines()
-    for name in NAMED:
-        lines += ["", f"/// Where `{name}` is laid out.", f"pub(crate) const {name.upper()}: usize = {starts[name]};"]
     lines += ["", "/// The rules.", f"pub(crate) static RULES: [Rule; {len(rules)}] = rules! {{"]
     ends = [*list(starts.values())[1:], len(rules)]
     for name, end in zip(names, ends):
@@ -391,17 +389,19 @@ HEAD_OF_NAMES = """//! The names of Rust's grammar, in the order of the table. `
 
 
 def code_of_names(starts):
-    return [HEAD_OF_NAMES, "", "/// Where each name is laid out.", f"pub(crate) static STARTS: [usize; {len(starts)}] = [",
+    lines = [HEAD_OF_NAMES]
+    for name in NAMED:
+        lines += ["", f"/// Where `{name}` is laid out.", f"pub(crate) const {name.upper()}: usize = {starts[name]};"]
+    return [*lines, "", "/// Where each name is laid out.", f"pub(crate) static STARTS: [usize; {len(starts)}] = [",
             *filled(f"{at}," for at in starts.values()), "];",
             "", "/// Each name.", f"pub(crate) static TEXTS: [&str; {len(starts)}] = [", *[f'    "{name}",' for name in starts], "];"]
 
 
 def definition_of_names(names, starts):
     return ["-- The names of Rust's grammar, and where each is laid out. Made by checks/lay_out_grammar.py.",
-            "use Rattle.std.specs.Prelude.{ℕ, List, codes}", "",
+            "use Rattle.std.specs.Prelude.{ℕ}", "",
             "-- the names, as docs/GRAMMAR.md has them", "pub data Name : Type 0 where", *[f"  {name} : Name" for name in names], "",
-            "-- where a name is laid out", "abbrev pub start : Name → ℕ", *[f"start {name} = {starts[name]}" for name in names], "",
-            "-- how a name is written", "abbrev pub text : Name → List ℕ", *[f'text {name} = codes "{name}"' for name in names]]
+            "-- where a name is laid out", "abbrev pub start : Name → ℕ", *[f"start {name} = {starts[name]}" for name in names]]
 
 
 def definition(names):

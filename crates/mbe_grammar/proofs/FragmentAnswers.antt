@@ -22,7 +22,7 @@ use Rattle.mbe_pattern.specs.declared.pattern.GrammarFragment.{GrammarFragment}
 use Rattle.mbe_pattern.specs.declared.pattern.GrammarFragment.TheVariants as fragment
 
 -- The marks of Rust's table are right, by computation.
-good : IsGood rust_rules
+pub good : IsGood rust_rules
 good = record { marks = MARKS; are_right = refl }
 
 -- By the marks, no fragment takes nothing.

@@ -5,13 +5,9 @@ use Rattle.mbe_grammar.specs.declared.rule.Rule.{Rule}
 use Rattle.mbe_grammar.specs.declared.rule.Rule.TheVariants as rule
 use Rattle.mbe_grammar.specs.declared.test.Test.{Test}
 use Rattle.mbe_grammar.specs.Parses.{Answering, Holds, ParsesIn, Parses}
-use Rattle.mbe_grammar.specs.Positions.{Entry, Position, leaves, noted, taken, takes, opened, cut, closed}
+use Rattle.mbe_grammar.specs.Positions.{Entry, Position, plain, leaves, noted, taken, takes, opened, cut, closed}
 use Rattle.mbe_grammar.specs.Tests.{passes}
 use Rattle.mbe_grammar.specs.Units.{first_unit}
-
--- the same place with an empty log
-abbrev pub plain : Position → Position
-plain from = record { passed = from.passed; rest = from.rest; log = [] }
 
 taken_plain : (wanted : Test) (from : Position) (b : Bool) → option_map plain (cond b (Some (taken true wanted from)) None) ≡ cond b (Some (taken false wanted (plain from))) None
 taken_plain wanted from true = refl

@@ -24,6 +24,10 @@ pub record Position : Type 0 where
 abbrev pub first_position : Forest → Position
 first_position trees = record { passed = 0; rest = trees; log = [] }
 
+-- the same place with an empty log
+abbrev pub plain : Position → Position
+plain from = record { passed = from.passed; rest = from.rest; log = [] }
+
 -- the place after that many more trees
 abbrev pub behind : (count : ℕ) → Position → Position
 behind count from = record { passed = from.passed + count; rest = after_trees count from.rest; log = from.log }

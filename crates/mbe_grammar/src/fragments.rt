@@ -7,9 +7,10 @@ ghost use Rattle.mbe_grammar.specs.Table.{rust_rules};
 
 use crate::machine::parse;
 use crate::place::Place;
-use crate::rust;
+use crate::rust::RULES;
 use crate::rust_known::KNOWN;
 use crate::rust_marks::MARKS;
+use crate::rust_names;
 use crate::table::Table;
 use mbe_pattern::GrammarFragment;
 use std::alloc::{AllocError, Global};
@@ -20,15 +21,15 @@ fn start_of(fragment: GrammarFragment) -> usize
     ensures { result ≡ start (name_of fragment) }
 {
     match fragment {
-        GrammarFragment::Expr => rust::EXPRESSION,
-        GrammarFragment::Expr2021 => rust::EXPRESSION_2021_FRAGMENT,
-        GrammarFragment::Ty => rust::TYPE,
-        GrammarFragment::Pat => rust::PATTERN_FRAGMENT,
-        GrammarFragment::PatParam => rust::PATTERN_PARAM_FRAGMENT,
-        GrammarFragment::Path => rust::TYPE_PATH,
-        GrammarFragment::Stmt => rust::STATEMENT,
-        GrammarFragment::Item => rust::ITEM,
-        GrammarFragment::Meta => rust::META,
+        GrammarFragment::Expr => rust_names::EXPRESSION,
+        GrammarFragment::Expr2021 => rust_names::EXPRESSION_2021_FRAGMENT,
+        GrammarFragment::Ty => rust_names::TYPE,
+        GrammarFragment::Pat => rust_names::PATTERN_FRAGMENT,
+        GrammarFragment::PatParam => rust_names::PATTERN_PARAM_FRAGMENT,
+        GrammarFragment::Path => rust_names::TYPE_PATH,
+        GrammarFragment::Stmt => rust_names::STATEMENT,
+        GrammarFragment::Item => rust_names::ITEM,
+        GrammarFragment::Meta => rust_names::META,
     }
 }
 
@@ -36,7 +37,7 @@ fn start_of(fragment: GrammarFragment) -> usize
 fn rust_table() -> Table<'static>
     ensures { result.rules.now ≡ rust_rules }
 {
-    Table::with_known(&rust::RULES, &MARKS, &KNOWN)
+    Table::with_known(&RULES, &MARKS, &KNOWN)
 }
 
 /// Returns how many of the trees the fragment takes from the first on, by the grammar of docs/GRAMMAR.md; none if the trees do not begin

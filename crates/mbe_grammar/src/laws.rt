@@ -1,7 +1,12 @@
 //! Laws of the grammar. Each is the contract of a function that does nothing.
-ghost use Rattle.std.specs.Prelude.{◌≡◌, ◌<◌, ℕ, Option, Some};
+ghost use Rattle.std.specs.Prelude.{◌≡◌, ◌<◌, ◌⊎◌, ℕ, true, false, List, Option, Some, option_map};
 ghost use Rattle.tt.specs.Forest.{Forest};
+ghost use Rattle.mbe_grammar.specs.declared.event.Event.{Event};
+ghost use Rattle.mbe_grammar.specs.Derivations.{Derives, Place, Refuses};
 ghost use Rattle.mbe_grammar.specs.Fragments.{Reaches};
+ghost use Rattle.mbe_grammar.specs.Parses.{Parses};
+ghost use Rattle.mbe_grammar.specs.Positions.{Position, plain};
+ghost use Rattle.mbe_grammar.specs.Table.{rust_rules};
 ghost use Rattle.mbe_pattern.specs.declared.pattern.GrammarFragment.{GrammarFragment as Fragment};
 
 /// States that the grammar has an answer for each fragment and any trees.
@@ -17,4 +22,29 @@ pub fn one_answer()
 /// States that a fragment takes at least one tree.
 pub fn takes_a_tree()
     ensures { (fragment : Fragment) → (trees : Forest) → (count : ℕ) → Reaches fragment trees (Some count) → 0 < count }
+{}
+
+/// States that any trees have a derivation as the expression of any name, or are refused somewhere.
+pub fn are_judged()
+    ensures { (name : ℕ) → (trees : Forest) → ((events : List Event) × Derives rust_rules name trees events) ⊎ ((at : Place) × Refuses rust_rules name trees at) }
+{}
+
+/// States that trees with a derivation are not refused.
+pub fn never_both()
+    ensures { (name : ℕ) → (trees : Forest) → (events : List Event) → (at : Place) → Derives rust_rules name trees events → Refuses rust_rules name trees at → ⊥ }
+{}
+
+/// States that trees have only one derivation.
+pub fn one_derivation()
+    ensures { (name : ℕ) → (trees : Forest) → (events other : List Event) → Derives rust_rules name trees events → Derives rust_rules name trees other → events ≡ other }
+{}
+
+/// States that trees are refused at only one place.
+pub fn one_refusal()
+    ensures { (name : ℕ) → (trees : Forest) → (at other : Place) → Refuses rust_rules name trees at → Refuses rust_rules name trees other → at ≡ other }
+{}
+
+/// States that an expression reaches as far without a log as with one: contents never decide how far anything reaches.
+pub fn noting_changes_nothing()
+    ensures { (name : ℕ) → (from : Position) → (answer : Option Position) → Parses true rust_rules name from answer → Parses false rust_rules name (plain from) (option_map plain answer) }
 {}

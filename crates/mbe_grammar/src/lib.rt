@@ -8,6 +8,7 @@
 //! reads each entry of the log by its name, without recursion. Rust's table names the contents of brackets.
 #![tactic(auto)]
 
+mod begin;
 mod derivation;
 mod entry;
 mod event;

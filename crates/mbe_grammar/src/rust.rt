@@ -33,36 +33,6 @@ macro_rules! rules {
     ($(($($rule:tt)*))*) => { [$(rule!($($rule)*)),*] };
 }
 
-/// Where `expression` is laid out.
-pub(crate) const EXPRESSION: usize = 449;
-
-/// Where `expression_2021_fragment` is laid out.
-pub(crate) const EXPRESSION_2021_FRAGMENT: usize = 445;
-
-/// Where `type` is laid out.
-pub(crate) const TYPE: usize = 109;
-
-/// Where `pattern_fragment` is laid out.
-pub(crate) const PATTERN_FRAGMENT: usize = 292;
-
-/// Where `pattern_param_fragment` is laid out.
-pub(crate) const PATTERN_PARAM_FRAGMENT: usize = 297;
-
-/// Where `type_path` is laid out.
-pub(crate) const TYPE_PATH: usize = 0;
-
-/// Where `statement` is laid out.
-pub(crate) const STATEMENT: usize = 865;
-
-/// Where `item` is laid out.
-pub(crate) const ITEM: usize = 895;
-
-/// Where `meta` is laid out.
-pub(crate) const META: usize = 831;
-
-/// Where `items` is laid out.
-pub(crate) const ITEMS: usize = 892;
-
 /// The rules.
 pub(crate) static RULES: [Rule; 1185] = rules! {
     // type_path, from 0 on

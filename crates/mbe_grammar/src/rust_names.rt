@@ -1,15 +1,42 @@
 //! The names of Rust's grammar, in the order of the table. `checks/lay_out_grammar.py` makes this file.
 
+/// Where `expression` is laid out.
+pub(crate) const EXPRESSION: usize = 449;
+
+/// Where `expression_2021_fragment` is laid out.
+pub(crate) const EXPRESSION_2021_FRAGMENT: usize = 445;
+
+/// Where `type` is laid out.
+pub(crate) const TYPE: usize = 109;
+
+/// Where `pattern_fragment` is laid out.
+pub(crate) const PATTERN_FRAGMENT: usize = 292;
+
+/// Where `pattern_param_fragment` is laid out.
+pub(crate) const PATTERN_PARAM_FRAGMENT: usize = 297;
+
+/// Where `type_path` is laid out.
+pub(crate) const TYPE_PATH: usize = 0;
+
+/// Where `statement` is laid out.
+pub(crate) const STATEMENT: usize = 865;
+
+/// Where `item` is laid out.
+pub(crate) const ITEM: usize = 895;
+
+/// Where `meta` is laid out.
+pub(crate) const META: usize = 831;
+
+/// Where `items` is laid out.
+pub(crate) const ITEMS: usize = 892;
+
 /// Where each name is laid out.
 pub(crate) static STARTS: [usize; 147] = [
-    0, 5, 16, 29, 39, 50, 66, 68, 71, 80, 88, 92, 98, 104, 109, 147, 162, 168, 174, 184, 190, 195,
-    202, 216, 219, 229, 231, 233, 261, 262, 279, 281, 288, 292, 297, 299, 315, 347, 376, 379, 383,
-    387, 390, 393, 396, 402, 407, 414, 417, 420, 443, 445, 449, 459, 467, 476, 488, 500, 507, 510,
-    513, 528, 538, 547, 565, 567, 575, 579, 604, 609, 628, 640, 652, 660, 665, 669, 672, 678, 685,
-    690, 691, 701, 737, 739, 752, 758, 764, 776, 780, 791, 796, 801, 811, 819, 822, 824, 829, 831,
-    835, 840, 846, 854, 856, 865, 870, 880, 892, 895, 898, 906, 920, 925, 930, 936, 939, 942, 953,
-    960, 962, 973, 976, 990, 997, 1005, 1013, 1020, 1027, 1032, 1035, 1041, 1053, 1064, 1067, 1071,
-    1074, 1084, 1091, 1094, 1101, 1107, 1123, 1136, 1139, 1147, 1155, 1168, 1176,
+    0, 5, 16, 29, 39, 50, 66, 68, 71, 80, 88, 92, 98, 104, 109, 147, 162, 168, 174, 184, 190, 195, 202, 216, 219, 229, 231, 233, 261, 262, 279, 281, 288,
+    292, 297, 299, 315, 347, 376, 379, 383, 387, 390, 393, 396, 402, 407, 414, 417, 420, 443, 445, 449, 459, 467, 476, 488, 500, 507, 510, 513, 528, 538,
+    547, 565, 567, 575, 579, 604, 609, 628, 640, 652, 660, 665, 669, 672, 678, 685, 690, 691, 701, 737, 739, 752, 758, 764, 776, 780, 791, 796, 801, 811,
+    819, 822, 824, 829, 831, 835, 840, 846, 854, 856, 865, 870, 880, 892, 895, 898, 906, 920, 925, 930, 936, 939, 942, 953, 960, 962, 973, 976, 990, 997,
+    1005, 1013, 1020, 1027, 1032, 1035, 1041, 1053, 1064, 1067, 1071, 1074, 1084, 1091, 1094, 1101, 1107, 1123, 1136, 1139, 1147, 1155, 1168, 1176,
 ];
 
 /// Each name.
