@@ -29,7 +29,7 @@ module _ (rules : List Rule) where
   spread P Q f (enters name ∷ log) events h = (h.0, spread P Q f log h.0 h.1, h.2)
   spread P Q f (leaves ∷ log) events h = (h.0, spread P Q f log h.0 h.1, h.2)
   spread P Q f (takes_unit count ∷ log) events h = (h.0, spread P Q f log h.0 h.1, h.2)
-  spread P Q f (holds trees name ∷ log) events h = (h.0, h.1, f name trees h.0 h.2, spread P Q f log h.1 h.3, h.4)
+  spread P Q f (holds trees close name ∷ log) events h = (h.0, h.1, f name trees h.0 h.2, spread P Q f log h.1 h.3, h.4)
 
   deeper : (n m : ℕ) → n ≤ m → Deepens (DerivesIn rules n) (DerivesIn rules m)
   deeper zero m le name trees events h = absurd h
@@ -44,7 +44,7 @@ module _ (rules : List Rule) where
   spread_in (enters name ∷ log) events h = let it = spread_in log h.0 h.1 in (it.0, (h.0, it.1, h.2))
   spread_in (leaves ∷ log) events h = let it = spread_in log h.0 h.1 in (it.0, (h.0, it.1, h.2))
   spread_in (takes_unit count ∷ log) events h = let it = spread_in log h.0 h.1 in (it.0, (h.0, it.1, h.2))
-  spread_in (holds trees name ∷ log) events h =
+  spread_in (holds trees close name ∷ log) events h =
       let it = spread_in log h.1 h.3 in
       let n = h.2.0 in
       (n + it.0, (
@@ -71,17 +71,17 @@ module _ (rules : List Rule) where
   refusing stops own at (enters name ∷ log) h = refusing stops own at log h
   refusing stops own at (leaves ∷ log) h = refusing stops own at log h
   refusing stops own at (takes_unit count ∷ log) h = refusing stops own at log h
-  refusing stops own at (holds trees name ∷ log) (inl h) = (h.0, inl h.1)
-  refusing stops own at (holds trees name ∷ log) (inr h) = let it = refusing stops own at log h.2 in (it.0, inr (h.0, h.1, it.1))
+  refusing stops own at (holds trees close name ∷ log) (inl h) = (h.0, inl h.1)
+  refusing stops own at (holds trees close name ∷ log) (inr h) = let it = refusing stops own at log h.2 in (it.0, inr (h.0, h.1, it.1))
 
-  pub refuses : (name : ℕ) (trees : Forest) (to : Position) (at : Place) → Parses true rules name (first_position trees) (Some to)
-      → StopsAt (Derives rules) (Refuses rules) (to.rest ≡ end → ⊥) (record { trees = trees; name = name }) to.log at → Refuses rules name trees at
+  pub refuses : (own : Place) (to : Position) (at : Place) → Parses true rules own.name (first_position own.trees) (Some to)
+      → StopsAt (Derives rules) (Refuses rules) (to.rest ≡ end → ⊥) own to.log at → Refuses rules own at
   unfolding Refuses
-  refuses name trees to at p s = let it = refusing (to.rest ≡ end → ⊥) (record { trees = trees; name = name }) at to.log s in (suc it.0, inr (to, p, it.1))
+  refuses own to at p s = let it = refusing (to.rest ≡ end → ⊥) own at to.log s in (suc it.0, inr (to, p, it.1))
 
-  pub refuses_failed : (name : ℕ) (trees : Forest) → Parses true rules name (first_position trees) None → Refuses rules name trees (record { trees = trees; name = name })
+  pub refuses_failed : (own : Place) → Parses true rules own.name (first_position own.trees) None → Refuses rules own own
   unfolding Refuses
-  refuses_failed name trees p = (1, inl (p, refl))
+  refuses_failed own p = (1, inl (p, refl))
 
   -- the entries of a log on top of what was left
   abbrev pub onto : List Noted → List Left → List Left
@@ -106,7 +106,7 @@ module _ (rules : List Rule) where
       let it = parted log others h.0 h.1 in (event.Leave ∷ it.0, it.1, (it.0, it.2, refl), it.3, one_more event.Leave it.0 it.1 h.0 events it.4 h.2)
   parted (noted.Unit count ∷ log) others events h =
       let it = parted log others h.0 h.1 in (event.Token count ∷ it.0, it.1, (it.0, it.2, refl), it.3, one_more (event.Token count) it.0 it.1 h.0 events it.4 h.2)
-  parted (noted.Holds trees name ∷ log) others events h =
+  parted (noted.Holds trees close name ∷ log) others events h =
       let it = parted log others h.1 h.3 in (
         event.Open ∷ h.0 ++ event.Close ∷ it.0,
         it.1,
@@ -134,8 +134,8 @@ module _ (rules : List Rule) where
     | inl k ↦ inl k
     | inr k ↦ inr (event.Token count ∷ k.0, (k.0, k.1, refl), k.2)
   ]
-  stopped stops own (noted.Holds trees name ∷ log) others at (inl h) = inl (inl h)
-  stopped stops own (noted.Holds trees name ∷ log) others at (inr h) = elim (stopped stops own log others at h.2) [
+  stopped stops own (noted.Holds trees close name ∷ log) others at (inl h) = inl (inl h)
+  stopped stops own (noted.Holds trees close name ∷ log) others at (inr h) = elim (stopped stops own log others at h.2) [
     | inl k ↦ inl (inr (h.0, h.1, k))
     | inr k ↦ inr (event.Open ∷ h.0 ++ event.Close ∷ k.0, (h.0, k.0, h.1, k.1, refl), k.2)
   ]
@@ -146,7 +146,7 @@ module _ (rules : List Rule) where
   own_stop stops own at (enters name ∷ log) events s k e = own_stop stops own at log s.0 s.1 k e
   own_stop stops own at (leaves ∷ log) events s k e = own_stop stops own at log s.0 s.1 k e
   own_stop stops own at (takes_unit count ∷ log) events s k e = own_stop stops own at log s.0 s.1 k e
-  own_stop stops own at (holds trees name ∷ log) events s k e = inr (s.0, s.2, own_stop stops own at log s.1 s.3 k e)
+  own_stop stops own at (holds trees close name ∷ log) events s k e = inr (s.0, s.2, own_stop stops own at log s.1 s.3 k e)
 
   -- the weight of the entries on top
   pub weight_onto : (log : List Noted) (others : List Left) → weight (onto log others) ≡ log_weight (map entry log) + weight others
@@ -154,7 +154,7 @@ module _ (rules : List Rule) where
   weight_onto (noted.Enter name ∷ log) others = weight_onto log others
   weight_onto (noted.Leave ∷ log) others = weight_onto log others
   weight_onto (noted.Unit count ∷ log) others = weight_onto log others
-  weight_onto (noted.Holds trees name ∷ log) others = omega (arith, weight_onto log others)
+  weight_onto (noted.Holds trees close name ∷ log) others = omega (arith, weight_onto log others)
 
   pub ends_only : (trees : Forest) → is_end trees ≡ true → trees ≡ end
   ends_only end e = refl
@@ -182,7 +182,7 @@ module _ (rules : List Rule) where
     )
       where
         by : (at : Place) → Stopped (to.rest ≡ end → ⊥) (place it) log others at → StopsBehind rules (place it) others at
-        by at (inl k) = inl (refuses it.name (trees_of it.trees) to at p (subst (λ t. StopsAt (Derives rules) (Refuses rules) (to.rest ≡ end → ⊥) (place it) t at) (sym is) k))
+        by at (inl k) = inl (refuses (place it) to at p (subst (λ t. StopsAt (Derives rules) (Refuses rules) (to.rest ≡ end → ⊥) (place it) t at) (sym is) k))
         by at (inr k) = inr (k.0, derives it.name (trees_of it.trees) to k.0 p (ends_only to.rest e) (subst (λ t. Spread (Derives rules) t k.0) (sym is) k.1), k.2)
 
     -- It stopped before the end.
@@ -194,10 +194,10 @@ module _ (rules : List Rule) where
     )
       where
         by : (at : Place) → Stopped (to.rest ≡ end → ⊥) (place it) log (left.Stop it ∷ others) at → StopsBehind rules (place it) others at
-        by at (inl k) = inl (refuses it.name (trees_of it.trees) to at p (subst (λ t. StopsAt (Derives rules) (Refuses rules) (to.rest ≡ end → ⊥) (place it) t at) (sym is) k))
+        by at (inl k) = inl (refuses (place it) to at p (subst (λ t. StopsAt (Derives rules) (Refuses rules) (to.rest ≡ end → ⊥) (place it) t at) (sym is) k))
         by at (inr k) =
             let own = own_stop (to.rest ≡ end → ⊥) (place it) at (map entry log) k.0 k.1 (goes_on_only to.rest e) k.2 in
-            inl (refuses it.name (trees_of it.trees) to at p (subst (λ t. StopsAt (Derives rules) (Refuses rules) (to.rest ≡ end → ⊥) (place it) t at) (sym is) own))
+            inl (refuses (place it) to at p (subst (λ t. StopsAt (Derives rules) (Refuses rules) (to.rest ≡ end → ⊥) (place it) t at) (sym is) own))
 
   none_more : (events : List Event) → events ++ [] ≡ events
   none_more [] = refl
@@ -208,6 +208,6 @@ module _ (rules : List Rule) where
   whole it events h =
       subst (Derives rules it.name it.trees) (sym (h.4 ∙ ap (λ (t : List Event). h.0 ++ t) h.3 ∙ none_more h.0)) h.2
 
-  pub refused_whole : (it at : Place) → StopsBehind rules it [] at → Refuses rules it.name it.trees at
+  pub refused_whole : (it at : Place) → StopsBehind rules it [] at → Refuses rules it at
   refused_whole it at (inl h) = h
   refused_whole it at (inr h) = absurd h.2

@@ -1,6 +1,7 @@
 -- What is left to read is passed step by step.
 use Rattle.std.proofs.Common.{◌≡◌, inl, inr, ◌+◌, ◌≤◌, ◌<◌, ℕ, suc, true, false, List, [], ◌∷◌, ◌++◌, None, Some, refl, sym, subst, ap, ◌∙◌, arith}
 use Rattle.tt.specs.Forest.{size}
+use Rattle.tt.specs.Types.Span.{Span}
 use Rattle.tt.specs.Views.{trees_of}
 use Rattle.mbe_grammar.specs.declared.derivation.Left.{Left}
 use Rattle.mbe_grammar.specs.declared.derivation.Left.TheVariants as left
@@ -64,8 +65,8 @@ module _ (before now : List Left) (old new : List Event) (p : Passes before now 
       (λ rules at s. subst (λ n. Stops rules n at) (sym is) s) (omega (arith, ap weight is))
 
   -- A subtree is next.
-  pub next_level : (it : Level) (after : List Left) → now ≡ left.Entry (noted.Holds it.trees it.name) ∷ after → IsNext before old (next.Level it) (left.Close ∷ after) (new ++ event.Open ∷ [])
-  next_level it after is = λ rules. (
+  pub next_level : (it : Level) (close : Span) (after : List Left) → it.close ≡ Some close → now ≡ left.Entry (noted.Holds it.trees close it.name) ∷ after → IsNext before old (next.Level it) (left.Close ∷ after) (new ++ event.Open ∷ [])
+  next_level it close after same is = λ rules. (
     p.passed ++ event.Open ∷ [],
     added_more event.Open,
     λ events g.
@@ -75,7 +76,8 @@ module _ (before now : List Left) (old new : List Event) (p : Passes before now 
         let all : g.0 ++ event.Close ∷ rest.0 ≡ events = ap (λ (t : List Event). g.0 ++ t) (sym rest.2) ∙ sym g.4 in
         subst (Gives rules before) (sym (both p.passed (event.Open ∷ []) events))
         (p.gives rules (event.Open ∷ events) (subst (λ t. Gives rules now (event.Open ∷ t)) all here)),
-    λ at s. p.stops rules at (subst (λ n. Stops rules n at) (sym is) s),
+    λ at s. p.stops rules at (subst (λ n. Stops rules n at) (sym is)
+        (subst (λ c. StopsBehind rules (record { trees = trees_of it.trees; close = c; name = it.name }) (left.Close ∷ after) at) same s)),
     omega (arith, p.light, ap weight is),
   )
 

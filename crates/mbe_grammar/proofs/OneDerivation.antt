@@ -3,10 +3,11 @@ use Rattle.std.proofs.Common.{◌≡◌, inl, inr, ◌+◌, ◌≤◌, ◌<◌, 
 use Rattle.std.specs.Prelude.{◌⊎◌, Option}
 use Rattle.tt.specs.Forest.{Forest, end, size}
 use Rattle.tt.specs.Siblings.{is_end}
+use Rattle.tt.specs.Types.Span.{Span}
 use Rattle.mbe_grammar.specs.declared.event.Event.{Event}
 use Rattle.mbe_grammar.specs.declared.event.Event.TheVariants as event
 use Rattle.mbe_grammar.specs.declared.rule.Rule.{Rule}
-use Rattle.mbe_grammar.specs.Derivations.{Deriving, Spread, DerivesIn, Derives, Place, StopsAt, RefusesIn, Refuses}
+use Rattle.mbe_grammar.specs.Derivations.{Deriving, Spread, DerivesIn, Derives, Place, inside, StopsAt, RefusesIn, Refuses}
 use Rattle.mbe_grammar.specs.Good.{IsGood}
 use Rattle.mbe_grammar.specs.Parses.{Parses}
 use Rattle.mbe_grammar.specs.Positions.{Entry, Position, enters, leaves, takes_unit, holds, first_position}
@@ -31,7 +32,7 @@ module _ (rules : List Rule) where
   one_spread P Q f (enters name ∷ log) events others h k = h.2 ∙ ap (λ (t : List Event). event.Enter name ∷ t) (one_spread P Q f log h.0 k.0 h.1 k.1) ∙ sym k.2
   one_spread P Q f (leaves ∷ log) events others h k = h.2 ∙ ap (λ (t : List Event). event.Leave ∷ t) (one_spread P Q f log h.0 k.0 h.1 k.1) ∙ sym k.2
   one_spread P Q f (takes_unit count ∷ log) events others h k = h.2 ∙ ap (λ (t : List Event). event.Token count ∷ t) (one_spread P Q f log h.0 k.0 h.1 k.1) ∙ sym k.2
-  one_spread P Q f (holds trees name ∷ log) events others h k =
+  one_spread P Q f (holds trees close name ∷ log) events others h k =
       h.4 ∙ ap₂ (λ (inner rest : List Event). event.Open ∷ inner ++ event.Close ∷ rest) (f name trees h.0 k.0 h.2 k.2) (one_spread P Q f log h.1 k.1 h.3 k.3) ∙ sym k.4
 
   once_in : (n m : ℕ) → Once (DerivesIn rules n) (DerivesIn rules m)
@@ -47,7 +48,7 @@ module _ (rules : List Rule) where
   once name trees events others h k = once_in h.0 k.0 name trees events others h.1 k.1
 
   abbrev Apart : (n m : ℕ) → Type 0
-  Apart n m = (name : ℕ) (trees : Forest) (events : List Event) (at : Place) → DerivesIn rules n name trees events → RefusesIn rules m name trees at → ⊥
+  Apart n m = (own : Place) (events : List Event) (at : Place) → DerivesIn rules n own.name own.trees events → RefusesIn rules m own at → ⊥
 
   no_stop : (n m : ℕ) → Apart n m → (stops : Type 0) → (stops → ⊥) → (own at : Place) (log : List Entry) (events : List Event) → Spread (DerivesIn rules n) log events
       → StopsAt (Derives rules) (RefusesIn rules m) stops own log at → ⊥
@@ -55,72 +56,72 @@ module _ (rules : List Rule) where
   no_stop n m f stops never own at (enters name ∷ log) events h s = no_stop n m f stops never own at log h.0 h.1 s
   no_stop n m f stops never own at (leaves ∷ log) events h s = no_stop n m f stops never own at log h.0 h.1 s
   no_stop n m f stops never own at (takes_unit count ∷ log) events h s = no_stop n m f stops never own at log h.0 h.1 s
-  no_stop n m f stops never own at (holds trees name ∷ log) events h (inl s) = f name trees h.0 at h.2 s
-  no_stop n m f stops never own at (holds trees name ∷ log) events h (inr s) = no_stop n m f stops never own at log h.1 h.3 s.2
+  no_stop n m f stops never own at (holds trees close name ∷ log) events h (inl s) = f (inside trees close name) h.0 at h.2 s
+  no_stop n m f stops never own at (holds trees close name ∷ log) events h (inr s) = no_stop n m f stops never own at log h.1 h.3 s.2
 
   apart_in : (n m : ℕ) → Apart n m
-  apart_in zero m name trees events at h r = absurd h
-  apart_in (suc n) zero name trees events at h r = absurd r
-  apart_in (suc n) (suc m) name trees events at h (inl r) = absurd (cc (one_answer name (first_position trees) (Some h.0) None h.1 r.0))
-  apart_in (suc n) (suc m) name trees events at h (inr r) =
-      let same : r.0 ≡ h.0 = one_place name (first_position trees) r.0 h.0 r.1 h.1 in
+  apart_in zero m own events at h r = absurd h
+  apart_in (suc n) zero own events at h r = absurd r
+  apart_in (suc n) (suc m) own events at h (inl r) = absurd (cc (one_answer own.name (first_position own.trees) (Some h.0) None h.1 r.0))
+  apart_in (suc n) (suc m) own events at h (inr r) =
+      let same : r.0 ≡ h.0 = one_place own.name (first_position own.trees) r.0 h.0 r.1 h.1 in
       let log : h.0.log ≡ r.0.log = sym (ap (λ (p : Position). p.log) same) in
       let rest : r.0.rest ≡ end = ap (λ (p : Position). p.rest) same ∙ h.2 in
-      no_stop n m (apart_in n m) (r.0.rest ≡ end → ⊥) (λ never. never rest) (record { trees = trees; name = name }) at r.0.log events
-      (subst (λ t. Spread (DerivesIn rules n) t events) log h.3) r.2
+      no_stop n m (apart_in n m) (r.0.rest ≡ end → ⊥) (λ never. never rest) own at r.0.log events (subst (λ t. Spread (DerivesIn rules n) t events) log h.3) r.2
 
   -- Trees with a derivation are not refused.
-  pub apart : (name : ℕ) (trees : Forest) (events : List Event) (at : Place) → Derives rules name trees events → Refuses rules name trees at → ⊥
+  pub apart : (own : Place) (events : List Event) (at : Place) → Derives rules own.name own.trees events → Refuses rules own at → ⊥
   unfolding Derives Refuses
-  apart name trees events at h r = apart_in h.0 r.0 name trees events at h.1 r.1
+  apart own events at h r = apart_in h.0 r.0 own events at h.1 r.1
 
-  refused_in : (n : ℕ) (name : ℕ) (trees : Forest) (events : List Event) (at : Place) → Derives rules name trees events → RefusesIn rules n name trees at → ⊥
+  refused_in : (n : ℕ) (own : Place) (events : List Event) (at : Place) → Derives rules own.name own.trees events → RefusesIn rules n own at → ⊥
   unfolding Refuses
-  refused_in n name trees events at d r = apart name trees events at d (n, r)
+  refused_in n own events at d r = apart own events at d (n, r)
 
-  one_stop : (n m : ℕ) → ((name : ℕ) (trees : Forest) (at other : Place) → RefusesIn rules n name trees at → RefusesIn rules m name trees other → at ≡ other)
+  one_stop : (n m : ℕ) → ((own at other : Place) → RefusesIn rules n own at → RefusesIn rules m own other → at ≡ other)
       → (stops : Type 0) (own at other : Place) (log : List Entry) → StopsAt (Derives rules) (RefusesIn rules n) stops own log at
       → StopsAt (Derives rules) (RefusesIn rules m) stops own log other → at ≡ other
   one_stop n m f stops own at other [] h k = h.1 ∙ sym k.1
   one_stop n m f stops own at other (enters name ∷ log) h k = one_stop n m f stops own at other log h k
   one_stop n m f stops own at other (leaves ∷ log) h k = one_stop n m f stops own at other log h k
   one_stop n m f stops own at other (takes_unit count ∷ log) h k = one_stop n m f stops own at other log h k
-  one_stop n m f stops own at other (holds trees name ∷ log) (inl h) (inl k) = f name trees at other h k
-  one_stop n m f stops own at other (holds trees name ∷ log) (inl h) (inr k) = absurd (refused_in n name trees k.0 at k.1 h)
-  one_stop n m f stops own at other (holds trees name ∷ log) (inr h) (inl k) = absurd (refused_in m name trees h.0 other h.1 k)
-  one_stop n m f stops own at other (holds trees name ∷ log) (inr h) (inr k) = one_stop n m f stops own at other log h.2 k.2
+  one_stop n m f stops own at other (holds trees close name ∷ log) (inl h) (inl k) = f (inside trees close name) at other h k
+  one_stop n m f stops own at other (holds trees close name ∷ log) (inl h) (inr k) = absurd (refused_in n (inside trees close name) k.0 at k.1 h)
+  one_stop n m f stops own at other (holds trees close name ∷ log) (inr h) (inl k) = absurd (refused_in m (inside trees close name) h.0 other h.1 k)
+  one_stop n m f stops own at other (holds trees close name ∷ log) (inr h) (inr k) = one_stop n m f stops own at other log h.2 k.2
 
-  one_refusal_in : (n m : ℕ) (name : ℕ) (trees : Forest) (at other : Place) → RefusesIn rules n name trees at → RefusesIn rules m name trees other → at ≡ other
-  one_refusal_in zero m name trees at other h k = absurd h
-  one_refusal_in (suc n) zero name trees at other h k = absurd k
-  one_refusal_in (suc n) (suc m) name trees at other (inl h) (inl k) = h.1 ∙ sym k.1
-  one_refusal_in (suc n) (suc m) name trees at other (inl h) (inr k) = absurd (cc (one_answer name (first_position trees) None (Some k.0) h.0 k.1))
-  one_refusal_in (suc n) (suc m) name trees at other (inr h) (inl k) = absurd (cc (one_answer name (first_position trees) (Some h.0) None h.1 k.0))
-  one_refusal_in (suc n) (suc m) name trees at other (inr h) (inr k) =
-      let same : k.0 ≡ h.0 = one_place name (first_position trees) k.0 h.0 k.1 h.1 in
-      one_stop n m (one_refusal_in n m) (h.0.rest ≡ end → ⊥) (record { trees = trees; name = name }) at other h.0.log h.2
-      (subst (λ (p : Position). StopsAt (Derives rules) (RefusesIn rules m) (p.rest ≡ end → ⊥) (record { trees = trees; name = name }) p.log other) same k.2)
+  one_refusal_in : (n m : ℕ) (own at other : Place) → RefusesIn rules n own at → RefusesIn rules m own other → at ≡ other
+  one_refusal_in zero m own at other h k = absurd h
+  one_refusal_in (suc n) zero own at other h k = absurd k
+  one_refusal_in (suc n) (suc m) own at other (inl h) (inl k) = h.1 ∙ sym k.1
+  one_refusal_in (suc n) (suc m) own at other (inl h) (inr k) = absurd (cc (one_answer own.name (first_position own.trees) None (Some k.0) h.0 k.1))
+  one_refusal_in (suc n) (suc m) own at other (inr h) (inl k) = absurd (cc (one_answer own.name (first_position own.trees) (Some h.0) None h.1 k.0))
+  one_refusal_in (suc n) (suc m) own at other (inr h) (inr k) =
+      let same : k.0 ≡ h.0 = one_place own.name (first_position own.trees) k.0 h.0 k.1 h.1 in
+      one_stop n m (one_refusal_in n m) (h.0.rest ≡ end → ⊥) own at other h.0.log h.2
+      (subst (λ (p : Position). StopsAt (Derives rules) (RefusesIn rules m) (p.rest ≡ end → ⊥) own p.log other) same k.2)
 
   -- They have one first place where they are refused.
-  pub one_refusal : (name : ℕ) (trees : Forest) (at other : Place) → Refuses rules name trees at → Refuses rules name trees other → at ≡ other
+  pub one_refusal : (own at other : Place) → Refuses rules own at → Refuses rules own other → at ≡ other
   unfolding Refuses
-  one_refusal name trees at other h k = one_refusal_in h.0 k.0 name trees at other h.1 k.1
+  one_refusal own at other h k = one_refusal_in h.0 k.0 own at other h.1 k.1
 
   -- the trees have a derivation, or are refused somewhere
-  abbrev pub Judged : (name : ℕ) → Forest → Type 0
-  Judged name trees = ((events : List Event) × Derives rules name trees events) ⊎ ((at : Place) × Refuses rules name trees at)
+  abbrev pub Judged : (own : Place) → Type 0
+  Judged own = ((events : List Event) × Derives rules own.name own.trees events) ⊎ ((at : Place) × Refuses rules own at)
 
   -- the same for the trees of each subtree of a log
   abbrev JudgedLog : (stops : Type 0) (own : Place) → List Entry → Type 0
   JudgedLog stops own log = ((events : List Event) × Spread (Derives rules) log events) ⊎ ((at : Place) × StopsAt (Derives rules) (Refuses rules) stops own log at)
 
   module _ (stops : Type 0) (own : Place) where
-    judged_here : (name : ℕ) (trees : Forest) (log : List Entry) → Judged name trees → JudgedLog stops own log → JudgedLog stops own (holds trees name ∷ log)
-    judged_here name trees log (inl h) (inl k) = inl (event.Open ∷ h.0 ++ event.Close ∷ k.0, (h.0, k.0, h.1, k.1, refl))
-    judged_here name trees log (inl h) (inr k) = inr (k.0, inr (h.0, h.1, k.1))
-    judged_here name trees log (inr h) k = inr (h.0, inl h.1)
+    judged_here : (trees : Forest) (close : Span) (name : ℕ) (log : List Entry) → Judged (inside trees close name) → JudgedLog stops own log
+        → JudgedLog stops own (holds trees close name ∷ log)
+    judged_here trees close name log (inl h) (inl k) = inl (event.Open ∷ h.0 ++ event.Close ∷ k.0, (h.0, k.0, h.1, k.1, refl))
+    judged_here trees close name log (inl h) (inr k) = inr (k.0, inr (h.0, h.1, k.1))
+    judged_here trees close name log (inr h) k = inr (h.0, inl h.1)
 
-    judged_log : (fuel : ℕ) → ((name : ℕ) (trees : Forest) → size trees < fuel → Judged name trees) → (log : List Entry) → log_weight log ≤ fuel → JudgedLog stops own log
+    judged_log : (fuel : ℕ) → ((own : Place) → size own.trees < fuel → Judged own) → (log : List Entry) → log_weight log ≤ fuel → JudgedLog stops own log
     judged_log fuel f [] few = inl ([], refl)
     judged_log fuel f (enters name ∷ log) few = elim (judged_log fuel f log few) [
       | inl k ↦ inl (event.Enter name ∷ k.0, (k.0, k.1, refl))
@@ -134,32 +135,32 @@ module _ (rules : List Rule) where
       | inl k ↦ inl (event.Token count ∷ k.0, (k.0, k.1, refl))
       | inr k ↦ inr k
     ]
-    judged_log fuel f (holds trees name ∷ log) few = judged_here name trees log (f name trees (omega (arith, few))) (judged_log fuel f log (omega (arith, few)))
+    judged_log fuel f (holds trees close name ∷ log) few =
+        judged_here trees close name log (f (inside trees close name) (omega (arith, few))) (judged_log fuel f log (omega (arith, few)))
 
-  judged_place : (name : ℕ) (trees : Forest) (to : Position) → Parses true rules name (first_position trees) (Some to) → (b : Bool) → is_end to.rest ≡ b
-      → JudgedLog (to.rest ≡ end → ⊥) (record { trees = trees; name = name }) to.log → Judged name trees
-  judged_place name trees to p true e (inl k) = inl (k.0, derives rules name trees to k.0 p (ends_only rules to.rest e) k.1)
-  judged_place name trees to p false e (inl k) =
-      let own : Place = record { trees = trees; name = name } in
-      inr (own, refuses rules name trees to own p (own_stop rules (to.rest ≡ end → ⊥) own own to.log k.0 k.1 (goes_on_only rules to.rest e) refl))
-  judged_place name trees to p b e (inr k) = inr (k.0, refuses rules name trees to k.0 p k.1)
+  judged_place : (own : Place) (to : Position) → Parses true rules own.name (first_position own.trees) (Some to) → (b : Bool) → is_end to.rest ≡ b
+      → JudgedLog (to.rest ≡ end → ⊥) own to.log → Judged own
+  judged_place own to p true e (inl k) = inl (k.0, derives rules own.name own.trees to k.0 p (ends_only rules to.rest e) k.1)
+  judged_place own to p false e (inl k) =
+      inr (own, refuses rules own to own p (own_stop rules (to.rest ≡ end → ⊥) own own to.log k.0 k.1 (goes_on_only rules to.rest e) refl))
+  judged_place own to p b e (inr k) = inr (k.0, refuses rules own to k.0 p k.1)
 
-  judged_answer : (fuel name : ℕ) (trees : Forest) → size trees < suc fuel → ((name : ℕ) (trees : Forest) → size trees < fuel → Judged name trees)
-      → (answer : Option Position) → Parses true rules name (first_position trees) answer → Judged name trees
-  judged_answer fuel name trees few f None p = inr (record { trees = trees; name = name }, refuses_failed rules name trees p)
-  judged_answer fuel name trees few f (Some to) p =
-      judged_place name trees to p (is_end to.rest) refl
-      (judged_log (to.rest ≡ end → ⊥) (record { trees = trees; name = name }) fuel f to.log (omega (arith, light rules name (first_position trees) (Some to) p, few)))
+  judged_answer : (fuel : ℕ) (own : Place) → size own.trees < suc fuel → ((own : Place) → size own.trees < fuel → Judged own)
+      → (answer : Option Position) → Parses true rules own.name (first_position own.trees) answer → Judged own
+  judged_answer fuel own few f None p = inr (own, refuses_failed rules own p)
+  judged_answer fuel own few f (Some to) p =
+      judged_place own to p (is_end to.rest) refl
+      (judged_log (to.rest ≡ end → ⊥) own fuel f to.log (omega (arith, light rules own.name (first_position own.trees) (Some to) p, few)))
 
   module _ (good : IsGood rules) where
     answer_of : (name : ℕ) (trees : Forest) → (answer : Option Position) × Parses true rules name (first_position trees) answer
     unfolding Parses
     answer_of name trees = let it = has true rules good name (first_position trees) in (it.1, (it.0, it.2))
 
-    judged_in : (fuel name : ℕ) (trees : Forest) → size trees < fuel → Judged name trees
-    judged_in zero name trees few = absurd (omega (arith, few))
-    judged_in (suc fuel) name trees few = let it = answer_of name trees in judged_answer fuel name trees few (judged_in fuel) it.0 it.1
+    judged_in : (fuel : ℕ) (own : Place) → size own.trees < fuel → Judged own
+    judged_in zero own few = absurd (omega (arith, few))
+    judged_in (suc fuel) own few = let it = answer_of own.name own.trees in judged_answer fuel own few (judged_in fuel) it.0 it.1
 
     -- Trees have a derivation, or are refused somewhere.
-    pub judged : (name : ℕ) (trees : Forest) → Judged name trees
-    judged name trees = judged_in (suc (size trees)) name trees (omega arith)
+    pub judged : (own : Place) → Judged own
+    judged own = judged_in (suc (size own.trees)) own (omega arith)

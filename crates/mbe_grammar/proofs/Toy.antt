@@ -8,7 +8,8 @@ use Rattle.mbe_grammar.specs.declared.event.Event.TheVariants as event
 use Rattle.mbe_grammar.specs.declared.rule.Rule.{Rule}
 use Rattle.mbe_grammar.specs.declared.rule.Rule.TheVariants as rule
 use Rattle.mbe_grammar.specs.declared.test.Test.TheVariants as test
-use Rattle.mbe_grammar.specs.Derivations.{DerivesIn, RefusesIn}
+use Rattle.mbe_grammar.specs.Derivations.{DerivesIn, RefusesIn, inside}
+use Rattle.mbe_grammar.specs.Derivations.{whole as whole_of}
 use Rattle.mbe_grammar.specs.Parses.{ParsesIn, Parses}
 use Rattle.mbe_grammar.specs.Positions.{Entry, Position, enters, leaves, holds, first_position}
 
@@ -32,12 +33,12 @@ module _ (span : Span) where
   behind_one log = record { passed = 1; rest = end; log = log }
 
   -- The log has no entry for what the first part of the choice took before it failed.
-  chosen : ParsesIn true toy 4 4 (first_position nested) (Some (behind_one (holds (block end end) 0 ∷ [])))
-  chosen = inl (inr (behind_one (holds (block end end) 0 ∷ []), refl, refl), refl)
+  chosen : ParsesIn true toy 4 4 (first_position nested) (Some (behind_one (holds (block end end) span 0 ∷ [])))
+  chosen = inl (inr (behind_one (holds (block end end) span 0 ∷ []), refl, refl), refl)
 
   -- Neither for what a negation read.
-  looked : ParsesIn true toy 4 6 (first_position nested) (Some (behind_one (holds (block end end) 0 ∷ [])))
-  looked = inl (inr (behind_one (holds (block end end) 0 ∷ []), refl, refl), refl)
+  looked : ParsesIn true toy 4 6 (first_position nested) (Some (behind_one (holds (block end end) span 0 ∷ [])))
+  looked = inl (inr (behind_one (holds (block end end) span 0 ∷ []), refl, refl), refl)
 
   -- Nothing is noted if that is not wanted.
   silent : ParsesIn false toy 4 6 (first_position nested) (Some (behind_one []))
@@ -50,10 +51,10 @@ module _ (span : Span) where
 
   -- the place in a block, and the place after the name
   abbrev within : Forest → Position
-  within trees = behind_one (enters 0 ∷ holds trees 0 ∷ [])
+  within trees = behind_one (enters 0 ∷ holds trees span 0 ∷ [])
 
   abbrev after : Forest → Position
-  after trees = behind_one (enters 0 ∷ holds trees 0 ∷ leaves ∷ [])
+  after trees = behind_one (enters 0 ∷ holds trees span 0 ∷ leaves ∷ [])
 
   -- A block is blocks.
   one : DerivesIn toy 2 0 (block end end) (event.Enter 0 ∷ event.Open ∷ event.Close ∷ event.Leave ∷ [])
@@ -80,10 +81,10 @@ module _ (span : Span) where
   )
 
   -- A block that must contain no block is refused at its contents.
-  refused : RefusesIn toy 2 7 nested (record { trees = block end end; name = 9 })
+  refused : RefusesIn toy 2 (whole_of 7 nested) (inside (block end end) span 9)
   unfolding Parses
   refused = inr (
-    behind_one (enters 7 ∷ holds (block end end) 9 ∷ leaves ∷ []),
-    (2, (Some (behind_one (enters 7 ∷ holds (block end end) 9 ∷ [])), refl, refl)),
-    inl (inl ((3, (None, inr (record { passed = 1; rest = end; log = enters 9 ∷ holds end 0 ∷ [] }, refl, refl), refl)), refl)),
+    behind_one (enters 7 ∷ holds (block end end) span 9 ∷ leaves ∷ []),
+    (2, (Some (behind_one (enters 7 ∷ holds (block end end) span 9 ∷ [])), refl, refl)),
+    inl (inl ((3, (None, inr (record { passed = 1; rest = end; log = enters 9 ∷ holds end span 0 ∷ [] }, refl, refl), refl)), refl)),
   )

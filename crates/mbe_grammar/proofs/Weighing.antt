@@ -20,14 +20,14 @@ log_weight [] = 0
 log_weight (enters name ∷ log) = log_weight log
 log_weight (leaves ∷ log) = log_weight log
 log_weight (takes_unit count ∷ log) = log_weight log
-log_weight (holds trees name ∷ log) = suc (size trees + log_weight log)
+log_weight (holds trees close name ∷ log) = suc (size trees + log_weight log)
 
 pub weight_both : (one other : List Entry) → log_weight (one ++ other) ≡ log_weight one + log_weight other
 weight_both [] other = omega arith
 weight_both (enters name ∷ one) other = weight_both one other
 weight_both (leaves ∷ one) other = weight_both one other
 weight_both (takes_unit count ∷ one) other = weight_both one other
-weight_both (holds trees name ∷ one) other = omega (arith, weight_both one other)
+weight_both (holds trees close name ∷ one) other = omega (arith, weight_both one other)
 
 weight_part : (n : ℕ) (log : List Entry) → log_weight (take n log) ≤ log_weight log
 weight_part zero log = omega arith
@@ -35,7 +35,7 @@ weight_part (suc n) [] = omega arith
 weight_part (suc n) (enters name ∷ log) = weight_part n log
 weight_part (suc n) (leaves ∷ log) = weight_part n log
 weight_part (suc n) (takes_unit count ∷ log) = weight_part n log
-weight_part (suc n) (holds trees name ∷ log) = omega (arith, weight_part n log)
+weight_part (suc n) (holds trees close name ∷ log) = omega (arith, weight_part n log)
 
 -- an answer weighs no more, with its log
 abbrev pub IsLight : (from : Position) → (answer : Option Position) → Type 0

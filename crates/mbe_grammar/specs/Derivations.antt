@@ -1,6 +1,7 @@
 -- What took each token of some trees, and where trees are refused.
 use Rattle.std.specs.Prelude.{◌≡◌, ◌⊎◌, ◌++◌, ℕ, zero, suc, true, List, [], ◌∷◌, Option, None, Some}
 use Rattle.tt.specs.Forest.{Forest, end}
+use Rattle.tt.specs.Types.Span.{Span}
 use Rattle.tt.specs.Views.{trees_of}
 use Rattle.mbe_grammar.specs.declared.derivation.Derived.{Derived}
 use Rattle.mbe_grammar.specs.declared.derivation.Derived.TheVariants as derived
@@ -21,7 +22,7 @@ Spread P [] events = events ≡ []
 Spread P (enters name ∷ log) events = (rest : List Event) × Spread P log rest × (events ≡ event.Enter name ∷ rest)
 Spread P (leaves ∷ log) events = (rest : List Event) × Spread P log rest × (events ≡ event.Leave ∷ rest)
 Spread P (takes_unit count ∷ log) events = (rest : List Event) × Spread P log rest × (events ≡ event.Token count ∷ rest)
-Spread P (holds trees name ∷ log) events =
+Spread P (holds trees close name ∷ log) events =
     (inner : List Event) × (rest : List Event) × P name trees inner × Spread P log rest × (events ≡ event.Open ∷ inner ++ event.Close ∷ rest)
 
 -- the trees are the expression of that name, with these events, and not deeper: the expression takes all of them, and in each subtree that
@@ -35,36 +36,46 @@ DerivesIn rules (suc depth) name trees events =
 unfoldable pub Derives : List Rule → Deriving
 Derives rules name trees events = (depth : ℕ) × DerivesIn rules depth name trees events
 
--- the trees of a file or of a subtree, and the name of the expression that they must be
+-- the trees of a file or of a subtree, the span of the subtree's closing delimiter, and the name of the expression that the trees must be
 pub record Place : Type 0 where
   pub trees : Forest
+  pub close : Option Span
   pub name : ℕ
+
+-- the place of a file
+abbrev pub whole : (name : ℕ) → Forest → Place
+whole name trees = record { trees = trees; close = None; name = name }
+
+-- the place of a subtree
+abbrev pub inside : Forest → Span → (name : ℕ) → Place
+inside trees close name = record { trees = trees; close = Some close; name = name }
 
 -- a log has this refused place first: the trees of a subtree are refused there, and those of each earlier subtree have events; or those of
 -- each subtree have events, the expression stops before the end, and the place is its own
-abbrev pub StopsAt : (P : Deriving) → (Q : (name : ℕ) → Forest → Place → Type 0) → (stops : Type 0) → (own : Place) → List Entry → Place → Type 0
+abbrev pub StopsAt : (P : Deriving) → (Q : (own at : Place) → Type 0) → (stops : Type 0) → (own : Place) → List Entry → Place → Type 0
 StopsAt P Q stops own [] at = stops × (at ≡ own)
 StopsAt P Q stops own (enters name ∷ log) at = StopsAt P Q stops own log at
 StopsAt P Q stops own (leaves ∷ log) at = StopsAt P Q stops own log at
 StopsAt P Q stops own (takes_unit count ∷ log) at = StopsAt P Q stops own log at
-StopsAt P Q stops own (holds trees name ∷ log) at = Q name trees at ⊎ ((events : List Event) × P name trees events × StopsAt P Q stops own log at)
+StopsAt P Q stops own (holds trees close name ∷ log) at = Q (inside trees close name) at ⊎ ((events : List Event) × P name trees events × StopsAt P Q stops own log at)
 
--- the trees are not the expression of that name, and this is the first place in reading order where trees are refused, and not deeper
-abbrev pub RefusesIn : List Rule → (depth : ℕ) → (name : ℕ) → Forest → Place → Type 0
-RefusesIn rules zero name trees at = ⊥
-RefusesIn rules (suc depth) name trees at =
-    (Parses true rules name (first_position trees) None × (at ≡ record { trees = trees; name = name }))
-    ⊎ ((to : Position) × Parses true rules name (first_position trees) (Some to)
-        × StopsAt (Derives rules) (RefusesIn rules depth) (to.rest ≡ end → ⊥) (record { trees = trees; name = name }) to.log at)
+-- the trees of a place are not the expression of its name, and this is the first place in reading order where trees are refused, and not
+-- deeper
+abbrev pub RefusesIn : List Rule → (depth : ℕ) → (own at : Place) → Type 0
+RefusesIn rules zero own at = ⊥
+RefusesIn rules (suc depth) own at =
+    (Parses true rules own.name (first_position own.trees) None × (at ≡ own))
+    ⊎ ((to : Position) × Parses true rules own.name (first_position own.trees) (Some to)
+        × StopsAt (Derives rules) (RefusesIn rules depth) (to.rest ≡ end → ⊥) own to.log at)
 
-unfoldable pub Refuses : List Rule → (name : ℕ) → Forest → Place → Type 0
-Refuses rules name trees at = (depth : ℕ) × RefusesIn rules depth name trees at
+unfoldable pub Refuses : List Rule → (own at : Place) → Type 0
+Refuses rules own at = (depth : ℕ) × RefusesIn rules depth own at
 
 -- the place of a level
 abbrev pub place : Level → Place
-place it = record { trees = trees_of it.trees; name = it.name }
+place it = record { trees = trees_of it.trees; close = it.close; name = it.name }
 
 -- the outcome for trees that must be the expression of a name
 abbrev pub IsDerived : List Rule → (name : ℕ) → Forest → Derived → Type 0
 IsDerived rules name trees (derived.Whole events) = Derives rules name trees events.items
-IsDerived rules name trees (derived.Refused level) = Refuses rules name trees (place level)
+IsDerived rules name trees (derived.Refused level) = Refuses rules (whole name trees) (place level)

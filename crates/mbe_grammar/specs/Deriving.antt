@@ -11,7 +11,7 @@ use Rattle.mbe_grammar.specs.declared.event.Event.{Event}
 use Rattle.mbe_grammar.specs.declared.event.Event.TheVariants as event
 use Rattle.mbe_grammar.specs.declared.event.Level.{Level}
 use Rattle.mbe_grammar.specs.declared.rule.Rule.{Rule}
-use Rattle.mbe_grammar.specs.Derivations.{Derives, Place, Refuses, place}
+use Rattle.mbe_grammar.specs.Derivations.{Derives, Place, Refuses, inside, place}
 
 -- the events of what is left, the next first
 abbrev pub Gives : List Rule → List Left → (events : List Event) → Type 0
@@ -19,7 +19,7 @@ Gives rules [] events = events ≡ []
 Gives rules (left.Entry (entry.Enter name) ∷ others) events = (rest : List Event) × Gives rules others rest × (events ≡ event.Enter name ∷ rest)
 Gives rules (left.Entry entry.Leave ∷ others) events = (rest : List Event) × Gives rules others rest × (events ≡ event.Leave ∷ rest)
 Gives rules (left.Entry (entry.Unit count) ∷ others) events = (rest : List Event) × Gives rules others rest × (events ≡ event.Token count ∷ rest)
-Gives rules (left.Entry (entry.Holds trees name) ∷ others) events =
+Gives rules (left.Entry (entry.Holds trees close name) ∷ others) events =
     (inner : List Event) × (rest : List Event) × Derives rules name (trees_of trees) inner × Gives rules others rest × (events ≡ event.Open ∷ inner ++ event.Close ∷ rest)
 Gives rules (left.Close ∷ others) events = (rest : List Event) × Gives rules others rest × (events ≡ event.Close ∷ rest)
 Gives rules (left.Stop it ∷ others) events = ⊥
@@ -30,8 +30,8 @@ Stops rules [] at = ⊥
 Stops rules (left.Entry (entry.Enter name) ∷ others) at = Stops rules others at
 Stops rules (left.Entry entry.Leave ∷ others) at = Stops rules others at
 Stops rules (left.Entry (entry.Unit count) ∷ others) at = Stops rules others at
-Stops rules (left.Entry (entry.Holds trees name) ∷ others) at =
-    Refuses rules name (trees_of trees) at ⊎ ((events : List Event) × Derives rules name (trees_of trees) events × Stops rules others at)
+Stops rules (left.Entry (entry.Holds trees close name) ∷ others) at =
+    Refuses rules (inside (trees_of trees) close name) at ⊎ ((events : List Event) × Derives rules name (trees_of trees) events × Stops rules others at)
 Stops rules (left.Close ∷ others) at = Stops rules others at
 Stops rules (left.Stop it ∷ others) at = at ≡ place it
 
@@ -41,12 +41,12 @@ GivesBehind rules it others events =
     (inner : List Event) × (rest : List Event) × Derives rules it.name it.trees inner × Gives rules others rest × (events ≡ inner ++ rest)
 
 abbrev pub StopsBehind : List Rule → Place → List Left → Place → Type 0
-StopsBehind rules it others at = Refuses rules it.name it.trees at ⊎ ((events : List Event) × Derives rules it.name it.trees events × Stops rules others at)
+StopsBehind rules it others at = Refuses rules it at ⊎ ((events : List Event) × Derives rules it.name it.trees events × Stops rules others at)
 
 -- the number of tokens in the levels that are left, and one more for each level
 abbrev pub weight : List Left → ℕ
 weight [] = 0
-weight (left.Entry (entry.Holds trees name) ∷ others) = suc (size (trees_of trees) + weight others)
+weight (left.Entry (entry.Holds trees close name) ∷ others) = suc (size (trees_of trees) + weight others)
 weight (_ ∷ others) = weight others
 
 -- a level was read. If its expression fails, its trees are refused; else what is left then gives what the level and the others give
@@ -55,7 +55,7 @@ IsRead rules it before true after =
     ((events : List Event) → Gives rules after events → GivesBehind rules it before events)
     × ((at : Place) → Stops rules after at → StopsBehind rules it before at)
     × (weight after < suc (size it.trees + weight before))
-IsRead rules it before false after = Refuses rules it.name it.trees it
+IsRead rules it before false after = Refuses rules it it
 
 -- what was left up to the next level, with its events: nothing is left, a level is next, or trees are refused
 abbrev pub IsNext : (before : List Left) → (old : List Event) → Next → (after : List Left) → (new : List Event) → Type 0

@@ -11,7 +11,7 @@ abbrev pub entry : Noted → Entry
 entry (noted.Enter name) = enters name
 entry noted.Leave = leaves
 entry (noted.Unit count) = takes_unit count
-entry (noted.Holds trees name) = holds (trees_of trees) name
+entry (noted.Holds trees close name) = holds (trees_of trees) close name
 
 -- the place among trees, with this log
 abbrev pub position_of : (log : List Noted) → Place → Position

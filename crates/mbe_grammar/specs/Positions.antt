@@ -2,17 +2,18 @@
 use Rattle.std.specs.Prelude.{◌≡◌, ◌+◌, ◌++◌, ◌==◌, ℕ, suc, Bool, true, false, List, [], ◌∷◌, length, take, Option, None, Some, if◌then◌else◌}
 use Rattle.tt.specs.Forest.{Forest, end, leaf, node}
 use Rattle.tt.specs.Gluing.{after_trees}
+use Rattle.tt.specs.Types.Span.{Span}
 use Rattle.mbe_grammar.specs.declared.test.Test.{Test}
 use Rattle.mbe_grammar.specs.Tests.{named, passes, taken_size}
 use Rattle.mbe_grammar.specs.Units.{first_unit}
 
--- an entry of the log: the expression of a name begins, or ends; a unit of that many trees was taken; a subtree was taken, and its trees
--- must be the expression of that name. A name is the index of its expression in the table
+-- an entry of the log: the expression of a name begins, or ends; a unit of that many trees was taken; a subtree was taken, with
+-- the span of its closing delimiter, and its trees must be the expression of that name. A name is the index of its expression in the table
 pub data Entry : Type 0 where
   enters : (name : ℕ) → Entry
   leaves : Entry
   takes_unit : (count : ℕ) → Entry
-  holds : (trees : Forest) → (name : ℕ) → Entry
+  holds : (trees : Forest) → (close : Span) → (name : ℕ) → Entry
 
 -- a place among trees: how many trees were passed, those that are left, and the log of what was taken
 pub record Position : Type 0 where
@@ -42,7 +43,7 @@ abbrev pub entry_of : (name : Option ℕ) → (count : ℕ) → Forest → Entry
 entry_of None count trees = takes_unit count
 entry_of (Some name) count end = takes_unit count
 entry_of (Some name) count (leaf it rest) = takes_unit count
-entry_of (Some name) count (node delimiter children rest) = holds children name
+entry_of (Some name) count (node delimiter children rest) = holds children delimiter.close name
 
 -- how many trees the test takes there, if the first unit passes it
 abbrev pub count_of : Test → Forest → ℕ

@@ -81,10 +81,11 @@ fn skip<'t>(left: &mut Vec<Left<'t>>, events: &mut Vec<Event>) -> Result<Next<'t
             Left::Entry(Entry::Leave) => events.push(Event::Leave)?,
             Left::Entry(Entry::Unit(count)) => events.push(Event::Token(count))?,
             Left::Close => events.push(Event::Close)?,
-            Left::Entry(Entry::Holds(trees, name)) => {
+            Left::Entry(Entry::Holds(trees, close, name)) => {
                 events.push(Event::Open)?;
                 left.push(Left::Close)?;
-                return Ok(Next::Level(Level { trees, name }));
+                let close = Some(close);
+                return Ok(Next::Level(Level { trees, close, name }));
             }
             Left::Stop(level) => return Ok(Next::Refused(level)),
         }
@@ -129,7 +130,11 @@ pub fn derive<'t>(
     let mut events = Vec::new(alloc);
     let mut left = Vec::new(alloc);
     let mut log = Vec::new(alloc);
-    let it = Level { trees, name: at };
+    let it = Level {
+        trees,
+        close: None,
+        name: at,
+    };
     if !read(alloc, table, it, &mut log, &mut left)? {
         return Ok(Derived::Refused(it));
     }

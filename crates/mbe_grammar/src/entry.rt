@@ -1,5 +1,5 @@
 //! The log of what the machine takes.
-use tt::TokenTreesView;
+use tt::{Span, TokenTreesView};
 
 /// An entry of the log.
 #[derive(Clone, Copy)]
@@ -10,6 +10,6 @@ pub enum Entry<'t> {
     Leave,
     /// A unit of that many trees was taken.
     Unit(usize),
-    /// A subtree was taken. Its trees must be the expression at that index.
-    Holds(TokenTreesView<'t>, usize),
+    /// A subtree was taken, with the span of its closing delimiter. Its trees must be the expression at that index.
+    Holds(TokenTreesView<'t>, Span, usize),
 }

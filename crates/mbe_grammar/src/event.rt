@@ -1,5 +1,5 @@
 //! The events of a derivation, and the levels of trees.
-use tt::TokenTreesView;
+use tt::{Span, TokenTreesView};
 
 /// An event of a derivation, in reading order.
 #[derive(Clone, Copy)]
@@ -21,6 +21,8 @@ pub enum Event {
 pub struct Level<'t> {
     /// The trees.
     pub trees: TokenTreesView<'t>,
+    /// The span of the closing delimiter of the subtree; none for a file.
+    pub close: Option<Span>,
     /// The index of the expression.
     pub name: usize,
 }

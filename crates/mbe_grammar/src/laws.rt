@@ -24,14 +24,14 @@ pub fn takes_a_tree()
     ensures { (fragment : Fragment) → (trees : Forest) → (count : ℕ) → Reaches fragment trees (Some count) → 0 < count }
 {}
 
-/// States that any trees have a derivation as the expression of any name, or are refused somewhere.
+/// States that the trees of any place have a derivation, or are refused somewhere.
 pub fn are_judged()
-    ensures { (name : ℕ) → (trees : Forest) → ((events : List Event) × Derives rust_rules name trees events) ⊎ ((at : Place) × Refuses rust_rules name trees at) }
+    ensures { (own : Place) → ((events : List Event) × Derives rust_rules own.name own.trees events) ⊎ ((at : Place) × Refuses rust_rules own at) }
 {}
 
 /// States that trees with a derivation are not refused.
 pub fn never_both()
-    ensures { (name : ℕ) → (trees : Forest) → (events : List Event) → (at : Place) → Derives rust_rules name trees events → Refuses rust_rules name trees at → ⊥ }
+    ensures { (own : Place) → (events : List Event) → (at : Place) → Derives rust_rules own.name own.trees events → Refuses rust_rules own at → ⊥ }
 {}
 
 /// States that trees have only one derivation.
@@ -41,7 +41,7 @@ pub fn one_derivation()
 
 /// States that trees are refused at only one place.
 pub fn one_refusal()
-    ensures { (name : ℕ) → (trees : Forest) → (at other : Place) → Refuses rust_rules name trees at → Refuses rust_rules name trees other → at ≡ other }
+    ensures { (own at other : Place) → Refuses rust_rules own at → Refuses rust_rules own other → at ≡ other }
 {}
 
 /// States that an expression reaches as far without a log as with one: contents never decide how far anything reaches.

@@ -91,19 +91,29 @@ impl<'t> Place<'t> {
         Place::before(trees.remaining(), self.passed + count)
     }
 
+    // Returns the entry of a unit of that many trees.
+    #[inline(always)]
+    fn entry(&self, test: Test, count: usize) -> Entry<'t>
+        ensures { entry result ≡ entry_of (named test) count (trees_of self.now.rest) }
+    {
+        let Some(name) = test.named() else {
+            return Entry::Unit(count);
+        };
+        match self.rest.iter().next() {
+            Some(TtElement::Subtree(subtree, children)) => {
+                Entry::Holds(children.remaining(), subtree.delimiter.close, name)
+            }
+            _ => Entry::Unit(count),
+        }
+    }
+
     // Adds the entry of a unit of that many trees to the log.
     #[inline(always)]
     fn note(&self, test: Test, count: usize, log: &mut Vec<Entry<'t>>) -> Result<(), AllocError>
         ensures noted { IfOk result (λ _. map entry log.new.items ≡ map entry log.old.items ++ entry_of (named test) count (trees_of self.now.rest) ∷ []) }
         ensures more { IfOk result (λ _. Extends log.old.items log.new.items) }
     {
-        if let Some(name) = test.named() {
-            if let Some(TtElement::Subtree(_, children)) = self.rest.iter().next() {
-                log.push(Entry::Holds(children.remaining(), name))?;
-                return Ok(());
-            }
-        }
-        log.push(Entry::Unit(count))?;
+        log.push(self.entry(test, count))?;
         Ok(())
     }
 

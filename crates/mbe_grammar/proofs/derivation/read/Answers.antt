@@ -20,7 +20,7 @@ returns-in_default c =
     let none : c.truncate.new.self.items ≡ [] = search rules in
     let from : position_of c.truncate.new.self.items c.first.result ≡ first_position trees = ap (λ log. position_of log c.first.result) none ∙ c.first.ensures in
     let found : option_map (position_of c.parse.new.log.items) c.in_ok-to.field-0 ≡ None = search rules in
-    refuses_failed rules_of c.args.it.name trees
+    refuses_failed rules_of (place c.args.it)
     (subst (Parses true rules_of c.args.it.name (first_position trees)) found (subst (λ f. Parses true rules_of c.args.it.name f (option_map (position_of c.parse.new.log.items) c.in_ok-to.field-0)) from c.in_ok-to.ensures))
 
 pub returns : goal.returns
