@@ -22,6 +22,7 @@ mod rust_marks;
 mod table;
 mod taken;
 mod test;
+mod trying;
 mod unit;
 mod words;
 
@@ -34,5 +35,6 @@ pub use rule::{Mark, Rule};
 pub use table::Table;
 pub use taken::Taken;
 pub use test::Test;
+pub use trying::{Wanted, find_wanted};
 pub use unit::Unit;
 pub use words::Word;

@@ -327,7 +327,7 @@ fn begin<'t>(
 
 // Does one step of the machine.
 #[inline(always)]
-fn step<'t>(
+pub(crate) fn step<'t>(
     table: Table<'_>,
     state: State,
     here: &mut Place<'t>,
