@@ -1,6 +1,6 @@
 -- What the search for the wanted units preserves, and what it has found at its end.
 use Rattle.std.proofs.Common.{◌≡◌, inl, inr, ◌-◌, ◌≤◌, ◌<◌, ℕ, suc, zero, Bool, true, false, cond, List, [], ◌∷◌, ◌++◌, length, reverse, Some, None, eqb-true, nat_eq, refl, sym, subst, ap, ◌∙◌, arith}
-use Rattle.std.proofs.lemmas.List.{reverse-reverse, reverse-append, length-reverse}
+use Rattle.std.proofs.lemmas.List.{reverse-reverse, reverse-append, length-append, length-reverse}
 use Rattle.std.specs.Prelude.{◌⊎◌, ◌==◌, slice_get, Option}
 use Rattle.mbe_grammar.specs.declared.machine.Frame.{Frame}
 use Rattle.mbe_grammar.specs.declared.machine.Frame.TheVariants as frame
@@ -16,7 +16,7 @@ use Rattle.mbe_grammar.specs.Machine as machine
 use Rattle.mbe_grammar.specs.Positions.{Position, takes}
 use Rattle.mbe_grammar.specs.Running.{state_at, frame_of, left_in, frames_of}
 use Rattle.mbe_grammar.specs.Tried.{tried_by, tried_now, negations, more_negations, fewer_negations, negations_after, Counts, IsShort, IsNoted}
-use Rattle.mbe_grammar.specs.Trying.{Tries, IsOneOf, IsListed, IsFarthest}
+use Rattle.mbe_grammar.specs.Trying.{Tries, IsOneOf, IsAscending, IsListed, IsFarthest}
 use Rattle.mbe_grammar.proofs.WillTry.{WillTry, TriesNow, first_will, will_first, step_split, now_tried, step_join, last_tries}
 
 module _ (rules : List Rule) where
@@ -50,7 +50,7 @@ module _ (rules : List Rule) where
       rest = λ unit there w. will_first rules unit there at from w;
       tried = λ unit h. absurd (subst (λ xs. IsOneOf xs unit) none h);
       all = λ unit there t. inl (first_will rules unit there at from t);
-      short = subst (λ (xs : List ℕ). IsShort (record wanted { units = record wanted.units { items = xs } })) (sym none) (tt, omega arith);
+      short = (subst IsAscending (sym none) tt, subst (λ xs. length xs ≤ 8) (sym none) (omega arith));
       nothing = λ e. place;
     }
 
@@ -133,7 +133,7 @@ module _ (rules : List Rule) where
   begun_more at from (Some (rule.Not x)) frames = refl
 
   -- the newest of the frames
-  newest : List Frame → Option Frame
+  abbrev newest : List Frame → Option Frame
   newest [] = None
   newest (it ∷ older) = Some it
 
@@ -150,10 +150,14 @@ module _ (rules : List Rule) where
   waits_after log here (state.Answered ends) [] to after s = absurd (cc s)
   waits_after log here (state.Answered ends) (it ∷ older) to after s = ap negations s.1 ∙ answered_fewer log it older
 
+  last_at : (front : List Frame) (it : Frame) → slice_get (front ++ it ∷ []) (length front) ≡ Some it
+  last_at [] it = refl
+  last_at (one ∷ front) it = last_at front it
+
   last_behind : (front : List Frame) (it : Frame) → slice_get (front ++ it ∷ []) (length (front ++ it ∷ []) - 1) ≡ Some it
-  last_behind [] it = refl
-  last_behind (one ∷ []) it = refl
-  last_behind (one ∷ other ∷ front) it = last_behind (other ∷ front) it
+  last_behind front it =
+      let same : length (front ++ it ∷ []) - 1 ≡ length front = omega (arith, length-append front (it ∷ [])) in
+      ap (slice_get (front ++ it ∷ [])) same ∙ last_at front it
 
   newest_last : (frames : List Frame) → newest frames ≡ slice_get (reverse frames) (length (reverse frames) - 1)
   newest_last [] = refl
