@@ -10,9 +10,11 @@ pub mod EachWord
 pub mod FragmentAnswers
 pub mod KindsTold
 pub mod Laid
+pub mod Listing
 pub mod Log
 pub mod Looking
 pub mod Marks
+pub mod Notes
 pub mod NothingKnown
 pub mod Noting
 pub mod OneAnswer
@@ -26,4 +28,7 @@ pub mod Stepping
 pub mod Steps
 pub mod Total
 pub mod Toy
+pub mod Tries
+pub mod Wanting
 pub mod Weighing
+pub mod WillTry

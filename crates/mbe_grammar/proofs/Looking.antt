@@ -25,7 +25,7 @@ use Rattle.mbe_grammar.proofs.AnyUnit.{any_of_kind}
 use Rattle.mbe_grammar.proofs.BeginsTold.{begins_told}
 use Rattle.mbe_grammar.proofs.Bits.{of_both, of_one, of_outer, of_nothing, of_apart}
 use Rattle.mbe_grammar.proofs.KindsTold.{IsOf, segment_of_kind}
-use Rattle.mbe_grammar.proofs.Noting.{noted_rest, closed_opened}
+use Rattle.mbe_grammar.proofs.Notes.{noted_rest, closed_opened}
 use Rattle.mbe_grammar.proofs.Marks.{left_true, right_true}
 
 -- what is known is right if there is an expression; otherwise nothing is known

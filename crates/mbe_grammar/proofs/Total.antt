@@ -12,7 +12,7 @@ use Rattle.mbe_grammar.specs.Parses.{Answering, Holds, ParsesIn}
 use Rattle.mbe_grammar.specs.Positions.{Position, enters, takes, opened, closed}
 use Rattle.mbe_grammar.proofs.Agreeing.{AgreesWith}
 use Rattle.mbe_grammar.proofs.Marks.{GoodIn, good_from, named_split, then_split, or_split, many_split, not_split}
-use Rattle.mbe_grammar.proofs.Noting.{noted_rest, closed_rest}
+use Rattle.mbe_grammar.proofs.Notes.{noted_rest, closed_rest}
 use Rattle.mbe_grammar.proofs.OneAnswer.{deeper}
 use Rattle.mbe_grammar.proofs.Shrinking.{size_left, takes_shrinks}
 use Rattle.mbe_grammar.proofs.Steps.{leads}

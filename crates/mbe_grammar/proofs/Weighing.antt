@@ -11,7 +11,7 @@ use Rattle.mbe_grammar.specs.Parses.{Answering, Holds, ParsesIn, Parses}
 use Rattle.mbe_grammar.specs.Positions.{Entry, Position, enters, leaves, takes_unit, holds, behind, entry_of, count_of, taken, noted, opened, cut, closed, takes}
 use Rattle.mbe_grammar.specs.Tests.{named, passes, taken_size}
 use Rattle.mbe_grammar.specs.Units.{first_unit}
-use Rattle.mbe_grammar.proofs.Noting.{closed_rest}
+use Rattle.mbe_grammar.proofs.Notes.{closed_rest}
 use Rattle.mbe_grammar.proofs.Shrinking.{taken_fits}
 
 -- the number of tokens in the subtrees of the log, and one more for each subtree

@@ -16,5 +16,7 @@ pub mod Running
 pub mod Rust
 pub mod Table
 pub mod Tests
+pub mod Tried
+pub mod Trying
 pub mod Units
 pub mod Words

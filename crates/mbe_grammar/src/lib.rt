@@ -25,6 +25,7 @@ mod rust_marks;
 mod rust_names;
 mod table;
 mod test;
+mod trying;
 mod unit;
 mod words;
 
@@ -38,5 +39,6 @@ pub use place::Place;
 pub use rule::{Mark, Rule};
 pub use table::Table;
 pub use test::Test;
+pub use trying::{Wanted, find_wanted};
 pub use unit::Unit;
 pub use words::Word;
