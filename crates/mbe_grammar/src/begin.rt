@@ -196,11 +196,19 @@ fn begin_open<'t>(
     match *rule {
         Rule::Empty => Ok(at_once(true)),
         Rule::Unit(test) => Ok(at_once(here.take(noting, test, log)?)),
-        Rule::Name(other) => begin_name(noting, at, other, here, log),
-        Rule::Sequence(first, second) => begin_sequence(noting, table, first, second, here, log),
-        Rule::Choice(first, other) => Ok(begin_choice(table, first, other, here, log)),
-        Rule::ZeroOrMore(part) => Ok(begin_repetition(table, at, part, here, log)),
-        Rule::Not(part) => Ok(begin_not(table, part, here, log)),
+        Rule::Name(other) => begin_name(noting, at, other as usize, here, log),
+        Rule::Sequence(first, second) => {
+            begin_sequence(noting, table, first as usize, second as usize, here, log)
+        }
+        Rule::Choice(first, other) => Ok(begin_choice(
+            table,
+            first as usize,
+            other as usize,
+            here,
+            log,
+        )),
+        Rule::ZeroOrMore(part) => Ok(begin_repetition(table, at, part as usize, here, log)),
+        Rule::Not(part) => Ok(begin_not(table, part as usize, here, log)),
     }
 }
 

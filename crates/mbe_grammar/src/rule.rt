@@ -9,15 +9,15 @@ pub enum Rule {
     /// Takes one unit that passes this test.
     Unit(Test),
     /// Takes what the expression at another index takes.
-    Name(usize),
+    Name(u32),
     /// Takes what the first part takes, and then what the second part takes.
-    Sequence(usize, usize),
+    Sequence(u32, u32),
     /// Takes what the first part takes; if the first part fails, what the second part takes.
-    Choice(usize, usize),
+    Choice(u32, u32),
     /// Takes what the part takes as often as possible, maybe never.
-    ZeroOrMore(usize),
+    ZeroOrMore(u32),
     /// Takes nothing; it succeeds only if the part fails.
-    Not(usize),
+    Not(u32),
 }
 
 /// The mark of an expression: whether it may take nothing, and a rank. The rank is above the ranks of all

@@ -32,9 +32,9 @@ pub enum Test {
     /// A subtree whose delimiters are not printed.
     Opaque,
     /// A subtree of that kind. The log names the expression, by its index, that its trees must be.
-    Holding(DelimiterKind, usize),
+    Holding(DelimiterKind, u32),
     /// A subtree whose delimiters are not printed. The log names the expression, by its index, that its trees must be.
-    OpaqueHolding(usize),
+    OpaqueHolding(u32),
     /// An operator between two operands.
     BinaryOperator,
     /// An operator that assigns.
@@ -213,7 +213,7 @@ impl Test {
         ensures { result ≡ named self }
     {
         match self {
-            Test::Holding(_, name) | Test::OpaqueHolding(name) => Some(name),
+            Test::Holding(_, name) | Test::OpaqueHolding(name) => Some(name as usize),
             _ => None,
         }
     }

@@ -85,8 +85,8 @@ fn tried_by(rules: &[Rule], at: usize) -> Option<usize>
 {
     match rules.get(at) {
         Some(Rule::Unit(_)) => Some(at),
-        Some(Rule::Sequence(first, _)) => match rules.get(*first) {
-            Some(Rule::Unit(_)) => Some(*first),
+        Some(Rule::Sequence(first, _)) => match rules.get(*first as usize) {
+            Some(Rule::Unit(_)) => Some(*first as usize),
             _ => None,
         },
         _ => None,
