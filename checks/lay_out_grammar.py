@@ -392,9 +392,8 @@ def code_of_names(starts):
     lines = [HEAD_OF_NAMES]
     for name in NAMED:
         lines += ["", f"/// Where `{name}` is laid out.", f"pub(crate) const {name.upper()}: usize = {starts[name]};"]
-    return [*lines, "", "/// Where each name is laid out.", f"pub(crate) static STARTS: [usize; {len(starts)}] = [",
-            *filled(f"{at}," for at in starts.values()), "];",
-            "", "/// Each name.", f"pub(crate) static TEXTS: [&str; {len(starts)}] = [", *[f'    "{name}",' for name in starts], "];"]
+    return [*lines, "", "/// Each name with the index of its rule in the table, in the order of the indices.",
+            f"pub static NAMES: [(usize, &str); {len(starts)}] = [", *[f'    ({at}, "{name}"),' for name, at in starts.items()], "];"]
 
 
 def definition_of_names(names, starts):

@@ -2,6 +2,7 @@
 pub mod Derivations
 pub mod Deriving
 pub mod Expressions
+pub mod Files
 pub mod Fragments
 pub mod Good
 pub mod Kinds

@@ -1,17 +1,19 @@
-//! How many trees a fragment of Rust's grammar takes, by a table of parsing expressions.
+//! Rust's grammar as a table of parsing expressions: how many trees a fragment takes, and whole files.
 //!
 //! docs/GRAMMAR.md is the source of the table. `checks/lay_out_grammar.py` makes `src/rust.rt`, `src/rust_marks.rt`, `src/rust_known.rt`,
 //! `src/rust_names.rt`, `specs/Names.antt`, `specs/Rust.antt` and `proofs/RustLaid.antt` from it. `reach` runs the machine of parsing
 //! expressions on the siblings, with a stack of the rules that are under way. It does not look into subtrees.
 //!
-//! A table may name the contents of a subtree. Then the machine adds the subtree to a log, and cuts the log back if a choice fails. `are`
-//! reads each entry of the log by its name, without recursion. Rust's table names the contents of brackets.
+//! `parse_file` runs the same machine with a log: the names that begin and end, the units, and the subtrees with the names of what they
+//! must contain. A choice that fails cuts the log back. `derive` then reads each subtree of the log by its name, without recursion. If a
+//! level is refused, `find_wanted` runs the machine on that level again, and notes the tests that it tries at the farthest place.
 #![tactic(auto)]
 
 mod begin;
 mod derivation;
 mod entry;
 mod event;
+mod file;
 mod fragments;
 mod kind;
 mod known;
@@ -32,11 +34,13 @@ mod words;
 pub use derivation::{Derived, derive};
 pub use entry::Entry;
 pub use event::{Event, Level};
+pub use file::{ParsedFile, SyntaxError, parse_file, test_of};
 pub use fragments::reach;
 pub use known::Known;
 pub use machine::parse;
 pub use place::Place;
 pub use rule::{Mark, Rule};
+pub use rust_names::NAMES;
 pub use table::Table;
 pub use test::Test;
 pub use trying::{Wanted, find_wanted};
