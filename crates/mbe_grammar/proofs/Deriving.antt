@@ -46,14 +46,16 @@ module _ (rules : List Rule) where
   spread_in (takes_unit count ∷ log) events h = let it = spread_in log h.0 h.1 in (it.0, (h.0, it.1, h.2))
   spread_in (holds trees close name ∷ log) events h =
       let it = spread_in log h.1 h.3 in
-      let n = h.2.0 in
-      (n + it.0, (
-        h.0,
-        h.1,
-        deeper n (n + it.0) (omega arith) name trees h.0 h.2.1,
-        spread (DerivesIn rules it.0) (DerivesIn rules (n + it.0)) (deeper it.0 (n + it.0) (omega arith)) log h.1 it.1,
-        h.4,
-      ))
+      let n = h.2.0 in (
+        n + it.0,
+        (
+          h.0,
+          h.1,
+          deeper n (n + it.0) (omega arith) name trees h.0 h.2.1,
+          spread (DerivesIn rules it.0) (DerivesIn rules (n + it.0)) (deeper it.0 (n + it.0) (omega arith)) log h.1 it.1,
+          h.4,
+        ),
+      )
 
   -- Trees that the expression takes have the events of its log.
   pub derives : (name : ℕ) (trees : Forest) (to : Position) (events : List Event) → Parses true rules name (first_position trees) (Some to) → to.rest ≡ end

@@ -116,6 +116,7 @@ one_of_placed it (x ∷ xs) one h = by (nat_lt x it) h (one_of_placed it xs one)
     further : (it ≡ one) ⊎ IsOneOf xs one → (it ≡ one) ⊎ IsOneOf (x ∷ xs) one
     further (inl e) = inl e
     further (inr k) = inr (inr k)
+
     by : (b : Bool) → IsOneOf (cond b (x ∷ placed it xs) (it ∷ x ∷ xs)) one → (IsOneOf (placed it xs) one → (it ≡ one) ⊎ IsOneOf xs one) → (it ≡ one) ⊎ IsOneOf (x ∷ xs) one
     by true (inl e) rest = inr (inl e)
     by true (inr k) rest = further (rest k)

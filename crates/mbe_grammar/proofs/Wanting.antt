@@ -79,6 +79,7 @@ module _ (rules : List Rule) where
           stepped : (unit place : ℕ) → TriesNow rules unit place now before ⊎ WillTry rules unit place to after → WillTry rules unit place to after ⊎ Counts new unit place
           stepped unit place (inl n) = let it = shown.to unit place n in inr (subst (Counts new unit) (sym it.1) (noted.held unit it.0))
           stepped unit place (inr w) = inl w
+
           known : (unit place : ℕ) → WillTry rules unit place now before ⊎ Counts old unit place → WillTry rules unit place to after ⊎ Counts new unit place
           known unit place (inl w) = stepped unit place (step_split rules unit place now before to after s w)
           known unit place (inr c) = inr (noted.more unit place c)
@@ -98,9 +99,11 @@ module _ (rules : List Rule) where
           counted : (unit place : ℕ) → WillTry rules unit place now before ⊎ Counts old unit place → Counts new unit place
           counted unit place (inl w) = absurd (last_tries rules unit place now before found after s w)
           counted unit place (inr c) = noted.more unit place c
+
           no_farther : (unit place : ℕ) → Counts new unit place → place ≤ new.passed
           no_farther unit place (inl less) = omega (arith, less)
           no_farther unit place (inr (same, listed)) = omega (arith, same)
+
           here : (unit : ℕ) → Counts new unit new.passed → IsListed new.units.items unit
           here unit (inl less) = absurd (omega (arith, less))
           here unit (inr (same, listed)) = listed

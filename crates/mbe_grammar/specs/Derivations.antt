@@ -66,7 +66,7 @@ RefusesIn rules zero own at = ⊥
 RefusesIn rules (suc depth) own at =
     (Parses true rules own.name (first_position own.trees) None × (at ≡ own))
     ⊎ ((to : Position) × Parses true rules own.name (first_position own.trees) (Some to)
-        × StopsAt (Derives rules) (RefusesIn rules depth) (to.rest ≡ end → ⊥) own to.log at)
+    × StopsAt (Derives rules) (RefusesIn rules depth) (to.rest ≡ end → ⊥) own to.log at)
 
 unfoldable pub Refuses : List Rule → (own at : Place) → Type 0
 Refuses rules own at = (depth : ℕ) × RefusesIn rules depth own at

@@ -51,7 +51,14 @@ pub fn reach(
 {
     let from = Place::first(trees.remaining());
     let mut log = Vec::new(alloc);
-    match parse(alloc, false, rust_table(), start_of(fragment), from, &mut log)? {
+    match parse(
+        alloc,
+        false,
+        rust_table(),
+        start_of(fragment),
+        from,
+        &mut log,
+    )? {
         Some(place) => Ok(Some(place.passed())),
         None => Ok(None),
     }

@@ -162,8 +162,8 @@ fn resume<'t>(
             come_back(kept, here, log);
             State::Answered(true)
         }
-        (Frame::InNot(kept), true) => {
-            log.truncate(kept.taken);
+        (Frame::InNot(before), true) => {
+            log.truncate(before.taken);
             State::Answered(false)
         }
     })

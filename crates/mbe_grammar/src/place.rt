@@ -120,7 +120,12 @@ impl<'t> Place<'t> {
     /// Takes the first unit if it passes the test, and adds its entry to the log if `noting`. Returns whether it passes. Fails only if
     /// memory runs out.
     #[inline(always)]
-    pub fn take(&mut self, noting: bool, test: Test, log: &mut Vec<Entry<'t>>) -> Result<bool, AllocError>
+    pub fn take(
+        &mut self,
+        noting: bool,
+        test: Test,
+        log: &mut Vec<Entry<'t>>,
+    ) -> Result<bool, AllocError>
         ensures answer { IfOk result (λ passes. answer_at (position_of log.new.items self.new) passes ≡ takes noting test (position_of log.old.items self.old)) }
         ensures more { IfOk result (λ _. Extends log.old.items log.new.items) }
     {
