@@ -1,8 +1,8 @@
 -- A list of the first few numbers, in order, after one is added.
-use Rattle.std.proofs.Common.{◌≡◌, inl, inr, ◌+◌, ◌≤◌, ◌<◌, ℕ, suc, zero, Bool, true, false, cond, nat_lt, List, [], ◌∷◌, ◌++◌, length, take, drop, Some, None, refl, sym, subst, ap, ◌∙◌, arith}
+use Rattle.std.proofs.Common.{◌≡◌, inl, inr, ◌≤◌, ◌<◌, ℕ, suc, zero, Bool, true, false, cond, nat_lt, List, [], ◌∷◌, length, take, Some, refl, subst, ap, ◌∙◌, arith}
 use Rattle.std.proofs.lemmas.Bool.{ltb-true, ltb-false}
 use Rattle.std.proofs.lemmas.List.{length-take-le}
-use Rattle.std.specs.Prelude.{◌⊎◌, slice_get, Option}
+use Rattle.std.specs.Prelude.{◌⊎◌, slice_get}
 use Rattle.std.specs.List.{AllByRecursion, insert}
 use Rattle.mbe_grammar.specs.Tried.{rank_among}
 use Rattle.mbe_grammar.specs.Trying.{IsOneOf, IsAscending}
@@ -116,6 +116,7 @@ one_of_placed it (x ∷ xs) one h = by (nat_lt x it) h (one_of_placed it xs one)
     further : (it ≡ one) ⊎ IsOneOf xs one → (it ≡ one) ⊎ IsOneOf (x ∷ xs) one
     further (inl e) = inl e
     further (inr k) = inr (inr k)
+
     by : (b : Bool) → IsOneOf (cond b (x ∷ placed it xs) (it ∷ x ∷ xs)) one → (IsOneOf (placed it xs) one → (it ≡ one) ⊎ IsOneOf xs one) → (it ≡ one) ⊎ IsOneOf (x ∷ xs) one
     by true (inl e) rest = inr (inl e)
     by true (inr k) rest = further (rest k)

@@ -1,5 +1,5 @@
 -- How a unit that was tried is noted in the list.
-use Rattle.std.proofs.Common.{◌≡◌, inl, inr, ◌≤◌, ◌<◌, ℕ, Bool, true, false, List, [], ◌∷◌, length, take, Some, None, Result, Ok, Err, IfOk, eqb-true, eq-eqb, refl, sym, subst, ap, ◌∙◌, arith}
+use Rattle.std.proofs.Common.{◌≡◌, inl, inr, ◌≤◌, ◌<◌, ℕ, true, false, [], length, take, Some, None, Result, Ok, Err, IfOk, eqb-true, eq-eqb, refl, sym, subst, ap, ◌∙◌, arith}
 use Rattle.std.proofs.lemmas.List.{length-take}
 use Rattle.std.specs.List.{insert}
 use Rattle.std.specs.Prelude.{◌⊎◌, slice_get, Option}
@@ -38,6 +38,7 @@ noted_now unit old new place items is_new short =
     counts all one there (inl less) = inl (subst (λ p. there < p) (sym place) less)
     counts all one there (inr (same, listed)) =
         inr (same ∙ sym place, subst (λ xs. IsListed xs one) (sym all) (still_fits 8 unit old.units.items one is_new short.0 listed))
+
     others : new.units.items ≡ take 8 (placed unit old.units.items) → (one : ℕ) → (unit ≡ one) ⊎ IsOneOf old.units.items one
         → ((Some unit ≡ Some one) × (new.passed ≡ old.passed)) ⊎ (IsOneOf old.units.items one × (new.passed ≡ old.passed))
     others all one (inl e) = inl (ap Some e, place)
@@ -77,10 +78,12 @@ noted_farther unit passed old middle new less place none n = record {
     before : (one there : ℕ) → Counts old one there → Counts middle one there
     before one there (inl h) = inl (omega (arith, h, less, place))
     before one there (inr h) = inl (omega (arith, h.0, less, place))
+
     fewer : (one : ℕ) → ((Some unit ≡ Some one) × (new.passed ≡ middle.passed)) ⊎ (IsOneOf middle.units.items one × (new.passed ≡ middle.passed))
         → ((Some unit ≡ Some one) × (new.passed ≡ passed)) ⊎ (IsOneOf old.units.items one × (new.passed ≡ old.passed))
     fewer one (inl h) = inl (h.0, h.1 ∙ place)
     fewer one (inr h) = absurd (subst (λ xs. IsOneOf xs one) none h.0)
+
     listed : new.passed ≡ middle.passed → new.units.items ≡ [] → Counts new unit middle.passed → ⊥
     listed same e (inl h) = absurd (omega (arith, h, same))
     listed same e (inr (place, inl h)) = subst (λ xs. IsOneOf xs unit) e h

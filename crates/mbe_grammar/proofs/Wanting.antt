@@ -1,7 +1,7 @@
 -- What the search for the wanted units preserves, and what it has found at its end.
-use Rattle.std.proofs.Common.{◌≡◌, inl, inr, ◌-◌, ◌≤◌, ◌<◌, ℕ, suc, zero, Bool, true, false, cond, List, [], ◌∷◌, ◌++◌, length, reverse, Some, None, eqb-true, nat_eq, refl, sym, subst, ap, ◌∙◌, arith}
+use Rattle.std.proofs.Common.{◌≡◌, inl, inr, ◌-◌, ◌≤◌, ℕ, Bool, true, false, cond, List, [], ◌∷◌, ◌++◌, length, reverse, Some, None, eqb-true, nat_eq, refl, sym, subst, ap, ◌∙◌, arith}
 use Rattle.std.proofs.lemmas.List.{reverse-reverse, reverse-append, length-append, length-reverse}
-use Rattle.std.specs.Prelude.{◌⊎◌, ◌==◌, slice_get, Option}
+use Rattle.std.specs.Prelude.{◌⊎◌, slice_get, Option}
 use Rattle.mbe_grammar.specs.declared.machine.Frame.{Frame}
 use Rattle.mbe_grammar.specs.declared.machine.Frame.TheVariants as frame
 use Rattle.mbe_grammar.specs.declared.machine.State.{State}
@@ -14,7 +14,7 @@ use Rattle.mbe_grammar.specs.Known.{glance_at}
 use Rattle.mbe_grammar.specs.Machine.{awaited, begun_behind, begun_sequence_open, begun_open, begun, IsStep}
 use Rattle.mbe_grammar.specs.Machine as machine
 use Rattle.mbe_grammar.specs.Positions.{Position, takes}
-use Rattle.mbe_grammar.specs.Running.{state_at, frame_of, left_in, frames_of}
+use Rattle.mbe_grammar.specs.Running.{state_at, left_in, frames_of}
 use Rattle.mbe_grammar.specs.Tried.{tried_by, tried_now, negations, more_negations, fewer_negations, negations_after, Counts, IsShort, IsNoted}
 use Rattle.mbe_grammar.specs.Trying.{Tries, IsOneOf, IsAscending, IsListed, IsFarthest}
 use Rattle.mbe_grammar.proofs.WillTry.{WillTry, TriesNow, first_will, will_first, step_split, now_tried, step_join, last_tries}
@@ -79,6 +79,7 @@ module _ (rules : List Rule) where
           stepped : (unit place : ℕ) → TriesNow rules unit place now before ⊎ WillTry rules unit place to after → WillTry rules unit place to after ⊎ Counts new unit place
           stepped unit place (inl n) = let it = shown.to unit place n in inr (subst (Counts new unit) (sym it.1) (noted.held unit it.0))
           stepped unit place (inr w) = inl w
+
           known : (unit place : ℕ) → WillTry rules unit place now before ⊎ Counts old unit place → WillTry rules unit place to after ⊎ Counts new unit place
           known unit place (inl w) = stepped unit place (step_split rules unit place now before to after s w)
           known unit place (inr c) = inr (noted.more unit place c)
@@ -98,9 +99,11 @@ module _ (rules : List Rule) where
           counted : (unit place : ℕ) → WillTry rules unit place now before ⊎ Counts old unit place → Counts new unit place
           counted unit place (inl w) = absurd (last_tries rules unit place now before found after s w)
           counted unit place (inr c) = noted.more unit place c
+
           no_farther : (unit place : ℕ) → Counts new unit place → place ≤ new.passed
           no_farther unit place (inl less) = omega (arith, less)
           no_farther unit place (inr (same, listed)) = omega (arith, same)
+
           here : (unit : ℕ) → Counts new unit new.passed → IsListed new.units.items unit
           here unit (inl less) = absurd (omega (arith, less))
           here unit (inr (same, listed)) = listed
