@@ -1,11 +1,8 @@
-//! What is wanted where trees stop to be an expression: the units that it tries at the farthest place.
-ghost use Rattle.std.specs.Prelude.{◌≡◌, ◌+◌, ◌-◌, ◌^◌, ◌<◌, ◌≤◌, [], reverse, length, slice_get, Some, IfOk};
+//! What is wanted where trees stop being an expression: the units that it tries at the farthest place.
+ghost use Rattle.std.specs.Prelude.{◌≡◌, ◌+◌, ◌-◌, ◌^◌, ◌<◌, ◌≤◌, [], length, slice_get, Some, IfOk};
 ghost use Rattle.tt.specs.Views.{trees_of};
-ghost use Rattle.mbe_grammar.specs.Known.{glance_at};
-ghost use Rattle.mbe_grammar.specs.Machine.{IsStep};
 ghost use Rattle.mbe_grammar.specs.Places.{position_of};
-ghost use Rattle.mbe_grammar.specs.Positions.{first_position, takes};
-ghost use Rattle.mbe_grammar.specs.Running.{state_at, frames_of, HasRoom, next_at};
+ghost use Rattle.mbe_grammar.specs.Positions.{first_position};
 ghost use Rattle.mbe_grammar.specs.Tried.{tried_by, tried_now, more_negations, fewer_negations, negations_after, rank_among, is_at, IsShort, IsNoted};
 ghost use Rattle.mbe_grammar.specs.Trying.{IsFarthest};
 
