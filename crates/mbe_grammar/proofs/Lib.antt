@@ -28,6 +28,7 @@ pub mod Stepping
 pub mod Steps
 pub mod Total
 pub mod Toy
+pub mod ToyTries
 pub mod Tries
 pub mod Wanting
 pub mod Weighing

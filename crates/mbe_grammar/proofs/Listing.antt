@@ -1,8 +1,8 @@
 -- A list of the first few numbers, in order, after one is added.
-use Rattle.std.proofs.Common.{◌≡◌, inl, inr, ◌+◌, ◌≤◌, ◌<◌, ℕ, suc, zero, Bool, true, false, cond, nat_lt, List, [], ◌∷◌, ◌++◌, length, take, drop, Some, None, refl, sym, subst, ap, ◌∙◌, arith}
+use Rattle.std.proofs.Common.{◌≡◌, inl, inr, ◌≤◌, ◌<◌, ℕ, suc, zero, Bool, true, false, cond, nat_lt, List, [], ◌∷◌, length, take, Some, refl, subst, ap, ◌∙◌, arith}
 use Rattle.std.proofs.lemmas.Bool.{ltb-true, ltb-false}
 use Rattle.std.proofs.lemmas.List.{length-take-le}
-use Rattle.std.specs.Prelude.{◌⊎◌, slice_get, Option}
+use Rattle.std.specs.Prelude.{◌⊎◌, slice_get}
 use Rattle.std.specs.List.{AllByRecursion, insert}
 use Rattle.mbe_grammar.specs.Tried.{rank_among}
 use Rattle.mbe_grammar.specs.Trying.{IsOneOf, IsAscending}

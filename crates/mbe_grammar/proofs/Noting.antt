@@ -1,5 +1,5 @@
 -- How a unit that was tried is noted in the list.
-use Rattle.std.proofs.Common.{◌≡◌, inl, inr, ◌≤◌, ◌<◌, ℕ, Bool, true, false, List, [], ◌∷◌, length, take, Some, None, Result, Ok, Err, IfOk, eqb-true, eq-eqb, refl, sym, subst, ap, ◌∙◌, arith}
+use Rattle.std.proofs.Common.{◌≡◌, inl, inr, ◌≤◌, ◌<◌, ℕ, true, false, [], length, take, Some, None, Result, Ok, Err, IfOk, eqb-true, eq-eqb, refl, sym, subst, ap, ◌∙◌, arith}
 use Rattle.std.proofs.lemmas.List.{length-take}
 use Rattle.std.specs.List.{insert}
 use Rattle.std.specs.Prelude.{◌⊎◌, slice_get, Option}

@@ -1,5 +1,5 @@
 -- The units that a step of the machine tries, and how they are noted.
-use Rattle.std.specs.Prelude.{◌≡◌, ◌<◌, ◌≤◌, ◌==◌, ◌⊎◌, ℕ, suc, ◌-◌, nat_lt, Bool, true, false, List, [], ◌∷◌, length, Option, None, Some, slice_get, if◌then◌else◌}
+use Rattle.std.specs.Prelude.{◌≡◌, ◌<◌, ◌≤◌, ◌==◌, ◌⊎◌, ℕ, suc, ◌-◌, nat_lt, Bool, false, List, [], ◌∷◌, length, Option, None, Some, slice_get, if◌then◌else◌}
 use Rattle.mbe_grammar.specs.declared.machine.Frame.{Frame}
 use Rattle.mbe_grammar.specs.declared.machine.Frame.TheVariants as frame
 use Rattle.mbe_grammar.specs.declared.machine.State.{State}

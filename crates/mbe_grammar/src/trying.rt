@@ -1,4 +1,4 @@
-//! What is wanted where trees stop to be an expression: the units that it tries at the farthest place.
+//! What is wanted where trees stop being an expression: the units that it tries at the farthest place.
 ghost use Rattle.std.specs.Prelude.{◌≡◌, ◌+◌, ◌-◌, ◌^◌, ◌<◌, ◌≤◌, [], reverse, length, slice_get, Some, IfOk};
 ghost use Rattle.tt.specs.Views.{trees_of};
 ghost use Rattle.mbe_grammar.specs.Known.{glance_at};

@@ -1,5 +1,5 @@
 -- The list is in order, and the unit is in it or behind it.
-use Rattle.std.proofs.Common.{rules, ◌≡◌, false, true, take, insert, Some, subst, refl, sym}
+use Rattle.std.proofs.Common.{rules, ◌≡◌, false, true, take, insert, Some, subst, refl}
 use Rattle.std.specs.Prelude.{slice_get}
 use Rattle.mbe_grammar.specs.Tried.{rank_among, is_at}
 use Rattle.mbe_grammar.proofs.Noting.{noted_before, noted_now, at_yes, at_no}
