@@ -200,7 +200,7 @@ pub(crate) fn step<'t>(
 
 /// Reads the expression at that index of the table. Returns the place where it ends, if it does not fail. If `noting`, then each name, each
 /// unit and each subtree that it took was added to the log, in order. Fails only if memory runs out.
-#[inline]
+#[inline(always)]
 pub fn parse<'t>(
     alloc: Global,
     noting: bool,
