@@ -1,6 +1,5 @@
 -- What is left to read is passed step by step.
-use Rattle.std.proofs.Common.{◌≡◌, inl, inr, ◌+◌, ◌≤◌, ◌<◌, ℕ, suc, true, false, List, [], ◌∷◌, ◌++◌, None, Some, refl, sym, subst, ap, ◌∙◌, arith}
-use Rattle.tt.specs.Forest.{size}
+use Rattle.std.proofs.Common.{◌≡◌, inl, ◌≤◌, ◌<◌, ℕ, true, false, List, [], ◌∷◌, ◌++◌, None, Some, refl, sym, subst, ap, ◌∙◌, arith}
 use Rattle.tt.specs.Types.Span.{Span}
 use Rattle.tt.specs.Views.{trees_of}
 use Rattle.mbe_grammar.specs.declared.derivation.Left.{Left}
@@ -12,7 +11,7 @@ use Rattle.mbe_grammar.specs.declared.event.Event.TheVariants as event
 use Rattle.mbe_grammar.specs.declared.event.Level.{Level}
 use Rattle.mbe_grammar.specs.declared.rule.Rule.{Rule}
 use Rattle.mbe_grammar.specs.Derivations.{Place, place}
-use Rattle.mbe_grammar.specs.Deriving.{Gives, Stops, GivesBehind, StopsBehind, weight, IsRead, IsNext, IsDrained}
+use Rattle.mbe_grammar.specs.Deriving.{Gives, Stops, StopsBehind, weight, IsRead, IsNext, IsDrained}
 
 none_more : (events : List Event) → events ++ [] ≡ events
 none_more [] = refl

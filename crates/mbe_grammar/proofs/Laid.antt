@@ -1,13 +1,13 @@
 -- Expressions that are laid out as rules have exactly the rules' answers.
-use Rattle.std.proofs.Common.{◌≡◌, inl, inr, ℕ, suc, zero, Bool, List, length, Some, None, sym, subst}
-use Rattle.std.specs.Prelude.{slice_get, Option, option_map}
+use Rattle.std.proofs.Common.{◌≡◌, inl, inr, ℕ, suc, zero, Bool, List, Some, None, sym, subst}
+use Rattle.std.specs.Prelude.{slice_get, Option}
 use Rattle.mbe_grammar.specs.declared.rule.Rule.{Rule}
 use Rattle.mbe_grammar.specs.declared.rule.Rule.TheVariants as rule
 use Rattle.mbe_grammar.specs.Expressions.{Expression, nothing, unit, name, sequence, choice, many, never, AnswersIn, Answers}
 use Rattle.mbe_grammar.specs.Layout.{IsLaid, AreLaid}
 use Rattle.mbe_grammar.specs.Names.{Name, start}
 use Rattle.mbe_grammar.specs.Parses.{Holds, ParsesIn, Parses}
-use Rattle.mbe_grammar.specs.Positions.{Position, opened, closed}
+use Rattle.mbe_grammar.specs.Positions.{Position, opened}
 
 module _ (noting : Bool) (rules : List Rule) (stands : Name → Expression) (laid : AreLaid rules start stands) where
   by_rule : (depth at : ℕ) (from : Position) (answer : Option Position) (it : Rule) → slice_get rules at ≡ Some it → Holds noting (ParsesIn noting rules depth) at (Some it) from answer → ParsesIn noting rules (suc depth) at from answer

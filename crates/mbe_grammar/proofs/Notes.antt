@@ -1,8 +1,7 @@
 -- What the log of a place does not change.
-use Rattle.std.proofs.Common.{◌≡◌, ◌++◌, ℕ, suc, zero, Bool, true, false, List, [], ◌∷◌, length, take, Some, None, refl, sym, ap, subst, ◌∙◌, cond, arith}
+use Rattle.std.proofs.Common.{◌≡◌, ◌++◌, ℕ, suc, Bool, true, false, List, [], ◌∷◌, length, take, refl, ap, ◌∙◌, cond, arith}
 use Rattle.std.proofs.lemmas.Bool.Decides.{nat_tests}
-use Rattle.std.specs.Prelude.{◌==◌, Option, option_map}
-use Rattle.tt.specs.Forest.{Forest}
+use Rattle.std.specs.Prelude.{◌==◌}
 use Rattle.mbe_grammar.specs.Positions.{Entry, Position, enters, leaves, noted, opened, cut, closed}
 
 pub noted_rest : (noting : Bool) (more : List Entry) (to : Position) → (noted noting more to).rest ≡ to.rest

@@ -1,5 +1,5 @@
 -- Trees have one derivation, or one first place where they are refused, and never both.
-use Rattle.std.proofs.Common.{◌≡◌, inl, inr, ◌+◌, ◌≤◌, ◌<◌, ℕ, suc, zero, Bool, true, false, List, [], ◌∷◌, ◌++◌, None, Some, refl, sym, subst, ap, ap₂, ◌∙◌, arith}
+use Rattle.std.proofs.Common.{◌≡◌, inl, inr, ◌≤◌, ◌<◌, ℕ, suc, zero, Bool, true, false, List, [], ◌∷◌, ◌++◌, None, Some, refl, sym, subst, ap, ap₂, ◌∙◌, arith}
 use Rattle.std.specs.Prelude.{◌⊎◌, Option}
 use Rattle.tt.specs.Forest.{Forest, end, size}
 use Rattle.tt.specs.Siblings.{is_end}

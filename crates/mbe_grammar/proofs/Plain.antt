@@ -1,11 +1,11 @@
 -- How far an expression reaches does not depend on whether entries are noted.
-use Rattle.std.proofs.Common.{◌≡◌, inl, inr, ℕ, suc, zero, Bool, true, false, List, [], ◌∷◌, length, Some, None, refl, sym, subst, ap, ◌∙◌, cond}
+use Rattle.std.proofs.Common.{◌≡◌, inl, inr, ℕ, suc, zero, Bool, true, false, List, [], ◌∷◌, length, Some, None, refl, ap, ◌∙◌, cond}
 use Rattle.std.specs.Prelude.{◌==◌, slice_get, Option, option_map}
 use Rattle.mbe_grammar.specs.declared.rule.Rule.{Rule}
 use Rattle.mbe_grammar.specs.declared.rule.Rule.TheVariants as rule
 use Rattle.mbe_grammar.specs.declared.test.Test.{Test}
 use Rattle.mbe_grammar.specs.Parses.{Answering, Holds, ParsesIn, Parses}
-use Rattle.mbe_grammar.specs.Positions.{Entry, Position, plain, leaves, noted, taken, takes, opened, cut, closed}
+use Rattle.mbe_grammar.specs.Positions.{Position, plain, leaves, noted, taken, takes, opened, cut, closed}
 use Rattle.mbe_grammar.specs.Tests.{passes}
 use Rattle.mbe_grammar.specs.Units.{first_unit}
 

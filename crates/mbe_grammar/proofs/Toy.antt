@@ -1,9 +1,8 @@
 -- Answers and derivations by a small table, by computation.
-use Rattle.std.proofs.Common.{inl, inr, true, false, List, [], ◌∷◌, ◌++◌, None, Some, refl}
+use Rattle.std.proofs.Common.{inl, inr, true, false, List, [], ◌∷◌, None, Some, refl}
 use Rattle.tt.specs.Forest.{Forest, end, node}
 use Rattle.tt.specs.Types.DelimiterKind.TheVariants as delimiter
 use Rattle.tt.specs.Types.Span.{Span}
-use Rattle.mbe_grammar.specs.declared.event.Event.{Event}
 use Rattle.mbe_grammar.specs.declared.event.Event.TheVariants as event
 use Rattle.mbe_grammar.specs.declared.rule.Rule.{Rule}
 use Rattle.mbe_grammar.specs.declared.rule.Rule.TheVariants as rule

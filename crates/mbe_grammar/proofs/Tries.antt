@@ -1,5 +1,5 @@
 -- What an expression tries, from what its parts try.
-use Rattle.std.proofs.Common.{◌≡◌, inl, inr, ◌+◌, ◌≤◌, ℕ, suc, zero, false, List, Some, None, sym, subst, arith}
+use Rattle.std.proofs.Common.{inl, inr, ◌+◌, ℕ, suc, zero, false, List, Some, None, arith}
 use Rattle.std.specs.Prelude.{slice_get, Option}
 use Rattle.mbe_grammar.specs.declared.rule.Rule.{Rule}
 use Rattle.mbe_grammar.specs.declared.rule.Rule.TheVariants as rule

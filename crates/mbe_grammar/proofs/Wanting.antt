@@ -1,7 +1,7 @@
 -- What the search for the wanted units preserves, and what it has found at its end.
-use Rattle.std.proofs.Common.{◌≡◌, inl, inr, ◌-◌, ◌≤◌, ◌<◌, ℕ, suc, zero, Bool, true, false, cond, List, [], ◌∷◌, ◌++◌, length, reverse, take, Some, None, eqb-true, nat_eq, refl, sym, subst, ap, ◌∙◌, arith}
+use Rattle.std.proofs.Common.{◌≡◌, inl, inr, ◌-◌, ◌≤◌, ℕ, Bool, true, false, cond, List, [], ◌∷◌, ◌++◌, length, reverse, take, Some, None, eqb-true, nat_eq, refl, sym, subst, ap, ◌∙◌, arith}
 use Rattle.std.proofs.lemmas.List.{reverse-reverse, reverse-append, length-append, length-reverse}
-use Rattle.std.specs.Prelude.{◌⊎◌, ◌==◌, slice_get, Option}
+use Rattle.std.specs.Prelude.{◌⊎◌, slice_get, Option}
 use Rattle.mbe_grammar.specs.declared.machine.Frame.{Frame}
 use Rattle.mbe_grammar.specs.declared.machine.Frame.TheVariants as frame
 use Rattle.mbe_grammar.specs.declared.machine.State.{State}
@@ -14,7 +14,7 @@ use Rattle.mbe_grammar.specs.Known.{glance_at}
 use Rattle.mbe_grammar.specs.Machine.{awaited, begun_behind, begun_sequence_open, begun_open, begun, IsStep}
 use Rattle.mbe_grammar.specs.Machine as machine
 use Rattle.mbe_grammar.specs.Positions.{Position, takes}
-use Rattle.mbe_grammar.specs.Running.{state_at, frame_of, left_in, frames_of}
+use Rattle.mbe_grammar.specs.Running.{state_at, left_in, frames_of}
 use Rattle.mbe_grammar.specs.Tried.{tried_by, tried_now, negations, more_negations, fewer_negations, negations_after, Counts, IsShort, IsNoted}
 use Rattle.mbe_grammar.specs.Trying.{Tries, IsOneOf, IsAscending, IsListed, IsFarthest}
 use Rattle.mbe_grammar.proofs.WillTry.{WillTry, TriesNow, first_will, will_first, step_split, now_tried, step_join, last_tries}

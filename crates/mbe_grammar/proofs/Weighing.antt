@@ -1,5 +1,5 @@
 -- The log and the trees that are left have no more tokens than the trees that were read.
-use Rattle.std.proofs.Common.{◌≡◌, inl, inr, ◌+◌, ◌≤◌, ℕ, suc, zero, Bool, true, false, List, [], ◌∷◌, ◌++◌, length, take, Some, None, refl, sym, subst, ap, ◌∙◌, cond, arith}
+use Rattle.std.proofs.Common.{◌≡◌, inl, inr, ◌+◌, ◌≤◌, ℕ, suc, zero, Bool, true, false, List, [], ◌∷◌, ◌++◌, length, take, Some, None, refl, sym, subst, ap, cond, arith}
 use Rattle.std.specs.Prelude.{◌==◌, slice_get, Option, option_map}
 use Rattle.tt.specs.Forest.{Forest, end, leaf, node, size}
 use Rattle.tt.specs.Gluing.{after_trees}
@@ -8,8 +8,8 @@ use Rattle.mbe_grammar.specs.declared.rule.Rule.TheVariants as rule
 use Rattle.mbe_grammar.specs.declared.test.Test.{Test}
 use Rattle.mbe_grammar.specs.declared.test.Test.TheVariants as test
 use Rattle.mbe_grammar.specs.Parses.{Answering, Holds, ParsesIn, Parses}
-use Rattle.mbe_grammar.specs.Positions.{Entry, Position, enters, leaves, takes_unit, holds, behind, entry_of, count_of, taken, noted, opened, cut, closed, takes}
-use Rattle.mbe_grammar.specs.Tests.{named, passes, taken_size}
+use Rattle.mbe_grammar.specs.Positions.{Entry, Position, enters, leaves, takes_unit, holds, entry_of, count_of, taken, noted, opened, cut, closed}
+use Rattle.mbe_grammar.specs.Tests.{named, passes}
 use Rattle.mbe_grammar.specs.Units.{first_unit}
 use Rattle.mbe_grammar.proofs.Notes.{closed_rest}
 use Rattle.mbe_grammar.proofs.Shrinking.{taken_fits}

@@ -1,5 +1,5 @@
 -- What the rest of a run tries, and that a step of the machine leaves the same, but for what it tries itself.
-use Rattle.std.proofs.Common.{◌≡◌, inl, inr, ℕ, suc, zero, false, List, [], ◌∷◌, length, Some, None, refl, sym, subst, ap, ◌∙◌, arith}
+use Rattle.std.proofs.Common.{◌≡◌, inl, inr, ℕ, false, List, [], ◌∷◌, length, Some, None, refl, sym, subst, ap, ◌∙◌}
 use Rattle.std.specs.Prelude.{◌⊎◌, slice_get, Option}
 use Rattle.mbe_grammar.specs.declared.rule.Rule.{Rule}
 use Rattle.mbe_grammar.specs.declared.rule.Rule.TheVariants as rule

@@ -1,8 +1,7 @@
 -- Whole files, by Rust's grammar.
-use Rattle.std.specs.Prelude.{ℕ, List, Option, None, Some}
+use Rattle.std.specs.Prelude.{Option, None, Some}
 use Rattle.tt.specs.Forest.{Forest}
 use Rattle.tt.specs.Views.{trees_of}
-use Rattle.mbe_grammar.specs.declared.event.Event.{Event}
 use Rattle.mbe_grammar.specs.declared.file.ParsedFile.{ParsedFile}
 use Rattle.mbe_grammar.specs.declared.file.ParsedFile.TheVariants as parsed
 use Rattle.mbe_grammar.specs.declared.rule.Rule.{Rule}

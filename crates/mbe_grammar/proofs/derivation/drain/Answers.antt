@@ -1,9 +1,9 @@
 -- Each level that is read leaves less, and gives what was left before it.
-use Rattle.std.proofs.Common.{rules, ◌≡◌, ◌<◌, true, false, reverse, subst, sym}
+use Rattle.std.proofs.Common.{rules, ◌≡◌, ◌<◌, true, false, reverse, subst}
 use Rattle.mbe_grammar.specs.declared.derivation.Next.TheVariants as next
 use Rattle.mbe_grammar.specs.Derivations.{place}
 use Rattle.mbe_grammar.specs.Deriving.{weight, IsRead, IsNext}
-use Rattle.mbe_grammar.proofs.Draining.{drains_on, drained, refused_next, refused_read, lighter}
+use Rattle.mbe_grammar.proofs.Draining.{drains_on, drained, refused_read, lighter}
 use Rattle.mbe_grammar.proofs.derivation.drain.Goals as goal
 
 pub returns-in-End : goal.returns-in-End

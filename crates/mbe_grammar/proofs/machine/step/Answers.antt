@@ -1,5 +1,5 @@
 -- A step is one of the definition, with the waiting frames and the log.
-use Rattle.std.proofs.Common.{rules, ◌≡◌, ◌∷◌, ◌++◌, [], reverse, Some, None, ap, sym, ◌∙◌}
+use Rattle.std.proofs.Common.{rules, ◌≡◌, ◌∷◌, ◌++◌, [], reverse, Some, None, ap, ◌∙◌}
 use Rattle.mbe_grammar.specs.Known.{glance_at}
 use Rattle.mbe_grammar.specs.Places.{position_of}
 use Rattle.mbe_grammar.proofs.Log.{room_same}

@@ -1,5 +1,5 @@
 -- Each step notes what it tries, and leaves fewer steps.
-use Rattle.std.proofs.Common.{rules, false, ◌≡◌, ◌-◌, ◌≤◌, [], reverse, length, slice_get, ap, sym, subst, ◌∙◌}
+use Rattle.std.proofs.Common.{rules, false, ◌-◌, ◌≤◌, [], reverse, length, slice_get, ap, sym, subst, ◌∙◌}
 use Rattle.mbe_grammar.specs.Good.{IsGood}
 use Rattle.mbe_grammar.specs.Known.{glance_at}
 use Rattle.mbe_grammar.specs.Machine.{IsStep}
