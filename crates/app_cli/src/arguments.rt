@@ -18,6 +18,8 @@ const LIMIT: &str = "limit";
 
 const DROP_RULES: &str = "drop-rules";
 
+const SYNTAX: &str = "syntax";
+
 // The largest limit that the options allow for nested expansions: what the usual stack holds.
 const MOST_LIMIT: u64 = 1000;
 
@@ -88,9 +90,9 @@ fn expand<'a>(alloc: Global) -> Result<Command<'a>, AllocError> {
     expands(alloc, "expand", about, file(alloc))?.arg(drops)
 }
 
-// Returns the command that reports faults in macros.
+// Returns the command that reports errors.
 fn check<'a>(alloc: Global) -> Result<Command<'a>, AllocError> {
-    let about = "Tells what is wrong in the macros of texts and in calls of them";
+    let about = "Reports the first syntax error of texts, and the errors in their macros and calls";
     expands(alloc, "check", about, files(alloc))
 }
 
@@ -102,8 +104,12 @@ fn tokens<'a>(alloc: Global) -> Result<Command<'a>, AllocError> {
 
 // Returns the command that writes a tree.
 fn tree<'a>(alloc: Global) -> Result<Command<'a>, AllocError> {
+    let syntax = Arg::new(alloc, SYNTAX)
+        .long(SYNTAX)
+        .action(ArgAction::SetTrue)
+        .help("Writes also the names of Rust's grammar that took the tokens");
     let about = "Writes the tree of a text, a line for each token, with lines and columns";
-    reads(alloc, "tree", about, file(alloc))
+    reads(alloc, "tree", about, file(alloc))?.arg(syntax)
 }
 
 // Returns the command that writes a tree as bytes.
@@ -162,6 +168,11 @@ pub fn is_everywhere(matches: &ArgMatches<'_>) -> bool {
 /// Returns whether definitions that nothing needs are left out.
 pub fn drops_rules(matches: &ArgMatches<'_>) -> bool {
     matches.get_flag(DROP_RULES)
+}
+
+/// Returns whether the derivation is written.
+pub fn shows_syntax(matches: &ArgMatches<'_>) -> bool {
+    matches.get_flag(SYNTAX)
 }
 
 /// Returns the name that `$crate` becomes.

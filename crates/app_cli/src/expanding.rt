@@ -3,11 +3,14 @@ use crate::counts::Counts;
 use crate::diagnostics::diagnostics_text;
 use crate::dropping::without_definitions;
 use crate::failure::Failure;
+use crate::grammar_error::grammar_failure;
 use crate::input::Input;
 use crate::report::{Report, report_on, summary};
 use crate::style::style_of;
 use crate::syntax_error::syntax_failure;
+use crate::tree_lines::tree_of;
 use expand_text::{ExpandOptions, ExpandTextError, expand_leniently};
+use mbe_grammar::{ParsedFile, parse_file};
 use std::io::{self, Write};
 use std::process::ExitCode;
 
@@ -41,11 +44,25 @@ fn refused(
     }
 }
 
-// Reports the findings in the text of an input, and returns its expansion.
+// Reports the first syntax error of a text that has a tree, and returns its number of errors.
+fn syntax_counts(rt: &HostRuntime, name: &str, text: &str) -> Result<Counts, Failure> {
+    let tree = tree_of(rt, name, text)?;
+    match parse_file(rt.alloc(), tree.token_trees())? {
+        ParsedFile::Whole(_) => Ok(Counts::NONE),
+        ParsedFile::Refused(error) => {
+            grammar_failure(rt, name, text, &error).report(rt);
+            let _ = eprintln!(rt; "");
+            Ok(Counts::ONE_ERROR)
+        }
+    }
+}
+
+// Reports the findings in the text of an input, after its first syntax error if `checks`, and returns its expansion.
 fn expanded(
     rt: &HostRuntime,
     input: Input<'_>,
     options: ExpandOptions<'_>,
+    checks: bool,
 ) -> Result<Outcome, Failure> {
     let bytes = input.bytes(rt)?;
     let text = input.text(rt, bytes.as_slice())?;
@@ -60,17 +77,27 @@ fn expanded(
         diagnostics,
         counts,
     } = report_on(rt.alloc(), style_of(rt), name, text, limit, found)?;
+    let syntax = if checks {
+        syntax_counts(rt, name, text)?
+    } else {
+        Counts::NONE
+    };
     let _ = eprint!(rt; "{diagnostics}");
     Ok(Outcome {
         output,
         has_mark: text.len() < bytes.len(),
-        counts,
+        counts: syntax.plus(counts),
     })
 }
 
 // The same. An input that cannot be read or has no tree counts as one error.
-fn outcome_of(rt: &HostRuntime, input: Input<'_>, options: ExpandOptions<'_>) -> Outcome {
-    match expanded(rt, input, options) {
+fn outcome_of(
+    rt: &HostRuntime,
+    input: Input<'_>,
+    options: ExpandOptions<'_>,
+    checks: bool,
+) -> Outcome {
+    match expanded(rt, input, options, checks) {
         Ok(outcome) => outcome,
         Err(failure) => {
             failure.report(rt);
@@ -113,7 +140,7 @@ pub fn expand(
         output,
         has_mark,
         counts,
-    } = outcome_of(rt, input, options);
+    } = outcome_of(rt, input, options, false);
     write_summary(rt, counts)?;
     if let Some(text) = output {
         let text = if drops_rules {
@@ -126,7 +153,7 @@ pub fn expand(
     Ok(counts.status())
 }
 
-/// Reports the faults in the macros of these files, one after the other.
+/// Reports the first syntax error of these files and the faults in their macros, one file after the other.
 pub fn check(
     rt: &HostRuntime,
     names: &[&str],
@@ -134,7 +161,7 @@ pub fn check(
 ) -> Result<ExitCode, Failure> {
     let mut counts = Counts::NONE;
     for name in names {
-        let outcome = outcome_of(rt, Input::new(Some(name)), options);
+        let outcome = outcome_of(rt, Input::new(Some(name)), options, true);
         counts = counts.plus(outcome.counts);
     }
     write_summary(rt, counts)?;

@@ -1,5 +1,5 @@
-//! The program `cuvolemin`, for people who write Rust: it expands the macros of a text, writes its tokens or its tree, and writes a tree as
-//! one piece of bytes.
+//! The program `cuvolemin`, for people who write Rust: it expands the macros of a text, reports its errors, writes its tokens,
+//! its tree or its derivation, and writes a tree as one piece of bytes.
 #![tactic(auto)]
 
 mod arguments;
@@ -8,6 +8,7 @@ mod diagnostics;
 mod dropping;
 mod expanding;
 mod failure;
+mod grammar_error;
 mod input;
 mod messages;
 mod options;
@@ -16,9 +17,11 @@ mod program;
 mod report;
 mod style;
 mod syntax_error;
+mod syntax_lines;
 mod token_lines;
 mod tree_lines;
 mod whole_file;
+mod words;
 
 use std::process::ExitCode;
 

@@ -1,14 +1,17 @@
 //! The commands of the program.
-use crate::arguments::{drops_rules, file_of, files_of, out_of, parse};
+use crate::arguments::{drops_rules, file_of, files_of, out_of, parse, shows_syntax};
 use crate::expanding::{check, expand};
 use crate::failure::Failure;
+use crate::grammar_error::grammar_failure;
 use crate::input::Input;
 use crate::options::options_of;
 use crate::packing::{pack, unpack};
 use crate::syntax_error::syntax_failure;
+use crate::syntax_lines::write_syntax;
 use crate::token_lines::write_tokens;
 use crate::tree_lines::{tree_of, write_tree};
 use clap::ArgMatches;
+use mbe_grammar::{ParsedFile, parse_file};
 use std::env;
 use std::io::{BufWriter, Write};
 use std::process::ExitCode;
@@ -54,6 +57,7 @@ fn run_on_file(rt: &HostRuntime, name: &str, given: &ArgMatches<'_>) -> Result<(
     let input = Input::new(file_of(given));
     match name {
         "tokens" => tokens(rt, input),
+        "tree" if shows_syntax(given) => syntax(rt, input),
         "tree" => tree(rt, input),
         "pack" => pack(rt, input, out_of(given)),
         "unpack" => unpack(rt, input),
@@ -81,6 +85,24 @@ fn tree(rt: &HostRuntime, input: Input<'_>) -> Result<(), Failure> {
     let tree = tree_of(rt, input.name(), text)?;
     let mut out = BufWriter::new(rt.alloc(), rt.stdout())?;
     write_tree(&mut out, rt.alloc(), text, &tree)?;
+    out.flush()?;
+    Ok(())
+}
+
+// Writes the derivation of a text by Rust's grammar.
+fn syntax(rt: &HostRuntime, input: Input<'_>) -> Result<(), Failure> {
+    let alloc = rt.alloc();
+    let bytes = input.bytes(rt)?;
+    let text = input.text(rt, bytes.as_slice())?;
+    let tree = tree_of(rt, input.name(), text)?;
+    let events = match parse_file(alloc, tree.token_trees())? {
+        ParsedFile::Whole(events) => events,
+        ParsedFile::Refused(error) => {
+            return Err(grammar_failure(rt, input.name(), text, &error));
+        }
+    };
+    let mut out = BufWriter::new(alloc, rt.stdout())?;
+    write_syntax(&mut out, alloc, text, &tree, &events)?;
     out.flush()?;
     Ok(())
 }

@@ -7,7 +7,7 @@ use syntax_diagnostic::Places;
 use syntax_parse::parse_to_token_tree;
 use tt::{
     Delimiter, DelimiterKind, ErasedFileAstId, FileId, Leaf, Spacing, Span, SpanAnchor,
-    SyntaxContext, TopSubtree, TtElement,
+    SyntaxContext, TopSubtree, TtElement, TtIter,
 };
 
 /// Returns the tree of a text, or the failure of its first fault.
@@ -30,18 +30,30 @@ pub fn write_tree<W: Write>(
     tree: &TopSubtree,
 ) -> Result<(), Failure> {
     let places = Places::new(alloc, text)?;
-    let mut level = tree.token_trees().iter();
+    write_trees(out, alloc, &places, 0, tree.token_trees().iter())
+}
+
+/// Writes a line for each token of these trees, which are at that depth.
+pub fn write_trees<W: Write>(
+    out: &mut W,
+    alloc: Global,
+    places: &Places<'_>,
+    depth: usize,
+    trees: TtIter<'_>,
+) -> Result<(), Failure> {
+    let mut level = trees;
     // the rest of each outer level, the innermost last
     let mut outer = Vec::new(alloc);
     'tokens: loop {
+        let here = depth.saturating_add(outer.len());
         match level.next() {
             Some(TtElement::Leaf(leaf)) => {
-                write_indent(out, outer.len())?;
-                write_leaf(out, &places, &leaf)?;
+                write_indent(out, here)?;
+                write_leaf(out, places, &leaf)?;
             }
             Some(TtElement::Subtree(subtree, children)) => {
-                write_indent(out, outer.len())?;
-                write_header(out, &places, subtree.delimiter)?;
+                write_indent(out, here)?;
+                write_header(out, places, subtree.delimiter)?;
                 outer.push(level)?;
                 level = children;
             }
@@ -55,8 +67,8 @@ pub fn write_tree<W: Write>(
     }
 }
 
-// Writes two spaces for each level.
-fn write_indent<W: Write>(out: &mut W, depth: usize) -> io::Result<()> {
+/// Writes two spaces for each level.
+pub fn write_indent<W: Write>(out: &mut W, depth: usize) -> io::Result<()> {
     for _ in 0..depth {
         out.write_all(b"  ")?;
     }
@@ -70,8 +82,8 @@ fn write_span<W: Write>(out: &mut W, places: &Places<'_>, span: Span) -> io::Res
     write!(out, "{begin}..{end}")
 }
 
-// Writes the line of a leaf.
-fn write_leaf<W: Write>(out: &mut W, places: &Places<'_>, leaf: &Leaf) -> io::Result<()> {
+/// Writes the line of a leaf.
+pub fn write_leaf<W: Write>(out: &mut W, places: &Places<'_>, leaf: &Leaf) -> io::Result<()> {
     match leaf {
         Leaf::Literal(literal) => {
             write!(out, "LITERAL {:?} {} ", literal.kind(), literal.symbol())?;
@@ -85,8 +97,8 @@ fn write_leaf<W: Write>(out: &mut W, places: &Places<'_>, leaf: &Leaf) -> io::Re
     out.write_all(b"\n")
 }
 
-// Writes the line of a subtree's header.
-fn write_header<W: Write>(
+/// Writes the line of a subtree's header.
+pub fn write_header<W: Write>(
     out: &mut W,
     places: &Places<'_>,
     delimiter: Delimiter,
