@@ -92,7 +92,7 @@ fn wanted_texts(alloc: Global, units: &[usize]) -> Result<Vec<String>, AllocErro
 fn between(place: usize, count: usize) -> &'static str {
     if place == 0 {
         ""
-    } else if place + 1 < count {
+    } else if place.saturating_add(1) < count {
         ", "
     } else if count == 2 {
         " or "
@@ -168,20 +168,40 @@ fn found_in(alloc: Global, text: &str, error: &SyntaxError<'_>) -> Result<Found,
     for _ in 0..error.wanted.passed {
         trees.next();
     }
-    let bytes = match first_bytes(trees) {
-        Some(bytes) => Some(bytes),
-        None => error.level.close.map(bytes_of),
+    let (start, end) = match (first_bytes(trees), error.level.close) {
+        (Some(bytes), _) => bytes,
+        (None, Some(close)) => bytes_of(close),
+        (None, None) => {
+            return Ok(Found {
+                at: text.len(),
+                text: "end of file".to_string(alloc)?,
+            });
+        }
     };
-    match bytes {
-        Some((start, end)) => Ok(Found {
-            at: start,
-            text: token_text(alloc, text, start, end)?,
-        }),
-        None => Ok(Found {
-            at: text.len(),
-            text: "end of file".to_string(alloc)?,
-        }),
-    }
+    Ok(Found {
+        at: start,
+        text: token_text(alloc, text, start, end)?,
+    })
+}
+
+// Returns the diagnostic with that message at that byte.
+fn placed_text<'x>(
+    alloc: Global,
+    style: Style,
+    name: &'x str,
+    text: &'x str,
+    message: &'x str,
+    at: usize,
+) -> Result<String, AllocError> {
+    let source = SourceFile::new(alloc, name, text)?;
+    let diagnostic = Diagnostic {
+        level: Level::Error,
+        message,
+        spot: Some(source.spot(at)),
+        notes: Vec::new(alloc),
+        placed_note: None,
+    };
+    diagnostic_text(alloc, style, &diagnostic)
 }
 
 // Returns the diagnostic.
@@ -195,15 +215,7 @@ fn error_text(
     let found = found_in(alloc, text, error)?;
     let wanted = wanted_texts(alloc, &error.wanted.units)?;
     let message = message(alloc, &wanted, found.text.as_str())?;
-    let source = SourceFile::new(alloc, name, text)?;
-    let diagnostic = Diagnostic {
-        level: Level::Error,
-        message: message.as_str(),
-        spot: Some(source.spot(found.at)),
-        notes: Vec::new(alloc),
-        placed_note: None,
-    };
-    diagnostic_text(alloc, style, &diagnostic)
+    placed_text(alloc, style, name, text, message.as_str(), found.at)
 }
 
 /// Returns the failure of a text of that name that is no file.
