@@ -27,14 +27,36 @@ typeof unsized virtual yield _""".split()
 DROP_RULES = "--drop-rules"
 
 
-def judge(files, written, told, *words, given=b""):
+# The diagnostic of a syntax error, in front of all others, and the line that counts errors and warnings.
+SYNTAX_ERROR = re.compile(rb"error: (?:un)?expected [^\n]*\n +--> .*?\n\n", re.S)
+COUNTS = re.compile(rb"(?:error|warning): found (?:(\d+) errors?)?(?: and )?(?:(\d+) warnings?)?\n\Z")
+
+
+def count_line(errors, warnings):
+    """The line that counts them; nothing if there are none."""
+    words = [f"{count} {word}{'s' * (count != 1)}" for count, word in ((errors, "error"), (warnings, "warning")) if count]
+    return f"{'error' if errors else 'warning'}: found {' and '.join(words)}\n".encode() if words else b""
+
+
+def without_syntax_error(status, written, told):
+    """What a run of `check` gives without the syntax error that it reports first; syntax.py tries syntax errors."""
+    error = SYNTAX_ERROR.match(told)
+    if not error:
+        return status, written, told
+    rest = told[error.end() :]
+    counts = COUNTS.search(rest)
+    errors, warnings = (int(it or 0) for it in counts.groups())
+    return int(errors > 1), written, rest[: counts.start()] + count_line(errors - 1, warnings)
+
+
+def judge(files, written, told, *words, given=b"", is_file=True):
     """Refuses a run of `expand` or `check` that does not write and tell that; None is a text that has an error."""
     options, names = words[:-1], words[-1]
     status = int(written is None)
     found = files.run("expand", *options, names, given=given)
     wants("what is expanded", found, (status, written or b"", told.encode()))
     found = files.run("check", *(it for it in options if it != DROP_RULES), names, given=given)
-    wants("what is checked", found, (status, b"", told.encode()))
+    wants("what is checked", found if is_file else without_syntax_error(*found), (status, b"", told.encode()))
 
 
 # ---- the examples
@@ -76,7 +98,7 @@ def tried_cases(files, path):
     for case in path.read_text(encoding="utf-8").rstrip("\n").split("\n\n"):
         name, options, text, written, told = parts_of(case)
         yield f"case: {name}", lambda options=options, text=text, written=written, told=told: judge(
-            files, written, told, *options, "-", given=text
+            files, written, told, *options, "-", given=text, is_file=False
         )
 
 
@@ -117,7 +139,8 @@ def try_several(files):
     told = f"{unclosed}{MISSING}\n{faulty}{calls}error: found 5 errors and 1 warning\n"
     wants("the run", files.run("check", *names), (1, b"", told.encode()))
     wants("the run", files.run("check", right, left, right), (1, b"", f"{faulty}error: found 1 error and 1 warning\n".encode()))
-    wants("the run", files.run("check", right, "-", given=b"a"), (0, b"", b""))
+    syntax = "error: expected one of `::` or `!`, found end of file\n --> <stdin>:1:2\n  |\n1 | a\n  |  ^\n\nerror: found 1 error\n"
+    wants("the run", files.run("check", right, "-", given=b"a"), (1, b"", syntax.encode()))
 
 
 def try_empty(files):
