@@ -158,13 +158,13 @@ def try_no_utf8(files):
 def try_bytes_stay(files):
     """What is no call stays byte for byte: a mark in front, ends of lines, white space, comments, characters of any width."""
     text = "\ufeff" + DEFINITION.decode().replace("\n", "\r\n") + "é\t= m!(1, 2) ; // 漢 \r\n\r\n \tx\u0301 /* m!(1) */ 'a'\r\n"
-    judge(files, text.replace("m!(1, 2)", "(1 + 2)").encode(), "", files.made("text", text.encode()))
+    judge(files, text.replace("m!(1, 2)", "(1 + 2)").encode(), "", files.made("text", text.encode()), is_file=False)
     wrong = files.made("text", text.replace("m!(1, 2)", "m!(1)").encode())
     told = (
         f"error: no rule of `m` matches this\n --> {wrong}:2:9\n  |\n2 | é\t= m!(1) ; // 漢 \n  |  \t      ^\n"
         f"note: `m` is defined here\n --> {wrong}:1:14\n  |\n1 | {DEFINITION.decode()}  |              ^\n{ONE_ERROR}"
     )
-    judge(files, None, told, wrong)
+    judge(files, None, told, wrong, is_file=False)
 
 
 def try_options(files):
@@ -184,23 +184,23 @@ def try_keywords(files):
     """No keyword is the name of a macro: what looks like its definition and its call stays."""
     for word in KEYWORDS:
         text = f"macro_rules! {word} {{ () => {{ 1 }} }} fn f() {{ a({word}!()) }}".encode()
-        judge(files, text, "", "-", given=text)
+        judge(files, text, "", "-", given=text, is_file=False)
 
 
 def try_seams(files):
     """A value touches white space and brackets as it is; a punct that would become joint gets a space."""
     define = b"macro_rules! m { () => {b} } macro_rules! k { () => {-} } "
     for gap in (b" ", b"\t", b"\r\n", b"\n"):
-        judge(files, define + b"f(a," + gap + b"b" + gap + b")", "", "-", given=define + b"f(a," + gap + b"m!()" + gap + b")")
+        judge(files, define + b"f(a," + gap + b"b" + gap + b")", "", "-", given=define + b"f(a," + gap + b"m!()" + gap + b")", is_file=False)
     for sign in b",;@~":
-        judge(files, define + b"f(a%c - ,b)" % sign, "", "-", given=define + b"f(a%ck!(),b)" % sign)
+        judge(files, define + b"f(a%c - ,b)" % sign, "", "-", given=define + b"f(a%ck!(),b)" % sign, is_file=False)
 
 
 def try_deep(files):
     """Brackets in one another, in a text and in an input."""
     deep = b"(" * DEPTH + b")" * DEPTH
-    judge(files, deep, "", "-", given=deep)
-    judge(files, DEFINITION + b"x = (" + deep + b" + 1)", "", "-", given=DEFINITION + b"x = m!(" + deep + b", 1)")
+    judge(files, deep, "", "-", given=deep, is_file=False)
+    judge(files, DEFINITION + b"x = (" + deep + b" + 1)", "", "-", given=DEFINITION + b"x = m!(" + deep + b", 1)", is_file=False)
 
 
 def try_forever(files):
