@@ -30,15 +30,12 @@ ERROR = re.compile(r"main\.rs:(\d+):(\d+): error(?:\[(\w+)\])?: (.*)")
 # Classes of texts that were cut short, each by what such a text looks like behind the name of its fragment.
 KNOWN = (
     ("`use<..>` alone as a type", r".*\buse <"),
-    ("`const` before `impl`", r"(item|stmt) .*\bconst impl\b"),
-    ("other parameters than lifetimes behind `for`", r".*\bfor < (# \[\w*\] )*[^'>#]"),
     ("`::{` and `::*` where a statement begins", r"stmt .*:: (\{|\*)"),
     ("fields named by keywords", r".* \. (?!self|await)[a-z]+$"),
     ("parameters behind `unsafe` in a type", r".*\bunsafe <"),
     ("`const` blocks as items", r"item .*\bconst \{"),
-    ("`[const]` before a bound", r".*\b(dyn|impl|:|\+) \[\w*\]"),
     ("a bound alone as a type", r".*( as| ->|[&*<:=]|const|mut)( '\w \+| [~?]| const| async)"),
-    ("an operator behind a range that has no end", r"(?!stmt .*\}).* \.\. [-+*/%^|&<>=!]+ "),
+    ("an operator behind a range that has no end", r"(?!stmt .*\}).* \.\. ([-+*/%^|&<>=!]+|as) "),
     ("a block behind an operator where a statement begins", r"stmt (.* )?(&&?|[-*!]|const|mut|\.\.=?) (# \[\w*\] )*.*\}( [^.?].*)?$"),
 )
 
