@@ -5,7 +5,7 @@ use crate::words::word_text;
 use mbe_grammar::{SyntaxError, Test, Unit, test_of};
 use std::alloc::{AllocError, Global};
 use syntax_diagnostic::{Diagnostic, Level, SourceFile, Style, diagnostic_text};
-use tt::{DelimiterKind, Leaf, Span, TtElement, TtIter};
+use tt::{DelimiterKind, Span, TtElement, TtIter};
 
 // The longest text of a token that a message quotes.
 const MOST_QUOTED: usize = 40;
@@ -144,31 +144,55 @@ fn bytes_of(span: Span) -> (usize, usize) {
     (start, end)
 }
 
-// Returns the bytes of the first token: of a whole operator, or of the opening bracket. None if there is no token.
-fn first_bytes(mut trees: TtIter<'_>) -> Option<(usize, usize)> {
-    match trees.peek()? {
-        TtElement::Leaf(Leaf::Punct(punct)) => {
-            let (start, end) = bytes_of(punct.span);
-            match trees.expect_glued_punct() {
-                Ok(puncts) => match puncts.last() {
-                    Some(last) => Some((start, bytes_of(last.span).1)),
-                    None => Some((start, end)),
-                },
-                Err(()) => Some((start, end)),
-            }
+// Returns the bytes of the first unit; of a subtree, those of its opening bracket. None if there is no unit.
+fn first_bytes<'t>(trees: TtIter<'t>) -> Option<(usize, usize)> {
+    let mut behind = trees.remaining().iter();
+    let unit = Unit::take(&mut behind);
+    let mut trees = trees.remaining().iter();
+    let (start, mut end) = match trees.next()? {
+        TtElement::Leaf(leaf) => bytes_of(*leaf.span()),
+        TtElement::Subtree(subtree, _) => bytes_of(subtree.delimiter.open_span),
+    };
+    for _ in 1..unit.size() {
+        if let Some(TtElement::Leaf(leaf)) = trees.next() {
+            end = bytes_of(*leaf.span()).1;
         }
-        TtElement::Leaf(leaf) => Some(bytes_of(*leaf.span())),
-        TtElement::Subtree(subtree, _) => Some(bytes_of(subtree.delimiter.open_span)),
     }
+    Some((start, end))
 }
 
-// Returns the first token that no rule takes. At the end of brackets that is the closing one.
-fn found_in(alloc: Global, text: &str, error: &SyntaxError<'_>) -> Result<Found, AllocError> {
-    let mut trees = error.level.trees.iter();
-    for _ in 0..error.wanted.passed {
+// Returns how many trees a wanted test takes there; none if no test passes, which is so but where an expression ends without a look at
+// what follows.
+fn taken_there(units: &[usize], trees: TtIter<'_>) -> Option<usize> {
+    let mut behind = trees.remaining().iter();
+    let unit = Unit::take(&mut behind);
+    for it in units {
+        if let Some(test) = test_of(*it) {
+            if test.passes(unit) {
+                return Some(test.taken_size(unit));
+            }
+        }
+    }
+    None
+}
+
+// Returns the trees after that many.
+fn behind<'t>(trees: TtIter<'t>, count: usize) -> TtIter<'t> {
+    let mut trees = trees;
+    for _ in 0..count {
         trees.next();
     }
-    let (start, end) = match (first_bytes(trees), error.level.close) {
+    trees
+}
+
+// Returns the first of these trees as a token of a message. If there is none, that is the closing bracket, or the end of the file.
+fn found_in(
+    alloc: Global,
+    text: &str,
+    trees: TtIter<'_>,
+    close: Option<Span>,
+) -> Result<Found, AllocError> {
+    let (start, end) = match (first_bytes(trees), close) {
         (Some(bytes), _) => bytes,
         (None, Some(close)) => bytes_of(close),
         (None, None) => {
@@ -212,8 +236,13 @@ fn error_text(
     text: &str,
     error: &SyntaxError<'_>,
 ) -> Result<String, AllocError> {
-    let found = found_in(alloc, text, error)?;
-    let wanted = wanted_texts(alloc, &error.wanted.units)?;
+    let units = error.wanted.units.as_slice();
+    let trees = behind(error.level.trees.iter(), error.wanted.passed);
+    let (trees, wanted) = match taken_there(units, trees.remaining().iter()) {
+        Some(count) => (behind(trees, count), Vec::new(alloc)),
+        None => (trees, wanted_texts(alloc, units)?),
+    };
+    let found = found_in(alloc, text, trees, error.level.close)?;
     let message = message(alloc, &wanted, found.text.as_str())?;
     placed_text(alloc, style, name, text, message.as_str(), found.at)
 }
